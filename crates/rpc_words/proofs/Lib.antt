@@ -1,0 +1,9 @@
+pub mod Compares
+pub mod Cuts
+pub mod Decimals
+pub mod Hexadecimal
+pub mod Ink
+pub mod Numbers
+pub mod Octets
+pub mod Splits
+pub mod Wide
