@@ -1,0 +1,5 @@
+pub mod Slots
+pub mod Journal
+pub mod History
+pub mod Limits
+pub mod Replies
