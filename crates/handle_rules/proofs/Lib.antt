@@ -1,0 +1,4 @@
+pub mod Counts
+pub mod Halves
+pub mod Numbered
+pub mod Sets

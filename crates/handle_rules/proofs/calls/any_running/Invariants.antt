@@ -1,0 +1,12 @@
+use Rattle.std.proofs.Common.{◌≡◌, ◌≤◌, length, reverse}
+use Rattle.std.specs.List.{filter}
+use Rattle.handle_model.specs.Journal.{is_empty, runs, taken, running}
+use Rattle.handle_rules.proofs.calls.any_running.Given as goal
+
+abbrev pub invariant-loop-entry : goal.invariant-loop-entry
+invariant-loop-entry l =
+    (is_empty (filter (runs (reverse l.entries)) (taken (reverse l.rest))) ≡ is_empty (running (reverse l.entries)))
+    × (length l.rest ≤ length l.entries)
+
+abbrev pub decreases-loop-entry : goal.decreases-loop-entry
+decreases-loop-entry l = length l.rest
