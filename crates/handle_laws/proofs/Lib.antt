@@ -1,0 +1,5 @@
+pub mod Fate
+pub mod Least
+pub mod Live
+pub mod Running
+pub mod Slots
