@@ -1,0 +1,11 @@
+pub mod Loops
+pub mod HeadLaws
+pub mod HeadOnly
+pub mod FieldsAgain
+pub mod BodiesAgain
+pub mod KindLaws
+pub mod Early
+pub mod PduLaws
+pub mod WritingLaws
+pub mod SizeLaws
+pub mod AnswerLaws

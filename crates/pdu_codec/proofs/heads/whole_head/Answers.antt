@@ -1,0 +1,11 @@
+use Rattle.std.proofs.Common.{arith}
+use Rattle.pdu_codec.proofs.HeadOnly.{whole_found, whole_same}
+use Rattle.pdu_codec.proofs.heads.whole_head.Goals as goal
+
+pub returns-clause-head : goal.returns-clause-head
+returns-clause-head c =
+    whole_found c.is_kind.result c.args.octets.now c.front_head.result (λ i. omega (arith, c.type_inv.octets i)) c.requires c.is_kind.ensures c.front_head.ensures.head c.front_head.ensures.fields
+
+pub returns-clause-only : goal.returns-clause-only
+returns-clause-only c =
+    whole_same c.is_kind.result c.args.octets.now c.front_head.result c.requires c.is_kind.ensures c.front_head.ensures.head c.front_head.ensures.fields c.front_head.ensures.fault

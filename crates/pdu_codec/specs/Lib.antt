@@ -1,0 +1,4 @@
+pub mod Pdus
+pub mod Faults
+pub mod Reading
+pub mod Writing

@@ -1,0 +1,96 @@
+//! Reading the common header.
+ghost use Rattle.std.specs.Prelude.{◌≡◌, ◌≤◌, ◌<◌, ◌^◌, ℕ, length, slice_index, Ok, Some, None, IfOk, IfErr};
+ghost use Rattle.std.specs.Bool.{OnTrue, OnFalse};
+ghost use Rattle.pdu_codec.specs.Faults.{is_known, kind_at, length_order, frag_length, auth_length, IsRightLength, IsWrongLength, PassesHead, IsHeadFault, head_at, IsHead};
+
+use crate::{Head, PduFault};
+use rpc_base::{Order, drep_order, get_u16, get_u32};
+
+/// The octets of a common header.
+pub const HEADER: usize = 16;
+
+/// Whether the protocol has the PTYPE.
+fn is_kind(kind: u8) -> bool
+    ensures { result ≡ is_known kind }
+{
+    matches!(kind, 0 | 2 | 3 | 11..=15 | 17..=19)
+}
+
+/// The order of a header's lengths, before it is known whether its data representation is.
+fn order_of_lengths(drep: u8) -> Order
+    ensures { result ≡ length_order drep }
+{
+    if drep / 16 == 0 {
+        Order::Big
+    } else {
+        Order::Little
+    }
+}
+
+fn is_length(length: u16, size: Option<usize>) -> bool
+    ensures right { OnTrue result (IsRightLength size length) }
+    ensures wrong { OnFalse result (IsWrongLength size length) }
+{
+    match size {
+        None => length >= 16,
+        Some(size) => length >= 16 && length as usize == size,
+    }
+}
+
+/// The header at the front of octets, given whether its PTYPE is taken and, where all of the PDU's
+/// octets are at hand, how many they are.
+pub fn front_head(octets: &[u8], known: bool, size: Option<usize>) -> Result<Head, PduFault>
+    requires { 16 ≤ length octets.now }
+    ensures head { IfOk result (λ h. PassesHead known size h.order octets.now) }
+    ensures fields { IfOk result (λ h. h ≡ head_at h.order octets.now) }
+    ensures fault { IfErr result (IsHeadFault known size octets.now) }
+{
+    if octets[0] != 5 || octets[1] > 1 {
+        return Err(PduFault::Version);
+    }
+    if !known {
+        return Err(PduFault::Kind);
+    }
+    let lengths = order_of_lengths(octets[4]);
+    let length = get_u16(lengths, octets, 8);
+    if !is_length(length, size) {
+        return Err(PduFault::Length);
+    }
+    if get_u16(lengths, octets, 10) != 0 {
+        return Err(PduFault::Auth);
+    }
+    match drep_order([octets[4], octets[5], octets[6], octets[7]]) {
+        None => Err(PduFault::Characters),
+        Some(order) => Ok(Head {
+            kind: octets[2],
+            flags: octets[3],
+            order,
+            length,
+            call_id: get_u32(order, octets, 12),
+        }),
+    }
+}
+
+/// What the 16 octets of a header say.
+fn whole_head(octets: &[u8]) -> Result<Head, PduFault>
+    requires { length octets.now ≡ 16 }
+    ensures head { IfOk result (λ h. IsHead h octets.now) }
+    ensures only { (h : Head) → IsHead h octets.now → result ≡ Ok h }
+    ensures fault { IfErr result (IsHeadFault (is_known (kind_at octets.now)) None octets.now) }
+{
+    front_head(octets, is_kind(octets[2]), None)
+}
+
+/// What a PDU's common header says (C706, "Connection-oriented RPC PDUs", common fields). The tests
+/// are those of the faults `Version`, `Kind`, `Length`, `Auth` and `Characters`, in this order; the
+/// length must be at least a header's. It takes no memory.
+pub fn read_head(octets: [u8; 16]) -> Result<Head, PduFault>
+    // What is read is what the octets say.
+    ensures head { IfOk result (λ h. IsHead h octets) }
+    // A header is read.
+    ensures only { (h : Head) → IsHead h octets → result ≡ Ok h }
+    // Which fault it is.
+    ensures fault { IfErr result (IsHeadFault (is_known (kind_at octets)) None octets) }
+{
+    whole_head(&octets)
+}

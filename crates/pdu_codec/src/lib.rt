@@ -1,0 +1,24 @@
+//! PDUs of the connection-oriented protocol as octets, both ways.
+#![tactic(auto)]
+
+mod bodies;
+mod fault;
+mod heads;
+mod laws;
+mod pdu;
+mod pieces;
+mod reading;
+mod writing;
+
+pub use fault::PduFault;
+pub use heads::read_head;
+pub use laws::{one_answer, one_pdu, spelled_is_writable, written_is_spelling};
+pub use pdu::{
+    BindAckBody, BindBody, Body, ContextResult, Element, Elements, FaultBody, Head, Pdu,
+    RequestBody, ResponseBody, Results, Syntaxes, flags,
+};
+pub use reading::read_pdu;
+pub use writing::write_pdu;
+
+#[cfg(test)]
+mod tests;

@@ -1,0 +1,292 @@
+//! Writing PDUs.
+ghost use Rattle.std.specs.Prelude.{◌≡◌, ◌+◌, ◌<◌, ◌≤◌, ◌^◌, [], ◌∷◌, ◌++◌, length, take, drop, replicate, OnOk, OnErr};
+ghost use Rattle.std.specs.List.{AllByRecursion, flat_map};
+ghost use Rattle.pdu_codec.specs.Pdus.{kind_of, drep_octet, zeros_3, head_octets, head_of, object_octets, request_octets, response_octets, fault_octets, maxima_octets, syntaxes_octets, element_octets, bind_octets, gap, result_octets, results_octets, bind_ack_octets, body_octets, pdu_octets, HasSpelling, IsWritable};
+ghost use Rattle.rpc_base.specs.Fields.{u16_octets};
+ghost use Rattle.pdu_codec.specs.Writing.{Keeps};
+
+use crate::{
+    BindAckBody, BindBody, Body, ContextResult, Element, FaultBody, Pdu, RequestBody, ResponseBody,
+};
+use rpc_base::{NoMemory, Order, SyntaxId, put_syntax, put_u16, put_u32, put_uuid};
+use uuid::Uuid;
+
+/// The PTYPE of a body.
+fn kind(body: &Body) -> u8
+    ensures { result ≡ kind_of body.now }
+{
+    match body {
+        Body::Request(_) => 0,
+        Body::Response(_) => 2,
+        Body::Fault(_) => 3,
+        Body::Bind(_) => 11,
+        Body::BindAck(_) => 12,
+    }
+}
+
+/// The first octet of the data representation of ASCII characters and numbers in the order.
+fn drep(order: Order) -> u8
+    ensures { result ≡ drep_octet order }
+{
+    match order {
+        Order::Big => 0x00,
+        Order::Little => 0x10,
+    }
+}
+
+fn put(octets: &[u8], into: &mut Vec<u8>) -> Result<(), NoMemory>
+    ensures ok { OnOk result (into.new.items ≡ into.old.items ++ octets.now) }
+    ensures err { OnErr result (into.new.items ≡ into.old.items) }
+{
+    into.extend_from_slice(octets)?;
+    Ok(())
+}
+
+#[tactic(auto, unfolding(crate::specs::Pdus::head_octets))]
+fn put_head(pdu: &Pdu, size: u16, into: &mut Vec<u8>) -> Result<(), NoMemory>
+    ensures ok { OnOk result (into.new.items ≡ into.old.items ++ head_octets pdu.now.minor zeros_3 (head_of pdu.now size)) }
+    ensures err { OnErr result (Keeps into.old.items into.new.items) }
+{
+    put(
+        &[
+            5,
+            pdu.minor,
+            kind(&pdu.body),
+            pdu.flags,
+            drep(pdu.order),
+            0,
+            0,
+            0,
+        ],
+        into,
+    )?;
+    put_u16(pdu.order, size, into)?;
+    put_u16(pdu.order, 0, into)?;
+    put_u32(pdu.order, pdu.call_id, into)?;
+    Ok(())
+}
+
+fn put_object(order: Order, object: &Option<Uuid>, into: &mut Vec<u8>) -> Result<(), NoMemory>
+    ensures ok { OnOk result (into.new.items ≡ into.old.items ++ object_octets order object.now) }
+    ensures err { OnErr result (into.new.items ≡ into.old.items) }
+{
+    match object {
+        None => Ok(()),
+        Some(id) => put_uuid(order, id, into),
+    }
+}
+
+#[tactic(auto, unfolding(crate::specs::Pdus::request_octets))]
+fn put_request(order: Order, body: &RequestBody, into: &mut Vec<u8>) -> Result<(), NoMemory>
+    ensures ok { OnOk result (into.new.items ≡ into.old.items ++ request_octets order body.now) }
+    ensures err { OnErr result (Keeps into.old.items into.new.items) }
+{
+    put_u32(order, body.alloc_hint, into)?;
+    put_u16(order, body.context, into)?;
+    put_u16(order, body.op, into)?;
+    put_object(order, &body.object, into)?;
+    put(body.stub.as_slice(), into)?;
+    Ok(())
+}
+
+#[tactic(auto, unfolding(crate::specs::Pdus::response_octets))]
+fn put_response(order: Order, body: &ResponseBody, into: &mut Vec<u8>) -> Result<(), NoMemory>
+    ensures ok { OnOk result (into.new.items ≡ into.old.items ++ response_octets order 0 body.now) }
+    ensures err { OnErr result (Keeps into.old.items into.new.items) }
+{
+    put_u32(order, body.alloc_hint, into)?;
+    put_u16(order, body.context, into)?;
+    put(&[body.cancel_count, 0], into)?;
+    put(body.stub.as_slice(), into)?;
+    Ok(())
+}
+
+#[tactic(auto, unfolding(crate::specs::Pdus::fault_octets))]
+fn put_fault(order: Order, body: &FaultBody, into: &mut Vec<u8>) -> Result<(), NoMemory>
+    ensures ok { OnOk result (into.new.items ≡ into.old.items ++ fault_octets order 0 (0 ∷ zeros_3) body.now) }
+    ensures err { OnErr result (Keeps into.old.items into.new.items) }
+{
+    put_u32(order, body.alloc_hint, into)?;
+    put_u16(order, body.context, into)?;
+    put(&[body.cancel_count, 0], into)?;
+    put_u32(order, body.status.0, into)?;
+    put(&[0; 4], into)?;
+    Ok(())
+}
+
+/// What a bind and its answer begin with.
+fn put_maxima(
+    order: Order,
+    max_xmit: u16,
+    max_recv: u16,
+    group: u32,
+    into: &mut Vec<u8>,
+) -> Result<(), NoMemory>
+    ensures ok { OnOk result (into.new.items ≡ into.old.items ++ maxima_octets order max_xmit max_recv group []) }
+    ensures err { OnErr result (Keeps into.old.items into.new.items) }
+{
+    put_u16(order, max_xmit, into)?;
+    put_u16(order, max_recv, into)?;
+    put_u32(order, group, into)?;
+    Ok(())
+}
+
+fn put_syntaxes(order: Order, syntaxes: &[SyntaxId], into: &mut Vec<u8>) -> Result<(), NoMemory>
+    ensures ok { OnOk result (into.new.items ≡ into.old.items ++ syntaxes_octets order syntaxes.now) }
+    ensures err { OnErr result (Keeps into.old.items into.new.items) }
+{
+    for syntax in syntaxes {
+        put_syntax(order, syntax, into)?;
+    }
+    Ok(())
+}
+
+#[tactic(auto, unfolding(crate::specs::Pdus::element_octets))]
+fn put_element(order: Order, element: &Element, into: &mut Vec<u8>) -> Result<(), NoMemory>
+    requires { length element.now.transfers < 256 }
+    ensures ok { OnOk result (into.new.items ≡ into.old.items ++ element_octets order 0 element.now) }
+    ensures err { OnErr result (Keeps into.old.items into.new.items) }
+{
+    put_u16(order, element.context, into)?;
+    put(&[element.transfers.len() as u8, 0], into)?;
+    put_syntax(order, &element.syntax, into)?;
+    put_syntaxes(order, element.transfers.as_slice(), into)?;
+    Ok(())
+}
+
+fn put_elements(order: Order, elements: &[Element], into: &mut Vec<u8>) -> Result<(), NoMemory>
+    requires { AllByRecursion (λ e. length e.transfers < 256) elements.now }
+    ensures ok { OnOk result (into.new.items ≡ into.old.items ++ flat_map (element_octets order 0) elements.now) }
+    ensures err { OnErr result (Keeps into.old.items into.new.items) }
+{
+    for element in elements {
+        put_element(order, element, into)?;
+    }
+    Ok(())
+}
+
+#[tactic(auto, unfolding(crate::specs::Pdus::bind_octets))]
+fn put_bind(order: Order, body: &BindBody, into: &mut Vec<u8>) -> Result<(), NoMemory>
+    requires few { length body.now.elements < 256 }
+    requires each { AllByRecursion (λ e. length e.transfers < 256) body.now.elements }
+    ensures ok { OnOk result (into.new.items ≡ into.old.items ++ bind_octets order zeros_3 (flat_map (element_octets order 0) body.now.elements) [] body.now) }
+    ensures err { OnErr result (Keeps into.old.items into.new.items) }
+{
+    put_maxima(order, body.max_xmit, body.max_recv, body.group, into)?;
+    put(&[body.elements.len() as u8, 0, 0, 0], into)?;
+    put_elements(order, body.elements.as_slice(), into)?;
+    Ok(())
+}
+
+#[tactic(auto, unfolding(crate::specs::Pdus::result_octets))]
+fn put_result(order: Order, answer: &ContextResult, into: &mut Vec<u8>) -> Result<(), NoMemory>
+    ensures ok { OnOk result (into.new.items ≡ into.old.items ++ result_octets order answer.now) }
+    ensures err { OnErr result (Keeps into.old.items into.new.items) }
+{
+    put_u16(order, answer.result, into)?;
+    put_u16(order, answer.reason, into)?;
+    put_syntax(order, &answer.transfer, into)?;
+    Ok(())
+}
+
+fn put_results(order: Order, answers: &[ContextResult], into: &mut Vec<u8>) -> Result<(), NoMemory>
+    ensures ok { OnOk result (into.new.items ≡ into.old.items ++ results_octets order answers.now) }
+    ensures err { OnErr result (Keeps into.old.items into.new.items) }
+{
+    for answer in answers {
+        put_result(order, answer, into)?;
+    }
+    Ok(())
+}
+
+/// The octets between an address of so many octets and the next multiple of four of the PDU.
+fn padding(size: usize) -> &'static [u8]
+    requires { size < 2 ^ 16 }
+    ensures { result.now ≡ replicate (gap (10 + size)) 0 }
+{
+    match (10 + size) % 4 {
+        0 => &[],
+        1 => &[0, 0, 0],
+        2 => &[0, 0],
+        _ => &[0],
+    }
+}
+
+#[tactic(auto, unfolding(crate::specs::Pdus::bind_ack_octets))]
+fn put_bind_ack(order: Order, body: &BindAckBody, into: &mut Vec<u8>) -> Result<(), NoMemory>
+    requires short { length body.now.address < 2 ^ 16 }
+    requires few { length body.now.results < 256 }
+    ensures ok { OnOk result (into.new.items ≡ into.old.items ++ bind_ack_octets order (replicate (gap (10 + length body.now.address)) 0) zeros_3 [] body.now) }
+    ensures err { OnErr result (Keeps into.old.items into.new.items) }
+{
+    put_maxima(order, body.max_xmit, body.max_recv, body.group, into)?;
+    put_u16(order, body.address.len() as u16, into)?;
+    put(body.address.as_slice(), into)?;
+    put(padding(body.address.len()), into)?;
+    put(&[body.results.len() as u8, 0, 0, 0], into)?;
+    put_results(order, body.results.as_slice(), into)?;
+    Ok(())
+}
+
+fn put_body(pdu: &Pdu, into: &mut Vec<u8>) -> Result<(), NoMemory>
+    requires { HasSpelling pdu.now.flags pdu.now.body }
+    ensures ok { OnOk result (into.new.items ≡ into.old.items ++ body_octets pdu.now.order pdu.now.body) }
+    ensures err { OnErr result (Keeps into.old.items into.new.items) }
+{
+    match &pdu.body {
+        Body::Request(body) => put_request(pdu.order, body, into),
+        Body::Response(body) => put_response(pdu.order, body, into),
+        Body::Fault(body) => put_fault(pdu.order, body, into),
+        Body::Bind(body) => put_bind(pdu.order, body, into),
+        Body::BindAck(body) => put_bind_ack(pdu.order, body, into),
+    }
+}
+
+/// Puts the size of a PDU into the header that begins at an index.
+fn set_size(order: Order, size: u16, at: usize, into: &mut Vec<u8>)
+    requires { at + 10 ≤ length into.old.items }
+    ensures { into.new.items ≡ take (at + 8) into.old.items ++ u16_octets order size ++ drop (at + 10) into.old.items }
+{
+    let octets = size_octets(order, size);
+    into[at + 8..at + 10].copy_from_slice(&octets);
+}
+
+#[tactic(auto, unfolding(rpc_base::specs::Fields::number_octets))]
+fn size_octets(order: Order, size: u16) -> [u8; 2]
+    ensures { result ≡ u16_octets order size }
+{
+    match order {
+        Order::Big => size.to_be_bytes(),
+        Order::Little => size.to_le_bytes(),
+    }
+}
+
+fn put_pdu(pdu: &Pdu, into: &mut Vec<u8>) -> Result<(), NoMemory>
+    requires { IsWritable pdu.now }
+    ensures ok { OnOk result (into.new.items ≡ into.old.items ++ pdu_octets pdu.now) }
+    ensures err { OnErr result (Keeps into.old.items into.new.items) }
+{
+    let start = into.len();
+    put_head(pdu, 0, into)?;
+    put_body(pdu, into)?;
+    let size = into.len() - start;
+    set_size(pdu.order, size as u16, start, into);
+    Ok(())
+}
+
+/// Adds the PDU's octets at the end, with zero reserved octets and nothing behind its last field
+/// (C706, "Connection-oriented RPC PDUs"). Where there is no memory, nothing is added.
+pub fn write_pdu(pdu: &Pdu, into: &mut Vec<u8>) -> Result<(), NoMemory>
+    requires { IsWritable pdu.now }
+    ensures ok { OnOk result (into.new.items ≡ into.old.items ++ pdu_octets pdu.now) }
+    ensures err { OnErr result (into.new.items ≡ into.old.items) }
+{
+    let start = into.len();
+    match put_pdu(pdu, into) {
+        Ok(()) => Ok(()),
+        Err(fault) => {
+            into.truncate(start);
+            Err(fault)
+        }
+    }
+}
