@@ -1,0 +1,16 @@
+pub mod Filters
+pub mod Plain
+pub mod Rounds
+pub mod Spelled
+pub mod Steps
+pub mod Sample
+pub mod Goes
+pub mod Reading
+pub mod Tried
+pub mod Calls
+pub mod Sets
+pub mod Lists
+pub mod Loads
+pub mod Growing
+pub mod Sizes
+pub mod Once
