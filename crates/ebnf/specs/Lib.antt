@@ -1,0 +1,5 @@
+pub mod Ebnf
+pub mod Machine
+pub mod Checks
+pub mod Stacks
+pub mod Laws
