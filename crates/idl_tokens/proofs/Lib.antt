@@ -1,0 +1,9 @@
+pub mod Digits
+pub mod Ends
+pub mod FirstOctets
+pub mod Lexed
+pub mod Once
+pub mod Separators
+pub mod Shorter
+pub mod Steps
+pub mod WordTexts

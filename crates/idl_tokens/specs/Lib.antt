@@ -1,0 +1,7 @@
+pub mod Contexts
+pub mod Firsts
+pub mod Laws
+pub mod Runs
+pub mod Signs
+pub mod Spellings
+pub mod Tokens

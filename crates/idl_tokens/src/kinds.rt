@@ -1,0 +1,67 @@
+//! Tokens.
+ghost use Rattle.std.specs.Prelude.{◌≡◌, nat_lt};
+ghost use Rattle.idl_tokens.specs.Signs.{sign};
+
+use crate::{Bracket, Mark, Word};
+use rpc_base::Octets;
+use uuid::Uuid;
+
+/// What a token is.
+#[derive(Debug, Drop)]
+pub enum Kind {
+    Word(Word),
+    /// A name that is no reserved word.
+    Name(Octets),
+    /// A number, if it fits 64 bits.
+    Number(Option<u64>),
+    /// A string, without its quotes.
+    Text(Octets),
+    Uuid(Uuid),
+    Mark(Mark),
+    /// An opening bracket and its nesting level, from 1.
+    Open(Bracket, usize),
+    Shut(Bracket),
+    /// The end of the text.
+    End,
+    /// An octet that begins no token, or an unfinished token or comment: nothing is read behind it.
+    Bad,
+}
+
+/// A token, and the index of the octet where it begins.
+#[derive(Debug, Drop)]
+pub struct Token {
+    pub at: usize,
+    pub kind: Kind,
+}
+
+impl Kind {
+    /// The token's class, which the grammar tells tokens by.
+    pub fn class(&self) -> u8
+        ensures { result ≡ (sign self.now).class }
+    {
+        match self {
+            Kind::Word(word) => word.class(),
+            Kind::Name(_) => 70,
+            Kind::Number(_) => 71,
+            Kind::Text(_) => 72,
+            Kind::Uuid(_) => 73,
+            Kind::Mark(mark) => mark.class(),
+            Kind::Open(bracket, _) => bracket.opening(),
+            Kind::Shut(bracket) => bracket.closing(),
+            Kind::End => 74,
+            Kind::Bad => 0,
+        }
+    }
+
+    /// Whether a number's value, or an opening bracket's level, is above `most`.
+    pub fn is_over(&self, most: u64) -> bool
+        ensures { result ≡ nat_lt most (sign self.now).size }
+    {
+        match self {
+            Kind::Number(Some(value)) => most < *value,
+            Kind::Number(None) => true,
+            Kind::Open(_, level) => most < *level as u64,
+            _ => false,
+        }
+    }
+}

@@ -1,0 +1,21 @@
+//! Tokens of the interface definition language, and the lexer (C706, "Interface Definition Language").
+#![tactic(auto)]
+
+mod firsts;
+mod gaps;
+mod kinds;
+mod laws;
+mod lexer;
+mod marks;
+mod numbers;
+mod runs;
+mod words;
+
+pub use kinds::{Kind, Token};
+pub use laws::{places_rise, text_has_one_list_of_tokens, tokens_end_once};
+pub use lexer::tokens;
+pub use marks::{Bracket, Mark};
+pub use words::Word;
+
+#[cfg(test)]
+mod tests;
