@@ -1,0 +1,212 @@
+-- A class tells its token.
+use Rattle.std.proofs.Common.{arith, List, ◌<◌, ◌^◌, ◌≡◌, ℕ, eqb, cond, refl, ap, sym, ◌∙◌, None, Some, inl, inr}
+use Rattle.std.specs.Prelude.{◌⊎◌}
+use Rattle.idl_tokens.specs.declared.words.Word.{Word}
+use Rattle.idl_tokens.specs.declared.words.Word.TheVariants as words
+use Rattle.idl_tokens.specs.declared.marks.Mark.{Mark}
+use Rattle.idl_tokens.specs.declared.marks.Mark.TheVariants as marks
+use Rattle.idl_tokens.specs.declared.marks.Bracket.{Bracket}
+use Rattle.idl_tokens.specs.declared.marks.Bracket.TheVariants as brackets
+use Rattle.idl_tokens.specs.declared.kinds.Kind.{Kind}
+use Rattle.idl_tokens.specs.declared.kinds.Kind.TheVariants as kinds
+use Rattle.idl_tokens.specs.Signs.{of_word, of_mark, opening, closing, sign}
+use Rattle.uuid.specs.declared.Uuid.{Uuid}
+
+-- the word, mark, closing bracket or end of a class; for any other class Bad
+told : ℕ → Kind
+told c = cond (eqb c 1) (kinds.Word words.Interface) (cond (eqb c 2) (kinds.Word words.Uuid) (cond (eqb c 3) (kinds.Word words.Version) (cond (eqb c 4) (kinds.Word words.PointerDefault) (cond (eqb c 5) (kinds.Word words.Endpoint) (cond (eqb c 6) (kinds.Word words.Ref) (cond (eqb c 7) (kinds.Word words.Unique) (cond (eqb c 8) (kinds.Word words.Ptr) (cond (eqb c 9) (kinds.Word words.Const) (cond (eqb c 10) (kinds.Word words.Typedef) (cond (eqb c 11) (kinds.Word words.Void) (cond (eqb c 12) (kinds.Word words.In) (cond (eqb c 13) (kinds.Word words.Out) (cond (eqb c 14) (kinds.Word words.String) (cond (eqb c 15) (kinds.Word words.Idempotent) (cond (eqb c 16) (kinds.Word words.Maybe) (cond (eqb c 17) (kinds.Word words.ContextHandle) (cond (eqb c 18) (kinds.Word words.ContextHandleSerialize) (cond (eqb c 19) (kinds.Word words.ContextHandleNoserialize) (cond (eqb c 20) (kinds.Word words.SizeIs) (cond (eqb c 21) (kinds.Word words.MaxIs) (cond (eqb c 22) (kinds.Word words.LengthIs) (cond (eqb c 23) (kinds.Word words.SwitchIs) (cond (eqb c 24) (kinds.Word words.SwitchType) (cond (eqb c 25) (kinds.Word words.HandleT) (cond (eqb c 26) (kinds.Word words.ErrorStatusT) (cond (eqb c 27) (kinds.Word words.Boolean) (cond (eqb c 28) (kinds.Word words.Byte) (cond (eqb c 29) (kinds.Word words.Unsigned) (cond (eqb c 30) (kinds.Word words.Char) (cond (eqb c 31) (kinds.Word words.Small) (cond (eqb c 32) (kinds.Word words.Short) (cond (eqb c 33) (kinds.Word words.Long) (cond (eqb c 34) (kinds.Word words.Hyper) (cond (eqb c 35) (kinds.Word words.Int) (cond (eqb c 36) (kinds.Word words.Struct) (cond (eqb c 37) (kinds.Word words.Union) (cond (eqb c 38) (kinds.Word words.Switch) (cond (eqb c 39) (kinds.Word words.Enum) (cond (eqb c 40) (kinds.Word words.Case) (cond (eqb c 41) (kinds.Word words.Default) (cond (eqb c 50) (kinds.Mark marks.Comma) (cond (eqb c 51) (kinds.Mark marks.Semicolon) (cond (eqb c 52) (kinds.Mark marks.Colon) (cond (eqb c 53) (kinds.Mark marks.Star) (cond (eqb c 54) (kinds.Mark marks.Equals) (cond (eqb c 55) (kinds.Mark marks.Minus) (cond (eqb c 56) (kinds.Mark marks.Dot) (cond (eqb c 63) (kinds.Shut brackets.Square) (cond (eqb c 64) (kinds.Shut brackets.Round) (cond (eqb c 65) (kinds.Shut brackets.Curly) (cond (eqb c 74) kinds.End kinds.Bad)))))))))))))))))))))))))))))))))))))))))))))))))))
+
+word_back : (w : Word) → told (of_word w) ≡ kinds.Word w
+unfolding told
+word_back words.Interface = refl
+word_back words.Uuid = refl
+word_back words.Version = refl
+word_back words.PointerDefault = refl
+word_back words.Endpoint = refl
+word_back words.Ref = refl
+word_back words.Unique = refl
+word_back words.Ptr = refl
+word_back words.Const = refl
+word_back words.Typedef = refl
+word_back words.Void = refl
+word_back words.In = refl
+word_back words.Out = refl
+word_back words.String = refl
+word_back words.Idempotent = refl
+word_back words.Maybe = refl
+word_back words.ContextHandle = refl
+word_back words.ContextHandleSerialize = refl
+word_back words.ContextHandleNoserialize = refl
+word_back words.SizeIs = refl
+word_back words.MaxIs = refl
+word_back words.LengthIs = refl
+word_back words.SwitchIs = refl
+word_back words.SwitchType = refl
+word_back words.HandleT = refl
+word_back words.ErrorStatusT = refl
+word_back words.Boolean = refl
+word_back words.Byte = refl
+word_back words.Unsigned = refl
+word_back words.Char = refl
+word_back words.Small = refl
+word_back words.Short = refl
+word_back words.Long = refl
+word_back words.Hyper = refl
+word_back words.Int = refl
+word_back words.Struct = refl
+word_back words.Union = refl
+word_back words.Switch = refl
+word_back words.Enum = refl
+word_back words.Case = refl
+word_back words.Default = refl
+
+mark_back : (m : Mark) → told (of_mark m) ≡ kinds.Mark m
+unfolding told
+mark_back marks.Comma = refl
+mark_back marks.Semicolon = refl
+mark_back marks.Colon = refl
+mark_back marks.Star = refl
+mark_back marks.Equals = refl
+mark_back marks.Minus = refl
+mark_back marks.Dot = refl
+
+shut_back : (b : Bracket) → told (closing b) ≡ kinds.Shut b
+unfolding told
+shut_back brackets.Square = refl
+shut_back brackets.Round = refl
+shut_back brackets.Curly = refl
+
+open_none : (b : Bracket) → told (opening b) ≡ kinds.Bad
+unfolding told
+open_none brackets.Square = refl
+open_none brackets.Round = refl
+open_none brackets.Curly = refl
+
+others : (told 70 ≡ kinds.Bad) × (told 71 ≡ kinds.Bad) × (told 72 ≡ kinds.Bad) × (told 73 ≡ kinds.Bad) × (told 74 ≡ kinds.End) × (told 0 ≡ kinds.Bad)
+unfolding told
+others = (refl, refl, refl, refl, refl, refl)
+
+-- its class tells a kind, or tells nothing
+back : (k : Kind) → (told (sign k).class ≡ k) ⊎ (told (sign k).class ≡ kinds.Bad)
+back (kinds.Word w) = inl (word_back w)
+back (kinds.Mark m) = inl (mark_back m)
+back (kinds.Shut b) = inl (shut_back b)
+back kinds.End = inl others.4
+back (kinds.Name text) = inr others.0
+back (kinds.Number (Some n)) = inr others.1
+back (kinds.Number None) = inr others.1
+back (kinds.Text text) = inr others.2
+back (kinds.Uuid id) = inr others.3
+back (kinds.Open b l) = inr (open_none b)
+back kinds.Bad = inr others.5
+
+pub word_told : (k : Kind) (w : Word) → (sign k).class ≡ of_word w → k ≡ kinds.Word w
+word_told k w e = let f : told (sign k).class ≡ kinds.Word w = ap told e ∙ word_back w in elim (back k) [ inl p ↦ sym p ∙ f | inr p ↦ cc ]
+
+pub mark_told : (k : Kind) (m : Mark) → (sign k).class ≡ of_mark m → k ≡ kinds.Mark m
+mark_told k m e = let f : told (sign k).class ≡ kinds.Mark m = ap told e ∙ mark_back m in elim (back k) [ inl p ↦ sym p ∙ f | inr p ↦ cc ]
+
+pub shut_told : (k : Kind) (b : Bracket) → (sign k).class ≡ closing b → k ≡ kinds.Shut b
+shut_told k b e = let f : told (sign k).class ≡ kinds.Shut b = ap told e ∙ shut_back b in elim (back k) [ inl p ↦ sym p ∙ f | inr p ↦ cc ]
+
+pub end_told : (k : Kind) → (sign k).class ≡ 74 → k ≡ kinds.End
+end_told k e = let f : told (sign k).class ≡ kinds.End = ap told e ∙ others.4 in elim (back k) [ inl p ↦ sym p ∙ f | inr p ↦ cc ]
+
+pub word_same : (v w : Word) → of_word v ≡ of_word w → v ≡ w
+word_same v w e = let f : kinds.Word v ≡ kinds.Word w = sym (word_back v) ∙ (ap told e ∙ word_back w) in cc
+
+-- ---- the kinds that hold something
+
+-- a class that tells nothing is none of these
+no_word : (w : Word) (c : ℕ) → of_word w ≡ c → told c ≡ kinds.Bad → ⊥
+no_word w c e f = let g : kinds.Word w ≡ kinds.Bad = sym (word_back w) ∙ (ap told e ∙ f) in cc
+
+no_mark : (m : Mark) (c : ℕ) → of_mark m ≡ c → told c ≡ kinds.Bad → ⊥
+no_mark m c e f = let g : kinds.Mark m ≡ kinds.Bad = sym (mark_back m) ∙ (ap told e ∙ f) in cc
+
+no_shut : (b : Bracket) (c : ℕ) → closing b ≡ c → told c ≡ kinds.Bad → ⊥
+no_shut b c e f = let g : kinds.Shut b ≡ kinds.Bad = sym (shut_back b) ∙ (ap told e ∙ f) in cc
+
+below_70 : (b : Bracket) → opening b < 70
+below_70 brackets.Square = omega arith
+below_70 brackets.Round = omega arith
+below_70 brackets.Curly = omega arith
+
+pub name_told : (k : Kind) → (sign k).class ≡ 70 → (text : List ℕ) × (k ≡ kinds.Name text)
+name_told (kinds.Word w) e = absurd (no_word w _ e others.0)
+name_told (kinds.Mark m) e = absurd (no_mark m _ e others.0)
+name_told (kinds.Shut b) e = absurd (no_shut b _ e others.0)
+name_told (kinds.Name text) e = (text, refl)
+name_told (kinds.Number (Some n)) e = absurd (omega arith)
+name_told (kinds.Number None) e = absurd (omega arith)
+name_told (kinds.Text text) e = absurd (omega arith)
+name_told (kinds.Uuid id) e = absurd (omega arith)
+name_told (kinds.Open b l) e = let a = below_70 b in absurd (omega arith)
+name_told kinds.End e = absurd (omega arith)
+name_told kinds.Bad e = absurd (omega arith)
+
+pub number_told : (k : Kind) → (sign k).class ≡ 71 → (sign k).size < 2 ^ 64 → (n : ℕ) × (k ≡ kinds.Number (Some n))
+number_told (kinds.Word w) e l = absurd (no_word w _ e others.1)
+number_told (kinds.Mark m) e l = absurd (no_mark m _ e others.1)
+number_told (kinds.Shut b) e l = absurd (no_shut b _ e others.1)
+number_told (kinds.Name text) e l = absurd (omega arith)
+number_told (kinds.Number (Some n)) e l = (n, refl)
+number_told (kinds.Number None) e l = absurd (omega arith)
+number_told (kinds.Text text) e l = absurd (omega arith)
+number_told (kinds.Uuid id) e l = absurd (omega arith)
+number_told (kinds.Open b level) e l = let a = below_70 b in absurd (omega arith)
+number_told kinds.End e l = absurd (omega arith)
+number_told kinds.Bad e l = absurd (omega arith)
+
+pub text_told : (k : Kind) → (sign k).class ≡ 72 → (text : List ℕ) × (k ≡ kinds.Text text)
+text_told (kinds.Word w) e = absurd (no_word w _ e others.2)
+text_told (kinds.Mark m) e = absurd (no_mark m _ e others.2)
+text_told (kinds.Shut b) e = absurd (no_shut b _ e others.2)
+text_told (kinds.Name text) e = absurd (omega arith)
+text_told (kinds.Number (Some n)) e = absurd (omega arith)
+text_told (kinds.Number None) e = absurd (omega arith)
+text_told (kinds.Text text) e = (text, refl)
+text_told (kinds.Uuid id) e = absurd (omega arith)
+text_told (kinds.Open b l) e = let a = below_70 b in absurd (omega arith)
+text_told kinds.End e = absurd (omega arith)
+text_told kinds.Bad e = absurd (omega arith)
+
+pub uuid_told : (k : Kind) → (sign k).class ≡ 73 → (id : Uuid) × (k ≡ kinds.Uuid id)
+uuid_told (kinds.Word w) e = absurd (no_word w _ e others.3)
+uuid_told (kinds.Mark m) e = absurd (no_mark m _ e others.3)
+uuid_told (kinds.Shut b) e = absurd (no_shut b _ e others.3)
+uuid_told (kinds.Name text) e = absurd (omega arith)
+uuid_told (kinds.Number (Some n)) e = absurd (omega arith)
+uuid_told (kinds.Number None) e = absurd (omega arith)
+uuid_told (kinds.Text text) e = absurd (omega arith)
+uuid_told (kinds.Uuid id) e = (id, refl)
+uuid_told (kinds.Open b l) e = let a = below_70 b in absurd (omega arith)
+uuid_told kinds.End e = absurd (omega arith)
+uuid_told kinds.Bad e = absurd (omega arith)
+
+bracket_of : ℕ → Bracket
+bracket_of c = cond (eqb c 60) brackets.Square (cond (eqb c 61) brackets.Round brackets.Curly)
+
+open_back : (b : Bracket) → bracket_of (opening b) ≡ b
+unfolding bracket_of
+open_back brackets.Square = refl
+open_back brackets.Round = refl
+open_back brackets.Curly = refl
+
+above_0 : (b : Bracket) → 0 < opening b
+above_0 brackets.Square = omega arith
+above_0 brackets.Round = omega arith
+above_0 brackets.Curly = omega arith
+
+pub open_told : (k : Kind) (b : Bracket) → (sign k).class ≡ opening b → (level : ℕ) × (k ≡ kinds.Open b level)
+open_told (kinds.Word w) b e = absurd (no_word w _ e (open_none b))
+open_told (kinds.Mark m) b e = absurd (no_mark m _ e (open_none b))
+open_told (kinds.Shut d) b e = absurd (no_shut d _ e (open_none b))
+open_told (kinds.Name text) b e = let a = below_70 b in let o = above_0 b in absurd (omega arith)
+open_told (kinds.Number (Some n)) b e = let a = below_70 b in let o = above_0 b in absurd (omega arith)
+open_told (kinds.Number None) b e = let a = below_70 b in let o = above_0 b in absurd (omega arith)
+open_told (kinds.Text text) b e = let a = below_70 b in let o = above_0 b in absurd (omega arith)
+open_told (kinds.Uuid id) b e = let a = below_70 b in let o = above_0 b in absurd (omega arith)
+open_told (kinds.Open d l) b e = (l, ap (λ x. kinds.Open x l) (sym (open_back d) ∙ (ap bracket_of e ∙ open_back b)))
+open_told kinds.End b e = let a = below_70 b in let o = above_0 b in absurd (omega arith)
+open_told kinds.Bad b e = let a = below_70 b in let o = above_0 b in absurd (omega arith)

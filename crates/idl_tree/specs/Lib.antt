@@ -1,0 +1,5 @@
+pub mod Grammar
+pub mod Pieces
+pub mod Trees
+pub mod Files
+pub mod Idl
