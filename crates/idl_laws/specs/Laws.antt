@@ -1,0 +1,13 @@
+-- Laws of interface texts.
+use Rattle.std.specs.Prelude.{◌≡◌, ◌↔◌, List, [], Bool}
+use Rattle.ebnf.specs.Ebnf.{Sign, Takes}
+use Rattle.idl_tokens.specs.declared.kinds.Token.{Token}
+use Rattle.idl_tree.specs.Grammar.{rule, file}
+use Rattle.idl_tree.specs.Idl.{FirstDeparture}
+use Rattle.idl_laws.specs.AsWritten.{written_rule}
+
+abbrev pub TakesAsWritten : Type 0
+TakesAsWritten = (ks : List Sign) → Takes rule file ks [] ↔ Takes written_rule file ks []
+
+abbrev pub DepartsOnce : Type 0
+DepartsOnce = (tokens : List Token) (s t : Token) (o p : Bool) → FirstDeparture tokens s o → FirstDeparture tokens t p → (s ≡ t) × (o ≡ p)

@@ -1,0 +1,2 @@
+pub mod AsWritten
+pub mod Laws
