@@ -1,0 +1,5 @@
+pub mod Orders
+pub mod Loops
+pub mod Ends
+pub mod Top
+pub mod Causes
