@@ -1,0 +1,5 @@
+pub mod Forms
+pub mod Values
+pub mod Fits
+pub mod Typed
+pub mod Judged
