@@ -21,7 +21,7 @@ use Rattle.idl_tree.specs.declared.spec.AttrKind.TheFolds.{fold-AttrKind, fold-S
 use Rattle.idl_tree.specs.Pieces.{Pieces, Written, BeginsAt, placed, open_pieces, shut_pieces, within, word_pieces, mark_pieces, ref_pieces, if_mark, if_ident, ident_pieces}
 use Rattle.idl_tokens.specs.declared.kinds.Token.{Token}
 use Rattle.idl_tree.proofs.Writing.{write_join, write_placed}
-use Rattle.idl_tree.specs.Trees.{attr_kind_step, kind_step, arm_step, attr_step, member_step, spec_step, switch_step, attr_kind_pieces, kind_pieces, spec_pieces, attr_pieces, attrs_pieces, member_pieces, switch_pieces, arm_member_pieces, arm_pieces, label_pieces, dtors_pieces, names_pieces, in_squares}
+use Rattle.idl_tree.specs.Trees.{attr_kind_step, kind_step, arm_step, attr_step, member_step, spec_step, switch_step, attr_kind_pieces, kind_pieces, spec_pieces, attr_pieces, attrs_pieces, member_pieces, switch_pieces, arm_member_pieces, arm_pieces, label_pieces, dtors_pieces, tag_pieces, names_pieces, in_squares}
 
 -- ---- lists of what was folded
 
@@ -91,7 +91,7 @@ pub void_is : kind_pieces spec_kinds.Void ≡ word_pieces words.Void
 unfolding views.roll-SpecKind denote.Hole.Carrier.roll
 void_is = fold-roll-SpecKind Pieces Pieces Pieces Pieces Pieces Pieces Pieces attr_kind_step kind_step arm_step attr_step member_step spec_step switch_step open_.Void
 
-pub struct_none : (tag : Option Ident) → kind_pieces (views.Struct tag None) ≡ word_pieces words.Struct ++ if_ident tag
+pub struct_none : (tag : Option Ident) → kind_pieces (views.Struct tag None) ≡ word_pieces words.Struct ++ tag_pieces tag
 unfolding views.roll-SpecKind denote.Hole.Carrier.roll
 struct_none tag = fold-roll-SpecKind Pieces Pieces Pieces Pieces Pieces Pieces Pieces attr_kind_step kind_step arm_step attr_step member_step spec_step switch_step (open_.Struct tag None)
 
@@ -123,7 +123,7 @@ enum_is tag names = fold-roll-SpecKind Pieces Pieces Pieces Pieces Pieces Pieces
 
 -- ---- written
 
-pub written_struct_none : (before ts rest : List Token) (tag : Option Ident) → Written (word_pieces words.Struct) before ts → Written (if_ident tag) ts rest → Written (kind_pieces (views.Struct tag None)) before rest
+pub written_struct_none : (before ts rest : List Token) (tag : Option Ident) → Written (word_pieces words.Struct) before ts → Written (tag_pieces tag) ts rest → Written (kind_pieces (views.Struct tag None)) before rest
 written_struct_none before ts rest tag p q = subst (λ (x : Pieces). Written x before rest) (sym (struct_none tag)) (write_join p q)
 
 pub written_struct_some : (before ts mid rest : List Token) (tag : Option Ident) (ms : Vec Member Global) → Written (word_pieces words.Struct) before ts → Written (if_ident tag) ts mid → Written (within brackets.Curly (flat_map member_pieces ms.items)) mid rest → Written (kind_pieces (views.Struct tag (Some ms))) before rest

@@ -4,7 +4,8 @@ use Rattle.std.specs.List.{flat_map}
 use Rattle.idl_tokens.specs.declared.words.Word.TheVariants as words
 use Rattle.idl_tokens.specs.declared.marks.Mark.TheVariants as marks
 use Rattle.idl_tokens.specs.declared.marks.Bracket.TheVariants as brackets
-use Rattle.idl_tree.specs.Pieces.{Pieces, placed, within, commas, word_pieces, mark_pieces, ident_pieces, if_ident, if_mark, num_pieces, pk_pieces, base_pieces, dtor_pieces, ref_pieces}
+use Rattle.idl_tokens.specs.declared.kinds.Kind.TheVariants as kinds
+use Rattle.idl_tree.specs.Pieces.{Pieces, alone, placed, within, commas, word_pieces, mark_pieces, ident_pieces, if_ident, if_mark, num_pieces, pk_pieces, base_pieces, dtor_pieces, ref_pieces}
 use Rattle.idl_tree.specs.declared.leaf.Ident.{Ident}
 use Rattle.idl_tree.specs.declared.leaf.Dtor.{Dtor}
 use Rattle.idl_tree.specs.declared.spec.SpecKind.{SpecKind}
@@ -29,8 +30,15 @@ label_kind_pieces labels.Default = word_pieces words.Default ++ mark_pieces mark
 unfoldable pub label_pieces : Label → Pieces
 label_pieces l = placed l.at (label_kind_pieces l.what)
 
+-- one declarator at least: of none there is what no grammar takes
 unfoldable pub dtors_pieces : List Dtor → Pieces
-dtors_pieces ds = commas dtor_pieces ds
+dtors_pieces [] = alone kinds.Bad ∷ []
+dtors_pieces (d ∷ ds) = commas dtor_pieces (d ∷ ds)
+
+-- the tag of a structure without members, which has to have one
+unfoldable pub tag_pieces : Option Ident → Pieces
+tag_pieces None = alone kinds.Bad ∷ []
+tag_pieces (Some i) = ident_pieces i
 
 unfoldable pub names_pieces : List Ident → Pieces
 names_pieces is = commas ident_pieces is
@@ -68,7 +76,7 @@ kind_step (open_.Named i) = ident_pieces i
 kind_step open_.Void = word_pieces words.Void
 kind_step open_.HandleT = word_pieces words.HandleT
 kind_step open_.ErrorStatus = word_pieces words.ErrorStatusT
-kind_step (open_.Struct tag None) = word_pieces words.Struct ++ if_ident tag
+kind_step (open_.Struct tag None) = word_pieces words.Struct ++ tag_pieces tag
 kind_step (open_.Struct tag (Some ms)) = word_pieces words.Struct ++ (if_ident tag ++ within brackets.Curly (flat_map (λ p. p) ms.items))
 kind_step (open_.Union tag switch arms) = word_pieces words.Union ++ (if_ident tag ++ (if_switch switch ++ within brackets.Curly (flat_map (λ p. p) arms.items)))
 kind_step (open_.Enum tag names) = word_pieces words.Enum ++ (if_ident tag ++ within brackets.Curly (names_pieces names.items))

@@ -1,5 +1,5 @@
 -- The small parts.
-use Rattle.std.proofs.Common.{◌≡◌, ℕ, ◌≤◌, ◌+◌, suc, zero, Bool, true, false, eqb, ◌||◌, List, [], ◌∷◌, ◌++◌, refl, ap, sym, ◌∙◌, subst, None, Some, length, map, inl, inr, append_assoc, append-nil, add-one}
+use Rattle.std.proofs.Common.{◌≡◌, ℕ, ◌≤◌, ◌+◌, suc, zero, Bool, true, false, eqb, ◌||◌, List, [], ◌∷◌, ◌++◌, refl, ap, sym, ◌∙◌, subst, None, Some, length, map, inl, inr, append_assoc, append-nil, add-one, arith}
 use Rattle.std.specs.Prelude.{◌⊎◌}
 use Rattle.ebnf.specs.Ebnf.{has}
 use Rattle.std.proofs.lemmas.Bool.{eqb-true}
@@ -9,7 +9,7 @@ use Rattle.idl_tokens.specs.declared.marks.Mark.TheVariants as marks
 use Rattle.idl_tokens.specs.declared.kinds.Token.{Token}
 use Rattle.idl_tokens.specs.Signs.{of_word}
 use Rattle.idl_tree.specs.Pieces.{Pieces, Written, mark_pieces, star_pieces, ident_pieces, dtor_pieces, if_ident}
-use Rattle.idl_tree.specs.Trees.{names_pieces, dtors_pieces, label_pieces}
+use Rattle.idl_tree.specs.Trees.{names_pieces, dtors_pieces, tag_pieces, label_pieces}
 use Rattle.idl_tree.specs.declared.leaf.Dtor.{Dtor}
 use Rattle.idl_tree.specs.declared.leaf.Ident.{Ident}
 use Rattle.idl_tree.specs.declared.spec.Label.{Label}
@@ -62,7 +62,8 @@ dtors_one d ts rest p = subst (λ (x : Pieces). Written x ts rest) (sym (commas_
 
 pub dtors_more : (ds : List Dtor) (d : Dtor) (ts mid rest : List Token) → 1 ≤ length ds → Written (dtors_pieces ds) ts mid → Written (mark_pieces marks.Comma ++ dtor_pieces d) mid rest → Written (dtors_pieces (ds ++ d ∷ [])) ts rest
 unfolding dtors_pieces
-dtors_more ds d ts mid rest h p q = subst (λ (x : Pieces). Written x ts rest) (sym (commas_push dtor_pieces ds d h)) (write_join p q)
+dtors_more [] d ts mid rest h p q = absurd (omega arith)
+dtors_more (e ∷ ds) d ts mid rest h p q = subst (λ (x : Pieces). Written x ts rest) (sym (commas_push dtor_pieces (e ∷ ds) d h)) (write_join p q)
 
 pub names_one : (d : Ident) (ts rest : List Token) → Written (ident_pieces d) ts rest → Written (names_pieces (d ∷ [])) ts rest
 unfolding names_pieces
@@ -93,3 +94,8 @@ tag_some i ts rest p = p
 pub tag_none : (ts : List Token) → Written (if_ident None) ts ts
 unfolding if_ident
 tag_none ts = write_none ts
+
+-- the tag of a structure without members
+pub tag_alone : (i : Ident) (ts rest : List Token) → Written (ident_pieces i) ts rest → Written (tag_pieces (Some i)) ts rest
+unfolding tag_pieces
+tag_alone i ts rest p = p

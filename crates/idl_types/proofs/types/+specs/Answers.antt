@@ -1,6 +1,6 @@
 use Rattle.std.proofs.Common.{Some, None}
 use Rattle.idl_tree.proofs.Layers.{written_struct_none, written_struct_some, written_union_none, written_union_some, written_switch_type, written_member, written_switch, written_arm}
-use Rattle.idl_types.proofs.Parts.{tag_some, tag_none}
+use Rattle.idl_types.proofs.Parts.{tag_some, tag_none, tag_alone}
 use Rattle.idl_types.proofs.types.+specs.Goals as goal
 
 pub struct_rest-returns-in_ok-members-clause-written : goal.struct_rest-returns-in_ok-members-clause-written
@@ -9,7 +9,7 @@ struct_rest-returns-in_ok-members-clause-written t c = λ before h.
 
 pub struct_rest-returns-else-is_open-clause-written : goal.struct_rest-returns-else-is_open-clause-written
 struct_rest-returns-else-is_open-clause-written t c = λ before h.
-    written_struct_none before c.args.tokens.now c.in_ok-name.rest.now (Some c.in_ok-name.name) h (tag_some c.in_ok-name.name c.args.tokens.now c.in_ok-name.rest.now c.in_ok-name.ensures.written)
+    written_struct_none before c.args.tokens.now c.in_ok-name.rest.now (Some c.in_ok-name.name) h (tag_alone c.in_ok-name.name c.args.tokens.now c.in_ok-name.rest.now c.in_ok-name.ensures.written)
 
 pub struct_rest-returns-in_ok-members-2-clause-written : goal.struct_rest-returns-in_ok-members-2-clause-written
 struct_rest-returns-in_ok-members-2-clause-written t c = λ before h.
