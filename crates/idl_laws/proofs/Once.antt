@@ -57,3 +57,8 @@ departs_once tokens s t o p d e =
         | inr h ↦ absurd (never tokens t s p o e d h)
       ]
     ]
+
+pub no_departure : (tokens : List Token) (t : Token) (o : Bool) → Takes rule file (signs tokens) [] → FirstDeparture tokens t o → ⊥
+no_departure tokens t o h d =
+    let all : signs tokens ≡ (signs d.before ++ sign t.kind ∷ []) ++ signs d.behind = ap signs d.cut ∙ (signs_append d.before (t ∷ d.behind) ∙ sym (append_assoc (signs d.before) (sign t.kind ∷ []) (signs d.behind))) in
+    d.no_further (signs d.behind, subst (λ (x : List Sign). Takes rule file x []) all h)

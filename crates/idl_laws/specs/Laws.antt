@@ -2,6 +2,7 @@
 use Rattle.std.specs.Prelude.{◌≡◌, ◌↔◌, List, [], Bool}
 use Rattle.ebnf.specs.Ebnf.{Sign, Takes}
 use Rattle.idl_tokens.specs.declared.kinds.Token.{Token}
+use Rattle.idl_tokens.specs.Signs.{signs}
 use Rattle.idl_tree.specs.Grammar.{rule, file}
 use Rattle.idl_tree.specs.Idl.{FirstDeparture}
 use Rattle.idl_laws.specs.AsWritten.{written_rule}
@@ -11,3 +12,6 @@ TakesAsWritten = (ks : List Sign) → Takes rule file ks [] ↔ Takes written_ru
 
 abbrev pub DepartsOnce : Type 0
 DepartsOnce = (tokens : List Token) (s t : Token) (o p : Bool) → FirstDeparture tokens s o → FirstDeparture tokens t p → (s ≡ t) × (o ≡ p)
+
+abbrev pub TakenDoNotDepart : Type 0
+TakenDoNotDepart = (tokens : List Token) (t : Token) (o : Bool) → Takes rule file (signs tokens) [] → FirstDeparture tokens t o → ⊥
