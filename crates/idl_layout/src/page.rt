@@ -102,6 +102,13 @@ impl Page {
         self.put(Sort::End, b"")
     }
 
+    /// What is no token. It has no spelling, and ends the text as its end does.
+    pub fn bad(&mut self) -> Result<(), NoMemory>
+        ensures { OnOk result (Puts (kinds.Bad ∷ []) self.old self.new) }
+    {
+        self.put(Sort::End, b"")
+    }
+
     /// A token of that spelling, behind what stands before it.
     fn put(&mut self, sort: Sort, spelling: &[u8]) -> Result<(), NoMemory>
         ensures { OnOk result (PutsOne sort spelling.now self.old self.new) }
