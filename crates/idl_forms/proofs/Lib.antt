@@ -1,0 +1,9 @@
+pub mod Stream
+pub mod Readers
+pub mod Reading
+pub mod Leaves
+pub mod Specs
+pub mod OwnWord
+pub mod Decls
+pub mod Taken
+pub mod Top
