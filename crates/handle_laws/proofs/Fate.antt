@@ -22,13 +22,13 @@ use Rattle.handle_laws.proofs.Slots.{changer, closed_none, closed_once, running_
 
 -- WHAT A RUNNING CALL CLOSES IS LIVE
 
-usable_live : (home : Home) (past : List Entry) (s : Slot) (h : ℕ) (o : Option ℕ) → serial_named home past s ≡ o → is_usable_as home past (kind_of s) o ≡ true → names (wire_of home h) s ≡ true → is_live home past h ≡ true
+pub usable_live : (home : Home) (past : List Entry) (s : Slot) (h : ℕ) (o : Option ℕ) → serial_named home past s ≡ o → is_usable_as home past (kind_of s) o ≡ true → names (wire_of home h) s ≡ true → is_live home past h ≡ true
 usable_live home past s h None e u n = absurd (cc)
 usable_live home past s h (Some g) e u n =
     let same = names_one home h g s n (serial_named_is home past s g e) in
     subst (λ (x : ℕ). is_live home past x ≡ true) (sym same) (and_left (is_live home past g) (is_kind (kind past g) (kind_of s)) u)
 
-closer_live : (home : Home) (past : List Entry) (h : ℕ) (ss : List Slot) (os : List Outcome) → AllUsable home past ss → suit ss os ≡ true → any_closes (wire_of home h) ss os ≡ true → is_live home past h ≡ true
+pub closer_live : (home : Home) (past : List Entry) (h : ℕ) (ss : List Slot) (os : List Outcome) → AllUsable home past ss → suit ss os ≡ true → any_closes (wire_of home h) ss os ≡ true → is_live home past h ≡ true
 closer_live home past h [] os u s c = absurd (cc)
 closer_live home past h (t ∷ ss) [] u s c = absurd (cc)
 closer_live home past h (t ∷ ss) (o ∷ os) u s c =
@@ -52,7 +52,7 @@ closed_some w (s ∷ ss) (o ∷ os) c =
     ]
 
 -- a handle that no End closed is not closed
-unclosed : (home : Home) (past : List Entry) (h : ℕ) → closings home past h ≡ 0 → is_closed home past h ≡ false
+pub unclosed : (home : Home) (past : List Entry) (h : ℕ) → closings home past h ≡ 0 → is_closed home past h ≡ false
 unclosed home [] h n = refl
 unclosed home (End k results said ∷ past) h n =
     elim (bool_cases (any_closes (wire_of home h) (slots past k) results)) [
@@ -70,7 +70,7 @@ passes_some p (x ∷ xs) c =
       | inr e ↦ rw e (passes_some p xs (rw e at c))
     ]
 
-kept_up : (past : List Entry) (h : ℕ) → rundowns past h ≡ 0 → list_any (runs_down h) past ≡ false
+pub kept_up : (past : List Entry) (h : ℕ) → rundowns past h ≡ 0 → list_any (runs_down h) past ≡ false
 kept_up [] h n = refl
 kept_up (Shut items ∷ past) h n =
     elim (bool_cases (list_any (is_item_of h) items)) [
@@ -257,7 +257,7 @@ shut home past items h l e false be f =
     let third = f.2 in
     (f.0, f.1, omega arith)
 
-fate : (home : Home) (past : List Entry) (h : ℕ) → Legal home past → FateAs home past h (is_issued past h)
+pub fate : (home : Home) (past : List Entry) (h : ℕ) → Legal home past → FateAs home past h (is_issued past h)
 fate home [] h l = (refl, refl, refl)
 fate home (End j results said ∷ past) h l =
     ended home past j results said h l.1 l.0.fits.0 l.0.fits.1 (list_any (issues h) results) (is_issued past h) refl refl (fate home past h l.1)

@@ -167,7 +167,7 @@ serial_named_is home (End k results said ∷ past) s h e =
     named_or home s h (first_named home s results) (serial_named home past s) e (λ q. (first_named_is home s results h q).0) (serial_named_is home past s h)
 serial_named_is home (_ ∷ past) s h e = serial_named_is home past s h e
 
-no_kind : (h : ℕ) (ss : List Slot) (os : List Outcome) → list_any (issues h) os ≡ false → issuer_kind h ss os ≡ None
+pub no_kind : (h : ℕ) (ss : List Slot) (os : List Outcome) → list_any (issues h) os ≡ false → issuer_kind h ss os ≡ None
 no_kind h [] os n = refl
 no_kind h (s ∷ ss) [] n = refl
 no_kind h (s ∷ ss) (o ∷ os) n = grind (arith, common_steps, no_kind h ss os)

@@ -1,5 +1,6 @@
 pub mod Held
 pub mod Numbers
+pub mod Rest
 pub mod Reversed
 pub mod Sets
 pub mod Steps

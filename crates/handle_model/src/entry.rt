@@ -48,6 +48,9 @@ pub type Outcomes = Items<Outcome>;
 /// The cookies that a taken call is given, one for each slot; none where the slot opens a handle.
 pub type Cookies = Items<Option<u64>>;
 
+/// The same as four places, those of slots that the call doesn't have empty.
+pub type CookieRow = [Option<u64>; 4];
+
 /// What the end of a call says.
 #[derive(Debug, Drop)]
 pub enum Said {

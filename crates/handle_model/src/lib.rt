@@ -2,13 +2,15 @@
 //! (`specs/`), and what each legal journal keeps.
 #![tactic(auto)]
 
+mod due;
 mod entry;
 mod events;
 mod reply;
 mod slots;
 
+pub use due::{Due, DueList, Rundown};
 pub use entry::{
-    Asked, Cookies, DueItem, DueItems, Entry, Home, Outcome, Outcomes, Said, Slot, Slots,
+    Asked, CookieRow, Cookies, DueItem, DueItems, Entry, Home, Outcome, Outcomes, Said, Slot, Slots,
 };
 pub use reply::{AcceptLimit, JoinLimit, Reply};
 pub use slots::{count_opens, handle_of};
