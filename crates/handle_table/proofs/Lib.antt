@@ -1,0 +1,7 @@
+pub mod Edits
+pub mod Items
+pub mod Live
+pub mod Named
+pub mod Search
+pub mod Steps
+pub mod Wires

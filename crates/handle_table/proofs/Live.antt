@@ -1,0 +1,359 @@
+-- The live handles of a journal as a table shows them.
+use Rattle.std.proofs.Common.{◌≡◌, ◌≢◌, ℕ, zero, suc, ◌+◌, ◌^◌, ◌≤◌, ◌<◌, Bool, true, false, not, ◌==◌, ◌&&◌, ◌||◌, if◌then◌else◌, Option, Some, None, is_some, unwrap_or, List, [], ◌∷◌, ◌++◌, map, refl, sym, ◌∙◌, ap, subst, arith, inl, inr, add-one}
+use Rattle.std.specs.List.{filter, list_any}
+use Rattle.std.specs.Option.{option_or}
+use Rattle.std.proofs.lemmas.List.{map-append}
+use Rattle.std.proofs.lemmas.List.Elements.{filter-append}
+use Rattle.std.proofs.lemmas.List.Folds.{find-append}
+use Rattle.std.proofs.lemmas.Bool.{cases_lt, eqb-true, eq-eqb}
+use Rattle.std.proofs.lemmas.Bool.Decides.{eqb_tells}
+use Rattle.handle_model.specs.declared.entry.Home.{Home}
+use Rattle.handle_model.specs.declared.entry.Slot.{Slot}
+use Rattle.handle_model.specs.declared.entry.Slot.TheVariants.{Shares, Holds, Changes, Opens}
+use Rattle.handle_model.specs.declared.entry.Outcome.{Outcome}
+use Rattle.handle_model.specs.declared.entry.Outcome.TheVariants.{Keep, Close, Issue, Nothing}
+use Rattle.handle_model.specs.declared.entry.Said.{Said}
+use Rattle.handle_model.specs.declared.entry.DueItem.{DueItem}
+use Rattle.handle_model.specs.declared.entry.Entry.{Entry}
+use Rattle.handle_model.specs.declared.entry.Entry.TheVariants.{End}
+use Rattle.handle_model.specs.Slots.{wire_of, kind_of, named, names}
+use Rattle.handle_model.specs.Journal.{Legal, is_item_of, is_live, is_issued, is_closed, kind, cookie, issuer_kind, first_given, issues, any_closes, runs_down, suit, suits, slots, runs, numbers, opened, due_item, due_items}
+use Rattle.handle_model.proofs.Held.{and_left, and_right, or_right, opened_small}
+use Rattle.handle_laws.specs.Laws.{AllUsable}
+use Rattle.handle_laws.proofs.Slots.{bool_cases}
+use Rattle.handle_laws.proofs.Live.{false_of, or_false, issued_by, opens_within, issued_once, named_live, no_kind, suit_opens}
+use Rattle.handle_laws.proofs.Fate.{usable_live, unclosed, kept_up, fate, FateAs}
+use Rattle.handle_table.specs.Handles.{item_at}
+use Rattle.handle_table.specs.Kept.{Rises}
+use Rattle.handle_table.specs.Uses.{item_named}
+use Rattle.handle_table.specs.Ended.{kept, closed, settled, ended}
+use Rattle.handle_table.proofs.Items.{effects, ended_item, same_items}
+use Rattle.handle_table.proofs.Edits.{rises_with, rises_without, rises_cookie}
+
+-- THE LIST OF THE LIVE HANDLES
+
+-- those of the first n that pass
+abbrev pub listed : Home → List Entry → (ℕ → Bool) → ℕ → List DueItem
+listed home past p n = map (due_item home past) (filter p (numbers n))
+
+abbrev pub last_of : Home → List Entry → (ℕ → Bool) → ℕ → List DueItem
+last_of home past p m = if p m then due_item home past m ∷ [] else []
+
+one_last : (home : Home) (past : List Entry) (p : ℕ → Bool) (m : ℕ) → map (due_item home past) (filter p (m ∷ [])) ≡ last_of home past p m
+one_last home past p m = elim (bool_cases (p m)) [ inl e ↦ rw e refl | inr e ↦ rw e refl ]
+
+listed_more : (home : Home) (past : List Entry) (p : ℕ → Bool) (n : ℕ) → listed home past p (suc n) ≡ listed home past p n ++ last_of home past p (suc n)
+listed_more home past p n =
+    rw (filter-append p (numbers n) (suc n ∷ []), map-append (due_item home past) (filter p (numbers n)) (filter p (suc n ∷ []))) (ap (λ xs. listed home past p n ++ xs) (one_last home past p (suc n)))
+
+last_off : (home : Home) (past : List Entry) (p : ℕ → Bool) (h m : ℕ) → p h ≡ false → item_at (last_of home past p m) h ≡ None
+last_off home past p h m off =
+    elim (bool_cases (p m)) [
+      | inl e ↦ elim (eqb_tells m h) [
+        | inl f ↦ let same : p m ≡ p h = ap p f.1 in absurd (cc)
+        | inr f ↦ rw (e, f.0) refl
+      ]
+      | inr e ↦ rw e refl
+    ]
+
+last_other : (home : Home) (past : List Entry) (p : ℕ → Bool) (h m : ℕ) → m ≢ h → item_at (last_of home past p m) h ≡ None
+last_other home past p h m d =
+    elim (bool_cases (p m)) [
+      | inl e ↦ elim (eqb_tells m h) [ inl f ↦ absurd (d f.1) | inr f ↦ rw (e, f.0) refl ]
+      | inr e ↦ rw e refl
+    ]
+
+at_off : (home : Home) (past : List Entry) (p : ℕ → Bool) (h n : ℕ) → p h ≡ false → item_at (listed home past p n) h ≡ None
+at_off home past p h zero off = refl
+at_off home past p h (suc n) off =
+    ap (λ xs. item_at xs h) (listed_more home past p n) ∙ (find-append (is_item_of h) (listed home past p n) (last_of home past p (suc n)) ∙ rw (at_off home past p h n off) (last_off home past p h (suc n) off))
+
+at_beyond : (home : Home) (past : List Entry) (p : ℕ → Bool) (h n : ℕ) → n < h → item_at (listed home past p n) h ≡ None
+at_beyond home past p h zero lt = refl
+at_beyond home past p h (suc n) lt =
+    let below : n < h = omega arith in
+    ap (λ xs. item_at xs h) (listed_more home past p n) ∙ (find-append (is_item_of h) (listed home past p n) (last_of home past p (suc n)) ∙ rw (at_beyond home past p h n below) (last_other home past p h (suc n) (λ e. absurd (omega arith))))
+
+at_last : (home : Home) (past : List Entry) (p : ℕ → Bool) (h m : ℕ) → p h ≡ true → m ≡ h → item_at (last_of home past p m) h ≡ Some (due_item home past h)
+at_last home past p h m on e =
+    let there : p m ≡ true = ap p e ∙ on in
+    let q = eq-eqb m h e in rw (there, q) (ap (λ n. Some (due_item home past n)) e)
+
+at_on : (home : Home) (past : List Entry) (p : ℕ → Bool) (h n : ℕ) → p h ≡ true → 0 < h → h ≤ n → item_at (listed home past p n) h ≡ Some (due_item home past h)
+at_on home past p h zero on low high = absurd (omega arith)
+at_on home past p h (suc n) on low high =
+    ap (λ xs. item_at xs h) (listed_more home past p n) ∙ (find-append (is_item_of h) (listed home past p n) (last_of home past p (suc n)) ∙ elim (eqb_tells (suc n) h) [
+      | inl e ↦
+          let same = e.1 in
+          let below : n < h = omega arith in
+          rw (at_beyond home past p h n below) (at_last home past p h (suc n) on e.1)
+      | inr e ↦
+          let d = e.1 in
+          let within : h ≤ n = elim (cases_lt n h) [ inl lt ↦ let same : suc n ≡ h = omega arith in absurd (d same) | inr le ↦ le ] in
+          rw (at_on home past p h n on low within) refl
+    ])
+
+-- what stands in the list of the live handles
+abbrev pub live_item : Home → List Entry → ℕ → Option DueItem
+live_item home past h = if is_live home past h then Some (due_item home past h) else None
+
+pub live_issued : (home : Home) (past : List Entry) (h : ℕ) → is_live home past h ≡ true → is_issued past h ≡ true
+live_issued home past h v =
+    let before = is_issued past h && not (is_closed home past h) in
+    and_left (is_issued past h) (not (is_closed home past h)) (and_left before (not (list_any (runs_down h) past)) v)
+
+pub due_item_at : (home : Home) (past : List Entry) (h : ℕ) → Legal home past → item_at (due_items home past) h ≡ live_item home past h
+due_item_at home past h l =
+    elim (bool_cases (is_live home past h)) [
+      | inl v ↦
+          let w = issued_by home past h l (live_issued home past h v) in
+          let range = opens_within home past w.call h l w.opened_it in
+          at_on home past (is_live home past) h (opened past) v range.0 range.1 ∙ rw v refl
+      | inr v ↦ at_off home past (is_live home past) h (opened past) v ∙ rw v refl
+    ]
+
+-- ORDER
+
+-- the serials rise from one number and stay below another
+abbrev pub RisesTo : ℕ → ℕ → List DueItem → Type 0
+RisesTo low high [] = low ≤ high
+RisesTo low high (i ∷ items) = (low ≤ i.serial) × RisesTo (i.serial + 1) high items
+
+to_more : (low high more : ℕ) (items : List DueItem) → high ≤ more → RisesTo low high items → RisesTo low more items
+to_more low high more [] le r = omega arith
+to_more low high more (i ∷ items) le r = (r.0, to_more (i.serial + 1) high more items le r.1)
+
+to_append : (low m : ℕ) (items : List DueItem) (x : DueItem) → x.serial ≡ m → RisesTo low m items → RisesTo low (m + 1) (items ++ x ∷ [])
+to_append low m [] x e r = (omega arith, omega arith)
+to_append low m (i ∷ items) x e r = (r.0, to_append (i.serial + 1) m items x e r.1)
+
+to_within : (low high : ℕ) (items : List DueItem) → RisesTo low high items → low ≤ high
+to_within low high [] r = r
+to_within low high (i ∷ items) r = let more = to_within (i.serial + 1) high items r.1 in let first = r.0 in omega arith
+
+to_rises : (low high : ℕ) (items : List DueItem) → high ≤ 2 ^ 32 → RisesTo low high items → Rises low items
+to_rises low high [] le r = tt
+to_rises low high (i ∷ items) le r = let more = to_within (i.serial + 1) high items r.1 in (r.0, omega arith, to_rises (i.serial + 1) high items le r.1)
+
+append_none : (xs : List DueItem) → xs ++ [] ≡ xs
+append_none [] = refl
+append_none (x ∷ xs) = ap (λ ys. x ∷ ys) (append_none xs)
+
+listed_rises : (home : Home) (past : List Entry) (p : ℕ → Bool) (n : ℕ) → RisesTo 0 (n + 1) (listed home past p n)
+listed_rises home past p zero = omega arith
+listed_rises home past p (suc n) =
+    let before = listed_rises home past p n in
+    let next : n + 1 ≡ suc n = add-one n in
+    subst (λ xs. RisesTo 0 (suc n + 1) xs) (sym (listed_more home past p n)) (elim (bool_cases (p (suc n))) [
+      | inl e ↦ rw e (to_append 0 (suc n) (listed home past p n) (due_item home past (suc n)) refl (subst (λ m. RisesTo 0 m (listed home past p n)) next before))
+      | inr e ↦ rw (e, append_none (listed home past p n)) (to_more 0 (n + 1) (suc n + 1) (listed home past p n) (omega arith) before)
+    ])
+
+pub due_rises : (home : Home) (past : List Entry) → Legal home past → Rises 0 (due_items home past)
+due_rises home past l =
+    let small = opened_small home past l in
+    to_rises 0 (opened past + 1) (due_items home past) (omega arith) (listed_rises home past (is_live home past) (opened past))
+
+-- two journals with the same live handles have the same list
+pub same_due : (home : Home) (past newer : List Entry) → Legal home past → Legal home newer → ((h : ℕ) → live_item home newer h ≡ live_item home past h) → due_items home newer ≡ due_items home past
+same_due home past newer l m e =
+    same_items 0 (due_items home newer) (due_items home past) (due_rises home newer m) (due_rises home past l) (λ h. due_item_at home newer h m ∙ (e h ∙ sym (due_item_at home past h l)))
+
+-- THE END OF A CALL
+
+-- what the results issue has 32 bits
+abbrev pub IssuesSmall : List Outcome → Type 0
+IssuesSmall os = (h : ℕ) → list_any (issues h) os ≡ true → h < 2 ^ 32
+
+settled_rises : (home : Home) (s : Slot) (o : Outcome) (items : List DueItem) → ((h : ℕ) → issues h o ≡ true → h < 2 ^ 32) → Rises 0 items → Rises 0 (settled home s o items)
+settled_rises home s (Issue g c) items small r = rises_with (record { serial = g; kind = kind_of s; cookie = c }) 0 items r (omega arith) (small g (eq-eqb g g refl))
+settled_rises home s (Keep c) items small r = kept_rises (item_named home items s)
+  where
+    kept_rises : (x : Option DueItem) → Rises 0 (kept c x items)
+    kept_rises None = r
+    kept_rises (Some i) = rises_cookie i.serial c 0 items r
+settled_rises home s Close items small r = closed_rises (item_named home items s)
+  where
+    closed_rises : (x : Option DueItem) → Rises 0 (closed x items)
+    closed_rises None = r
+    closed_rises (Some i) = rises_without i.serial 0 items r
+settled_rises home s Nothing items small r = r
+
+pub ended_rises : (home : Home) (ss : List Slot) (os : List Outcome) (items : List DueItem) → IssuesSmall os → Rises 0 items → Rises 0 (ended home ss os items)
+ended_rises home [] os items small r = r
+ended_rises home (s ∷ ss) [] items small r = r
+ended_rises home (s ∷ ss) (o ∷ os) items small r =
+    settled_rises home s o (ended home ss os items) (λ h i. small h (rw i refl)) (ended_rises home ss os items (λ h i. small h (or_right (issues h o) (list_any (issues h) os) i)) r)
+
+-- no slot names a handle that is not live
+abbrev pub NoneNames : Home → ℕ → List Slot → Type 0
+NoneNames home h [] = Unit {0}
+NoneNames home h (s ∷ ss) = (names (wire_of home h) s ≡ false) × NoneNames home h ss
+
+names_named : (home : Home) (h : ℕ) (s : Slot) → names (wire_of home h) s ≡ true → is_some (named s) ≡ true
+names_named home h (Shares k w) n = refl
+names_named home h (Holds k w) n = refl
+names_named home h (Changes k w) n = refl
+names_named home h (Opens k g) n = n
+
+pub none_names : (home : Home) (past : List Entry) (h : ℕ) (ss : List Slot) → AllUsable home past ss → is_live home past h ≡ false → NoneNames home h ss
+none_names home past h [] u v = tt
+none_names home past h (s ∷ ss) u v =
+    (false_of (names (wire_of home h) s) (λ n. let live = usable_live home past s h _ refl (u.0 (names_named home h s n)) n in cc), none_names home past h ss u.1 v)
+
+-- a handle that the results issue, and no slot names
+pub record Issued (home : Home) (h : ℕ) (ss : List Slot) (os : List Outcome) : Type 0 where
+  pub kind : ℕ
+  pub cookie : ℕ
+  pub its_kind : issuer_kind h ss os ≡ Some kind
+  pub its_cookie : first_given home h ss os ≡ Some cookie
+  pub item : (x : Option DueItem) → effects home h ss os x ≡ Some (record { serial = h; kind = kind; cookie = cookie })
+
+new_here : (home : Home) (h g c : ℕ) (s : Slot) (ss : List Slot) (os : List Outcome) → g ≡ h → Issued home h (s ∷ ss) (Issue g c ∷ os)
+new_here home h g c s ss os e =
+    let q = eq-eqb g h e in
+    record {
+      kind = kind_of s;
+      cookie = c;
+      its_kind = rw q refl;
+      its_cookie = rw q refl;
+      item = λ x. rw q (ap (λ n. Some (record { serial = n; kind = kind_of s; cookie = c })) e);
+    }
+
+new_later : (home : Home) (h : ℕ) (s : Slot) (o : Outcome) (ss : List Slot) (os : List Outcome) → issues h o ≡ false → names (wire_of home h) s ≡ false → Issued home h ss os → Issued home h (s ∷ ss) (o ∷ os)
+new_later home h s (Issue g c) ss os i n w = record { kind = w.kind; cookie = w.cookie; its_kind = rw i w.its_kind; its_cookie = rw i w.its_cookie; item = λ x. rw i (w.item x) }
+new_later home h s (Keep c) ss os i n w = record { kind = w.kind; cookie = w.cookie; its_kind = w.its_kind; its_cookie = rw n w.its_cookie; item = λ x. rw n (w.item x) }
+new_later home h s Close ss os i n w = record { kind = w.kind; cookie = w.cookie; its_kind = w.its_kind; its_cookie = w.its_cookie; item = λ x. rw n (w.item x) }
+new_later home h s Nothing ss os i n w = record { kind = w.kind; cookie = w.cookie; its_kind = w.its_kind; its_cookie = w.its_cookie; item = w.item }
+
+new_first : (home : Home) (h : ℕ) (s : Slot) (o : Outcome) (ss : List Slot) (os : List Outcome) → issues h o ≡ true → Issued home h (s ∷ ss) (o ∷ os)
+new_first home h s (Issue g c) ss os i = new_here home h g c s ss os (eqb-true g h i)
+new_first home h s (Keep c) ss os i = absurd (cc)
+new_first home h s Close ss os i = absurd (cc)
+new_first home h s Nothing ss os i = absurd (cc)
+
+pub new_issued : (home : Home) (h : ℕ) (ss : List Slot) (os : List Outcome) → NoneNames home h ss → suit ss os ≡ true → list_any (issues h) os ≡ true → Issued home h ss os
+new_issued home h [] [] n u i = absurd (cc)
+new_issued home h [] (o ∷ os) n u i = absurd (cc)
+new_issued home h (s ∷ ss) [] n u i = absurd (cc)
+new_issued home h (s ∷ ss) (o ∷ os) n u i =
+    elim (bool_cases (issues h o)) [
+      | inl e ↦ new_first home h s o ss os e
+      | inr e ↦ new_later home h s o ss os e n.0 (new_issued home h ss os n.1 (and_right (suits s o) (suit ss os) u) (rw e at i))
+    ]
+
+pub none_closes : (home : Home) (h : ℕ) (ss : List Slot) (os : List Outcome) → NoneNames home h ss → any_closes (wire_of home h) ss os ≡ false
+none_closes home h [] os n = refl
+none_closes home h (s ∷ ss) [] n = refl
+none_closes home h (s ∷ ss) (Close ∷ os) n = rw n.0 (none_closes home h ss os n.1)
+none_closes home h (s ∷ ss) (_ ∷ os) n = none_closes home h ss os n.1
+
+-- a handle that is not there, and not issued
+pub none_stays : (home : Home) (h : ℕ) (ss : List Slot) (os : List Outcome) → list_any (issues h) os ≡ false → effects home h ss os None ≡ None
+none_stays home h [] os i = refl
+none_stays home h (s ∷ ss) [] i = refl
+none_stays home h (s ∷ ss) (Issue g c ∷ os) i = let w = or_false (g == h) (list_any (issues h) os) i in rw (w.0, none_stays home h ss os w.1) refl
+none_stays home h (s ∷ ss) (Keep c ∷ os) i = rw (none_stays home h ss os i) (elim (bool_cases (names (wire_of home h) s)) [ inl e ↦ rw e refl | inr e ↦ rw e refl ])
+none_stays home h (s ∷ ss) (Close ∷ os) i = rw (none_stays home h ss os i) (elim (bool_cases (names (wire_of home h) s)) [ inl e ↦ rw e refl | inr e ↦ rw e refl ])
+none_stays home h (s ∷ ss) (Nothing ∷ os) i = none_stays home h ss os i
+
+-- one that is closed
+pub closed_goes : (home : Home) (h : ℕ) (ss : List Slot) (os : List Outcome) (x : Option DueItem) → list_any (issues h) os ≡ false → any_closes (wire_of home h) ss os ≡ true → effects home h ss os x ≡ None
+closed_goes home h [] os x i c = absurd (cc)
+closed_goes home h (s ∷ ss) [] x i c = absurd (cc)
+closed_goes home h (s ∷ ss) (Issue g d ∷ os) x i c = let w = or_false (g == h) (list_any (issues h) os) i in rw (w.0, closed_goes home h ss os x w.1 c) refl
+closed_goes home h (s ∷ ss) (Keep d ∷ os) x i c = rw (closed_goes home h ss os x i c) (elim (bool_cases (names (wire_of home h) s)) [ inl e ↦ rw e refl | inr e ↦ rw e refl ])
+closed_goes home h (s ∷ ss) (Close ∷ os) x i c =
+    elim (bool_cases (names (wire_of home h) s)) [
+      | inl e ↦ rw e refl
+      | inr e ↦ rw (e, closed_goes home h ss os x i (rw e at c)) refl
+    ]
+closed_goes home h (s ∷ ss) (Nothing ∷ os) x i c = closed_goes home h ss os x i c
+
+-- one that stays has the cookie that is given, or its own
+pub kept_item : (home : Home) (h : ℕ) (ss : List Slot) (os : List Outcome) (x : DueItem) → list_any (issues h) os ≡ false → any_closes (wire_of home h) ss os ≡ false → effects home h ss os (Some x) ≡ Some (record { serial = x.serial; kind = x.kind; cookie = unwrap_or (first_given home h ss os) x.cookie })
+kept_item home h [] os x i c = refl
+kept_item home h (s ∷ ss) [] x i c = refl
+kept_item home h (s ∷ ss) (Issue g d ∷ os) x i c = let w = or_false (g == h) (list_any (issues h) os) i in rw (w.0, kept_item home h ss os x w.1 c) refl
+kept_item home h (s ∷ ss) (Keep d ∷ os) x i c =
+    elim (bool_cases (names (wire_of home h) s)) [
+      | inl e ↦ rw (e, kept_item home h ss os x i c) refl
+      | inr e ↦ rw (e, kept_item home h ss os x i c) refl
+    ]
+kept_item home h (s ∷ ss) (Close ∷ os) x i c = let w = or_false (names (wire_of home h) s) (any_closes (wire_of home h) ss os) c in rw (w.0, kept_item home h ss os x i w.1) refl
+kept_item home h (s ∷ ss) (Nothing ∷ os) x i c = kept_item home h ss os x i c
+
+-- WHAT IS LIVE AFTERWARDS
+
+live_bools : (i c d x : Bool) → ((false || i) && not (x || c) && not (false || d)) ≡ ((i && not c && not d) && not x)
+live_bools true true true true = refl
+live_bools true true true false = refl
+live_bools true true false true = refl
+live_bools true true false false = refl
+live_bools true false true true = refl
+live_bools true false true false = refl
+live_bools true false false true = refl
+live_bools true false false false = refl
+live_bools false c d x = refl
+
+live_after : (home : Home) (past : List Entry) (k h : ℕ) (os : List Outcome) (said : Said) → list_any (issues h) os ≡ false → is_live home (End k os said ∷ past) h ≡ (is_live home past h && not (any_closes (wire_of home h) (slots past k) os))
+live_after home past k h os said i = rw i (live_bools (is_issued past h) (is_closed home past h) (list_any (runs_down h) past) (any_closes (wire_of home h) (slots past k) os))
+
+given_or : (fg ck : Option ℕ) → unwrap_or (option_or fg ck) 0 ≡ unwrap_or fg (unwrap_or ck 0)
+given_or None ck = refl
+given_or (Some c) ck = refl
+
+-- a handle that the results don't issue
+old_item : (home : Home) (past : List Entry) (k h : ℕ) (os : List Outcome) (said : Said) → list_any (issues h) os ≡ false → effects home h (slots past k) os (live_item home past h) ≡ live_item home (End k os said ∷ past) h
+old_item home past k h os said i =
+    let ss = slots past k in
+    let after = live_after home past k h os said i in
+    elim (bool_cases (is_live home past h)) [
+      | inl v ↦ elim (bool_cases (any_closes (wire_of home h) ss os)) [
+        | inl c ↦
+            let gone : is_live home (End k os said ∷ past) h ≡ false = after ∙ rw (v, c) refl in
+            rw (v, gone) (closed_goes home h ss os (Some (due_item home past h)) i c)
+        | inr c ↦
+            let stays : is_live home (End k os said ∷ past) h ≡ true = after ∙ rw (v, c) refl in
+            let same : due_item home (End k os said ∷ past) h ≡ record { serial = h; kind = unwrap_or (kind past h) 0; cookie = unwrap_or (first_given home h ss os) (unwrap_or (cookie home past h) 0) } =
+            rw (no_kind h ss os i) (ap (λ n. record { serial = h; kind = unwrap_or (kind past h) 0; cookie = n }) (given_or (first_given home h ss os) (cookie home past h))) in
+            rw (v, stays) (kept_item home h ss os (due_item home past h) i c ∙ ap (λ x. Some x) (sym same))
+      ]
+      | inr v ↦
+          let gone : is_live home (End k os said ∷ past) h ≡ false = after ∙ rw v refl in
+          rw (v, gone) (none_stays home h ss os i)
+    ]
+
+-- and one that they issue
+new_item : (home : Home) (past : List Entry) (k h : ℕ) (os : List Outcome) (said : Said) → Legal home past → runs past k ≡ true → suit (slots past k) os ≡ true → list_any (issues h) os ≡ true → effects home h (slots past k) os (live_item home past h) ≡ live_item home (End k os said ∷ past) h
+new_item home past k h os said l r u i =
+    let ss = slots past k in
+    let before = issued_once home past k h os l r u i in
+    let dead : is_live home past h ≡ false = rw before refl in
+    let none = none_names home past h ss (named_live home past k l r) dead in
+    let w = new_issued home h ss os none u i in
+    let f : FateAs home past h false = subst (λ b. FateAs home past h b) before (fate home past h l) in
+    let lives : is_live home (End k os said ∷ past) h ≡ true = rw (i, none_closes home h ss os none, unclosed home past h f.1, kept_up past h f.2) refl in
+    let it : due_item home (End k os said ∷ past) h ≡ record { serial = h; kind = w.kind; cookie = w.cookie } = rw (w.its_kind, w.its_cookie) refl in
+    rw lives (w.item (live_item home past h) ∙ ap (λ x. Some x) (sym it))
+
+ends_as : (home : Home) (past : List Entry) (k h : ℕ) (os : List Outcome) (said : Said) → Legal home past → runs past k ≡ true → suit (slots past k) os ≡ true → effects home h (slots past k) os (live_item home past h) ≡ live_item home (End k os said ∷ past) h
+ends_as home past k h os said l r u =
+    elim (bool_cases (list_any (issues h) os)) [
+      | inl i ↦ new_item home past k h os said l r u i
+      | inr i ↦ old_item home past k h os said i
+    ]
+
+issues_small : (home : Home) (past : List Entry) (k : ℕ) (os : List Outcome) → Legal home past → suit (slots past k) os ≡ true → IssuesSmall os
+issues_small home past k os l u h i =
+    let w = opens_within home past k h l (suit_opens h (slots past k) os u i) in
+    let small = opened_small home past l in
+    let high = w.1 in omega arith
+
+-- the end of a call leaves the table's list as the results do
+pub end_due : (home : Home) (past : List Entry) (k : ℕ) (os : List Outcome) (said : Said) → Legal home (End k os said ∷ past) → due_items home (End k os said ∷ past) ≡ ended home (slots past k) os (due_items home past)
+end_due home past k os said l =
+    let run = l.0.fits.0 in
+    let fit = l.0.fits.1 in
+    same_items 0 (due_items home (End k os said ∷ past)) (ended home (slots past k) os (due_items home past)) (due_rises home (End k os said ∷ past) l) (ended_rises home (slots past k) os (due_items home past) (issues_small home past k os l.1 fit) (due_rises home past l.1)) (λ h.
+    due_item_at home (End k os said ∷ past) h l ∙ (sym (ends_as home past k h os said l.1 run fit) ∙ (ap (effects home h (slots past k) os) (sym (due_item_at home past h l.1)) ∙ sym (ended_item home (slots past k) os (due_items home past) h))))

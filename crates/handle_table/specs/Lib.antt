@@ -1,0 +1,6 @@
+pub mod Handles
+pub mod Uses
+pub mod Ended
+pub mod Kept
+pub mod Laws
+pub mod Sought

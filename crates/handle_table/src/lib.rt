@@ -1,0 +1,17 @@
+//! The live handles of an association group, so that none is looked for in its journal. A table
+//! takes memory in `new` and `reserve` alone.
+#![tactic(auto)]
+
+mod ended;
+mod laws;
+mod seek;
+mod table;
+mod uses;
+
+pub use laws::{
+    follows_entries, grows_within, shows_cookies, shows_faults, shows_kind, shows_live,
+};
+pub use table::HandleTable;
+
+#[cfg(test)]
+mod tests;
