@@ -1,0 +1,37 @@
+//! What the table of a legal journal shows, each law the contract of a function that does nothing.
+ghost use Rattle.call_table.specs.Laws.{ShowsRow, ShowsStage, ShowsSlots, ShowsBlocker, ShowsCounts, FollowsEntries, NumbersRise};
+
+/// A call has the row that the journal gives it, and none where it is over.
+pub fn shows_row()
+    ensures { ShowsRow }
+{}
+
+/// A call waits or runs as in the journal.
+pub fn shows_stage()
+    ensures { ShowsStage }
+{}
+
+/// It has the slots of the journal.
+pub fn shows_slots()
+    ensures { ShowsSlots }
+{}
+
+/// What stands in the way of a waiting call is its blocker.
+pub fn shows_blocker()
+    ensures { ShowsBlocker }
+{}
+
+/// There are as many calls, and as many handles that they may issue, as in the journal.
+pub fn shows_counts()
+    ensures { ShowsCounts }
+{}
+
+/// Each entry changes the table as the edit of that name does.
+pub fn follows_entries()
+    ensures { FollowsEntries }
+{}
+
+/// The number of a new call is above those of the table.
+pub fn numbers_rise()
+    ensures { NumbersRise }
+{}

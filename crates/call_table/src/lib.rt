@@ -1,0 +1,19 @@
+//! The calls of an association group that wait or run, so that none is looked for in its journal. A
+//! table takes memory in `reserve` alone.
+#![tactic(auto)]
+
+mod blocks;
+mod laws;
+mod lists;
+mod row;
+mod rows;
+mod table;
+
+pub use laws::{
+    follows_entries, numbers_rise, shows_blocker, shows_counts, shows_row, shows_slots, shows_stage,
+};
+pub use row::{CallSlots, Row};
+pub use table::CallTable;
+
+#[cfg(test)]
+mod tests;

@@ -1,0 +1,188 @@
+//! The table.
+ghost use Rattle.std.specs.Prelude.{◌≡◌, ◌+◌, ◌<◌, ◌≤◌, ◌++◌, ◌∷◌, ◌==◌, [], length, true, false, OnOk, OnErr};
+ghost use Rattle.std.specs.List.{list_any};
+ghost use Rattle.std.specs.Option.{option_copied};
+
+use crate::blocks::blocker_of;
+use crate::lists::{cut, fill};
+use crate::row::{CallSlots, Row};
+use crate::rows::{openings_of, place, waiting_count};
+use handle_model::{Cookies, Slots};
+use rpc_base::{Items, NoMemory};
+use std::alloc::Global;
+use std::marker::Model;
+
+/// The waiting and running calls of a group.
+#[derive(Drop)]
+pub struct CallTable {
+    rows: Vec<Row>,
+    lists: Vec<Cookies>,
+    room: usize,
+    alloc: Global,
+}
+
+impl Model for CallTable {
+    ghost use Rattle.call_table.specs.Rows.{Calls};
+    ghost use Rattle.call_table.specs.Kept.{IsKept};
+
+    ghost Value = { Calls };
+
+    ghost view = { λ t. record { rows = t.rows.items; room = t.room } };
+
+    ghost invariant = { λ t. IsKept t.rows t.lists t.room };
+}
+
+impl CallTable {
+    ghost use Rattle.call_table.specs.Rows as spec;
+
+    /// A table of no calls. It takes no memory.
+    pub fn new(alloc: Global) -> CallTable
+        ensures { result ≡ record { rows = []; room = 0 } }
+    {
+        CallTable {
+            rows: Vec::new(alloc),
+            lists: Vec::new(alloc),
+            room: 0,
+            alloc,
+        }
+    }
+
+    /// Makes room for `n` calls more, and for the cookies that they will be given.
+    pub fn reserve(&mut self, n: usize) -> Result<(), NoMemory>
+        ensures ok { OnOk result (n ≤ self.new.room) }
+        ensures more { self.old.room ≤ self.new.room }
+        ensures same { self.new.rows ≡ self.old.rows }
+        ensures err { OnErr result (self.new ≡ self.old) }
+    {
+        if n <= self.room {
+            return Ok(());
+        }
+        self.rows.reserve(n)?;
+        let wanted = waiting_count(self.rows.as_slice());
+        let Some(wanted) = wanted.checked_add(n) else {
+            return Err(NoMemory);
+        };
+        fill(self.alloc, &mut self.lists, wanted)?;
+        self.room = n;
+        Ok(())
+    }
+
+    /// The call of that number.
+    pub fn row(&self, call: u32) -> Option<&Row>
+        ensures { option_copied result ≡ spec.row_at self.now.rows call }
+    {
+        self.rows.iter().find(|row| row.call == call)
+    }
+
+    /// The call that stands in the way of a waiting call: the least running one that uses a handle
+    /// which one of the two alone may use, else the least waiting one of a lesser number.
+    pub fn conflict(&self, call: u32) -> Option<u32>
+        requires { spec.waits_at self.now.rows call ≡ true }
+        ensures { result ≡ spec.conflict_of self.now.rows call }
+    {
+        let at = place(self.rows.as_slice(), call);
+        let row = &self.rows[at];
+        blocker_of(row.slots.as_slice(), call, self.rows.as_slice())
+    }
+
+    /// How many calls wait or run.
+    pub fn len(&self) -> usize
+        ensures { result ≡ length self.now.rows }
+    {
+        self.rows.len()
+    }
+
+    /// Whether none waits or runs.
+    pub fn is_empty(&self) -> bool
+        ensures { result ≡ (length self.now.rows == 0) }
+    {
+        self.rows.len() == 0
+    }
+
+    /// Whether a call runs.
+    pub fn any_runs(&self) -> bool
+        ensures { result ≡ list_any spec.is_running self.now.rows }
+    {
+        self.rows.iter().any(|row| row.runs)
+    }
+
+    /// How many handles the waiting and running calls may issue.
+    pub fn openings(&self) -> usize
+        ensures { result ≡ spec.openings_of self.now.rows }
+    {
+        openings_of(self.rows.as_slice())
+    }
+
+    /// A call waits from now on.
+    pub fn accept(&mut self, call: u32, conn: u32, slots: &Slots)
+        requires room { 0 < self.old.room }
+        requires few { length slots.now ≤ 4 }
+        requires last { spec.over call self.old.rows ≡ true }
+        ensures rows { self.new.rows ≡ self.old.rows ++ record { call = call; conn = conn; slots = slots.now; runs = false; cancelled = false; orphaned = false } ∷ [] }
+        ensures room { self.new.room + 1 ≡ self.old.room }
+    {
+        self.room -= 1;
+        self.rows
+            .push(Row {
+                call,
+                conn,
+                slots: CallSlots::of(slots.as_slice()),
+                runs: false,
+                cancelled: false,
+                orphaned: false,
+            })
+            .unwrap();
+    }
+
+    /// A waiting call runs from now on. The answer has a place for the cookie of each of its slots.
+    pub fn start(&mut self, call: u32) -> Cookies
+        requires { spec.waits_at self.old.rows call ≡ true }
+        ensures cookies { result ≡ spec.no_cookies (spec.slots_at self.old.rows call) }
+        ensures rows { self.new.rows ≡ spec.with_start call self.old.rows }
+        ensures room { self.new.room ≡ self.old.room }
+    {
+        let at = place(self.rows.as_slice(), call);
+        let row = &mut self.rows[at];
+        row.runs = true;
+        let count = row.slots.as_slice().len();
+        cut(self.lists.pop().unwrap(), count)
+    }
+
+    /// A running call is cancelled.
+    pub fn cancel(&mut self, call: u32)
+        requires { spec.runs_at self.old.rows call ≡ true }
+        ensures rows { self.new.rows ≡ spec.with_cancel call self.old.rows }
+        ensures room { self.new.room ≡ self.old.room }
+    {
+        let at = place(self.rows.as_slice(), call);
+        let row = &mut self.rows[at];
+        row.cancelled = true;
+    }
+
+    /// A running call is orphaned.
+    pub fn orphan(&mut self, call: u32)
+        requires { spec.runs_at self.old.rows call ≡ true }
+        ensures rows { self.new.rows ≡ spec.with_orphan call self.old.rows }
+        ensures room { self.new.room ≡ self.old.room }
+    {
+        let at = place(self.rows.as_slice(), call);
+        let row = &mut self.rows[at];
+        row.orphaned = true;
+    }
+
+    /// A call neither waits nor runs from now on.
+    pub fn end(&mut self, call: u32)
+        ensures rows { self.new.rows ≡ spec.without call self.old.rows }
+        ensures room { self.new.room ≡ self.old.room }
+    {
+        self.rows.retain(|row| row.call != call);
+    }
+
+    /// The waiting calls of a connection wait no more.
+    pub fn leave(&mut self, conn: u32)
+        ensures rows { self.new.rows ≡ spec.left conn self.old.rows }
+        ensures room { self.new.room ≡ self.old.room }
+    {
+        self.rows.retain(|row| row.stays(conn));
+    }
+}
