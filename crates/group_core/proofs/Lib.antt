@@ -1,0 +1,11 @@
+pub mod Asking
+pub mod Sums
+pub mod Owing
+pub mod Counting
+pub mod Openings
+pub mod Found
+pub mod Shown
+pub mod Keeping
+pub mod Telling
+pub mod Limits
+pub mod Going

@@ -1,0 +1,69 @@
+use Rattle.std.proofs.Common.{◌≡◌, ◌+◌, ◌≤◌, ◌<◌, ◌^◌, ◌∙◌, ap, sym, subst, true, false, refl, reverse, length, List, [], ◌∷◌, ◌++◌, arith, Option, Some, None, Ok, Err}
+use Rattle.std.specs.List.{filter}
+use Rattle.handle_model.specs.declared.entry.Entry.TheVariants.{Accept}
+use Rattle.handle_model.specs.Slots.{opens}
+use Rattle.handle_model.specs.Journal.{is_open, accepted, opened}
+use Rattle.handle_model.specs.Limits.{accept_limit}
+use Rattle.handle_model.specs.History.{History, history_of}
+use Rattle.call_table.specs.Rows.{over, openings_of}
+use Rattle.call_table.specs.Shown.{rows_of}
+use Rattle.call_table.proofs.Found.{over_shown}
+use Rattle.group_core.specs.Refusals.{refusal_of}
+use Rattle.group_core.specs.Calls.{Accepts, numbered}
+use Rattle.group_core.proofs.Keeping.{accept_kept}
+use Rattle.group_core.proofs.Limits.{accept_limit_is, refused, fits_accept, opens_numbered, few_numbered}
+use Rattle.group_core.proofs.Telling.{adds_one}
+use Rattle.group_core.proofs.group.Group.accept.Goals as goal
+
+pub returns-in-Some : goal.returns-in-Some
+returns-in-Some c =
+    let found = rw (c.in-Some.is, c.len.ensures, c.live-live.ensures, c.openings-openings.ensures) at c.accept_limit.ensures in
+    let many = rw c.as_slice.ensures at c.count_opens-opens.ensures.count in
+    let why = sym (found ∙ accept_limit_is _ _ _ _ _ c.args.asked.slots c.count_opens-opens.result c.self.invariant many) in
+    rw c.of.ensures
+    (subst (λ (h : History). Accepts h c.args.asked (Err (c.args.asked, refusal_of c.in-Some.limit)) h) c.self.view_is
+    (refused (history_of c.self.inside.home c.self.inside.log.entries) c.args.asked c.in-Some.limit why))
+
+pub accept-requires-clause-few : goal.accept-requires-clause-few
+accept-requires-clause-few c =
+    let past = reverse c.self.inside.log.entries in
+    let asked = rw c.self.invariant.shows.opened_is at c.numbered-asked.ensures in
+    few_numbered past c.args.asked c.numbered-asked.result asked c.requires.few
+
+pub accept-requires-clause-last : goal.accept-requires-clause-last
+accept-requires-clause-last c =
+    let past = reverse c.self.inside.log.entries in
+    let rows = c.in-Ok.ensures.rows ∙ c.self.invariant.shows.rows_are in
+    ap (λ rs. over (c.self.inside.counts.accepted + 1) rs) rows
+    ∙ over_shown c.self.inside.home past (c.self.inside.counts.accepted + 1) c.self.invariant.sound.legal (omega (arith, c.self.invariant.shows.accepted_is))
+
+pub invariant_of-self-2 : goal.invariant_of-self-2
+invariant_of-self-2 c =
+    let past = reverse c.self.inside.log.entries in
+    let open_then : is_open past c.args.asked.conn ≡ true = ap (λ h. is_open h.past c.args.asked.conn) c.self.view_is ∙ c.requires.open in
+    let found = rw (c.in-None.is, c.len.ensures, c.live-live.ensures, c.openings-openings.ensures) at c.accept_limit.ensures in
+    let many = rw c.as_slice.ensures at c.count_opens-opens.ensures.count in
+    let free = sym (found ∙ accept_limit_is _ _ _ _ _ c.args.asked.slots c.count_opens-opens.result c.self.invariant many) in
+    let number : c.self.inside.counts.accepted + 1 ≡ length (accepted past) + 1 = ap (λ n. n + 1) c.self.invariant.shows.accepted_is in
+    let asked = rw c.self.invariant.shows.opened_is at c.numbered-asked.ensures in
+    let entries = rw c.in-Ok.ensures.entries at c.add.ensures.entries in
+    let fits = fits_accept c.self.inside.home past c.args.asked c.numbered-asked.result (c.self.inside.counts.accepted + 1) open_then c.requires.few free number asked in
+    let many_numbered = opens_numbered past c.args.asked c.numbered-asked.result c.count_opens-opens.result asked many in
+    let rows = c.accept.ensures.rows ∙ ap (λ rs. rs ++ record { call = c.self.inside.counts.accepted + 1; conn = c.numbered-asked.result.conn; slots = c.numbered-asked.result.slots; runs = false; cancelled = false; orphaned = false } ∷ []) c.in-Ok.ensures.rows in
+    let room = rw c.openings-openings.ensures at c.in-Ok.ensures.handles in
+    accept_kept c.self.inside.home c.self.inside.log c.add.new.self (c.self.inside.counts.accepted + 1) c.numbered-asked.result c.self.inside.handles
+    c.make_room-made.new.handles c.self.inside.calls c.accept.new.self c.self.inside.counts c.count_opens-opens.result c.self.invariant fits entries
+    (omega (arith, c.in-Ok.ensures.spare, c.add.ensures.spare)) c.in-Ok.ensures.items.0 c.in-Ok.ensures.items.1 rows many_numbered room
+
+pub returns : goal.returns
+returns c =
+    let past = reverse c.self.inside.log.entries in
+    let found = rw (c.in-None.is, c.len.ensures, c.live-live.ensures, c.openings-openings.ensures) at c.accept_limit.ensures in
+    let many = rw c.as_slice.ensures at c.count_opens-opens.ensures.count in
+    let free = sym (found ∙ accept_limit_is _ _ _ _ _ c.args.asked.slots c.count_opens-opens.result c.self.invariant many) in
+    let number : c.self.inside.counts.accepted + 1 ≡ length (accepted past) + 1 = ap (λ n. n + 1) c.self.invariant.shows.accepted_is in
+    let asked = rw c.self.invariant.shows.opened_is at c.numbered-asked.ensures in
+    let entries = rw c.in-Ok.ensures.entries at c.add.ensures.entries in
+    let exact = rw asked at entries in
+    subst (λ (h : History). Accepts h c.args.asked (Ok (c.self.inside.counts.accepted + 1)) (history_of c.self.inside.home c.add.new.self.entries)) c.self.view_is
+    (free, number, adds_one c.self.inside.home c.self.inside.log c.add.new.self (Accept (c.self.inside.counts.accepted + 1) (numbered past c.args.asked)) exact)

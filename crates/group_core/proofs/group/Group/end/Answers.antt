@@ -1,0 +1,63 @@
+use Rattle.std.proofs.Common.{◌≡◌, ◌+◌, ◌≤◌, ◌∙◌, ap, sym, subst, true, reverse, length, arith}
+use Rattle.handle_model.specs.declared.entry.Entry.TheVariants.{End}
+use Rattle.handle_model.specs.Journal.{runs, suit, slots, waits, is_shut}
+use Rattle.handle_model.specs.History.{History, history_of}
+use Rattle.handle_model.proofs.Held.{or_right}
+use Rattle.group_core.specs.Conns.{Goes}
+use Rattle.group_core.proofs.Telling.{left_is, slots_there}
+use Rattle.group_core.proofs.Going.{Mid, end_room, end_issues, end_mid, mid_room, closed_kept, closed_goes}
+use Rattle.group_core.proofs.group.Group.end.Goals as goal
+
+pub settle-freed-requires : goal.settle-freed-requires
+settle-freed-requires c =
+    let past = reverse c.self.inside.log.entries in
+    let r : runs past c.args.call ≡ true = ap (λ h. runs h.past c.args.call) c.self.view_is ∙ c.requires.runs in
+    let s : suit (slots past c.args.call) c.args.results ≡ true = ap (λ h. suit (slots h.past c.args.call) c.args.results) c.self.view_is ∙ c.requires.suit in
+    rw c.as_slice.ensures (end_issues _ _ c.args.call _ _ _ _ c.self.invariant r s)
+
+pub add-requires : goal.add-requires
+add-requires c =
+    let past = reverse c.self.inside.log.entries in
+    let r : runs past c.args.call ≡ true = ap (λ h. runs h.past c.args.call) c.self.view_is ∙ c.requires.runs in
+    let freed = c.settle-freed.ensures.freed ∙ left_is _ _ _ _ _ c.args.call c.self.invariant r in
+    omega (arith, freed, end_room _ _ c.args.call c.args.results c.args.said _ _ _ c.self.invariant r)
+
+pub close-requires : goal.close-requires
+close-requires c =
+    let past = reverse c.self.inside.log.entries in
+    let r : runs past c.args.call ≡ true = ap (λ h. runs h.past c.args.call) c.self.view_is ∙ c.requires.runs in
+    let s : suit (slots past c.args.call) c.args.results ≡ true = ap (λ h. suit (slots h.past c.args.call) c.args.results) c.self.view_is ∙ c.requires.suit in
+    let freed = c.settle-freed.ensures.freed ∙ left_is _ _ _ _ _ c.args.call c.self.invariant r in
+    let items = rw c.as_slice.ensures at c.settle-freed.ensures.items in
+    let room = rw c.as_slice.ensures at c.settle-freed.ensures.room in
+    let mid = end_mid c.self.inside.home c.self.inside.log c.add.new.self c.args.call c.args.results c.args.said c.settle-freed.result c.self.inside.handles
+    c.settle-freed.new.handles c.self.inside.calls c.settle-freed.new.calls c.self.inside.counts c.self.invariant (r, s) c.add.ensures.entries freed
+    c.add.ensures.spare c.settle-freed.ensures.home items room c.settle-freed.ensures.rows in
+    mid_room _ _ _ _ _ _ _ mid
+
+pub invariant_of-self : goal.invariant_of-self
+invariant_of-self c =
+    let past = reverse c.self.inside.log.entries in
+    let r : runs past c.args.call ≡ true = ap (λ h. runs h.past c.args.call) c.self.view_is ∙ c.requires.runs in
+    let s : suit (slots past c.args.call) c.args.results ≡ true = ap (λ h. suit (slots h.past c.args.call) c.args.results) c.self.view_is ∙ c.requires.suit in
+    let freed = c.settle-freed.ensures.freed ∙ left_is _ _ _ _ _ c.args.call c.self.invariant r in
+    let items = rw c.as_slice.ensures at c.settle-freed.ensures.items in
+    let room = rw c.as_slice.ensures at c.settle-freed.ensures.room in
+    let mid = end_mid c.self.inside.home c.self.inside.log c.add.new.self c.args.call c.args.results c.args.said c.settle-freed.result c.self.inside.handles
+    c.settle-freed.new.handles c.self.inside.calls c.settle-freed.new.calls c.self.inside.counts c.self.invariant (r, s) c.add.ensures.entries freed
+    c.add.ensures.spare c.settle-freed.ensures.home items room c.settle-freed.ensures.rows in
+    closed_kept _ _ _ _ _ _ _ _ _ _ mid (rw c.any_runs-running.ensures at c.close.ensures)
+
+pub returns : goal.returns
+returns c =
+    let past = reverse c.self.inside.log.entries in
+    let r : runs past c.args.call ≡ true = ap (λ h. runs h.past c.args.call) c.self.view_is ∙ c.requires.runs in
+    let s : suit (slots past c.args.call) c.args.results ≡ true = ap (λ h. suit (slots h.past c.args.call) c.args.results) c.self.view_is ∙ c.requires.suit in
+    let freed = c.settle-freed.ensures.freed ∙ left_is _ _ _ _ _ c.args.call c.self.invariant r in
+    let items = rw c.as_slice.ensures at c.settle-freed.ensures.items in
+    let room = rw c.as_slice.ensures at c.settle-freed.ensures.room in
+    let mid = end_mid c.self.inside.home c.self.inside.log c.add.new.self c.args.call c.args.results c.args.said c.settle-freed.result c.self.inside.handles
+    c.settle-freed.new.handles c.self.inside.calls c.settle-freed.new.calls c.self.inside.counts c.self.invariant (r, s) c.add.ensures.entries freed
+    c.add.ensures.spare c.settle-freed.ensures.home items room c.settle-freed.ensures.rows in
+    subst (λ (h : History). Goes h (End c.args.call c.args.results c.args.said) c.close.result (history_of c.self.inside.home c.close.new.log.entries)) c.self.view_is
+    (closed_goes _ _ _ _ _ _ _ _ _ _ mid (rw c.any_runs-running.ensures at c.close.ensures))

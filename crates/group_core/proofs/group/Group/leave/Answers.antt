@@ -1,0 +1,42 @@
+use Rattle.std.proofs.Common.{◌≡◌, ◌+◌, ◌-◌, ◌≤◌, ◌∙◌, ap, sym, subst, true, reverse, arith}
+use Rattle.handle_model.specs.declared.entry.Entry.TheVariants.{Leave}
+use Rattle.handle_model.specs.Journal.{is_open}
+use Rattle.handle_model.specs.History.{History, history_of}
+use Rattle.group_core.specs.Conns.{Goes}
+use Rattle.group_core.proofs.Going.{leave_room, leave_counted, leave_mid, mid_room, closed_kept, closed_goes}
+use Rattle.group_core.proofs.group.Group.leave.Goals as goal
+
+pub overflow_sub-self : goal.overflow_sub-self
+overflow_sub-self c =
+    let o : is_open (reverse c.self.inside.log.entries) c.args.conn ≡ true = ap (λ h. is_open h.past c.args.conn) c.self.view_is ∙ c.requires in
+    leave_counted _ _ c.args.conn _ _ _ c.self.invariant o
+
+pub add-requires : goal.add-requires
+add-requires c =
+    let o : is_open (reverse c.self.inside.log.entries) c.args.conn ≡ true = ap (λ h. is_open h.past c.args.conn) c.self.view_is ∙ c.requires in
+    leave_room _ _ c.args.conn _ _ _ c.self.invariant o
+
+pub close-requires : goal.close-requires
+close-requires c =
+    let o : is_open (reverse c.self.inside.log.entries) c.args.conn ≡ true = ap (λ h. is_open h.past c.args.conn) c.self.view_is ∙ c.requires in
+    let counted = leave_counted _ _ c.args.conn _ _ _ c.self.invariant o in
+    let mid = leave_mid c.self.inside.home c.self.inside.log c.add.new.self c.args.conn c.self.inside.handles c.self.inside.calls c.leave.new.self
+    c.self.inside.counts (c.self.inside.counts.conns - 1) c.self.invariant o c.add.ensures.entries (omega (arith, c.add.ensures.spare)) c.leave.ensures.rows (omega (arith, counted)) in
+    mid_room _ _ _ _ _ _ _ mid
+
+pub invariant_of-self : goal.invariant_of-self
+invariant_of-self c =
+    let o : is_open (reverse c.self.inside.log.entries) c.args.conn ≡ true = ap (λ h. is_open h.past c.args.conn) c.self.view_is ∙ c.requires in
+    let counted = leave_counted _ _ c.args.conn _ _ _ c.self.invariant o in
+    let mid = leave_mid c.self.inside.home c.self.inside.log c.add.new.self c.args.conn c.self.inside.handles c.self.inside.calls c.leave.new.self
+    c.self.inside.counts (c.self.inside.counts.conns - 1) c.self.invariant o c.add.ensures.entries (omega (arith, c.add.ensures.spare)) c.leave.ensures.rows (omega (arith, counted)) in
+    closed_kept _ _ _ _ _ _ _ _ _ _ mid (rw c.any_runs-running.ensures at c.close.ensures)
+
+pub returns : goal.returns
+returns c =
+    let o : is_open (reverse c.self.inside.log.entries) c.args.conn ≡ true = ap (λ h. is_open h.past c.args.conn) c.self.view_is ∙ c.requires in
+    let counted = leave_counted _ _ c.args.conn _ _ _ c.self.invariant o in
+    let mid = leave_mid c.self.inside.home c.self.inside.log c.add.new.self c.args.conn c.self.inside.handles c.self.inside.calls c.leave.new.self
+    c.self.inside.counts (c.self.inside.counts.conns - 1) c.self.invariant o c.add.ensures.entries (omega (arith, c.add.ensures.spare)) c.leave.ensures.rows (omega (arith, counted)) in
+    subst (λ (h : History). Goes h (Leave c.args.conn) c.close.result (history_of c.self.inside.home c.close.new.log.entries)) c.self.view_is
+    (closed_goes _ _ _ _ _ _ _ _ _ _ mid (rw c.any_runs-running.ensures at c.close.ensures))

@@ -1,0 +1,29 @@
+-- What is answered when a connection joins a group and leaves it, and what it adds.
+use Rattle.std.specs.Prelude.{◌≡◌, ℕ, ◌+◌, true, false, Option, Some, None, Result, Ok, Err, List, [], ◌∷◌, length}
+use Rattle.handle_model.specs.declared.entry.Entry.{Entry}
+use Rattle.handle_model.specs.declared.entry.Entry.TheVariants.{Join, Leave, Shut}
+use Rattle.handle_model.specs.declared.reply.JoinLimit.TheVariants as limit
+use Rattle.handle_model.specs.Journal.{joined, due, due_items}
+use Rattle.handle_model.specs.History.{History}
+use Rattle.handle_model.specs.Limits.{join_limit}
+use Rattle.group_core.specs.declared.answer.JoinRefusal.{JoinRefusal}
+use Rattle.group_core.specs.declared.answer.JoinRefusal.TheVariants.{TooMany, Numbers, Memory}
+use Rattle.group_core.specs.declared.answer.Rest.{Rest}
+use Rattle.group_core.specs.declared.answer.Rest.TheVariants as rest
+use Rattle.group_core.specs.Adds.{Adds}
+
+-- a connection joins, with the next number
+abbrev pub Joins : History → Result ℕ JoinRefusal → History → Type 0
+Joins old (Ok c) new = (join_limit old.past ≡ None) × (c ≡ length (joined old.past) + 1) × Adds old (Join c ∷ []) new
+Joins old (Err TooMany) new = (join_limit old.past ≡ Some limit.TooMany) × Adds old [] new
+Joins old (Err Numbers) new = (join_limit old.past ≡ Some limit.Numbers) × Adds old [] new
+Joins old (Err Memory) new = Adds old [] new
+
+-- an entry comes, and then the Shut where it is due, with the handles that are to be run down
+abbrev pub Goes : History → Entry → Rest → History → Type 0
+Goes old e rest.Stays new = (due (e ∷ old.past) ≡ false) × Adds old (e ∷ []) new
+Goes old e (rest.Shut items) new =
+    (due (e ∷ old.past) ≡ true) × (items ≡ due_items old.home (e ∷ old.past)) × Adds old (Shut items ∷ e ∷ []) new
+
+abbrev pub Leaves : History → ℕ → Rest → History → Type 0
+Leaves old c rest new = Goes old (Leave c) rest new

@@ -1,0 +1,9 @@
+pub mod Adds
+pub mod Conns
+pub mod Calls
+pub mod Stages
+pub mod Owed
+pub mod Counts
+pub mod Kept
+pub mod Judges
+pub mod Refusals

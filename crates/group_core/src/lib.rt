@@ -1,0 +1,17 @@
+//! An association group: the journal of the connections and calls that share its context handles.
+#![tactic(auto)]
+
+mod accept;
+mod answer;
+mod counts;
+mod end;
+mod group;
+mod join;
+mod judge;
+mod log;
+mod over;
+mod stage;
+mod take;
+
+pub use answer::{AcceptRefusal, Cancelled, JoinRefusal, Orphaned, Rest, Stage, Taking};
+pub use group::Group;
