@@ -6,13 +6,15 @@ use Rattle.std.proofs.lemmas.List.{length-replicate}
 use Rattle.rpc_base.specs.declared.identifiers.Order.{Order}
 use Rattle.pdu_codec.specs.declared.pdu.Pdu.{Pdu}
 use Rattle.pdu_codec.specs.declared.pdu.Body.{Body}
-use Rattle.pdu_codec.specs.declared.pdu.Body.TheVariants.{Request, Response, Fault, Bind, BindAck}
+use Rattle.pdu_codec.specs.declared.pdu.Body.TheVariants.{Request, Response, Fault, Bind, BindAck, BindNak, Alter, AlterResp, Shutdown, CoCancel, Orphaned}
+use Rattle.pdu_codec.specs.declared.pdu.BindBody.{BindBody}
+use Rattle.pdu_codec.specs.declared.pdu.BindAckBody.{BindAckBody}
 use Rattle.pdu_codec.specs.declared.pdu.Element.{Element}
 use Rattle.pdu_codec.specs.declared.fault.PduFault.{PduFault}
 use Rattle.pdu_codec.specs.declared.fault.PduFault.TheVariants as faults
-use Rattle.pdu_codec.specs.Pdus.{kind_of, zeros_3, head_octets, head_of, element_octets, gap, IsElement, AreSpelled, IsBody, FitsPdu, IsPdu, body_octets, pdu_octets, HasSpelling, IsWritable}
+use Rattle.pdu_codec.specs.Pdus.{kind_of, zeros_3, head_octets, head_of, element_octets, gap, as_bind, as_bind_ack, IsElement, AreSpelled, IsBind, IsBindAck, IsBody, FitsPdu, IsPdu, written_bind, written_bind_ack, body_octets, pdu_octets, HasCounts, HasAckCounts, HasSpelling, IsWritable}
 use Rattle.rpc_base.specs.Fields.{order_of}
-use Rattle.pdu_codec.specs.Faults.{is_read, kind_at, flags_at, frag_length, IsRightLength, IsWrongLength, PassesVersion, PassesHead, IsHeadFault, Spells, EndsEarly, IsFault}
+use Rattle.pdu_codec.specs.Faults.{is_known, kind_at, flags_at, frag_length, IsRightLength, IsWrongLength, PassesVersion, PassesHead, IsHeadFault, Spells, EndsEarly, IsFault}
 use Rattle.pdu_codec.proofs.WritingLaws.{length-pdu_octets}
 use Rattle.pdu_codec.proofs.PduLaws.{pdu_says, pdu_long, pdu_no_head_fault, some_same}
 
@@ -24,11 +26,8 @@ elements_written order (e ∷ es) few =
     let first : IsElement order e (element_octets order 0 e) = record { few = few.0; reserved = 0; whole = refl } in
     (element_octets order 0 e, flat_map (element_octets order 0) es, refl, first, elements_written order es few.1)
 
-body_written : (order : Order) (flags : ℕ) (body : Body) → HasSpelling flags body → IsBody order flags body (body_octets order body)
-body_written order flags (Request b) h = record { object = h; whole = refl }
-body_written order flags (Response b) h = record { reserved = 0; whole = refl }
-body_written order flags (Fault b) h = record { reserved = 0; rest = 0 ∷ zeros_3; four = omega arith; whole = refl }
-body_written order flags (Bind b) h = record {
+bind_written : (order : Order) (b : BindBody) → HasCounts b → IsBind order b (written_bind order b)
+bind_written order b h = record {
   few = h.0;
   reserved = zeros_3;
   three = refl;
@@ -37,7 +36,9 @@ body_written order flags (Bind b) h = record {
   rest = [];
   whole = refl;
 }
-body_written order flags (BindAck b) h = record {
+
+bind_ack_written : (order : Order) (b : BindAckBody) → HasAckCounts b → IsBindAck order b (written_bind_ack order b)
+bind_ack_written order b h = record {
   short = h.0;
   few = h.1;
   padding = replicate (gap (10 + length b.address)) 0;
@@ -47,6 +48,19 @@ body_written order flags (BindAck b) h = record {
   rest = [];
   whole = refl;
 }
+
+body_written : (order : Order) (flags : ℕ) (body : Body) → HasSpelling flags body → IsBody order flags body (body_octets order body)
+body_written order flags (Request b) h = record { object = h; whole = refl }
+body_written order flags (Response b) h = record { reserved = 0; whole = refl }
+body_written order flags (Fault b) h = record { reserved = 0; rest = 0 ∷ zeros_3; four = omega arith; whole = refl }
+body_written order flags (Bind b) h = bind_written order b h
+body_written order flags (BindAck b) h = bind_ack_written order b h
+body_written order flags (BindNak b) h = record { few = h; rest = []; whole = refl }
+body_written order flags (Alter b) h = bind_written order (as_bind b) h
+body_written order flags (AlterResp b) h = bind_ack_written order (as_bind_ack b) h
+body_written order flags Shutdown h = tt
+body_written order flags CoCancel h = tt
+body_written order flags Orphaned h = tt
 
 -- what is written spells the PDU
 pub pdu_written : (p : Pdu) → FitsPdu p → IsWritable p → IsPdu p (pdu_octets p)
@@ -92,7 +106,7 @@ fault_passes known size order octets faults.Body h p = h
 fault_passes known size order octets faults.Memory h p = h
 
 -- a header has one first fault
-head_one : (known : Bool) (size : Option ℕ) (octets : List ℕ) (f g : PduFault) → IsHeadFault known size octets f → IsHeadFault known size octets g → f ≡ g
+pub head_one : (known : Bool) (size : Option ℕ) (octets : List ℕ) (f g : PduFault) → IsHeadFault known size octets f → IsHeadFault known size octets g → f ≡ g
 head_one known size octets faults.Version faults.Version h k = refl
 head_one known size octets faults.Version faults.Kind h k = absurd (not_version octets h k.0)
 head_one known size octets faults.Version faults.Length h k = absurd (not_version octets h k.0.0)
@@ -134,8 +148,8 @@ head_one known size octets faults.Memory g h k = absurd h
 -- what a first fault is, by where it lies
 data Lies (octets : List ℕ) (f : PduFault) : Type 0 where
   lies_short : length octets < 16 → f ≡ faults.Length → Lies octets f
-  lies_front : 16 ≤ length octets → IsHeadFault (is_read (kind_at octets)) (Some (length octets)) octets f → Lies octets f
-  lies_behind : f ≡ faults.Body → 16 ≤ length octets → (order : Order) → PassesHead (is_read (kind_at octets)) (Some (length octets)) order octets
+  lies_front : 16 ≤ length octets → IsHeadFault (is_known (kind_at octets)) (Some (length octets)) octets f → Lies octets f
+  lies_behind : f ≡ faults.Body → 16 ≤ length octets → (order : Order) → PassesHead (is_known (kind_at octets)) (Some (length octets)) order octets
       → EndsEarly order (flags_at octets) (kind_at octets) (drop 16 octets) → Lies octets f
   lies_nowhere : f ≡ faults.Memory → Lies octets f
 
@@ -156,11 +170,11 @@ lie_same octets f g f' g' (lies_short short is) (lies_front long h) = absurd (om
 lie_same octets f g f' g' (lies_short short is) (lies_behind is' long order passes early) = absurd (omega arith)
 lie_same octets f g f' g' (lies_short short is) (lies_nowhere is') = absurd (g' is')
 lie_same octets f g f' g' (lies_front long h) (lies_short short is') = absurd (omega arith)
-lie_same octets f g f' g' (lies_front long h) (lies_front long' k) = head_one (is_read (kind_at octets)) (Some (length octets)) octets f g h k
-lie_same octets f g f' g' (lies_front long h) (lies_behind is' long' order passes early) = absurd (fault_passes (is_read (kind_at octets)) (Some (length octets)) order octets f h passes)
+lie_same octets f g f' g' (lies_front long h) (lies_front long' k) = head_one (is_known (kind_at octets)) (Some (length octets)) octets f g h k
+lie_same octets f g f' g' (lies_front long h) (lies_behind is' long' order passes early) = absurd (fault_passes (is_known (kind_at octets)) (Some (length octets)) order octets f h passes)
 lie_same octets f g f' g' (lies_front long h) (lies_nowhere is') = absurd (g' is')
 lie_same octets f g f' g' (lies_behind is long order passes early) (lies_short short is') = absurd (omega arith)
-lie_same octets f g f' g' (lies_behind is long order passes early) (lies_front long' k) = absurd (fault_passes (is_read (kind_at octets)) (Some (length octets)) order octets g k passes)
+lie_same octets f g f' g' (lies_behind is long order passes early) (lies_front long' k) = absurd (fault_passes (is_known (kind_at octets)) (Some (length octets)) order octets g k passes)
 lie_same octets f g f' g' (lies_behind is long order passes early) (lies_behind is' long' order' passes' early') = is ∙ sym is'
 lie_same octets f g f' g' (lies_behind is long order passes early) (lies_nowhere is') = absurd (g' is')
 
@@ -168,18 +182,18 @@ lie_same octets f g f' g' (lies_behind is long order passes early) (lies_nowhere
 pub one_fault : (octets : List ℕ) (f g : PduFault) → IsFault octets f → IsFault octets g → f ≢ faults.Memory → g ≢ faults.Memory → f ≡ g
 one_fault octets f g h k f' g' = lie_same octets f g f' g' (lies octets f h) (lies octets g k)
 
-pdu_no_lie : (p : Pdu) (octets : List ℕ) (f : PduFault) → IsPdu p octets → is_read (kind_of p.body) ≡ true → Lies octets f → f ≡ faults.Memory
-pdu_no_lie p octets f is taken (lies_short short f_is) = absurd (omega (arith, pdu_long p octets is))
-pdu_no_lie p octets f is taken (lies_front long h) = absurd (pdu_no_head_fault (is_read (kind_at octets)) p octets is taken refl f h)
-pdu_no_lie p octets f is taken (lies_behind f_is long order passes early) =
+pdu_no_lie : (p : Pdu) (octets : List ℕ) (f : PduFault) → IsPdu p octets → Lies octets f → f ≡ faults.Memory
+pdu_no_lie p octets f is (lies_short short f_is) = absurd (omega (arith, pdu_long p octets is))
+pdu_no_lie p octets f is (lies_front long h) = absurd (pdu_no_head_fault (is_known (kind_at octets)) p octets is refl f h)
+pdu_no_lie p octets f is (lies_behind f_is long order passes early) =
     let s = pdu_says p octets is in
     let order_is : p.order ≡ order = some_same p.order order (sym s.order ∙ passes.1) in
     let own : Spells p.order p.flags (kind_of p.body) p.body is.body = record { is_kind = refl; fits = is.fits.body; is_body = is.is_body } in
     let spelled : Spells order (flags_at octets) (kind_at octets) p.body (drop 16 octets) =
     subst (λ (x : Order × ℕ × ℕ × List ℕ). Spells x.0 x.1 x.2 p.body x.3) (λ i. (order_is i, sym s.flags i, sym s.kind i, sym s.behind i)) own in
     absurd (early.alone p.body spelled)
-pdu_no_lie p octets f is taken (lies_nowhere f_is) = f_is
+pdu_no_lie p octets f is (lies_nowhere f_is) = f_is
 
 -- octets that spell a PDU have no fault
-pub no_fault : (p : Pdu) (octets : List ℕ) (f : PduFault) → IsPdu p octets → is_read (kind_of p.body) ≡ true → IsFault octets f → f ≡ faults.Memory
-no_fault p octets f is taken h = pdu_no_lie p octets f is taken (lies octets f h)
+pub no_fault : (p : Pdu) (octets : List ℕ) (f : PduFault) → IsPdu p octets → IsFault octets f → f ≡ faults.Memory
+no_fault p octets f is h = pdu_no_lie p octets f is (lies octets f h)

@@ -11,10 +11,12 @@ use Rattle.pdu_codec.specs.declared.pdu.ResponseBody.{ResponseBody}
 use Rattle.pdu_codec.specs.declared.pdu.FaultBody.{FaultBody}
 use Rattle.pdu_codec.specs.declared.pdu.BindBody.{BindBody}
 use Rattle.pdu_codec.specs.declared.pdu.BindAckBody.{BindAckBody}
+use Rattle.pdu_codec.specs.declared.pdu.BindNakBody.{BindNakBody}
+use Rattle.pdu_codec.specs.declared.pdu.Version.{Version}
 use Rattle.pdu_codec.specs.declared.pdu.Element.{Element}
 use Rattle.pdu_codec.specs.declared.pdu.ContextResult.{ContextResult}
-use Rattle.pdu_codec.specs.Pdus.{has_object, object_octets, request_octets, response_octets, fault_octets, syntaxes_octets, element_octets, bind_octets, gap, result_octets, results_octets, bind_ack_octets, IsElement, IsRequest, IsResponse, IsFaultBody, IsBind, IsBindAck, FitsRequest, FitsResponse, FitsFaultBody, FitsElement, FitsBind, FitsResult, FitsBindAck}
-use Rattle.pdu_codec.specs.Reading.{◌>>=◌, u16_at, u32_at, uuid_at, syntax_at, piece_at, octet_at, object_at, request_at, response_at, fault_at, items_at, element_at, bind_at, result_at, address_at, bind_ack_at}
+use Rattle.pdu_codec.specs.Pdus.{has_object, object_octets, request_octets, response_octets, fault_octets, syntaxes_octets, element_octets, bind_octets, gap, result_octets, results_octets, bind_ack_octets, version_octets, versions_octets, bind_nak_octets, IsElement, IsRequest, IsResponse, IsFaultBody, IsBind, IsBindAck, IsBindNak, FitsRequest, FitsResponse, FitsFaultBody, FitsElement, FitsBind, FitsResult, FitsBindAck, FitsVersion, FitsBindNak}
+use Rattle.pdu_codec.specs.Reading.{◌>>=◌, u16_at, u32_at, uuid_at, syntax_at, piece_at, octet_at, object_at, request_at, response_at, fault_at, items_at, element_at, bind_at, result_at, address_at, bind_ack_at, version_at, bind_nak_at}
 use Rattle.pdu_codec.proofs.FieldsAgain.{bind_ok, some_is, through, Takes, Takes-then, u16_takes, u16_again, u32_takes, u32_again, uuid_takes, uuid_again, syntax_takes, syntax_read_again, piece_takes, piece_again, Reads, items_takes, items_again, IsText, spelled-flat_map, flat_map-spelled}
 
 -- ---- one octet
@@ -414,3 +416,51 @@ bind_ack_again order octets b is fits =
     let e5 : items_at (result_at order) (length b.results) behind ≡ Some (b.results, is.rest) =
     items_again (IsText (result_octets order)) FitsResult (result_at order) (each_result_again order) b.results (results_octets order b.results) is.rest (flat_map-spelled (result_octets order) b.results) fits.results in
     rw (e0, e1, e2, e3, e4, e5) refl
+
+-- ---- versions and bind_naks
+
+each_version : (octets : List ℕ) (x : Version × List ℕ) → IsOctets octets → version_at octets ≡ Some x → Reads (IsText version_octets) FitsVersion octets x
+each_version octets x fits e =
+    let a = bind_ok (octet_at octets) (λ major. octet_at major.1 >>= λ minor. Some (record { major = major.0; minor = minor.0 }, minor.1)) x e in
+    let b = bind_ok (octet_at a.0.1) (λ minor. Some (record { major = a.0.0; minor = minor.0 }, minor.1)) x a.2 in
+    let ta = octet_takes octets a.0 fits a.1 in
+    let tb = octet_takes a.0.1 b.0 ta.fits b.1 in
+    let made : Version × List ℕ = (record { major = a.0.0; minor = b.0.0 }, b.0.1) in
+    let all : Reads (IsText version_octets) FitsVersion octets made = record {
+      text = a.0.0 ∷ b.0.0 ∷ [];
+      spelled = refl;
+      fits = record { major = ta.octet; minor = tb.octet };
+      taken = record { parts = ta.parts ∙ ap (λ (t : List ℕ). a.0.0 ∷ t) tb.parts; fits = tb.fits };
+    } in
+    subst (λ (y : Version × List ℕ). Reads (IsText version_octets) FitsVersion octets y) (some_is made x b.2) all
+
+each_version_again : (v : Version) (text rest : List ℕ) → IsText version_octets v text → FitsVersion v → version_at (text ++ rest) ≡ Some (v, rest)
+each_version_again v text rest is fits = ap (λ (t : List ℕ). version_at (t ++ rest)) is
+
+pub bind_nak_takes : (order : Order) (octets : List ℕ) (b : BindNakBody) → IsOctets octets → bind_nak_at order octets ≡ Some b → IsBindNak order b octets × FitsBindNak b
+unfolding bind_nak_at bind_nak_octets
+bind_nak_takes order octets b fits e =
+    let r = bind_ok (u16_at order octets) (λ reason. octet_at reason.1 >>= λ count. items_at version_at count.0 count.1 >>= λ versions. Some (record { reason = reason.0; versions = versions.0 })) b e in
+    let n = bind_ok (octet_at r.0.1) (λ count. items_at version_at count.0 count.1 >>= λ versions. Some (record { reason = r.0.0; versions = versions.0 })) b r.2 in
+    let l = bind_ok (items_at version_at n.0.0 n.0.1) (λ versions. Some (record { reason = r.0.0; versions = versions.0 })) b n.2 in
+    let tr = u16_takes order octets r.0 fits r.1 in
+    let tn = octet_takes r.0.1 n.0 tr.0.fits n.1 in
+    let tl = items_takes (IsText version_octets) FitsVersion version_at each_version n.0.0 n.0.1 l.0 tn.fits l.1 in
+    let texts : tl.text ≡ versions_octets l.0.0 = spelled-flat_map version_octets l.0.0 tl.text tl.spelled in
+    let count : n.0.0 ≡ length l.0.0 = sym tl.count_is in
+    let front = u16_octets order r.0.0 in
+    let behind : n.0.1 ≡ versions_octets l.0.0 ++ l.0.1 = tl.taken.parts ∙ ap (λ (t : List ℕ). t ++ l.0.1) texts in
+    let made : BindNakBody = record { reason = r.0.0; versions = l.0.0 } in
+    let whole : octets ≡ front ++ (length l.0.0 ∷ (versions_octets l.0.0 ++ l.0.1)) = tr.0.parts ∙ ap (λ (t : List ℕ). front ++ t) (tn.parts ∙ (λ i. count i ∷ behind i)) in
+    let all : IsBindNak order made octets × FitsBindNak made = (record { few = omega (arith, tn.octet, count); rest = l.0.1; whole = whole }, record { reason = tr.1; versions = tl.fits }) in
+    subst (λ (y : BindNakBody). IsBindNak order y octets × FitsBindNak y) (some_is made b l.2) all
+
+pub bind_nak_again : (order : Order) (octets : List ℕ) (b : BindNakBody) → IsBindNak order b octets → FitsBindNak b → bind_nak_at order octets ≡ Some b
+unfolding bind_nak_at bind_nak_octets
+bind_nak_again order octets b is fits =
+    let r2 = versions_octets b.versions ++ is.rest in
+    let r1 = length b.versions ∷ r2 in
+    let e0 : u16_at order octets ≡ Some (b.reason, r1) = ap (u16_at order) is.whole ∙ u16_again order b.reason r1 fits.reason in
+    let e1 : items_at version_at (length b.versions) r2 ≡ Some (b.versions, is.rest) =
+    items_again (IsText version_octets) FitsVersion version_at each_version_again b.versions (versions_octets b.versions) is.rest (flat_map-spelled version_octets b.versions) fits.versions in
+    rw (e0, e1) refl

@@ -7,11 +7,12 @@ use Rattle.rpc_base.specs.Fields.{IsOctets, number_of}
 use Rattle.rpc_base.proofs.FieldLaws.{wide16, wide32, IsOctets-drop, part_at}
 use Rattle.pdu_codec.specs.declared.pdu.Pdu.{Pdu}
 use Rattle.pdu_codec.specs.declared.pdu.Body.{Body}
+use Rattle.pdu_codec.specs.declared.pdu.Body.TheVariants as bodies
 use Rattle.pdu_codec.specs.declared.pdu.Head.{Head}
 use Rattle.pdu_codec.specs.declared.fault.PduFault.{PduFault}
 use Rattle.pdu_codec.specs.declared.fault.PduFault.TheVariants as faults
 use Rattle.pdu_codec.specs.Pdus.{kind_of, head_octets, head_of, IsPdu}
-use Rattle.pdu_codec.specs.Faults.{is_read, kind_at, flags_at, length_order, frag_length, PassesHead, IsHeadFault, head_at, Spells, IsFault}
+use Rattle.pdu_codec.specs.Faults.{is_known, kind_at, flags_at, length_order, frag_length, PassesHead, IsHeadFault, head_at, Spells, IsFault}
 use Rattle.pdu_codec.specs.Reading.{Fails, body_at}
 use Rattle.pdu_codec.proofs.HeadLaws.{Says, says, no_head_fault, stands}
 use Rattle.pdu_codec.proofs.KindLaws.{body_takes, body_again}
@@ -25,18 +26,32 @@ pdu_says p octets is =
 pub pdu_long : (p : Pdu) (octets : List ℕ) → IsPdu p octets → 16 ≤ length octets
 pdu_long p octets is = omega (arith, (pdu_says p octets is).len)
 
+-- the protocol has the PTYPE of every body
+pub body_known : (b : Body) → is_known (kind_of b) ≡ true
+body_known (bodies.Request b) = refl
+body_known (bodies.Response b) = refl
+body_known (bodies.Fault b) = refl
+body_known (bodies.Bind b) = refl
+body_known (bodies.BindAck b) = refl
+body_known (bodies.BindNak b) = refl
+body_known (bodies.Alter b) = refl
+body_known (bodies.AlterResp b) = refl
+body_known bodies.Shutdown = refl
+body_known bodies.CoCancel = refl
+body_known bodies.Orphaned = refl
+
 -- a PDU has no fault in its header
-pub pdu_no_head_fault : (known : Bool) (p : Pdu) (octets : List ℕ) → IsPdu p octets → is_read (kind_of p.body) ≡ true → known ≡ is_read (kind_at octets)
+pub pdu_no_head_fault : (known : Bool) (p : Pdu) (octets : List ℕ) → IsPdu p octets → known ≡ is_known (kind_at octets)
     → (f : PduFault) → IsHeadFault known (Some (length octets)) octets f → ⊥
-pdu_no_head_fault known p octets is taken known_is f wrong =
+pdu_no_head_fault known p octets is known_is f wrong =
     let s = pdu_says p octets is in
-    no_head_fault known (Some (length octets)) p.minor (head_of p (length octets)) is.body octets s is.minor (known_is ∙ ap is_read s.kind ∙ taken) (pdu_long p octets is, refl) f wrong
+    no_head_fault known (Some (length octets)) p.minor (head_of p (length octets)) is.body octets s is.minor (known_is ∙ ap is_known s.kind ∙ body_known p.body) (pdu_long p octets is, refl) f wrong
 
 -- what is known once a header has been read
 pub record Opened (octets : List ℕ) (h : Head) : Type 0 where
   pub fits : IsOctets octets
   pub long : 16 ≤ length octets
-  pub passes : PassesHead (is_read (kind_at octets)) (Some (length octets)) h.order octets
+  pub passes : PassesHead (is_known (kind_at octets)) (Some (length octets)) h.order octets
   pub head : h ≡ head_at h.order octets
 
 -- the PDU of a header and a body
@@ -71,14 +86,9 @@ opened_found octets h b o e =
       size = omega (arith, size, size_is);
       body = drop 16 octets;
       is_body = t.is_body;
-      whole = stands (is_read (kind_at octets)) (Some (length octets)) h.order octets o.fits o.long o.passes
+      whole = stands (is_known (kind_at octets)) (Some (length octets)) h.order octets o.fits o.long o.passes
           ∙ ap (λ (x : Head). head_octets (slice_index octets 1) drep x ++ drop 16 octets) same;
     }
-
-pub opened_kind : (octets : List ℕ) (h : Head) (b : Body) → Opened octets h → body_at h.order h.flags h.kind (drop 16 octets) ≡ Some b → is_read (kind_of b) ≡ true
-opened_kind octets h b o e =
-    let t = opened_spells octets h b o e in
-    ap is_read (t.is_kind ∙ ap (λ (x : Head). x.kind) o.head) ∙ o.passes.0.0.0.1
 
 abbrev pub given : {A : Type 0} → A → Option A
 given x = Some x
@@ -113,7 +123,7 @@ opened_read p octets h is o e = absurd (cc (e, opened_body p octets h is o))
 -- a body that isn't read ends early
 pub opened_early : (octets : List ℕ) (h : Head) → Opened octets h → body_at h.order h.flags h.kind (drop 16 octets) ≡ None → IsFault octets faults.Body
 opened_early octets h o e =
-    let known : is_read (kind_at octets) ≡ true = o.passes.0.0.0.1 in
+    let known : is_known (kind_at octets) ≡ true = o.passes.0.0.0.1 in
     let unread : body_at h.order (flags_at octets) (kind_at octets) (drop 16 octets) ≡ None = (λ i. body_at h.order (sym o.head i).flags (sym o.head i).kind (drop 16 octets)) ∙ e in
     (o.long, h.order, o.passes, ends_early h.order (flags_at octets) (kind_at octets) (drop 16 octets) known (IsOctets-drop 16 octets o.fits) unread)
 
@@ -137,7 +147,7 @@ fails_fault octets faults.Body read h k = k h
 fails_fault octets faults.Memory read h k = tt
 
 -- what opens octets, as a call says it
-pub opened : (known : Bool) (octets : List ℕ) (h : Head) → IsOctets octets → 16 ≤ length octets → known ≡ is_read (kind_at octets) → PassesHead known (Some (length octets)) h.order octets → h ≡ head_at h.order octets → Opened octets h
+pub opened : (known : Bool) (octets : List ℕ) (h : Head) → IsOctets octets → 16 ≤ length octets → known ≡ is_known (kind_at octets) → PassesHead known (Some (length octets)) h.order octets → h ≡ head_at h.order octets → Opened octets h
 opened known octets h fits long known_is passes head =
     record { fits = fits; long = long; passes = subst (λ (k : Bool). PassesHead k (Some (length octets)) h.order octets) known_is passes; head = head }
 

@@ -1,24 +1,25 @@
 -- How many octets bodies have: a PDU that has a spelling can be written.
-use Rattle.std.proofs.Common.{◌≡◌, ℕ, zero, suc, ◌+◌, ◌*◌, ◌^◌, ◌<◌, ◌≤◌, List, [], ◌∷◌, ◌++◌, length, Option, Some, None, refl, sym, ap, subst, ◌∙◌, arith}
+use Rattle.std.proofs.Common.{◌≡◌, ℕ, ◌+◌, ◌*◌, ◌^◌, ◌<◌, ◌≤◌, List, [], ◌∷◌, ◌++◌, length, Option, Some, None, refl, sym, ap, subst, ◌∙◌, arith}
 use Rattle.std.specs.Prelude.{replicate, is_some, IfSome}
-use Rattle.std.specs.Int.{w16, w32}
 use Rattle.std.specs.List.{flat_map, AllByRecursion}
 use Rattle.std.proofs.lemmas.List.{length-append, length-replicate}
 use Rattle.rpc_base.specs.declared.identifiers.Order.{Order}
-use Rattle.rpc_base.specs.declared.identifiers.SyntaxId.{SyntaxId}
 use Rattle.rpc_base.specs.Fields.{u16_octets, u32_octets, syntax_octets, FitsSyntax}
 use Rattle.rpc_base.proofs.FieldLaws.{wide16, wide32, length-syntax_octets, length-uuid_octets}
 use Rattle.pdu_codec.specs.declared.pdu.Pdu.{Pdu}
 use Rattle.pdu_codec.specs.declared.pdu.Body.{Body}
-use Rattle.pdu_codec.specs.declared.pdu.Body.TheVariants.{Request, Response, Fault, Bind, BindAck}
+use Rattle.pdu_codec.specs.declared.pdu.Body.TheVariants.{Request, Response, Fault, Bind, BindAck, BindNak, Alter, AlterResp, Shutdown, CoCancel, Orphaned}
 use Rattle.pdu_codec.specs.declared.pdu.RequestBody.{RequestBody}
 use Rattle.pdu_codec.specs.declared.pdu.ResponseBody.{ResponseBody}
 use Rattle.pdu_codec.specs.declared.pdu.FaultBody.{FaultBody}
 use Rattle.pdu_codec.specs.declared.pdu.BindBody.{BindBody}
 use Rattle.pdu_codec.specs.declared.pdu.BindAckBody.{BindAckBody}
+use Rattle.pdu_codec.specs.declared.pdu.BindNakBody.{BindNakBody}
+use Rattle.pdu_codec.specs.declared.pdu.AlterRespBody.{AlterRespBody}
+use Rattle.pdu_codec.specs.declared.pdu.Version.{Version}
 use Rattle.pdu_codec.specs.declared.pdu.Element.{Element}
 use Rattle.pdu_codec.specs.declared.pdu.ContextResult.{ContextResult}
-use Rattle.pdu_codec.specs.Pdus.{zeros_3, has_object, object_octets, request_octets, response_octets, fault_octets, maxima_octets, syntaxes_octets, element_octets, bind_octets, gap, result_octets, results_octets, bind_ack_octets, IsElement, AreSpelled, IsBody, IsPdu, FitsResult, body_octets, pdu_octets, HasSpelling, IsWritable}
+use Rattle.pdu_codec.specs.Pdus.{zeros_3, has_object, object_octets, request_octets, response_octets, fault_octets, maxima_octets, syntaxes_octets, element_octets, bind_octets, gap, result_octets, results_octets, bind_ack_octets, as_bind, as_bind_ack, version_octets, versions_octets, bind_nak_octets, IsElement, AreSpelled, IsBind, IsBindAck, IsBody, IsPdu, written_bind, written_bind_ack, body_octets, pdu_octets, HasSpelling, IsWritable}
 use Rattle.pdu_codec.proofs.WritingLaws.{length-pdu_octets}
 use Rattle.pdu_codec.proofs.PduLaws.{pdu_says}
 
@@ -97,6 +98,17 @@ length-bind_ack order padding reserved rest b =
       wide16.len order (length b.address),
     )
 
+length-versions : (vs : List Version) → length (versions_octets vs) ≡ 2 * length vs
+length-versions [] = refl
+length-versions (v ∷ vs) = omega (arith, length-append (version_octets v) (versions_octets vs), length-versions vs)
+
+pub length-bind_nak : (order : Order) (rest : List ℕ) (b : BindNakBody) → length (bind_nak_octets order rest b) ≡ 3 + 2 * length b.versions + length rest
+unfolding bind_nak_octets
+length-bind_nak order rest b =
+    let r = u16_octets order b.reason in
+    let v = versions_octets b.versions in
+    omega (arith, length-append r (length b.versions ∷ (v ++ rest)), length-append v rest, length-versions b.versions, wide16.len order b.reason)
+
 -- ---- a PDU that has a spelling can be written
 
 elements_few : (order : Order) (es : List Element) (octets : List ℕ) → AreSpelled (IsElement order) es octets → AllByRecursion (λ e. length e.transfers < 256) es
@@ -109,18 +121,36 @@ body_has order flags (Response b) octets is = tt
 body_has order flags (Fault b) octets is = tt
 body_has order flags (Bind b) octets is = (is.few, elements_few order b.elements is.elements is.are)
 body_has order flags (BindAck b) octets is = (is.short, is.few)
+body_has order flags (BindNak b) octets is = is.few
+body_has order flags (Alter b) octets is = (is.few, elements_few order b.elements is.elements is.are)
+body_has order flags (AlterResp b) octets is = (is.short, is.few)
+body_has order flags Shutdown octets is = tt
+body_has order flags CoCancel octets is = tt
+body_has order flags Orphaned octets is = tt
 
 -- the body that is written is the shortest
+bind_shortest : (order : Order) (b : BindBody) (octets : List ℕ) → IsBind order b octets → length (written_bind order b) ≤ length octets
+bind_shortest order b octets is =
+    let written = flat_map (element_octets order 0) b.elements in
+    omega (arith, ap length is.whole, length-bind order is.reserved is.elements is.rest b, length-bind order zeros_3 written [] b, length-elements order b.elements is.elements is.are, is.three)
+
+bind_ack_shortest : (order : Order) (b : BindAckBody) (octets : List ℕ) → IsBindAck order b octets → length (written_bind_ack order b) ≤ length octets
+bind_ack_shortest order b octets is =
+    let padding : List ℕ = replicate (gap (10 + length b.address)) 0 in
+    omega (arith, ap length is.whole, length-bind_ack order is.padding is.reserved is.rest b, length-bind_ack order padding zeros_3 [] b, is.aligned, length-replicate {A = ℕ} (gap (10 + length b.address)) 0, is.three)
+
 body_shortest : (order : Order) (flags : ℕ) (body : Body) (octets : List ℕ) → IsBody order flags body octets → length (body_octets order body) ≤ length octets
 body_shortest order flags (Request b) octets is = omega (arith, ap length is.whole)
 body_shortest order flags (Response b) octets is = omega (arith, ap length is.whole, length-response order is.reserved b, length-response order 0 b)
 body_shortest order flags (Fault b) octets is = omega (arith, ap length is.whole, length-fault order is.reserved is.rest b, length-fault order 0 (0 ∷ zeros_3) b, is.four)
-body_shortest order flags (Bind b) octets is =
-    let written = flat_map (element_octets order 0) b.elements in
-    omega (arith, ap length is.whole, length-bind order is.reserved is.elements is.rest b, length-bind order zeros_3 written [] b, length-elements order b.elements is.elements is.are, is.three)
-body_shortest order flags (BindAck b) octets is =
-    let padding : List ℕ = replicate (gap (10 + length b.address)) 0 in
-    omega (arith, ap length is.whole, length-bind_ack order is.padding is.reserved is.rest b, length-bind_ack order padding zeros_3 [] b, is.aligned, length-replicate {A = ℕ} (gap (10 + length b.address)) 0, is.three)
+body_shortest order flags (Bind b) octets is = bind_shortest order b octets is
+body_shortest order flags (BindAck b) octets is = bind_ack_shortest order b octets is
+body_shortest order flags (BindNak b) octets is = omega (arith, ap length is.whole, length-bind_nak order is.rest b, length-bind_nak order [] b)
+body_shortest order flags (Alter b) octets is = bind_shortest order (as_bind b) octets is
+body_shortest order flags (AlterResp b) octets is = bind_ack_shortest order (as_bind_ack b) octets is
+body_shortest order flags Shutdown octets is = omega arith
+body_shortest order flags CoCancel octets is = omega arith
+body_shortest order flags Orphaned octets is = omega arith
 
 pub pdu_writable : (p : Pdu) (octets : List ℕ) → IsPdu p octets → IsWritable p
 pdu_writable p octets is =
@@ -181,3 +211,24 @@ bind_ack_writable p b minor is few fits short =
       body = subst (λ (x : Body). HasSpelling p.flags x) (sym is) (omega arith, few);
       size = omega (arith, body_size p (BindAck b) is, length-bind_ack p.order padding zeros_3 [] b, length-replicate {A = ℕ} (gap (10 + length b.address)) 0, length-results p.order b.results fits, short);
     }
+
+pub bind_nak_writable : (p : Pdu) (b : BindNakBody) → p.minor ≤ 1 → p.body ≡ BindNak b → length b.versions < 256 → IsWritable p
+bind_nak_writable p b minor is few = record {
+  minor = minor;
+  body = subst (λ (x : Body). HasSpelling p.flags x) (sym is) few;
+  size = omega (arith, body_size p (BindNak b) is, length-bind_nak p.order [] b);
+}
+
+pub alter_resp_writable : (p : Pdu) (b : AlterRespBody) → p.minor ≤ 1 → p.body ≡ AlterResp b → length b.results < 256 → AllByRecursion (λ r. FitsSyntax r.transfer) b.results
+    → 33 + length b.address + 24 * length b.results < 2 ^ 16 → IsWritable p
+alter_resp_writable p b minor is few fits short =
+    let padding : List ℕ = replicate (gap (10 + length b.address)) 0 in
+    record {
+      minor = minor;
+      body = subst (λ (x : Body). HasSpelling p.flags x) (sym is) (omega arith, few);
+      size = omega (arith, body_size p (AlterResp b) is, length-bind_ack p.order padding zeros_3 [] (as_bind_ack b), length-replicate {A = ℕ} (gap (10 + length b.address)) 0, length-results p.order b.results fits, short);
+    }
+
+-- a PDU without fields
+pub plain_writable : (p : Pdu) → p.minor ≤ 1 → HasSpelling p.flags p.body → body_octets p.order p.body ≡ [] → IsWritable p
+plain_writable p minor has none = record { minor = minor; body = has; size = omega (arith, length-pdu_octets p, ap length none) }

@@ -36,13 +36,9 @@ auth_length octets = number_of (length_order (slice_index octets 4)) w16 (take 2
 abbrev pub is_known : ℕ → Bool
 is_known kind = kind == 0 || kind == 2 || kind == 3 || (nat_le 11 kind && nat_le kind 15) || (nat_le 17 kind && nat_le kind 19)
 
--- those that are read so far: request and bind
-abbrev pub is_read : ℕ → Bool
-is_read kind = kind == 0 || kind == 11
-
 -- ---- the tests of a header, each with those before it
 
--- `known` says whether the PTYPE is one that is taken, and `size` is the number of the PDU's octets where all of
+-- `known` says whether the protocol has the PTYPE, and `size` is the number of the PDU's octets where all of
 -- them are at hand.
 
 abbrev pub PassesVersion : List ℕ → Type 0
@@ -114,7 +110,7 @@ pub record EndsEarly (order : Order) (flags kind : ℕ) (octets : List ℕ) : Ty
 
 -- The fault is the first one of a header that stands in front of the octets, all of which are a PDU's.
 abbrev pub IsFrontFault : List ℕ → PduFault → Type 0
-IsFrontFault octets fault = (16 ≤ length octets) × IsHeadFault (is_read (kind_at octets)) (Some (length octets)) octets fault
+IsFrontFault octets fault = (16 ≤ length octets) × IsHeadFault (is_known (kind_at octets)) (Some (length octets)) octets fault
 
 -- The fault is the first one of the octets. Fewer than 16 of them are a `Length` before all else. Want of memory
 -- has no cause in the octets.
@@ -125,6 +121,6 @@ IsFault octets faults.Length = (length octets < 16) ⊎ IsFrontFault octets faul
 IsFault octets faults.Auth = IsFrontFault octets faults.Auth
 IsFault octets faults.Characters = IsFrontFault octets faults.Characters
 IsFault octets faults.Body =
-    (16 ≤ length octets) × (order : Order) × PassesHead (is_read (kind_at octets)) (Some (length octets)) order octets
+    (16 ≤ length octets) × (order : Order) × PassesHead (is_known (kind_at octets)) (Some (length octets)) order octets
     × EndsEarly order (flags_at octets) (kind_at octets) (drop 16 octets)
 IsFault octets faults.Memory = ⊤

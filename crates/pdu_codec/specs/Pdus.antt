@@ -10,12 +10,16 @@ use Rattle.rpc_base.specs.Fields.{u16_octets, u32_octets, uuid_octets, syntax_oc
 use Rattle.pdu_codec.specs.declared.pdu.Pdu.{Pdu}
 use Rattle.pdu_codec.specs.declared.pdu.Head.{Head}
 use Rattle.pdu_codec.specs.declared.pdu.Body.{Body}
-use Rattle.pdu_codec.specs.declared.pdu.Body.TheVariants.{Request, Response, Fault, Bind, BindAck}
+use Rattle.pdu_codec.specs.declared.pdu.Body.TheVariants.{Request, Response, Fault, Bind, BindAck, BindNak, Alter, AlterResp, Shutdown, CoCancel, Orphaned}
 use Rattle.pdu_codec.specs.declared.pdu.RequestBody.{RequestBody}
 use Rattle.pdu_codec.specs.declared.pdu.ResponseBody.{ResponseBody}
 use Rattle.pdu_codec.specs.declared.pdu.FaultBody.{FaultBody}
 use Rattle.pdu_codec.specs.declared.pdu.BindBody.{BindBody}
 use Rattle.pdu_codec.specs.declared.pdu.BindAckBody.{BindAckBody}
+use Rattle.pdu_codec.specs.declared.pdu.BindNakBody.{BindNakBody}
+use Rattle.pdu_codec.specs.declared.pdu.AlterBody.{AlterBody}
+use Rattle.pdu_codec.specs.declared.pdu.AlterRespBody.{AlterRespBody}
+use Rattle.pdu_codec.specs.declared.pdu.Version.{Version}
 use Rattle.pdu_codec.specs.declared.pdu.Element.{Element}
 use Rattle.pdu_codec.specs.declared.pdu.ContextResult.{ContextResult}
 
@@ -28,6 +32,12 @@ kind_of (Response b) = 2
 kind_of (Fault b) = 3
 kind_of (Bind b) = 11
 kind_of (BindAck b) = 12
+kind_of (BindNak b) = 13
+kind_of (Alter b) = 14
+kind_of (AlterResp b) = 15
+kind_of Shutdown = 17
+kind_of CoCancel = 18
+kind_of Orphaned = 19
 
 -- the first octet of a data representation with ASCII characters
 abbrev pub drep_octet : Order → ℕ
@@ -95,6 +105,22 @@ bind_ack_octets order padding reserved rest b =
     maxima_octets order b.max_xmit b.max_recv b.group
     (u16_octets order (length b.address) ++ b.address ++ padding ++ length b.results ∷ (reserved ++ results_octets order b.results ++ rest))
 
+-- an alter_context has the fields of a bind, and its answer those of a bind_ack
+abbrev pub as_bind : AlterBody → BindBody
+as_bind b = record { max_xmit = b.max_xmit; max_recv = b.max_recv; group = b.group; elements = b.elements }
+
+abbrev pub as_bind_ack : AlterRespBody → BindAckBody
+as_bind_ack b = record { max_xmit = b.max_xmit; max_recv = b.max_recv; group = b.group; address = b.address; results = b.results }
+
+abbrev pub version_octets : Version → List ℕ
+version_octets v = v.major ∷ v.minor ∷ []
+
+abbrev pub versions_octets : List Version → List ℕ
+versions_octets versions = flat_map version_octets versions
+
+unfoldable pub bind_nak_octets : Order → List ℕ → BindNakBody → List ℕ
+bind_nak_octets order rest b = u16_octets order b.reason ++ length b.versions ∷ (versions_octets b.versions ++ rest)
+
 -- ---- what spells what
 
 -- an element, whatever its reserved octet
@@ -146,12 +172,25 @@ pub record IsBindAck (order : Order) (b : BindAckBody) (octets : List ℕ) : Typ
   pub rest : List ℕ
   pub whole : octets ≡ bind_ack_octets order padding reserved rest b
 
+-- Anything may follow the versions.
+pub record IsBindNak (order : Order) (b : BindNakBody) (octets : List ℕ) : Type 0 where
+  pub few : length b.versions < 256
+  pub rest : List ℕ
+  pub whole : octets ≡ bind_nak_octets order rest b
+
+-- A shutdown, a co_cancel and an orphaned have no fields: anything is their body.
 abbrev pub IsBody : Order → ℕ → Body → List ℕ → Type 0
 IsBody order flags (Request b) octets = IsRequest order flags b octets
 IsBody order flags (Response b) octets = IsResponse order b octets
 IsBody order flags (Fault b) octets = IsFaultBody order b octets
 IsBody order flags (Bind b) octets = IsBind order b octets
 IsBody order flags (BindAck b) octets = IsBindAck order b octets
+IsBody order flags (BindNak b) octets = IsBindNak order b octets
+IsBody order flags (Alter b) octets = IsBind order (as_bind b) octets
+IsBody order flags (AlterResp b) octets = IsBindAck order (as_bind_ack b) octets
+IsBody order flags Shutdown octets = ⊤
+IsBody order flags CoCancel octets = ⊤
+IsBody order flags Orphaned octets = ⊤
 
 -- ---- what the types of the fields hold: a stub, an address and a UUID are octets where a PDU's octets are
 
@@ -194,12 +233,26 @@ pub record FitsBindAck (b : BindAckBody) : Type 0 where
   pub group : b.group < 2 ^ 32
   pub results : AllByRecursion FitsResult b.results
 
+pub record FitsVersion (v : Version) : Type 0 where
+  pub major : v.major < 2 ^ 8
+  pub minor : v.minor < 2 ^ 8
+
+pub record FitsBindNak (b : BindNakBody) : Type 0 where
+  pub reason : b.reason < 2 ^ 16
+  pub versions : AllByRecursion FitsVersion b.versions
+
 abbrev pub FitsBody : Body → Type 0
 FitsBody (Request b) = FitsRequest b
 FitsBody (Response b) = FitsResponse b
 FitsBody (Fault b) = FitsFaultBody b
 FitsBody (Bind b) = FitsBind b
 FitsBody (BindAck b) = FitsBindAck b
+FitsBody (BindNak b) = FitsBindNak b
+FitsBody (Alter b) = FitsBind (as_bind b)
+FitsBody (AlterResp b) = FitsBindAck (as_bind_ack b)
+FitsBody Shutdown = ⊤
+FitsBody CoCancel = ⊤
+FitsBody Orphaned = ⊤
 
 pub record FitsPdu (p : Pdu) : Type 0 where
   pub flags : p.flags < 2 ^ 8
@@ -223,13 +276,26 @@ pub record IsPdu (p : Pdu) (octets : List ℕ) : Type 0 where
   pub is_body : IsBody p.order p.flags p.body body
   pub whole : octets ≡ head_octets p.minor drep (head_of p (length octets)) ++ body
 
+-- the bodies of a bind and of its answer with zero reserved octets and nothing behind the last field
+abbrev pub written_bind : Order → BindBody → List ℕ
+written_bind order b = bind_octets order zeros_3 (flat_map (element_octets order 0) b.elements) [] b
+
+abbrev pub written_bind_ack : Order → BindAckBody → List ℕ
+written_bind_ack order b = bind_ack_octets order (replicate (gap (10 + length b.address)) 0) zeros_3 [] b
+
 -- the body with zero reserved octets and nothing behind its last field
 abbrev pub body_octets : Order → Body → List ℕ
 body_octets order (Request b) = request_octets order b
 body_octets order (Response b) = response_octets order 0 b
 body_octets order (Fault b) = fault_octets order 0 (0 ∷ zeros_3) b
-body_octets order (Bind b) = bind_octets order zeros_3 (flat_map (element_octets order 0) b.elements) [] b
-body_octets order (BindAck b) = bind_ack_octets order (replicate (gap (10 + length b.address)) 0) zeros_3 [] b
+body_octets order (Bind b) = written_bind order b
+body_octets order (BindAck b) = written_bind_ack order b
+body_octets order (BindNak b) = bind_nak_octets order [] b
+body_octets order (Alter b) = written_bind order (as_bind b)
+body_octets order (AlterResp b) = written_bind_ack order (as_bind_ack b)
+body_octets order Shutdown = []
+body_octets order CoCancel = []
+body_octets order Orphaned = []
 
 -- the spelling that is written
 unfoldable pub pdu_octets : Pdu → List ℕ
@@ -237,13 +303,26 @@ pdu_octets p =
     let body = body_octets p.order p.body in
     head_octets p.minor zeros_3 (head_of p (16 + length body)) ++ body
 
+-- the lists of a bind and of its answer have at most as many items as their counts tell
+abbrev pub HasCounts : BindBody → Type 0
+HasCounts b = (length b.elements < 256) × AllByRecursion (λ e. length e.transfers < 256) b.elements
+
+abbrev pub HasAckCounts : BindAckBody → Type 0
+HasAckCounts b = (length b.address < 2 ^ 16) × (length b.results < 256)
+
 -- what a body must be to have a spelling, beside what the types of its fields hold
 abbrev pub HasSpelling : ℕ → Body → Type 0
 HasSpelling flags (Request b) = is_some b.object ≡ has_object flags
 HasSpelling flags (Response b) = ⊤
 HasSpelling flags (Fault b) = ⊤
-HasSpelling flags (Bind b) = (length b.elements < 256) × AllByRecursion (λ e. length e.transfers < 256) b.elements
-HasSpelling flags (BindAck b) = (length b.address < 2 ^ 16) × (length b.results < 256)
+HasSpelling flags (Bind b) = HasCounts b
+HasSpelling flags (BindAck b) = HasAckCounts b
+HasSpelling flags (BindNak b) = length b.versions < 256
+HasSpelling flags (Alter b) = HasCounts (as_bind b)
+HasSpelling flags (AlterResp b) = HasAckCounts (as_bind_ack b)
+HasSpelling flags Shutdown = ⊤
+HasSpelling flags CoCancel = ⊤
+HasSpelling flags Orphaned = ⊤
 
 -- The PDU has a spelling, and the one that is written has at most 65,535 octets.
 pub record IsWritable (p : Pdu) : Type 0 where

@@ -5,12 +5,16 @@ use Rattle.rpc_base.specs.declared.identifiers.Order.{Order}
 use Rattle.rpc_base.specs.declared.identifiers.SyntaxId.{SyntaxId}
 use Rattle.rpc_base.specs.Fields.{number_of, uuid_octets, syntax_of}
 use Rattle.pdu_codec.specs.declared.pdu.Body.{Body}
-use Rattle.pdu_codec.specs.declared.pdu.Body.TheVariants.{Request, Response, Fault, Bind, BindAck}
+use Rattle.pdu_codec.specs.declared.pdu.Body.TheVariants.{Request, Response, Fault, Bind, BindAck, BindNak, Alter, AlterResp, Shutdown, CoCancel, Orphaned}
 use Rattle.pdu_codec.specs.declared.pdu.RequestBody.{RequestBody}
 use Rattle.pdu_codec.specs.declared.pdu.ResponseBody.{ResponseBody}
 use Rattle.pdu_codec.specs.declared.pdu.FaultBody.{FaultBody}
 use Rattle.pdu_codec.specs.declared.pdu.BindBody.{BindBody}
 use Rattle.pdu_codec.specs.declared.pdu.BindAckBody.{BindAckBody}
+use Rattle.pdu_codec.specs.declared.pdu.BindNakBody.{BindNakBody}
+use Rattle.pdu_codec.specs.declared.pdu.AlterBody.{AlterBody}
+use Rattle.pdu_codec.specs.declared.pdu.AlterRespBody.{AlterRespBody}
+use Rattle.pdu_codec.specs.declared.pdu.Version.{Version}
 use Rattle.pdu_codec.specs.declared.pdu.Element.{Element}
 use Rattle.pdu_codec.specs.declared.pdu.ContextResult.{ContextResult}
 use Rattle.pdu_codec.specs.declared.fault.PduFault.{PduFault}
@@ -145,6 +149,32 @@ bind_ack_at order octets = do
   results ← items_at (result_at order) count.0 reserved.1
   Some (record { max_xmit = max_xmit.0; max_recv = max_recv.0; group = group.0; address = address.0; results = results.0 })
 
+abbrev pub version_at : List ℕ → Option (Version × List ℕ)
+version_at octets = do
+  major ← octet_at octets
+  minor ← octet_at major.1
+  Some (record { major = major.0; minor = minor.0 }, minor.1)
+
+unfoldable pub bind_nak_at : Order → List ℕ → Option BindNakBody
+bind_nak_at order octets = do
+  reason ← u16_at order octets
+  count ← octet_at reason.1
+  versions ← items_at version_at count.0 count.1
+  Some (record { reason = reason.0; versions = versions.0 })
+
+-- an alter_context with a bind's fields, and an answer to it with a bind_ack's
+abbrev pub as_alter : BindBody → AlterBody
+as_alter b = record { max_xmit = b.max_xmit; max_recv = b.max_recv; group = b.group; elements = b.elements }
+
+abbrev pub as_alter_resp : BindAckBody → AlterRespBody
+as_alter_resp b = record { max_xmit = b.max_xmit; max_recv = b.max_recv; group = b.group; address = b.address; results = b.results }
+
+unfoldable pub alter_at : Order → List ℕ → Option AlterBody
+alter_at order octets = bind_at order octets >>= λ b. Some (as_alter b)
+
+unfoldable pub alter_resp_at : Order → List ℕ → Option AlterRespBody
+alter_resp_at order octets = bind_ack_at order octets >>= λ b. Some (as_alter_resp b)
+
 -- a body of that PTYPE
 unfoldable pub body_at : Order → ℕ → ℕ → List ℕ → Option Body
 body_at order flags kind octets =
@@ -153,4 +183,10 @@ body_at order flags kind octets =
     else if kind == 3 then (fault_at order octets >>= λ b. Some (Fault b))
     else if kind == 11 then (bind_at order octets >>= λ b. Some (Bind b))
     else if kind == 12 then (bind_ack_at order octets >>= λ b. Some (BindAck b))
+    else if kind == 13 then (bind_nak_at order octets >>= λ b. Some (BindNak b))
+    else if kind == 14 then (alter_at order octets >>= λ b. Some (Alter b))
+    else if kind == 15 then (alter_resp_at order octets >>= λ b. Some (AlterResp b))
+    else if kind == 17 then Some Shutdown
+    else if kind == 18 then Some CoCancel
+    else if kind == 19 then Some Orphaned
     else None

@@ -1,13 +1,14 @@
-//! Reading the bodies of PDUs.
-ghost use Rattle.std.specs.Prelude.{◌≡◌, ◌≤◌, true, length, drop};
+//! Reading the bodies of PDUs that a client sends, and those that answer a call.
+ghost use Rattle.std.specs.Prelude.{◌≡◌};
 ghost use Rattle.pdu_codec.specs.Pdus.{has_object};
-ghost use Rattle.pdu_codec.specs.Faults.{is_read};
-ghost use Rattle.pdu_codec.specs.Reading.{Gives, syntax_at, object_at, request_at, items_at, element_at, bind_at, body_at};
+ghost use Rattle.pdu_codec.specs.Reading.{Gives, syntax_at, object_at, request_at, response_at, fault_at, items_at, element_at, bind_at, alter_at};
 
-use crate::heads::HEADER;
 use crate::pieces::{take_piece, take_syntax, take_u8, take_u16, take_u32, take_uuid};
-use crate::{BindBody, Body, Element, Elements, Head, PduFault, RequestBody, Syntaxes, flags};
-use rpc_base::{Octets, Order};
+use crate::{
+    AlterBody, BindBody, Element, Elements, FaultBody, PduFault, RequestBody, ResponseBody,
+    Syntaxes, flags,
+};
+use rpc_base::{Octets, Order, Status};
 use std::alloc::Global;
 use uuid::Uuid;
 
@@ -33,7 +34,7 @@ fn take_object(order: Order, flags: u8, octets: &[u8]) -> Result<(Option<Uuid>, 
 }
 
 #[tactic(auto, unfolding(crate::specs::Reading::request_at))]
-fn read_request(
+pub fn read_request(
     alloc: Global,
     order: Order,
     flags: u8,
@@ -55,6 +56,41 @@ fn read_request(
         op,
         object,
         stub,
+    })
+}
+
+#[tactic(auto, unfolding(crate::specs::Reading::response_at))]
+pub fn read_response(alloc: Global, order: Order, octets: &[u8]) -> Result<ResponseBody, PduFault>
+    ensures { Gives (λ b. b) result (response_at order octets.now) }
+{
+    let (alloc_hint, rest) = take_u32(order, octets)?;
+    let (context, rest) = take_u16(order, rest)?;
+    let (cancel_count, rest) = take_u8(rest)?;
+    let (_reserved, rest) = take_u8(rest)?;
+    let stub = Octets::from_vec(Vec::from_slice(alloc, rest)?);
+    Ok(ResponseBody {
+        alloc_hint,
+        context,
+        cancel_count,
+        stub,
+    })
+}
+
+#[tactic(auto, unfolding(crate::specs::Reading::fault_at))]
+pub fn read_fault(order: Order, octets: &[u8]) -> Result<FaultBody, PduFault>
+    ensures { Gives (λ b. b) result (fault_at order octets.now) }
+{
+    let (alloc_hint, rest) = take_u32(order, octets)?;
+    let (context, rest) = take_u16(order, rest)?;
+    let (cancel_count, rest) = take_u8(rest)?;
+    let (_reserved, rest) = take_u8(rest)?;
+    let (status, rest) = take_u32(order, rest)?;
+    let _last = take_piece(4, rest)?;
+    Ok(FaultBody {
+        alloc_hint,
+        context,
+        cancel_count,
+        status: Status(status),
     })
 }
 
@@ -126,7 +162,7 @@ fn take_elements(
 }
 
 #[tactic(auto, unfolding(crate::specs::Reading::bind_at))]
-fn read_bind(alloc: Global, order: Order, octets: &[u8]) -> Result<BindBody, PduFault>
+pub fn read_bind(alloc: Global, order: Order, octets: &[u8]) -> Result<BindBody, PduFault>
     ensures { Gives (λ b. b) result (bind_at order octets.now) }
 {
     let (max_xmit, rest) = take_u16(order, octets)?;
@@ -146,17 +182,16 @@ fn read_bind(alloc: Global, order: Order, octets: &[u8]) -> Result<BindBody, Pdu
     })
 }
 
-/// The body behind a header.
-#[tactic(auto, unfolding(crate::specs::Reading::body_at))]
-pub fn read_body(alloc: Global, head: &Head, octets: &[u8]) -> Result<Body, PduFault>
-    requires long { 16 ≤ length octets.now }
-    requires kind { is_read head.now.kind ≡ true }
-    ensures { Gives (λ b. b) result (body_at head.now.order head.now.flags head.now.kind (drop 16 octets.now)) }
+/// An alter_context has the fields of a bind.
+#[tactic(auto, unfolding(crate::specs::Reading::alter_at))]
+pub fn read_alter(alloc: Global, order: Order, octets: &[u8]) -> Result<AlterBody, PduFault>
+    ensures { Gives (λ b. b) result (alter_at order octets.now) }
 {
-    let (_, rest) = octets.split_at(HEADER);
-    if head.kind == 0 {
-        Ok(Body::Request(read_request(alloc, head.order, head.flags, rest)?))
-    } else {
-        Ok(Body::Bind(read_bind(alloc, head.order, rest)?))
-    }
+    let body = read_bind(alloc, order, octets)?;
+    Ok(AlterBody {
+        max_xmit: body.max_xmit,
+        max_recv: body.max_recv,
+        group: body.group,
+        elements: body.elements,
+    })
 }

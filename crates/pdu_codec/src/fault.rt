@@ -13,7 +13,7 @@ pub enum PduFault {
     /// The major version is not 5, or the minor version is above 1.
     #[error("protocol version")]
     Version,
-    /// The PTYPE is not taken.
+    /// The protocol has no such PTYPE.
     #[error("kind of PDU")]
     Kind,
     /// The PDU's length is below that of a header, or isn't the number of octets.

@@ -10,7 +10,7 @@ use rpc_base::{Order, drep_order, get_u16, get_u32};
 pub const HEADER: usize = 16;
 
 /// Whether the protocol has the PTYPE.
-fn is_kind(kind: u8) -> bool
+pub fn is_kind(kind: u8) -> bool
     ensures { result ≡ is_known kind }
 {
     matches!(kind, 0 | 2 | 3 | 11..=15 | 17..=19)
@@ -37,7 +37,7 @@ fn is_length(length: u16, size: Option<usize>) -> bool
     }
 }
 
-/// The header at the front of octets, given whether its PTYPE is taken and, where all of the PDU's
+/// The header at the front of octets, given whether the protocol has its PTYPE and, where all of the PDU's
 /// octets are at hand, how many they are.
 pub fn front_head(octets: &[u8], known: bool, size: Option<usize>) -> Result<Head, PduFault>
     requires { 16 ≤ length octets.now }

@@ -1,7 +1,7 @@
 //! Laws of the definitions, each the contract of a function that does nothing.
-ghost use Rattle.std.specs.Prelude.{◌≡◌, ◌≢◌, true, List, ℕ};
-ghost use Rattle.pdu_codec.specs.Pdus.{kind_of, FitsPdu, IsPdu, pdu_octets, IsWritable};
-ghost use Rattle.pdu_codec.specs.Faults.{is_read, IsFault};
+ghost use Rattle.std.specs.Prelude.{◌≡◌, ◌≢◌, List, ℕ};
+ghost use Rattle.pdu_codec.specs.Pdus.{FitsPdu, IsPdu, pdu_octets, IsWritable};
+ghost use Rattle.pdu_codec.specs.Faults.{IsFault};
 ghost use Rattle.pdu_codec.specs.declared.pdu.Pdu.{Pdu};
 ghost use Rattle.pdu_codec.specs.declared.fault.PduFault.{PduFault};
 
@@ -20,9 +20,8 @@ pub fn spelled_is_writable()
     ensures { (p : Pdu) (octets : List ℕ) → IsPdu p octets → IsWritable p }
 {}
 
-/// Octets have one first fault, and none where they spell a PDU of a PTYPE that is read. Want of
-/// memory aside.
+/// Octets have one first fault, and none where they spell a PDU. Want of memory aside.
 pub fn one_answer()
     ensures fault { (octets : List ℕ) (f g : PduFault) → IsFault octets f → IsFault octets g → f ≢ PduFault.Memory → g ≢ PduFault.Memory → f ≡ g }
-    ensures pdu { (p : Pdu) (octets : List ℕ) (f : PduFault) → IsPdu p octets → is_read (kind_of p.body) ≡ true → IsFault octets f → f ≡ PduFault.Memory }
+    ensures pdu { (p : Pdu) (octets : List ℕ) (f : PduFault) → IsPdu p octets → IsFault octets f → f ≡ PduFault.Memory }
 {}

@@ -42,6 +42,15 @@ pub enum Body {
     Fault(FaultBody),
     Bind(BindBody),
     BindAck(BindAckBody),
+    BindNak(BindNakBody),
+    Alter(AlterBody),
+    AlterResp(AlterRespBody),
+    /// The server asks the client to end the connection.
+    Shutdown,
+    /// The client asks for the cancelling of the call.
+    CoCancel,
+    /// The client no longer waits for the call.
+    Orphaned,
 }
 
 /// A fragment of a call's request.
@@ -102,6 +111,42 @@ pub struct BindAckBody {
     pub results: Results,
 }
 
+/// The refusal of a bind.
+#[derive(Debug, Drop)]
+pub struct BindNakBody {
+    pub reason: u16,
+    /// The versions of the protocol that the sender knows.
+    pub versions: Versions,
+}
+
+/// A later offer of presentation contexts. Its maxima and its group are those of a bind, and mean
+/// nothing here.
+#[derive(Debug, Drop)]
+pub struct AlterBody {
+    pub max_xmit: u16,
+    pub max_recv: u16,
+    pub group: u32,
+    pub elements: Elements,
+}
+
+/// The answer to an alter_context.
+#[derive(Debug, Drop)]
+pub struct AlterRespBody {
+    pub max_xmit: u16,
+    pub max_recv: u16,
+    pub group: u32,
+    pub address: Octets,
+    /// One for each element of the alter_context.
+    pub results: Results,
+}
+
+/// A version of the protocol.
+#[derive(Clone, Copy, Debug, PartialEq, Eq)]
+pub struct Version {
+    pub major: u8,
+    pub minor: u8,
+}
+
 /// An offer of one presentation context: an abstract syntax, and the transfer syntaxes for it.
 #[derive(Debug, Drop)]
 pub struct Element {
@@ -123,6 +168,8 @@ pub type Elements = Items<Element>;
 pub type Results = Items<ContextResult>;
 
 pub type Syntaxes = Items<SyntaxId>;
+
+pub type Versions = Items<Version>;
 
 /// What a PDU's common header says.
 #[derive(Clone, Copy, Debug, PartialEq, Eq)]

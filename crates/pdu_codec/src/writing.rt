@@ -1,12 +1,12 @@
 //! Writing PDUs.
 ghost use Rattle.std.specs.Prelude.{◌≡◌, ◌+◌, ◌<◌, ◌≤◌, ◌^◌, [], ◌∷◌, ◌++◌, length, take, drop, replicate, OnOk, OnErr};
 ghost use Rattle.std.specs.List.{AllByRecursion, flat_map};
-ghost use Rattle.pdu_codec.specs.Pdus.{kind_of, drep_octet, zeros_3, head_octets, head_of, object_octets, request_octets, response_octets, fault_octets, maxima_octets, syntaxes_octets, element_octets, bind_octets, gap, result_octets, results_octets, bind_ack_octets, body_octets, pdu_octets, HasSpelling, IsWritable};
+ghost use Rattle.pdu_codec.specs.Pdus.{kind_of, drep_octet, zeros_3, head_octets, head_of, object_octets, request_octets, response_octets, fault_octets, maxima_octets, syntaxes_octets, element_octets, gap, result_octets, results_octets, version_octets, versions_octets, bind_nak_octets, written_bind, written_bind_ack, body_octets, pdu_octets, HasSpelling, IsWritable};
 ghost use Rattle.rpc_base.specs.Fields.{u16_octets};
 ghost use Rattle.pdu_codec.specs.Writing.{Keeps};
 
 use crate::{
-    BindAckBody, BindBody, Body, ContextResult, Element, FaultBody, Pdu, RequestBody, ResponseBody,
+    BindNakBody, Body, ContextResult, Element, FaultBody, Pdu, RequestBody, ResponseBody, Version,
 };
 use rpc_base::{NoMemory, Order, SyntaxId, put_syntax, put_u16, put_u32, put_uuid};
 use uuid::Uuid;
@@ -21,6 +21,12 @@ fn kind(body: &Body) -> u8
         Body::Fault(_) => 3,
         Body::Bind(_) => 11,
         Body::BindAck(_) => 12,
+        Body::BindNak(_) => 13,
+        Body::Alter(_) => 14,
+        Body::AlterResp(_) => 15,
+        Body::Shutdown => 17,
+        Body::CoCancel => 18,
+        Body::Orphaned => 19,
     }
 }
 
@@ -165,16 +171,24 @@ fn put_elements(order: Order, elements: &[Element], into: &mut Vec<u8>) -> Resul
     Ok(())
 }
 
+/// The fields of a bind, which an alter_context has too.
 #[tactic(auto, unfolding(crate::specs::Pdus::bind_octets))]
-fn put_bind(order: Order, body: &BindBody, into: &mut Vec<u8>) -> Result<(), NoMemory>
-    requires few { length body.now.elements < 256 }
-    requires each { AllByRecursion (λ e. length e.transfers < 256) body.now.elements }
-    ensures ok { OnOk result (into.new.items ≡ into.old.items ++ bind_octets order zeros_3 (flat_map (element_octets order 0) body.now.elements) [] body.now) }
+fn put_bind(
+    order: Order,
+    max_xmit: u16,
+    max_recv: u16,
+    group: u32,
+    elements: &[Element],
+    into: &mut Vec<u8>,
+) -> Result<(), NoMemory>
+    requires few { length elements.now < 256 }
+    requires each { AllByRecursion (λ e. length e.transfers < 256) elements.now }
+    ensures ok { OnOk result (into.new.items ≡ into.old.items ++ written_bind order (record { max_xmit = max_xmit; max_recv = max_recv; group = group; elements = elements.now })) }
     ensures err { OnErr result (Keeps into.old.items into.new.items) }
 {
-    put_maxima(order, body.max_xmit, body.max_recv, body.group, into)?;
-    put(&[body.elements.len() as u8, 0, 0, 0], into)?;
-    put_elements(order, body.elements.as_slice(), into)?;
+    put_maxima(order, max_xmit, max_recv, group, into)?;
+    put(&[elements.len() as u8, 0, 0, 0], into)?;
+    put_elements(order, elements, into)?;
     Ok(())
 }
 
@@ -212,19 +226,58 @@ fn padding(size: usize) -> &'static [u8]
     }
 }
 
+/// The fields of a bind_ack, which an alter_context_resp has too.
 #[tactic(auto, unfolding(crate::specs::Pdus::bind_ack_octets))]
-fn put_bind_ack(order: Order, body: &BindAckBody, into: &mut Vec<u8>) -> Result<(), NoMemory>
-    requires short { length body.now.address < 2 ^ 16 }
-    requires few { length body.now.results < 256 }
-    ensures ok { OnOk result (into.new.items ≡ into.old.items ++ bind_ack_octets order (replicate (gap (10 + length body.now.address)) 0) zeros_3 [] body.now) }
+fn put_bind_ack(
+    order: Order,
+    max_xmit: u16,
+    max_recv: u16,
+    group: u32,
+    address: &[u8],
+    results: &[ContextResult],
+    into: &mut Vec<u8>,
+) -> Result<(), NoMemory>
+    requires short { length address.now < 2 ^ 16 }
+    requires few { length results.now < 256 }
+    ensures ok { OnOk result (into.new.items ≡ into.old.items ++ written_bind_ack order (record { max_xmit = max_xmit; max_recv = max_recv; group = group; address = address.now; results = results.now })) }
     ensures err { OnErr result (Keeps into.old.items into.new.items) }
 {
-    put_maxima(order, body.max_xmit, body.max_recv, body.group, into)?;
-    put_u16(order, body.address.len() as u16, into)?;
-    put(body.address.as_slice(), into)?;
-    put(padding(body.address.len()), into)?;
-    put(&[body.results.len() as u8, 0, 0, 0], into)?;
-    put_results(order, body.results.as_slice(), into)?;
+    put_maxima(order, max_xmit, max_recv, group, into)?;
+    put_u16(order, address.len() as u16, into)?;
+    put(address, into)?;
+    put(padding(address.len()), into)?;
+    put(&[results.len() as u8, 0, 0, 0], into)?;
+    put_results(order, results, into)?;
+    Ok(())
+}
+
+fn put_version(version: &Version, into: &mut Vec<u8>) -> Result<(), NoMemory>
+    ensures ok { OnOk result (into.new.items ≡ into.old.items ++ version_octets version.now) }
+    ensures err { OnErr result (Keeps into.old.items into.new.items) }
+{
+    put(&[version.major, version.minor], into)?;
+    Ok(())
+}
+
+fn put_versions(versions: &[Version], into: &mut Vec<u8>) -> Result<(), NoMemory>
+    ensures ok { OnOk result (into.new.items ≡ into.old.items ++ versions_octets versions.now) }
+    ensures err { OnErr result (Keeps into.old.items into.new.items) }
+{
+    for version in versions {
+        put_version(version, into)?;
+    }
+    Ok(())
+}
+
+#[tactic(auto, unfolding(crate::specs::Pdus::bind_nak_octets))]
+fn put_bind_nak(order: Order, body: &BindNakBody, into: &mut Vec<u8>) -> Result<(), NoMemory>
+    requires { length body.now.versions < 256 }
+    ensures ok { OnOk result (into.new.items ≡ into.old.items ++ bind_nak_octets order [] body.now) }
+    ensures err { OnErr result (Keeps into.old.items into.new.items) }
+{
+    put_u16(order, body.reason, into)?;
+    put(&[body.versions.len() as u8], into)?;
+    put_versions(body.versions.as_slice(), into)?;
     Ok(())
 }
 
@@ -237,8 +290,42 @@ fn put_body(pdu: &Pdu, into: &mut Vec<u8>) -> Result<(), NoMemory>
         Body::Request(body) => put_request(pdu.order, body, into),
         Body::Response(body) => put_response(pdu.order, body, into),
         Body::Fault(body) => put_fault(pdu.order, body, into),
-        Body::Bind(body) => put_bind(pdu.order, body, into),
-        Body::BindAck(body) => put_bind_ack(pdu.order, body, into),
+        Body::Bind(body) => put_bind(
+            pdu.order,
+            body.max_xmit,
+            body.max_recv,
+            body.group,
+            body.elements.as_slice(),
+            into,
+        ),
+        Body::BindAck(body) => put_bind_ack(
+            pdu.order,
+            body.max_xmit,
+            body.max_recv,
+            body.group,
+            body.address.as_slice(),
+            body.results.as_slice(),
+            into,
+        ),
+        Body::BindNak(body) => put_bind_nak(pdu.order, body, into),
+        Body::Alter(body) => put_bind(
+            pdu.order,
+            body.max_xmit,
+            body.max_recv,
+            body.group,
+            body.elements.as_slice(),
+            into,
+        ),
+        Body::AlterResp(body) => put_bind_ack(
+            pdu.order,
+            body.max_xmit,
+            body.max_recv,
+            body.group,
+            body.address.as_slice(),
+            body.results.as_slice(),
+            into,
+        ),
+        Body::Shutdown | Body::CoCancel | Body::Orphaned => Ok(()),
     }
 }
 

@@ -3,7 +3,7 @@ use Rattle.std.proofs.Common.{◌≡◌, ℕ, ◌+◌, ◌<◌, ◌≤◌, List,
 use Rattle.std.specs.Prelude.{IsSomeAnd}
 use Rattle.std.proofs.lemmas.List.{take_all}
 use Rattle.rpc_base.specs.Shelves.{Files, HasFile, IsLoad}
-use Rattle.rpc_app.specs.Runs.{limit, IsLoaded}
+use Rattle.rpc_app.specs.Runs.{IsLoaded}
 
 some_weaker : (o : Option (List ℕ)) (P Q : List ℕ → Type 0) → ((x : List ℕ) → P x → Q x) → IsSomeAnd o P → IsSomeAnd o Q
 some_weaker None P Q f h = h
@@ -14,17 +14,17 @@ pub HasFile-weaker : (told : Option Files) (name : List ℕ) (P Q : List ℕ →
 HasFile-weaker None name P Q f h = tt
 HasFile-weaker (Some files) name P Q f h = some_weaker (files name) P Q f h
 
-longer : (octets file : List ℕ) → octets ≡ take (limit + 1) file → limit < length octets → limit < length file
-longer octets file e h = omega (arith, ap length e, length-take (limit + 1) file)
+longer : (most : ℕ) (octets file : List ℕ) → octets ≡ take (most + 1) file → most < length octets → most < length file
+longer most octets file e h = omega (arith, ap length e, length-take (most + 1) file)
 
-pub too_long : (told : Option Files) (name octets : List ℕ) → IsLoad told name (limit + 1) octets → limit < length octets → HasFile told name (λ file. limit < length file)
-too_long told name octets h long = HasFile-weaker told name (λ file. octets ≡ take (limit + 1) file) (λ file. limit < length file) (λ file e. longer octets file e long) h
+pub too_long : (most : ℕ) (told : Option Files) (name octets : List ℕ) → IsLoad told name (most + 1) octets → most < length octets → HasFile told name (λ file. most < length file)
+too_long most told name octets h long = HasFile-weaker told name (λ file. octets ≡ take (most + 1) file) (λ file. most < length file) (λ file e. longer most octets file e long) h
 
-all : (octets file : List ℕ) → octets ≡ take (limit + 1) file → length octets ≤ limit → file ≡ octets
-all octets file e h =
-    let short : length file ≤ limit = omega (arith, ap length e, length-take (limit + 1) file) in
-    sym (e ∙ take_all (limit + 1) file (omega arith))
+all : (most : ℕ) (octets file : List ℕ) → octets ≡ take (most + 1) file → length octets ≤ most → file ≡ octets
+all most octets file e h =
+    let short : length file ≤ most = omega (arith, ap length e, length-take (most + 1) file) in
+    sym (e ∙ take_all (most + 1) file (omega arith))
 
-pub whole_file : (told : Option Files) (name octets : List ℕ) → IsLoad told name (limit + 1) octets → length octets ≤ limit → IsLoaded told name octets
-whole_file told name octets h short =
-    record { short = short; file = HasFile-weaker told name (λ file. octets ≡ take (limit + 1) file) (λ file. file ≡ octets) (λ file e. all octets file e short) h }
+pub whole_file : (most : ℕ) (told : Option Files) (name octets : List ℕ) → IsLoad told name (most + 1) octets → length octets ≤ most → IsLoaded most told name octets
+whole_file most told name octets h short =
+    record { short = short; file = HasFile-weaker told name (λ file. octets ≡ take (most + 1) file) (λ file. file ≡ octets) (λ file e. all most octets file e short) h }

@@ -1,18 +1,15 @@
 //! The commands of the program.
 #![tactic(auto)]
 
-mod bind;
-mod laws;
-mod phase;
-mod play;
-mod print;
-mod probe;
-mod replaying;
+mod command;
+#[cfg(test)]
+mod idl_tests;
+mod load;
+mod make;
+mod say;
 #[cfg(test)]
 mod tests;
 mod top;
 
-pub use laws::one_replay;
-pub use phase::{Caller, Phase, ProbeCall};
-pub use replaying::{ReplayFault, Replayed, replay};
+pub use command::Command;
 pub use top::run;

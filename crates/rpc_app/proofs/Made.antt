@@ -1,0 +1,39 @@
+-- What is made of a file, and why nothing is.
+use Rattle.std.proofs.Common.{◌≡◌, ℕ, List, inl, inr, ◌⊎◌, sym, subst, Option, Some, None}
+use Rattle.std.specs.Prelude.{IsSomeAnd}
+use Rattle.rpc_base.specs.Shelves.{Files, HasFile, Tells}
+use Rattle.idl_tree.specs.Idl.{IsIdl}
+use Rattle.idl_tree.specs.declared.declaration.Ast.{Ast}
+use Rattle.idl_reader.specs.declared.fault.IdlFault.{IdlFault}
+use Rattle.idl_reader.specs.declared.fault.IdlFault.TheVariants as faults
+use Rattle.idl_reader.specs.Causes.{IsCause}
+use Rattle.idl_print.specs.Canonical.{canonical_text}
+use Rattle.rpc_app.specs.declared.command.Command.{Command}
+use Rattle.rpc_app.specs.declared.command.Command.TheVariants.{Replay, Idl}
+use Rattle.rpc_app.specs.Commands.{Makes, Takes, Says, DepartsAtPlace, IsPrinted}
+
+-- a fault of the reader, as it is said
+pub departs : (text said : List ℕ) (fault : IdlFault) → IsCause text fault → (fault ≡ faults.Memory) ⊎ ((tree : Ast) → IsIdl text tree → ⊥) → Says fault said → DepartsAtPlace text said × (((tree : Ast) × IsIdl text tree) → ⊥)
+departs text said fault cause (inl e) says = absurd (subst (λ f. Says f said) e says)
+departs text said fault cause (inr none) says = (record { fault = fault; cause = cause; treeless = none; said_is = says }, λ w. none w.0 w.1)
+
+-- a tree, as it is printed
+pub prints : (text printed : List ℕ) (tree : Ast) → IsIdl text tree → printed ≡ canonical_text tree → IsPrinted text printed
+prints text printed tree idl e = record { tree = tree; idl = idl; printed_is = e }
+
+-- the file of which something is made is one that the command takes
+pub makes_takes : (command : Command) (text out log : List ℕ) → Makes command text out log → Takes command text
+makes_takes Replay text out log m = record { lines = m.lines; fits = m.fits; script = (m.end, m.ends); text = m.written }
+makes_takes Idl text out log m = (m.0.tree, m.0.idl)
+
+told_by : (o : Option (List ℕ)) (octets loaded : List ℕ) → o ≡ Some octets → IsSomeAnd o (λ file. file ≡ loaded) → octets ≡ loaded
+told_by None octets loaded e h = absurd h
+told_by (Some x) octets loaded e h = cc
+
+-- the file that is told is the one that was loaded
+pub told_is : (told : Option Files) (name octets loaded : List ℕ) → Tells told name octets → HasFile told name (λ file. file ≡ loaded) → octets ≡ loaded
+told_is None name octets loaded t h = absurd t
+told_is (Some files) name octets loaded t h = told_by (files name) octets loaded t h
+
+pub not_taken : (told : Option Files) (command : Command) (name octets loaded out log : List ℕ) → HasFile told name (λ file. file ≡ loaded) → Makes command loaded out log → Tells told name octets → (Takes command octets → ⊥) → ⊥
+not_taken told command name octets loaded out log h m t untaken = untaken (subst (λ x. Takes command x) (sym (told_is told name octets loaded t h)) (makes_takes command loaded out log m))

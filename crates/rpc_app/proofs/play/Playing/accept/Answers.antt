@@ -1,8 +1,0 @@
-use Rattle.std.proofs.Common.{◌<◌, subst, sym}
-use Rattle.handle_model.specs.Journal.{opened}
-use Rattle.rpc_app.specs.Played.{Played}
-use Rattle.rpc_app.proofs.Steps.{opened_within}
-use Rattle.rpc_app.proofs.play.Playing.accept.Goals as goal
-
-pub limit-requires : goal.limit-requires
-limit-requires c = rw c.as_slice.ensures.value (subst (λ (p : Played). opened p.past < 4294967296) (sym c.self.view_is) (opened_within c.args.self.now c.requires))

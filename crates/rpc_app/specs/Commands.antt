@@ -1,0 +1,78 @@
+-- What the program is asked, and what it makes of a file.
+use Rattle.std.specs.Prelude.{◌≡◌, ℕ, ◌++◌, List, [], ◌∷◌, codes, decimal}
+use Rattle.replay_script.specs.Scripts.{IsScript, DepartsAt}
+use Rattle.idl_tree.specs.Idl.{IsIdl}
+use Rattle.idl_tree.specs.declared.declaration.Ast.{Ast}
+use Rattle.idl_reader.specs.declared.fault.IdlFault.{IdlFault}
+use Rattle.idl_reader.specs.declared.fault.IdlFault.TheVariants as faults
+use Rattle.idl_reader.specs.Causes.{IsCause}
+use Rattle.idl_print.specs.Canonical.{canonical_text}
+use Rattle.rpc_app.specs.declared.command.Command.{Command}
+use Rattle.rpc_app.specs.declared.command.Command.TheVariants.{Replay, Idl}
+use Rattle.replay.specs.Replays.{IsReplay, Replays}
+
+-- the first word of a command
+abbrev pub word_of : Command → List ℕ
+word_of Replay = codes "replay"
+word_of Idl = codes "idl"
+
+-- the longest file that it takes: 64 MiB of a script, 1 MiB of an interface text
+abbrev pub limit : Command → ℕ
+limit Replay = 67108864
+limit Idl = 1048576
+
+-- the words are a command and the name of its file
+abbrev pub AsksFor : List (List ℕ) → Command → List ℕ → Type 0
+AsksFor words command file = words ≡ word_of command ∷ file ∷ []
+
+-- they are none
+abbrev pub AsksForNothing : List (List ℕ) → Type 0
+AsksForNothing words = (command : Command) (file : List ℕ) → AsksFor words command file → ⊥
+
+-- The text has a tree, whose canonical text this is.
+pub record IsPrinted (text printed : List ℕ) : Type 0 where
+  pub tree : Ast
+  pub idl : IsIdl text tree
+  pub printed_is : printed ≡ canonical_text tree
+
+-- what a command makes of a file: a script is replayed; of an interface text the canonical text is put on out
+abbrev pub Makes : Command → List ℕ → List ℕ → List ℕ → Type 0
+Makes Replay text out log = Replays text out log
+Makes Idl text out log = IsPrinted text out × (log ≡ [])
+
+-- the files of which it makes something
+abbrev pub Takes : Command → List ℕ → Type 0
+Takes Replay text = IsScript IsReplay text
+Takes Idl text = (tree : Ast) × IsIdl text tree
+
+unfoldable pub line_refusal : ℕ → List ℕ
+line_refusal n = codes "refused: script line " ++ decimal n ++ codes "\n"
+
+unfoldable pub place_refusal : ℕ → ℕ → List ℕ
+place_refusal number at = codes "refused: idl fault " ++ decimal number ++ codes " at " ++ decimal at ++ codes "\n"
+
+-- how a fault of an interface text is said, where it is one of the text
+abbrev pub Says : IdlFault → List ℕ → Type 0
+Says (faults.BadToken at) said = said ≡ place_refusal 1 at
+Says (faults.Expected at) said = said ≡ place_refusal 2 at
+Says (faults.TooLarge at) said = said ≡ place_refusal 3 at
+Says (faults.TooDeep at) said = said ≡ place_refusal 4 at
+Says faults.Memory said = ⊥
+
+-- The script departs at a line, the first that does.
+pub record DepartsAtLine (text said : List ℕ) : Type 0 where
+  pub line : ℕ
+  pub departs : DepartsAt IsReplay line text
+  pub said_is : said ≡ line_refusal line
+
+-- The interface text departs from the grammar, and has no tree.
+pub record DepartsAtPlace (text said : List ℕ) : Type 0 where
+  pub fault : IdlFault
+  pub cause : IsCause text fault
+  pub treeless : (tree : Ast) → IsIdl text tree → ⊥
+  pub said_is : Says fault said
+
+-- why a command refuses a file, and how that is said
+abbrev pub Refuses : Command → List ℕ → List ℕ → Type 0
+Refuses Replay text said = DepartsAtLine text said
+Refuses Idl text said = DepartsAtPlace text said
