@@ -1,0 +1,10 @@
+use Rattle.std.proofs.Common.{◌≡◌, reverse, length}
+use Rattle.idl_outline.specs.Names.{constant_named}
+use Rattle.idl_outline.proofs.names.constant_named.Given as goal
+
+-- what is left of the events has the answer
+abbrev pub invariant-loop-event : goal.invariant-loop-event
+invariant-loop-event l = constant_named l.name (reverse l.rest) ≡ constant_named l.name (reverse l.events)
+
+abbrev pub decreases-loop-event : goal.decreases-loop-event
+decreases-loop-event l = length l.rest

@@ -1,0 +1,376 @@
+-- The outline of an interface: its events in the order of the text, the newest first.
+use Rattle.std.specs.Prelude.{ℕ, ◌+◌, ◌==◌, Bool, true, false, not, ◌||◌, ◌&&◌, List, [], ◌∷◌, ◌++◌, Option, Some, None, map, length, if◌then◌else◌, bytes_eq}
+use Rattle.std.specs.List.{list_any}
+use Rattle.idl_tree.specs.declared.leaf.Ident.{Ident}
+use Rattle.idl_tree.specs.declared.leaf.Pk.{Pk}
+use Rattle.idl_tree.specs.declared.leaf.Pk.TheVariants as pks
+use Rattle.idl_tree.specs.declared.leaf.SizeRef.{SizeRef}
+use Rattle.idl_tree.specs.declared.leaf.SizeRef.TheVariants as refs
+use Rattle.idl_tree.specs.declared.leaf.ArraySize.{ArraySize}
+use Rattle.idl_tree.specs.declared.leaf.ArraySize.TheVariants as sizes
+use Rattle.idl_tree.specs.declared.leaf.Dtor.{Dtor}
+use Rattle.idl_tree.specs.declared.spec.Label.{Label as LabelNode}
+use Rattle.idl_tree.specs.declared.spec.LabelKind.{LabelKind}
+use Rattle.idl_tree.specs.declared.spec.LabelKind.TheVariants as label_kinds
+use Rattle.idl_tree.specs.declared.file.FileAttr.{FileAttr}
+use Rattle.idl_tree.specs.declared.file.FileAttrKind.{FileAttrKind}
+use Rattle.idl_tree.specs.declared.file.FileAttrKind.TheVariants as file_kinds
+use Rattle.idl_tree.specs.declared.declaration.Ast.{Ast}
+use Rattle.idl_tree.specs.declared.declaration.Decl.{Decl}
+use Rattle.idl_tree.specs.declared.declaration.DeclKind.{DeclKind}
+use Rattle.idl_tree.specs.declared.declaration.DeclKind.TheVariants as decl_kinds
+use Rattle.idl_tree.specs.declared.declaration.ParamNode.{ParamNode}
+use Rattle.idl_outline.specs.declared.ty.DataType.{DataType}
+use Rattle.idl_outline.specs.declared.ty.Core.TheVariants as cores
+use Rattle.idl_outline.specs.declared.field.Place.{Place}
+use Rattle.idl_outline.specs.declared.field.Place.TheVariants as places
+use Rattle.idl_outline.specs.declared.field.Size.{Size}
+use Rattle.idl_outline.specs.declared.field.Size.TheVariants as given_sizes
+use Rattle.idl_outline.specs.declared.field.Mark.{Mark}
+use Rattle.idl_outline.specs.declared.field.Mark.TheVariants as marks
+use Rattle.idl_outline.specs.declared.field.Attribute.{Attribute}
+use Rattle.idl_outline.specs.declared.field.Bare.{Bare}
+use Rattle.idl_outline.specs.declared.field.Bare.TheVariants as bares
+use Rattle.idl_outline.specs.declared.field.Declared.{Declared}
+use Rattle.idl_outline.specs.declared.field.Field.{Field}
+use Rattle.idl_outline.specs.declared.event.Tag.{Tag}
+use Rattle.idl_outline.specs.declared.event.Tag.TheVariants as tags
+use Rattle.idl_outline.specs.declared.event.Label.{Label}
+use Rattle.idl_outline.specs.declared.event.Label.TheVariants as labels
+use Rattle.idl_outline.specs.declared.event.Event.TheVariants as events
+use Rattle.idl_outline.specs.declared.setting.Setting.{Setting}
+use Rattle.idl_outline.specs.Plain.{PSpec, spec, PKind, of_base, of_name, of_void, of_handle_t, of_error_status, of_tag, of_struct, of_union, of_enum, PSwitch, no_switch, switch, PMember, member, PMembers, no_member, then_member, PArm, arm, empty_arm, PArms, no_arm, then_arm, PMark, is_in, is_out, is_pointer, is_text, is_idempotent, is_maybe, is_handle, is_size, is_max, is_length, is_switch, is_switch_type, PAttr, attr, PAttrs, no_attr, then_attr, plain_spec, plain_attrs}
+use Rattle.idl_outline.specs.Names.{Past, bare, unknown, core_of, type_named, constant_named, struct_named, or_unknown, struct_type, has_handle_word, tag_given, declared_all, or_class, ends_open}
+
+-- ---- a structure that holds itself without a pointer between
+
+-- a declarator without a star
+abbrev pub by_value : List Dtor → Bool
+by_value ds = list_any (λ d. d.stars == 0) ds
+
+abbrev pub is_tag : Option Ident → List ℕ → Bool
+is_tag None tag = false
+is_tag (Some i) tag = bytes_eq i.text tag
+
+abbrev mutual
+  -- the spec is, or holds by value, the structure with that tag
+  pub holds : List ℕ → PSpec → Bool
+  holds tag (spec at k) = kind_holds tag k
+
+  pub kind_holds : List ℕ → PKind → Bool
+  kind_holds tag (of_tag t) = is_tag t tag
+  kind_holds tag (of_struct t ms) = members_hold tag ms
+  kind_holds tag (of_union t s arms) = arms_hold tag arms
+  kind_holds tag _ = false
+
+  pub member_holds : List ℕ → PMember → Bool
+  member_holds tag (member as' s ds) = by_value ds && holds tag s
+
+  pub members_hold : List ℕ → PMembers → Bool
+  members_hold tag no_member = false
+  members_hold tag (then_member m ms) = member_holds tag m || members_hold tag ms
+
+  pub arm_holds : List ℕ → PArm → Bool
+  arm_holds tag (arm ls m) = member_holds tag m
+  arm_holds tag (empty_arm ls) = false
+
+  pub arms_hold : List ℕ → PArms → Bool
+  arms_hold tag no_arm = false
+  arms_hold tag (then_arm a as') = arm_holds tag a || arms_hold tag as'
+
+-- ---- small parts
+
+-- each declarator has a star
+abbrev pub all_pointed : List Dtor → Bool
+all_pointed ds = not (by_value ds)
+
+-- the setting of a spec that no declarator follows
+abbrev pub alone : Pk → Tag → Setting
+alone default given = record { default = default; pointed = false; void_allowed = false; given = given }
+
+abbrev pub before_declarators : Pk → List Dtor → Bool → Tag → Setting
+before_declarators default ds void given = record { default = default; pointed = all_pointed ds; void_allowed = void; given = given }
+
+abbrev pub bare_tag : Option Ident → Bare
+bare_tag None = bares.Tagless
+bare_tag (Some i) = bares.Tagged i.at
+
+abbrev pub bare_union : Option Ident → PSwitch → Bare
+bare_union tag no_switch = bare_tag tag
+bare_union tag (switch s i) = bares.No
+
+abbrev pub bare_kind : PKind → Bare
+bare_kind (of_union tag s arms) = bare_union tag s
+bare_kind _ = bares.No
+
+abbrev pub bare_spec : PSpec → Bare
+bare_spec (spec at k) = bare_kind k
+
+abbrev pub is_switched : PSwitch → Bool
+is_switched no_switch = false
+is_switched (switch s i) = true
+
+abbrev pub size_of : SizeRef → Size
+size_of (refs.Named star i) = given_sizes.Of (record { star = star; name = i })
+size_of (refs.Number n) = given_sizes.Number n.value
+
+-- a name in the brackets of an array is used as a constant
+abbrev pub array_past : ArraySize → Past → Past
+array_past (sizes.Named i) p = events.ConstantUsed i ∷ p
+array_past _ p = p
+
+abbrev pub size_past : Option ArraySize → Past → Past
+size_past None p = p
+size_past (Some s) p = array_past s p
+
+abbrev pub sizes_past : List Dtor → Past → Past
+sizes_past [] p = p
+sizes_past (d ∷ ds) p = sizes_past ds (size_past d.array p)
+
+abbrev pub label_past : LabelKind → Past → Past
+label_past (label_kinds.Named i) p = events.ConstantUsed i ∷ p
+label_past _ p = p
+
+abbrev pub labels_past : List LabelNode → Past → Past
+labels_past [] p = p
+labels_past (l ∷ ls) p = labels_past ls (label_past l.what p)
+
+abbrev pub label_of : Past → ℕ → LabelKind → Label
+label_of p at (label_kinds.Number n) = labels.Case n.at (Some n)
+label_of p at (label_kinds.Named i) = labels.Case i.at (constant_named i.text p)
+label_of p at label_kinds.Default = labels.Default at
+
+abbrev pub labels_of : Past → List LabelNode → List Label
+labels_of p ls = map (λ l. label_of p l.at l.what) ls
+
+-- a structure's tag is used
+abbrev pub tag_used_past : Setting → Option Ident → Past → Past
+tag_used_past g None p = p
+tag_used_past g (Some i) p = events.TagUsed i g.pointed ∷ p
+
+abbrev pub tag_used_type : Setting → Option Ident → Past → DataType
+tag_used_type g None p = unknown
+tag_used_type g (Some i) p = struct_type g.pointed (struct_named i.text p)
+
+abbrev pub void_past : Setting → ℕ → Past → Past
+void_past g at p = if g.void_allowed then p else events.VoidUsed at ∷ p
+
+abbrev pub other_tag_past : Option Ident → Past → Past
+other_tag_past None p = p
+other_tag_past (Some i) p = events.OtherTag i ∷ p
+
+-- the names of an enumeration stand for the numbers from n on
+abbrev pub names_past : ℕ → List Ident → Past → Past
+names_past n [] p = p
+names_past n (i ∷ is) p = names_past (n + 1) is (events.EnumName i (record { at = i.at; minus = false; value = n }) ∷ p)
+
+abbrev pub struct_past : Option Ident → Bool → Past → Past
+struct_past None itself p = p
+struct_past (Some i) itself p = events.StructBegins i itself ∷ p
+
+abbrev pub struct_end : Option Ident → List Field → Past → Past
+struct_end None fs p = events.Body fs ∷ p
+struct_end (Some i) fs p = events.StructEnds i (ends_open fs) ∷ events.Body fs ∷ p
+
+abbrev pub tag_holds : Option Ident → PMembers → Bool
+tag_holds None ms = false
+tag_holds (Some i) ms = members_hold i.text ms
+
+-- the field of a spec that was read up to the past p
+abbrev pub field_of : Pk → Place → List Attribute → DataType → Bare → List Dtor → Past → Field
+field_of default place as' t b ds p =
+    record { place = place; attributes = as'; spec = t; bare = b; declared = declared_all p place default as' t ds }
+
+-- ---- specs, attributes and what they hold. X_past is the past behind an X, for the past before it; what an X stands for is said
+-- of the past before it.
+
+abbrev mutual
+  pub spec_past : Setting → PSpec → Past → Past
+  spec_past g (spec at k) p = kind_past g at k p
+
+  pub kind_past : Setting → ℕ → PKind → Past → Past
+  kind_past g at (of_base b) p = p
+  kind_past g at (of_name i) p = events.TypeUsed i ∷ p
+  kind_past g at of_void p = void_past g at p
+  kind_past g at of_handle_t p = p
+  kind_past g at of_error_status p = p
+  kind_past g at (of_tag tag) p = tag_used_past g tag p
+  kind_past g at (of_struct tag ms) p =
+      struct_end tag (member_fields g.default ms (struct_past tag (tag_holds tag ms) p)) (members_past g.default ms (struct_past tag (tag_holds tag ms) p))
+  kind_past g at (of_union tag s arms) p =
+      events.Union (switch_tag g s (other_tag_past tag p)) (arm_labels g.default arms (switch_past g s (other_tag_past tag p)))
+      ∷ events.Body (arm_fields g.default arms (switch_past g s (other_tag_past tag p)))
+      ∷ arms_past g.default arms (switch_past g s (other_tag_past tag p))
+  kind_past g at (of_enum tag names) p = names_past 0 names (other_tag_past tag p)
+
+  pub spec_type : Setting → PSpec → Past → DataType
+  spec_type g (spec at k) p = kind_type g k p
+
+  pub kind_type : Setting → PKind → Past → DataType
+  kind_type g (of_base b) p = bare (core_of b)
+  kind_type g (of_name i) p = or_unknown (type_named i.text p)
+  kind_type g of_void p = bare cores.Void
+  kind_type g of_handle_t p = bare cores.HandleT
+  kind_type g of_error_status p = bare cores.ErrorStatus
+  kind_type g (of_tag tag) p = tag_used_type g tag p
+  kind_type g (of_struct tag ms) p = bare (cores.Struct (ends_open (member_fields g.default ms (struct_past tag (tag_holds tag ms) p))))
+  kind_type g (of_union tag s arms) p = bare (cores.Union (is_switched s))
+  kind_type g (of_enum tag names) p = bare (cores.Enum (length names))
+
+  pub switch_past : Setting → PSwitch → Past → Past
+  switch_past g no_switch p = p
+  switch_past g (switch s i) p = spec_past (alone g.default tags.Missing) s p
+
+  -- what gives a union its tag
+  pub switch_tag : Setting → PSwitch → Past → Tag
+  switch_tag g no_switch p = g.given
+  switch_tag g (switch s i) p = tags.Switch i.at (spec_type (alone g.default tags.Missing) s p)
+
+  pub mark_past : Pk → PMark → Past → Past
+  mark_past default (is_switch_type s) p = spec_past (alone default tags.Missing) s p
+  mark_past default _ p = p
+
+  pub mark_of : Pk → PMark → Past → Mark
+  mark_of default is_in p = marks.In
+  mark_of default is_out p = marks.Out
+  mark_of default (is_pointer k) p = marks.Pointer k
+  mark_of default is_text p = marks.Text
+  mark_of default is_idempotent p = marks.Idempotent
+  mark_of default is_maybe p = marks.Maybe
+  mark_of default is_handle p = marks.Handle
+  mark_of default (is_size r) p = marks.SizeIs (size_of r)
+  mark_of default (is_max r) p = marks.MaxIs (size_of r)
+  mark_of default (is_length r) p = marks.LengthIs (size_of r)
+  mark_of default (is_switch star i) p = marks.SwitchIs (record { star = star; name = i })
+  mark_of default (is_switch_type s) p = marks.SwitchType (begin_of s) (spec_type (alone default tags.Missing) s p)
+
+  pub begin_of : PSpec → ℕ
+  begin_of (spec at k) = at
+
+  pub attr_past : Pk → PAttr → Past → Past
+  attr_past default (attr at m) p = mark_past default m p
+
+  pub attribute : Pk → PAttr → Past → Attribute
+  attribute default (attr at m) p = record { at = at; mark = mark_of default m p }
+
+  pub attrs_past : Pk → PAttrs → Past → Past
+  attrs_past default no_attr p = p
+  attrs_past default (then_attr a as') p = attrs_past default as' (attr_past default a p)
+
+  pub attributes : Pk → PAttrs → Past → List Attribute
+  attributes default no_attr p = []
+  attributes default (then_attr a as') p = attribute default a p ∷ attributes default as' (attr_past default a p)
+
+  pub member_past : Pk → PMember → Past → Past
+  member_past default (member as' s ds) p =
+      sizes_past ds (spec_past (before_declarators default ds false (tag_given (attributes default as' p))) s (attrs_past default as' p))
+
+  pub member_field : Pk → Place → PMember → Past → Field
+  member_field default place (member as' s ds) p =
+      field_of default place (attributes default as' p) (spec_type (before_declarators default ds false (tag_given (attributes default as' p))) s (attrs_past default as' p))
+      (bare_spec s) ds (spec_past (before_declarators default ds false (tag_given (attributes default as' p))) s (attrs_past default as' p))
+
+  pub members_past : Pk → PMembers → Past → Past
+  members_past default no_member p = p
+  members_past default (then_member m ms) p = members_past default ms (member_past default m p)
+
+  pub member_fields : Pk → PMembers → Past → List Field
+  member_fields default no_member p = []
+  member_fields default (then_member m ms) p = member_field default places.Member m p ∷ member_fields default ms (member_past default m p)
+
+  pub arm_past : Pk → PArm → Past → Past
+  arm_past default (arm ls m) p = member_past default m (labels_past ls p)
+  arm_past default (empty_arm ls) p = labels_past ls p
+
+  pub arms_past : Pk → PArms → Past → Past
+  arms_past default no_arm p = p
+  arms_past default (then_arm a as') p = arms_past default as' (arm_past default a p)
+
+  pub arm_field : Pk → PArm → Past → List Field
+  arm_field default (arm ls m) p = member_field default places.Arm m (labels_past ls p) ∷ []
+  arm_field default (empty_arm ls) p = []
+
+  pub arm_fields : Pk → PArms → Past → List Field
+  arm_fields default no_arm p = []
+  arm_fields default (then_arm a as') p = arm_field default a p ++ arm_fields default as' (arm_past default a p)
+
+  pub arm_label : PArm → Past → List Label
+  arm_label (arm ls m) p = labels_of p ls
+  arm_label (empty_arm ls) p = labels_of p ls
+
+  -- the labels of all arms
+  pub arm_labels : Pk → PArms → Past → List Label
+  arm_labels default no_arm p = []
+  arm_labels default (then_arm a as') p = arm_label a p ++ arm_labels default as' (arm_past default a p)
+
+-- ---- declarations
+
+-- what a typedef's declarators declare
+abbrev pub types_past : List Dtor → List Declared → Past → Past
+types_past (d ∷ ds) (x ∷ xs) p = types_past ds xs (events.Typedef x.name x.ty ∷ size_past d.array p)
+types_past _ _ p = p
+
+abbrev pub typedef_past : Pk → PAttrs → PSpec → List Dtor → Setting → List Attribute → Past → Past
+typedef_past default as' s ds g marks p =
+    let before : Past = attrs_past default as' p in
+    let behind : Past = spec_past g s before in
+    let field : Field = field_of default places.Typedef marks (spec_type g s before) (bare_spec s) ds behind in
+    events.Single field ∷ types_past ds field.declared behind
+
+abbrev pub lone_past : Pk → PAttrs → PSpec → Setting → List Attribute → Past → Past
+lone_past default as' s g marks p =
+    let before : Past = attrs_past default as' p in
+    events.Single (field_of default places.Alone marks (spec_type g s before) (bare_spec s) [] (spec_past g s before)) ∷ spec_past g s before
+
+-- a parameter is what one spec and one declarator declare
+abbrev pub param_plain : ParamNode → PMember
+param_plain n = member (plain_attrs n.attrs.items) (plain_spec n.spec) (n.dtor ∷ [])
+
+abbrev pub params_past : Pk → List ParamNode → Past → Past
+params_past default [] p = p
+params_past default (n ∷ ns) p = params_past default ns (member_past default (param_plain n) p)
+
+abbrev pub param_fields : Pk → List ParamNode → Past → List Field
+param_fields default [] p = []
+param_fields default (n ∷ ns) p = member_field default places.Parameter (param_plain n) p ∷ param_fields default ns (member_past default (param_plain n) p)
+
+-- an operation's name stands for its declarator
+abbrev pub result_dtor : Ident → Dtor
+result_dtor i = record { stars = 0; name = i; array = None }
+
+abbrev pub result_setting : Pk → List Attribute → Setting
+result_setting default marks = record { default = default; pointed = false; void_allowed = true; given = tag_given marks }
+
+abbrev pub op_past : Pk → PAttrs → PSpec → Ident → List ParamNode → Past → Past
+op_past default as' s name ns p =
+    let marks : List Attribute = attributes default as' p in
+    let before : Past = attrs_past default as' p in
+    let behind : Past = spec_past (result_setting default marks) s before in
+    let result : Field = field_of default places.Operation marks (spec_type (result_setting default marks) s before) (bare_spec s) (result_dtor name ∷ []) behind in
+    events.Call result (param_fields default ns (events.Operation name ∷ behind)) ∷ params_past default ns (events.Operation name ∷ behind)
+
+abbrev pub decl_past : Pk → DeclKind → Past → Past
+decl_past default (decl_kinds.Const base name value) p = events.Constant base name value ∷ p
+decl_past default (decl_kinds.Typedef as' s ds) p =
+    let marks : List Attribute = attributes default (plain_attrs as'.items) p in
+    typedef_past default (plain_attrs as'.items) (plain_spec s) ds.items (before_declarators default ds.items (has_handle_word marks) (tag_given marks)) marks p
+decl_past default (decl_kinds.Lone as' s) p =
+    let marks : List Attribute = attributes default (plain_attrs as'.items) p in
+    lone_past default (plain_attrs as'.items) (plain_spec s) (alone default (tag_given marks)) marks p
+decl_past default (decl_kinds.Op as' s name void ps) p = op_past default (plain_attrs as'.items) (plain_spec s) name ps.items p
+
+abbrev pub decls_past : Pk → List Decl → Past → Past
+decls_past default [] p = p
+decls_past default (d ∷ ds) p = decls_past default ds (decl_past default d.what p)
+
+abbrev pub default_in : FileAttrKind → Option Pk
+default_in (file_kinds.PointerDefault k) = Some k
+default_in _ = None
+
+-- the pointer class of an interface, unique where it says none
+abbrev pub pointer_default : List FileAttr → Pk
+pointer_default [] = pks.Unique
+pointer_default (a ∷ as') = or_class (default_in a.what) (pointer_default as')
+
+abbrev pub outline : Ast → Past
+outline tree = decls_past (pointer_default tree.attributes.items) tree.decls.items []

@@ -1,0 +1,360 @@
+//! What attributes and declarators declare.
+ghost use Rattle.std.specs.Prelude.{◌≡◌, ◌==◌, not, reverse, IfOk, OnOk, MatchOption, ◌∷◌, []};
+ghost use Rattle.idl_tree.specs.declared.leaf.Dtor.{Dtor};
+ghost use Rattle.idl_outline.specs.Names as spec;
+ghost use Rattle.idl_outline.specs.Outline.{by_value, all_pointed, alone, before_declarators, result_setting, size_of, array_past, size_past, sizes_past, field_of, types_past, result_dtor};
+
+use crate::event::{Event, Events, Tag};
+use crate::field::{
+    Attribute, Attributes, Bare, Declared, Extent, Field, Mark, Named, Place, Size,
+};
+use crate::names::{copy_name, happen};
+use crate::setting::Setting;
+use crate::ty::{Core, DataType, Layer};
+use crate::types::{declared_type, extent_of};
+use idl_tree::{ArraySize, Dtor, Ident, Pk, SizeRef};
+use rpc_base::{Items, NoMemory};
+use std::alloc::Global;
+
+fn pointer_of(mark: &Mark) -> Option<Pk>
+    ensures { result ≡ spec.pointer_of mark.now }
+{
+    match mark {
+        Mark::Pointer(class) => Some(*class),
+        _ => None,
+    }
+}
+
+fn is_handle_word(mark: &Mark) -> bool
+    ensures { result ≡ spec.is_handle_word mark.now }
+{
+    matches!(mark, Mark::Handle)
+}
+
+fn tag_of(mark: &Mark) -> Option<Tag>
+    ensures { result ≡ spec.tag_of mark.now }
+{
+    match mark {
+        Mark::SwitchType { spec_at, ty } => Some(Tag::Given {
+            at: *spec_at,
+            ty: *ty,
+        }),
+        _ => None,
+    }
+}
+
+fn pointer_given(attributes: &[Attribute]) -> Option<Pk>
+    ensures { result ≡ spec.pointer_given attributes.now }
+{
+    for attribute in attributes {
+        let class = pointer_of(&attribute.mark);
+        if class.is_some() {
+            return class;
+        }
+    }
+    None
+}
+
+/// Whether a word for context handles stands in the list.
+pub fn has_handle_word(attributes: &[Attribute]) -> bool
+    ensures { result ≡ spec.has_handle_word attributes.now }
+{
+    attributes
+        .iter()
+        .any(|attribute| is_handle_word(&attribute.mark))
+}
+
+fn first_tag(attributes: &[Attribute]) -> Option<Tag>
+    ensures { result ≡ spec.first_tag attributes.now }
+{
+    for attribute in attributes {
+        let tag = tag_of(&attribute.mark);
+        if tag.is_some() {
+            return tag;
+        }
+    }
+    None
+}
+
+/// The tag that the list's first `switch_type` gives.
+pub fn tag_given(attributes: &[Attribute]) -> Tag
+    ensures { result ≡ spec.tag_given attributes.now }
+{
+    match first_tag(attributes) {
+        Some(tag) => tag,
+        None => Tag::Missing,
+    }
+}
+
+fn class_at(default: Pk, place: Place) -> Pk
+    ensures { result ≡ spec.class_at default place }
+{
+    match place {
+        Place::Parameter => Pk::Ref,
+        Place::Typedef => default,
+        Place::Alone => default,
+        Place::Operation => default,
+        Place::Member => default,
+        Place::Arm => default,
+    }
+}
+
+fn or_class(class: Option<Pk>, other: Pk) -> Pk
+    ensures { result ≡ spec.or_class class other }
+{
+    match class {
+        Some(class) => class,
+        None => other,
+    }
+}
+
+fn is_typedef(place: Place) -> bool
+    ensures { result ≡ spec.is_typedef place }
+{
+    matches!(place, Place::Typedef)
+}
+
+fn declared(
+    alloc: Global,
+    events: &[Event],
+    handle: bool,
+    class: Pk,
+    ty: DataType,
+    dtor: &Dtor,
+) -> Result<Declared, NoMemory>
+    ensures { IfOk result (λ d. d ≡ spec.declared (reverse events.now) handle class ty dtor.now) }
+{
+    let name = copy_name(alloc, &dtor.name)?;
+    let extent = extent_of(events, &dtor.array);
+    Ok(Declared {
+        name,
+        stars: dtor.stars,
+        extent,
+        ty: declared_type(handle, class, dtor.stars, extent, ty),
+    })
+}
+
+fn each_declared(
+    alloc: Global,
+    events: &[Event],
+    handle: bool,
+    class: Pk,
+    ty: DataType,
+    dtors: &[Dtor],
+) -> Result<Items<Declared>, NoMemory>
+    ensures { IfOk result (λ ds. ds ≡ spec.each_declared (reverse events.now) handle class ty dtors.now) }
+{
+    let mut all = Vec::new(alloc);
+    for dtor in dtors {
+        all.push(declared(alloc, events, handle, class, ty, dtor)?)?;
+    }
+    Ok(Items::from_vec(all))
+}
+
+fn declared_all(
+    alloc: Global,
+    events: &[Event],
+    place: Place,
+    default: Pk,
+    attributes: &[Attribute],
+    ty: DataType,
+    dtors: &[Dtor],
+) -> Result<Items<Declared>, NoMemory>
+    ensures { IfOk result (λ ds. ds ≡ spec.declared_all (reverse events.now) place default attributes.now ty dtors.now) }
+{
+    let handle = is_typedef(place) && has_handle_word(attributes);
+    let class = or_class(pointer_given(attributes), class_at(default, place));
+    each_declared(alloc, events, handle, class, ty, dtors)
+}
+
+/// The field of a spec, its attributes and its declarators. The class of a pointer is that of the
+/// list's first pointer attribute, else `ref` for a parameter's own pointers, else `default`.
+///
+/// # Errors
+///
+/// `NoMemory` where there is no memory for the declared names.
+pub fn field_with(
+    alloc: Global,
+    events: &[Event],
+    default: Pk,
+    place: Place,
+    attributes: Attributes,
+    ty: DataType,
+    bare: Bare,
+    dtors: &[Dtor],
+) -> Result<Field, NoMemory>
+    ensures { IfOk result (λ f. f ≡ field_of default place attributes ty bare dtors.now (reverse events.now)) }
+{
+    let declared = declared_all(
+        alloc,
+        events,
+        place,
+        default,
+        attributes.as_slice(),
+        ty,
+        dtors,
+    )?;
+    Ok(Field {
+        place,
+        attributes,
+        spec: ty,
+        bare,
+        declared,
+    })
+}
+
+fn open_core(core: Core) -> bool
+    ensures { result ≡ spec.open_core core }
+{
+    match core {
+        Core::Struct { open } => open,
+        _ => false,
+    }
+}
+
+fn is_open(ty: DataType) -> bool
+    ensures { result ≡ spec.is_open ty }
+{
+    match ty.outer {
+        None => open_core(ty.core),
+        Some(layer) => match layer {
+            Layer::OpenArray => true,
+            Layer::Array => false,
+            Layer::Pointer(_) => false,
+        },
+    }
+}
+
+fn last_declared(declared: &[Declared]) -> Option<(&Declared, &[Declared])>
+    ensures { MatchOption result (reverse declared.now ≡ []) (λ p. reverse declared.now ≡ p.0.now ∷ reverse p.1.now) }
+{
+    declared.split_last()
+}
+
+fn last_field(fields: &[Field]) -> Option<(&Field, &[Field])>
+    ensures { MatchOption result (reverse fields.now ≡ []) (λ p. reverse fields.now ≡ p.0.now ∷ reverse p.1.now) }
+{
+    fields.split_last()
+}
+
+fn last_open(declared: &[Declared]) -> bool
+    ensures { result ≡ spec.last_open declared.now }
+{
+    match last_declared(declared) {
+        None => false,
+        Some((last, _)) => is_open(last.ty),
+    }
+}
+
+/// Whether a conformant array ends a body: its last declarator is one, or is a structure, by value, that
+/// ends in one.
+pub fn ends_open(fields: &[Field]) -> bool
+    ensures { result ≡ spec.ends_open fields.now }
+{
+    match last_field(fields) {
+        None => false,
+        Some((last, _)) => last_open(last.declared.as_slice()),
+    }
+}
+
+/// Whether a declarator has no star.
+pub fn any_by_value(dtors: &[Dtor]) -> bool
+    ensures { result ≡ by_value dtors.now }
+{
+    dtors.iter().any(|dtor| dtor.stars == 0)
+}
+
+/// The setting of a spec that no declarator follows. `given`: the tag from its attributes.
+pub fn setting_alone(default: Pk, given: Tag) -> Setting
+    ensures { result ≡ alone default given }
+{
+    Setting {
+        default,
+        pointed: false,
+        void_allowed: false,
+        given,
+    }
+}
+
+/// The setting of a spec between its attributes and its declarators.
+pub fn setting_of(
+    default: Pk,
+    dtors: &[Dtor],
+    void_allowed: bool,
+    attributes: &[Attribute],
+) -> Setting
+    ensures { result ≡ before_declarators default dtors.now void_allowed (spec.tag_given attributes.now) }
+{
+    Setting {
+        default,
+        pointed: !any_by_value(dtors),
+        void_allowed,
+        given: tag_given(attributes),
+    }
+}
+
+/// The setting of an operation's result, which may be `void`.
+pub fn setting_of_result(default: Pk, attributes: &[Attribute]) -> Setting
+    ensures { result ≡ result_setting default attributes.now }
+{
+    Setting {
+        default,
+        pointed: false,
+        void_allowed: true,
+        given: tag_given(attributes),
+    }
+}
+
+/// A copy of the size that an attribute gives.
+///
+/// # Errors
+///
+/// `NoMemory` where there is no memory for a name.
+pub fn size(alloc: Global, size: &SizeRef) -> Result<Size, NoMemory>
+    ensures { IfOk result (λ s. s ≡ size_of size.now) }
+{
+    match size {
+        SizeRef::Number(number) => Ok(Size::Number(number.value)),
+        SizeRef::Named { star, name } => {
+            let name = copy_name(alloc, name)?;
+            Ok(Size::Of(Named { star: *star, name }))
+        }
+    }
+}
+
+fn array_used(alloc: Global, size: &ArraySize, events: &mut Events) -> Result<(), NoMemory>
+    ensures { OnOk result (reverse events.new ≡ array_past size.now (reverse events.old)) }
+{
+    match size {
+        ArraySize::Named(name) => {
+            let name = copy_name(alloc, name)?;
+            happen(events, Event::ConstantUsed(name))
+        }
+        ArraySize::Empty => Ok(()),
+        ArraySize::Star => Ok(()),
+        ArraySize::Number(_) => Ok(()),
+    }
+}
+
+fn size_used(alloc: Global, array: &Option<ArraySize>, events: &mut Events) -> Result<(), NoMemory>
+    ensures { OnOk result (reverse events.new ≡ size_past array.now (reverse events.old)) }
+{
+    match array {
+        None => Ok(()),
+        Some(size) => array_used(alloc, size, events),
+    }
+}
+
+/// Adds the names that the declarators use as sizes, in order.
+///
+/// # Errors
+///
+/// `NoMemory` where there is no memory for a name or an event.
+pub fn sizes_used(alloc: Global, dtors: &[Dtor], events: &mut Events) -> Result<(), NoMemory>
+    ensures { OnOk result (reverse events.new ≡ sizes_past dtors.now (reverse events.old)) }
+{
+    for dtor in dtors {
+        size_used(alloc, &dtor.array, events)?;
+    }
+    Ok(())
+}

@@ -1,0 +1,68 @@
+//! The events of an interface's text.
+
+use crate::field::{Field, Fields};
+use crate::ty::DataType;
+use idl_tree::{Base, Ident, Num};
+use rpc_base::Items;
+
+/// What gives a union its tag.
+#[derive(Clone, Copy, PartialEq, Eq)]
+pub enum Tag {
+    /// The union's own switch: the octet where the tag's name stands, and the tag's type.
+    Switch { at: usize, ty: DataType },
+    /// A `switch_type`: the octet where its spec begins, and that type.
+    Given { at: usize, ty: DataType },
+    Missing,
+}
+
+/// A label of a union's arm.
+#[derive(Clone, Copy, PartialEq, Eq)]
+pub enum Label {
+    /// The octet where the case's value stands, and that value; None where it is a name that isn't
+    /// declared.
+    Case { at: usize, value: Option<Num> },
+    /// The octet of the word.
+    Default(usize),
+}
+
+/// The labels of a union, in order.
+pub type Labels = Items<Label>;
+
+/// What happens at a place of an interface's text.
+#[derive(Drop)]
+pub enum Event {
+    /// A typedef's declarator declares the name of a type.
+    Typedef { name: Ident, ty: DataType },
+    /// A constant is declared.
+    Constant { base: Base, name: Ident, value: Num },
+    /// An enumeration declares a name, which stands for a number.
+    EnumName { name: Ident, value: Num },
+    /// An operation is declared.
+    Operation(Ident),
+    /// The tag of a structure is declared, whose body begins. Whether the structure holds itself
+    /// without a pointer between.
+    StructBegins { tag: Ident, holds_itself: bool },
+    /// That structure's body has ended. Whether a conformant array ends it.
+    StructEnds { tag: Ident, open: bool },
+    /// The tag of a union or enumeration is declared.
+    OtherTag(Ident),
+    /// A name is used as a type.
+    TypeUsed(Ident),
+    /// A name is used as a structure's tag, and whether it stands behind a pointer.
+    TagUsed { tag: Ident, pointed: bool },
+    /// A name is used as a constant.
+    ConstantUsed(Ident),
+    /// The type `void` is used where it is neither an operation's result nor a context handle's.
+    VoidUsed(usize),
+    /// A union has this tag and these labels.
+    Union { tag: Tag, labels: Labels },
+    /// The body of a structure, or the arms of a union.
+    Body(Fields),
+    /// A typedef, or a declaration without a declarator.
+    Single(Field),
+    /// An operation with its parameters; its result and attributes stand in a field of their own.
+    Call { result: Field, parameters: Fields },
+}
+
+/// The events of an interface, in the order of its text.
+pub type Events = Items<Event>;

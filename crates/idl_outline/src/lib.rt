@@ -1,0 +1,25 @@
+//! The outline of an interface: what its text declares and uses, in the order of the text, with the
+//! type of each thing that it declares (C706, chapter "Interface Definition Language"). Every rule on
+//! interfaces speaks of an outline.
+#![tactic(auto)]
+
+mod declarators;
+mod event;
+mod field;
+mod names;
+mod setting;
+mod ty;
+mod types;
+
+pub use declarators::{
+    any_by_value, ends_open, field_with, has_handle_word, setting_alone, setting_of,
+    setting_of_result, size, sizes_used, tag_given,
+};
+pub use event::{Event, Events, Label, Labels, Tag};
+pub use field::{
+    Attribute, Attributes, Bare, Declared, Extent, Field, Fields, Mark, Named, Place, Size,
+};
+pub use names::{constant_named, copy_name, happen, is_name, newest, struct_named, type_named};
+pub use setting::Setting;
+pub use ty::{Core, DataType, Layer};
+pub use types::{bare, core_of, named_type, tagged_type};

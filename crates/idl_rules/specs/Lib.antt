@@ -1,0 +1,13 @@
+pub mod Places
+pub mod Least
+pub mod Types
+pub mod Unknown
+pub mod Duplicate
+pub mod BadAttribute
+pub mod SizeName
+pub mod HandleUse
+pub mod TooManyHandles
+pub mod Recursion
+pub mod UnionTag
+pub mod OutsideProfile
+pub mod Broken

@@ -1,0 +1,64 @@
+-- Rule 4, SizeName: a size name isn't a parameter or member of the same list of integer type; a switch name isn't one of a type that
+-- a union's tag may have; *name isn't a parameter that points to such a type; an [in] parameter names a parameter that isn't [in].
+use Rattle.std.specs.Prelude.{ℕ, Bool, true, false, not, ◌&&◌, ◌||◌, List, [], ◌++◌, bytes_eq, if◌then◌else◌}
+use Rattle.std.specs.List.{list_any, flat_map}
+use Rattle.idl_outline.specs.declared.ty.Core.{Core}
+use Rattle.idl_outline.specs.declared.field.Named.{Named}
+use Rattle.idl_outline.specs.declared.field.Size.{Size}
+use Rattle.idl_outline.specs.declared.field.Size.TheVariants as sizes
+use Rattle.idl_outline.specs.declared.field.Mark.{Mark}
+use Rattle.idl_outline.specs.declared.field.Mark.TheVariants as marks
+use Rattle.idl_outline.specs.declared.field.Attribute.{Attribute}
+use Rattle.idl_outline.specs.declared.field.Declared.{Declared}
+use Rattle.idl_outline.specs.declared.field.Field.{Field}
+use Rattle.idl_outline.specs.declared.event.Event.{Event}
+use Rattle.idl_outline.specs.declared.event.Event.TheVariants as events
+use Rattle.idl_rules.specs.Places.{at_if}
+use Rattle.idl_rules.specs.Types.{by_value, is_one_pointer, is_unknown, is_integer, is_tag_core, is_parameter, says_in, has}
+
+-- the kind of type that a name has to be of
+pub data Asked : Type 0 where
+  an_integer : Asked
+  a_tag : Asked
+
+-- the kind of type that is asked for
+abbrev pub is_asked : Asked → Core → Bool
+is_asked an_integer c = is_integer c
+is_asked a_tag c = is_tag_core c
+
+-- of the type that is asked for, or with a star, a parameter that points to it; an unknown type is passed over
+abbrev pub is_of : Asked → Bool → Field → Declared → Bool
+is_of asked star g d = is_unknown d.ty.core || (is_asked asked d.ty.core && (if star then is_parameter g.place && is_one_pointer d.ty else by_value d.ty))
+
+abbrev pub is_it : Asked → Named → Field → Declared → Bool
+is_it asked n g d = bytes_eq d.name.text n.name.text && is_of asked n.star g d
+
+-- the field g of the list declares what the field f may name
+abbrev pub offers : Asked → Field → Named → Field → Bool
+offers asked f n g = list_any (is_it asked n g) g.declared && (has says_in g || not (is_parameter f.place && has says_in f))
+
+abbrev pub name_places : Asked → List Field → Field → Named → List ℕ
+name_places asked list f n = at_if (not (list_any (offers asked f n) list)) n.name.at
+
+abbrev pub size_places : List Field → Field → Size → List ℕ
+size_places list f (sizes.Number n) = []
+size_places list f (sizes.Of n) = name_places an_integer list f n
+
+abbrev pub mark_places : List Field → Field → Mark → List ℕ
+mark_places list f (marks.SizeIs s) = size_places list f s
+mark_places list f (marks.MaxIs s) = size_places list f s
+mark_places list f (marks.LengthIs s) = size_places list f s
+mark_places list f (marks.SwitchIs n) = name_places a_tag list f n
+mark_places list f _ = []
+
+abbrev pub attribute_places : List Field → Field → Attribute → List ℕ
+attribute_places list f a = mark_places list f a.mark
+
+abbrev pub field_places : List Field → Field → List ℕ
+field_places list f = flat_map (attribute_places list f) f.attributes
+
+abbrev pub size_name : List Event → Event → List ℕ
+size_name past (events.Single f) = field_places [] f
+size_name past (events.Body fs) = flat_map (field_places fs) fs
+size_name past (events.Call r ps) = field_places [] r ++ flat_map (field_places ps) ps
+size_name past _ = []

@@ -1,0 +1,116 @@
+-- Rule 8, UnionTag: a tag isn't integer, char, boolean or an enumeration, or is `unsigned hyper`; a case stands twice or outside the
+-- tag; two defaults; a union has neither a switch nor a switch_type.
+use Rattle.std.specs.Prelude.{ℕ, ◌+◌, ◌^◌, ◌*◌, ◌-◌, ◌==◌, Bool, true, false, not, ◌&&◌, ◌||◌, List, [], ◌∷◌, ◌++◌, Option, Some, None, if◌then◌else◌, ℤ, pos, neg_ℤ, int_le, int_lt}
+use Rattle.std.specs.List.{flat_map}
+use Rattle.std.specs.Ordering.{int_eq}
+use Rattle.idl_tree.specs.declared.leaf.Num.{Num}
+use Rattle.idl_outline.specs.declared.ty.DataType.{DataType}
+use Rattle.idl_outline.specs.declared.ty.Core.{Core}
+use Rattle.idl_outline.specs.declared.ty.Core.TheVariants as cores
+use Rattle.idl_outline.specs.declared.field.Bare.{Bare}
+use Rattle.idl_outline.specs.declared.field.Bare.TheVariants as bares
+use Rattle.idl_outline.specs.declared.field.Declared.{Declared}
+use Rattle.idl_outline.specs.declared.field.Field.{Field}
+use Rattle.idl_outline.specs.declared.event.Tag.{Tag}
+use Rattle.idl_outline.specs.declared.event.Tag.TheVariants as tags
+use Rattle.idl_outline.specs.declared.event.Label.{Label}
+use Rattle.idl_outline.specs.declared.event.Label.TheVariants as labels
+use Rattle.idl_outline.specs.declared.event.Event.{Event}
+use Rattle.idl_outline.specs.declared.event.Event.TheVariants as events
+use Rattle.idl_rules.specs.Places.{at_if, repeats}
+use Rattle.idl_rules.specs.Types.{by_value, is_unknown, is_tag_core, value_of, says_switch_type, has}
+
+-- ---- the type of the tag
+
+abbrev pub is_bad_tag : DataType → Bool
+is_bad_tag t = not (is_unknown t.core || (is_tag_core t.core && by_value t))
+
+abbrev pub tag_places : Tag → List ℕ
+tag_places (tags.Switch at t) = at_if (is_bad_tag t) at
+tag_places (tags.Given at t) = at_if (is_bad_tag t) at
+tag_places tags.Missing = []
+
+-- ---- labels
+
+abbrev pub same_number : Option Num → Option Num → Bool
+same_number (Some n) (Some m) = int_eq (value_of n) (value_of m)
+same_number _ _ = false
+
+-- cases of one number, or two defaults
+abbrev pub same_label : Label → Label → Bool
+same_label (labels.Case at n) (labels.Case other m) = same_number n m
+same_label (labels.Default at) (labels.Default other) = true
+same_label _ _ = false
+
+abbrev pub label_place : Label → ℕ
+label_place (labels.Case at n) = at
+label_place (labels.Default at) = at
+
+-- low ≤ z < high
+abbrev pub within : ℤ → ℤ → ℤ → Bool
+within low high z = int_le low z && int_lt z high
+
+-- an integer of 1, 2, 4 or 8 octets holds the number
+abbrev pub unsigned_holds : ℕ → ℤ → Bool
+unsigned_holds size z =
+    if size == 1 then within (pos 0) (pos (2 ^ 8)) z else (if size == 2 then within (pos 0) (pos (2 ^ 16)) z
+    else (if size == 4 then within (pos 0) (pos (2 ^ 32)) z else (if size == 8 then within (pos 0) (pos (2 ^ 64)) z else false)))
+
+abbrev pub signed_holds : ℕ → ℤ → Bool
+signed_holds size z =
+    if size == 1 then within (neg_ℤ (pos (2 ^ 7))) (pos (2 ^ 7)) z else (if size == 2 then within (neg_ℤ (pos (2 ^ 15))) (pos (2 ^ 15)) z
+    else (if size == 4 then within (neg_ℤ (pos (2 ^ 31))) (pos (2 ^ 31)) z else (if size == 8 then within (neg_ℤ (pos (2 ^ 63))) (pos (2 ^ 63)) z else false)))
+
+abbrev pub int_holds : Bool → ℕ → ℤ → Bool
+int_holds unsigned size z = if unsigned then unsigned_holds size z else signed_holds size z
+
+-- the number stands for one of so many names
+abbrev pub enum_holds : ℕ → ℤ → Bool
+enum_holds count z = within (pos 0) (pos count) z
+
+-- the number is one of the type's; of other types than tags nothing is said
+abbrev pub core_holds : Core → ℤ → Bool
+core_holds cores.Boolean z = within (pos 0) (pos 2) z
+core_holds cores.Char z = within (pos 0) (pos 256) z
+core_holds (cores.Int unsigned size) z = int_holds unsigned size z
+core_holds (cores.Enum count) z = enum_holds count z
+core_holds _ z = true
+
+abbrev pub value_outside : DataType → ℕ → Option Num → List ℕ
+value_outside t at None = []
+value_outside t at (Some n) = at_if (by_value t && not (core_holds t.core (value_of n))) at
+
+abbrev pub outside : DataType → Label → List ℕ
+outside t (labels.Case at n) = value_outside t at n
+outside t (labels.Default at) = []
+
+abbrev pub outside_places : Tag → List Label → List ℕ
+outside_places (tags.Switch at t) ls = flat_map (outside t) ls
+outside_places (tags.Given at t) ls = flat_map (outside t) ls
+outside_places tags.Missing ls = []
+
+-- ---- a union without a tag
+
+abbrev pub first_name : List Declared → List ℕ
+first_name [] = []
+first_name (d ∷ ds) = d.name.at ∷ []
+
+abbrev pub bare_place : Bare → List Declared → List ℕ
+bare_place bares.No ds = []
+bare_place bares.Tagless ds = first_name ds
+bare_place (bares.Tagged at) ds = at ∷ []
+
+abbrev pub field_places : Field → List ℕ
+field_places f = if has says_switch_type f then [] else bare_place f.bare f.declared
+
+-- ---- events
+
+abbrev pub labels_places : Tag → List Label → List ℕ
+labels_places t ls = tag_places t ++ (repeats same_label label_place ls ++ outside_places t ls)
+
+abbrev pub union_tag : List Event → Event → List ℕ
+union_tag past (events.Union t ls) = labels_places t ls
+union_tag past (events.Single f) = field_places f
+union_tag past (events.Body fs) = flat_map field_places fs
+union_tag past (events.Call r ps) = field_places r ++ flat_map field_places ps
+union_tag past _ = []
