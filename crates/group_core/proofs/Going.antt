@@ -1,5 +1,5 @@
 -- The end of a call or the leave of a connection, and the Shut after it.
-use Rattle.std.proofs.Common.{◌≡◌, ℕ, ◌+◌, ◌≤◌, Bool, true, false, ◌&&◌, ◌||◌, not, ◌==◌, if◌then◌else◌, List, [], ◌∷◌, ◌++◌, length, refl, sym, ◌∙◌, ap, subst, arith, reverse}
+use Rattle.std.proofs.Common.{◌≡◌, ℕ, ◌+◌, ◌≤◌, Bool, true, false, ◌&&◌, not, ◌==◌, if◌then◌else◌, List, [], ◌∷◌, ◌++◌, length, refl, sym, ◌∙◌, ap, subst, arith, reverse}
 use Rattle.std.specs.List.{list_any, filter}
 use Rattle.std.proofs.lemmas.Grind.{common_steps}
 use Rattle.handle_model.specs.declared.entry.Home.{Home}
@@ -8,8 +8,8 @@ use Rattle.handle_model.specs.declared.entry.Said.{Said}
 use Rattle.handle_model.specs.declared.entry.DueItem.{DueItem}
 use Rattle.handle_model.specs.declared.entry.Entry.{Entry}
 use Rattle.handle_model.specs.declared.entry.Entry.TheVariants.{End, Leave, Shut}
-use Rattle.handle_model.specs.Journal.{cancels, orphans, waits, runs, slots, suit, is_open, is_shut, is_empty, joined, conns, running, due, due_items, Legal, Fits}
-use Rattle.handle_model.specs.History.{History, IsSound, with_entry, history_of}
+use Rattle.handle_model.specs.Journal.{cancels, orphans, waits, runs, slots, suit, is_open, is_shut, is_empty, joined, conns, running, due, Legal, Fits}
+use Rattle.handle_model.specs.History.{History, IsSound, history_of}
 use Rattle.handle_model.specs.declared.entry.Slot.{Slot}
 use Rattle.handle_model.specs.Slots.{opens}
 use Rattle.handle_model.proofs.Held.{or_right}
@@ -26,7 +26,6 @@ use Rattle.call_table.proofs.Counts.{idle_shown}
 use Rattle.group_core.specs.declared.answer.Rest.{Rest}
 use Rattle.group_core.specs.declared.answer.Rest.TheVariants as rest
 use Rattle.group_core.specs.declared.counts.Counts.{Counts}
-use Rattle.group_core.specs.Adds.{Adds}
 use Rattle.group_core.specs.Conns.{Goes}
 use Rattle.group_core.specs.Owed.{owed, shut_owed}
 use Rattle.group_core.specs.Kept.{IsKept, Logged, Shows}

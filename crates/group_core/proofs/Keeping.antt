@@ -1,5 +1,5 @@
 -- A group is kept by each entry that fits.
-use Rattle.std.proofs.Common.{◌≡◌, ℕ, ◌+◌, ◌≤◌, Bool, true, false, ◌&&◌, ◌||◌, not, Option, Some, None, List, [], ◌∷◌, ◌++◌, length, refl, sym, ◌∙◌, ap, subst, arith, reverse}
+use Rattle.std.proofs.Common.{◌≡◌, ℕ, ◌+◌, ◌≤◌, true, false, Option, List, [], ◌∷◌, ◌++◌, length, refl, sym, ◌∙◌, ap, subst, arith, reverse}
 use Rattle.std.specs.List.{list_any, filter}
 use Rattle.handle_model.specs.declared.entry.Home.{Home}
 use Rattle.handle_model.specs.declared.entry.Asked.{Asked}
@@ -7,7 +7,7 @@ use Rattle.handle_model.specs.declared.entry.Entry.{Entry}
 use Rattle.handle_model.specs.declared.entry.Entry.TheVariants.{Join, Accept, Take, Deny, Cancel, Orphan}
 use Rattle.handle_model.specs.Slots.{opens}
 use Rattle.handle_model.specs.Journal.{waits, runs, is_shut, Fits}
-use Rattle.handle_model.specs.History.{History, IsSound, with_entry, history_of}
+use Rattle.handle_model.specs.History.{IsSound, with_entry, history_of}
 use Rattle.handle_model.proofs.Reversed.{reverse-snoc}
 use Rattle.handle_model.proofs.Held.{and_left, or_right}
 use Rattle.handle_model.proofs.Steps.{pushed, join_sound, accept_sound, take_sound, deny_sound, cancel_sound, orphan_sound}

@@ -1,5 +1,5 @@
 -- The limits by the tables are those of the journal, and where none is reached the numbers fit.
-use Rattle.std.proofs.Common.{◌≡◌, ℕ, ◌+◌, ◌<◌, ◌≤◌, ◌^◌, true, Option, None, Some, Err, List, [], ◌∷◌, length, map, refl, sym, ◌∙◌, ap, arith, reverse}
+use Rattle.std.proofs.Common.{◌≡◌, ℕ, ◌+◌, ◌<◌, ◌≤◌, ◌^◌, true, None, Some, Err, List, [], ◌∷◌, length, map, refl, ◌∙◌, ap, arith, reverse}
 use Rattle.std.specs.List.{filter}
 use Rattle.std.proofs.lemmas.Grind.{common_steps}
 use Rattle.handle_model.specs.declared.entry.Home.{Home}
@@ -8,12 +8,11 @@ use Rattle.handle_model.specs.declared.entry.Asked.{Asked}
 use Rattle.handle_model.specs.declared.entry.Entry.{Entry}
 use Rattle.handle_model.specs.declared.entry.Entry.TheVariants.{Join, Accept}
 use Rattle.handle_model.specs.Slots.{opens}
-use Rattle.handle_model.specs.Journal.{Fits, is_open, joined, conns, accepted, opened, filled, waiting, running, live, due_item, due_items}
+use Rattle.handle_model.specs.Journal.{Fits, is_open, joined, accepted, opened, waiting, running, live, due_item}
 use Rattle.handle_model.specs.Limits.{join_limit, accept_limit, openings}
 use Rattle.handle_model.proofs.Held.{follow-filled, count-filled, length-filled}
 use Rattle.handle_table.specs.Handles.{Handles}
 use Rattle.call_table.specs.Rows.{Calls, openings_of}
-use Rattle.call_table.specs.Shown.{rows_of}
 use Rattle.call_table.proofs.Counts.{count_shown, openings_shown}
 use Rattle.group_core.specs.declared.counts.Counts.{Counts}
 use Rattle.group_core.specs.Counts.{join_limit_at, accept_limit_at}

@@ -1,10 +1,10 @@
 -- How many handles the rows may issue after an edit.
-use Rattle.std.proofs.Common.{◌≡◌, ℕ, ◌+◌, ◌≤◌, Bool, true, false, ◌&&◌, not, ◌==◌, Option, Some, None, List, [], ◌∷◌, ◌++◌, length, map, refl, sym, ◌∙◌, ap, arith}
-use Rattle.std.specs.List.{filter, find}
+use Rattle.std.proofs.Common.{◌≡◌, ℕ, ◌+◌, ◌≤◌, Bool, List, [], ◌∷◌, ◌++◌, length, map, refl, arith}
+use Rattle.std.specs.List.{filter}
 use Rattle.std.proofs.lemmas.Grind.{common_steps}
 use Rattle.handle_model.specs.Slots.{opens}
 use Rattle.call_table.specs.declared.row.Row.{Row}
-use Rattle.call_table.specs.Rows.{openings_of, row_at, slots_at, slots_in, at_call, is_call, is_other, taken, cancelled, orphaned, with_start, with_cancel, with_orphan, without, left}
+use Rattle.call_table.specs.Rows.{openings_of, slots_at, at_call, is_other, taken, cancelled, orphaned, with_start, with_cancel, with_orphan, without}
 
 same_slots : (k : ℕ) (f : Row → Row) (rows : List Row) → ((r : Row) → (f r).slots ≡ r.slots) → openings_of (map (at_call k f) rows) ≡ openings_of rows
 same_slots k f [] h = refl

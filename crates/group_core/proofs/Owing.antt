@@ -1,5 +1,5 @@
 -- What each entry takes from what is owed.
-use Rattle.std.proofs.Common.{◌≡◌, ◌≢◌, if◌then◌else◌, ℕ, ◌+◌, ◌≤◌, ◌<◌, Bool, true, false, ◌&&◌, ◌||◌, not, nat_eq, Option, Some, None, List, [], ◌∷◌, length, refl, sym, ◌∙◌, ap, arith, inl, inr}
+use Rattle.std.proofs.Common.{◌≡◌, ◌≢◌, if◌then◌else◌, ℕ, ◌+◌, ◌≤◌, Bool, true, false, not, nat_eq, Option, Some, None, List, [], ◌∷◌, length, refl, arith}
 use Rattle.std.specs.List.{list_any}
 use Rattle.std.proofs.lemmas.Grind.{common_steps}
 use Rattle.handle_model.specs.declared.entry.Home.{Home}
@@ -9,9 +9,9 @@ use Rattle.handle_model.specs.declared.entry.Said.{Said}
 use Rattle.handle_model.specs.declared.entry.DueItem.{DueItem}
 use Rattle.handle_model.specs.declared.entry.Entry.{Entry}
 use Rattle.handle_model.specs.declared.entry.Entry.TheVariants.{Join, Accept, Take, Deny, Cancel, Orphan, End, Leave, Shut}
-use Rattle.handle_model.specs.Journal.{joins, leaves, takes, ends, cancels, orphans, decides, waits, runs, asked, accepted, joined, is_open, is_shut, Legal, Fits}
-use Rattle.handle_model.proofs.Held.{and_left, and_right, joined_within}
-use Rattle.group_core.specs.Owed.{call_owed, conn_owed, shut_owed, sum_of, owed}
+use Rattle.handle_model.specs.Journal.{joins, leaves, takes, ends, cancels, orphans, decides, waits, runs, asked, accepted, joined, is_open, is_shut, Legal}
+use Rattle.handle_model.proofs.Held.{and_left, joined_within}
+use Rattle.group_core.specs.Owed.{call_owed, conn_owed, sum_of, owed}
 use Rattle.group_core.specs.Calls.{is_cancellable, is_orphanable}
 use Rattle.group_core.proofs.Sums.{sum_le, sum_less}
 

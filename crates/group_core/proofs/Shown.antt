@@ -1,6 +1,6 @@
 -- What the tables and counts show after each entry.
-use Rattle.std.proofs.Common.{◌≡◌, ℕ, ◌+◌, ◌≤◌, Bool, true, false, ◌&&◌, ◌||◌, not, Option, List, [], ◌∷◌, ◌++◌, length, refl, sym, ◌∙◌, ap, subst, arith}
-use Rattle.std.specs.List.{list_any, filter}
+use Rattle.std.proofs.Common.{◌≡◌, ℕ, ◌+◌, ◌≤◌, true, false, Option, List, [], ◌∷◌, ◌++◌, length, refl, sym, ◌∙◌, ap, subst, arith}
+use Rattle.std.specs.List.{filter}
 use Rattle.std.proofs.lemmas.Grind.{common_steps}
 use Rattle.handle_model.specs.declared.entry.Home.{Home}
 use Rattle.handle_model.specs.declared.entry.Slot.{Slot}
@@ -11,7 +11,7 @@ use Rattle.handle_model.specs.declared.entry.DueItem.{DueItem}
 use Rattle.handle_model.specs.declared.entry.Entry.{Entry}
 use Rattle.handle_model.specs.declared.entry.Entry.TheVariants.{Join, Accept, Take, Deny, Cancel, Orphan, End, Leave, Shut}
 use Rattle.handle_model.specs.Slots.{opens}
-use Rattle.handle_model.specs.Journal.{is_shut, is_open, waits, runs, slots, suit, due_items, Legal, Fits}
+use Rattle.handle_model.specs.Journal.{waits, runs, slots, due_items, Legal}
 use Rattle.handle_model.proofs.Held.{or_right}
 use Rattle.handle_table.specs.Handles.{Handles}
 use Rattle.handle_table.specs.Ended.{ended, issued}

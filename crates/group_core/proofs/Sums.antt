@@ -1,6 +1,6 @@
 -- Sums over lists of numbers.
-use Rattle.std.proofs.Common.{◌≡◌, ℕ, ◌+◌, ◌≤◌, Bool, true, ◌||◌, nat_eq, List, [], ◌∷◌, length, arith, subst, inl, inr}
-use Rattle.std.specs.List.{list_any, filter}
+use Rattle.std.proofs.Common.{◌≡◌, ℕ, ◌+◌, ◌≤◌, true, nat_eq, List, [], ◌∷◌, arith, subst, inl, inr}
+use Rattle.std.specs.List.{list_any}
 use Rattle.std.proofs.lemmas.Grind.{common_steps}
 use Rattle.std.proofs.lemmas.Bool.Decides.{eqb_tells}
 use Rattle.handle_model.proofs.Held.{or_right}

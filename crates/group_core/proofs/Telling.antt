@@ -1,7 +1,6 @@
 -- What a group's tables say of a call, and what its calls add.
-use Rattle.std.proofs.Common.{◌≡◌, ℕ, ◌+◌, ◌≤◌, ◌<◌, Bool, true, false, ◌&&◌, ◌||◌, not, if◌then◌else◌, Option, Some, None, List, [], ◌∷◌, ◌++◌, length, map, take, refl, sym, ◌∙◌, ap, subst, arith, reverse}
-use Rattle.std.specs.List.{list_any, filter}
-use Rattle.std.specs.Option.{option_map}
+use Rattle.std.proofs.Common.{◌≡◌, ℕ, ◌+◌, ◌≤◌, Bool, true, false, ◌||◌, if◌then◌else◌, Option, Some, None, List, [], ◌∷◌, ◌++◌, length, take, refl, sym, ◌∙◌, ap, subst, arith, reverse}
+use Rattle.std.specs.List.{list_any}
 use Rattle.std.proofs.lemmas.Grind.{common_steps}
 use Rattle.handle_model.specs.declared.entry.Home.{Home}
 use Rattle.handle_model.specs.declared.entry.Slot.{Slot}
@@ -9,16 +8,15 @@ use Rattle.handle_model.specs.declared.entry.DueItem.{DueItem}
 use Rattle.handle_model.specs.declared.entry.Asked.{Asked}
 use Rattle.handle_model.specs.declared.entry.Entry.{Entry}
 use Rattle.handle_model.specs.declared.entry.Entry.TheVariants.{Take, Deny}
-use Rattle.handle_model.specs.Journal.{asked, takes, waits, runs, cancels, orphans, slots, blocker, fault, fault_in, cookies_for, due_items, Fits, Legal}
+use Rattle.handle_model.specs.Journal.{asked, waits, runs, cancels, orphans, slots, blocker, fault, cookies_for, due_items, Fits}
 use Rattle.handle_model.specs.History.{History, history_of}
-use Rattle.handle_model.proofs.Held.{slots_few, or_right}
+use Rattle.handle_model.proofs.Held.{slots_few}
 use Rattle.handle_table.specs.Handles.{Handles}
 use Rattle.handle_table.specs.Uses.{fault_at, cookies_at}
 use Rattle.handle_table.proofs.Named.{fault_shown, cookies_shown}
 use Rattle.call_table.specs.declared.row.Row.{Row}
 use Rattle.call_table.specs.Rows.{Calls, row_at, slots_in, slots_at, conflict_of, waits_at, runs_at, no_cookies}
-use Rattle.call_table.specs.Shown.{rows_of, row_in, row_as, row_of as table_row}
-use Rattle.call_table.proofs.Steps.{runs_taken}
+use Rattle.call_table.specs.Shown.{row_in, row_as, row_of as table_row}
 use Rattle.call_table.proofs.Found.{row_shown, slots_shown, waits_shown, runs_shown, conflict_shown}
 use Rattle.group_core.specs.declared.counts.Counts.{Counts}
 use Rattle.group_core.specs.declared.judge.Judged.{Judged}
@@ -26,11 +24,9 @@ use Rattle.group_core.specs.declared.judge.Judged.TheVariants.{Free, AtFault, Bl
 use Rattle.group_core.specs.Adds.{Adds}
 use Rattle.group_core.specs.Calls.{row_of, first_serial, is_cancellable, is_orphanable}
 use Rattle.group_core.specs.Judges.{Judges, waits_in, runs_in, tells_in, drops_in, left_in, stage_in}
-use Rattle.group_core.specs.Stages.{stage_of, is_asked}
-use Rattle.group_core.proofs.Asking.{asked_is, waits_uncancelled}
-use Rattle.group_core.proofs.Owing.{waits_untaken}
-use Rattle.group_core.specs.Kept.{IsKept, Logged, Shows}
-use Rattle.group_core.proofs.Found.{picked, waits_row, runs_row, tells_row, drops_row, left_row}
+use Rattle.group_core.specs.Stages.{stage_of}
+use Rattle.group_core.specs.Kept.{IsKept, Logged}
+use Rattle.group_core.proofs.Found.{waits_row, runs_row, tells_row, drops_row, left_row}
 use Rattle.group_core.proofs.Keeping.{newest}
 
 -- one entry came
@@ -175,21 +171,3 @@ few_there home log handles calls counts k kept =
     let past = reverse log.entries in
     subst (λ (o : Option Row). length (slots_in o) ≤ 4) (sym (row_is home log handles calls counts k kept))
     (few_row past k (asked past k) refl (slots_few home past k kept.sound.legal))
-
--- what the row of a call says of its Cancel
-asked_pick : (w r t d b : Bool) (x : Row) → x.cancelled ≡ d → option_map (λ (y : Row). y.cancelled) (picked w r x) ≡ Some b → (w ≡ true → t ≡ false) → (w ≡ true → d ≡ false) → (r ≡ true → t ≡ true) → b ≡ (t && d)
-asked_pick true r t d b x e m n o p = let f = n refl in let g = o refl in cc
-asked_pick false true t d b x e m n o p = let f = p refl in grind (arith, common_steps)
-asked_pick false false t d b x e m n o p = cc
-
-asked_row : (home : Home) (past : List Entry) (k : ℕ) (o : Option Asked) (b : Bool) → Legal home past → asked past k ≡ o → option_map (λ (y : Row). y.cancelled) (row_as past k o) ≡ Some b → b ≡ is_asked past k
-asked_row home past k None b l e m = cc
-asked_row home past k (Some a) b l e m =
-    asked_pick (waits past k) (runs past k) (list_any (takes k) past) (list_any (cancels k) past) b (table_row past k a) refl m (waits_untaken past k) (waits_uncancelled past k) (runs_taken past k)
-    ∙ sym (asked_is home past k l)
-
-pub asked_there : (home : Home) (log : Logged) (handles : Handles) (calls : Calls) (counts : Counts) (k : ℕ) (b : Bool) → IsKept home log handles calls counts → option_map (λ (y : Row). y.cancelled) (row_at calls.rows k) ≡ Some b → b ≡ is_asked (reverse log.entries) k
-asked_there home log handles calls counts k b kept m =
-    let past = reverse log.entries in
-    asked_row home past k (asked past k) b kept.sound.legal refl
-    (subst (λ (o : Option Row). option_map (λ (y : Row). y.cancelled) o ≡ Some b) (row_is home log handles calls counts k kept) m)

@@ -1,5 +1,5 @@
 -- What is answered when a connection joins a group and leaves it, and what it adds.
-use Rattle.std.specs.Prelude.{◌≡◌, ℕ, ◌+◌, true, false, Option, Some, None, Result, Ok, Err, List, [], ◌∷◌, length}
+use Rattle.std.specs.Prelude.{◌≡◌, ℕ, ◌+◌, true, false, Some, None, Result, Ok, Err, [], ◌∷◌, length}
 use Rattle.handle_model.specs.declared.entry.Entry.{Entry}
 use Rattle.handle_model.specs.declared.entry.Entry.TheVariants.{Join, Leave, Shut}
 use Rattle.handle_model.specs.declared.reply.JoinLimit.TheVariants as limit

@@ -7,3 +7,4 @@ pub mod Counts
 pub mod Kept
 pub mod Judges
 pub mod Refusals
+pub mod Told

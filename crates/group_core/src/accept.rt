@@ -8,7 +8,7 @@ use crate::counts::accept_limit;
 use crate::group::Group;
 use crate::log::Log;
 use call_table::CallTable;
-use handle_model::{Asked, Entry, count_opens};
+use handle_model::{Asked, count_opens};
 use handle_rules::number_slots;
 use handle_table::HandleTable;
 use rpc_base::NoMemory;
@@ -42,7 +42,7 @@ impl Group {
         self.counts.opened += opens as u32;
         let call = self.counts.accepted;
         self.calls.accept(call, asked.conn, &asked.slots);
-        self.log.add(Entry::Accept { call, asked }, 0);
+        self.log.enter(call, asked);
         Ok(call)
     }
 }

@@ -1,5 +1,6 @@
 //! A group.
 ghost use Rattle.std.specs.Prelude.{◌≡◌, [], reverse, IfOk};
+ghost use Rattle.handle_model.specs.History.{IsSound};
 
 use crate::counts::Counts;
 use crate::log::Log;
@@ -56,9 +57,10 @@ impl Group {
         })
     }
 
-    /// The entries, oldest first.
+    /// The entries, oldest first: a legal journal, at whose end no Shut is due.
     pub fn journal(&self) -> &[Entry]
-        ensures { reverse result.now ≡ self.now.past }
+        ensures past { reverse result.now ≡ self.now.past }
+        ensures sound { IsSound self.now }
     {
         self.log.entries()
     }

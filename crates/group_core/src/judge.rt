@@ -1,8 +1,6 @@
 //! What the tables say of a call before anything is added.
 ghost use Rattle.std.specs.Prelude.{◌≡◌, ◌+◌, ◌≤◌, true, length, take, Some};
-ghost use Rattle.std.specs.Option.{option_map};
 ghost use Rattle.handle_table.specs.Uses.{cookies_at};
-ghost use Rattle.call_table.specs.declared.row.Row.{Row};
 ghost use Rattle.call_table.specs.Rows.{row_at, slots_at, waits_at};
 ghost use Rattle.group_core.specs.Calls as calls;
 ghost use Rattle.group_core.specs.Judges as spec;
@@ -87,16 +85,6 @@ pub fn stage_of(table: &CallTable, call: u32) -> Stage
             }
         }
         None => Stage::Over,
-    }
-}
-
-/// Whether a call that waits or runs was cancelled.
-pub fn cancelled_in(table: &CallTable, call: u32) -> Option<bool>
-    ensures { result ≡ option_map (λ (y : Row). y.cancelled) (row_at table.now.rows call) }
-{
-    match table.row(call) {
-        Some(row) => Some(row.cancelled),
-        None => None,
     }
 }
 

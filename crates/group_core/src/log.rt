@@ -1,27 +1,34 @@
 //! The entries of a journal, with room for those that are sure to come.
-ghost use Rattle.std.specs.Prelude.{◌≡◌, ◌+◌, ◌++◌, ◌≤◌, [], ◌∷◌, OnOk, OnErr};
+ghost use Rattle.std.specs.Prelude.{◌≡◌, ◌+◌, ◌++◌, ◌≤◌, true, [], ◌∷◌, length, reverse, OnOk, OnErr};
+ghost use Rattle.std.specs.List.{list_any};
+ghost use Rattle.handle_model.specs.Journal.{takes, accepted};
+ghost use Rattle.group_core.specs.Stages.{is_asked};
+ghost use Rattle.group_core.specs.Told.{is_quiet};
 
-use handle_model::Entry;
+use handle_model::{Asked, Entry};
 use rpc_base::NoMemory;
 use std::alloc::Global;
 use std::marker::Model;
 
-/// The entries, oldest first, and for how many more there is room.
+/// The entries, oldest first, and for how many more there is room. Beside them it keeps for each call,
+/// by its number from 1, whether it was cancelled after it was taken.
 #[derive(Drop)]
 pub struct Log {
     entries: Vec<Entry>,
     spare: usize,
+    told: Vec<bool>,
 }
 
 impl Model for Log {
     ghost use Rattle.std.specs.Prelude.{◌+◌, ◌≤◌, vec_len, vec_capacity};
     ghost use Rattle.group_core.specs.Kept.{Logged};
+    ghost use Rattle.group_core.specs.Told.{IsTold};
 
     ghost Value = { Logged };
 
     ghost view = { λ l. record { entries = l.entries.items; spare = l.spare } };
 
-    ghost invariant = { λ l. vec_len l.entries + l.spare ≤ vec_capacity l.entries };
+    ghost invariant = { λ l. (vec_len l.entries + l.spare ≤ vec_capacity l.entries) × (vec_len l.told + l.spare ≤ vec_capacity l.told) × IsTold l.entries.items l.told.items };
 }
 
 impl Log {
@@ -32,6 +39,7 @@ impl Log {
         Log {
             entries: Vec::new(alloc),
             spare: 0,
+            told: Vec::new(alloc),
         }
     }
 
@@ -45,18 +53,56 @@ impl Log {
             return Err(NoMemory);
         };
         self.entries.reserve(wanted)?;
+        self.told.reserve(wanted)?;
         self.spare = wanted;
         Ok(())
     }
 
-    /// Adds an entry, and gives up the room for so many more.
+    /// Adds an entry that neither accepts a call nor asks one to end, and gives up the room for so
+    /// many more.
     pub fn add(&mut self, entry: Entry, freed: usize)
-        requires { freed + 1 ≤ self.old.spare }
+        requires room { freed + 1 ≤ self.old.spare }
+        requires quiet { is_quiet (reverse self.old.entries) entry ≡ true }
         ensures entries { self.new.entries ≡ self.old.entries ++ entry ∷ [] }
         ensures spare { self.new.spare + freed + 1 ≡ self.old.spare }
     {
         self.spare = self.spare - freed - 1;
         self.entries.push_reserved(entry);
+    }
+
+    /// Adds the Accept of a call.
+    pub fn enter(&mut self, call: u32, asked: Asked)
+        requires { 1 ≤ self.old.spare }
+        ensures entries { self.new.entries ≡ self.old.entries ++ Entry.Accept call asked ∷ [] }
+        ensures spare { self.new.spare + 1 ≡ self.old.spare }
+    {
+        self.spare -= 1;
+        self.told.push_reserved(false);
+        self.entries.push_reserved(Entry::Accept { call, asked });
+    }
+
+    /// Adds the Cancel of a call that was taken: it is asked to end.
+    pub fn flag(&mut self, call: u32)
+        requires room { 1 ≤ self.old.spare }
+        requires taken { list_any (takes call) (reverse self.old.entries) ≡ true }
+        requires first { 1 ≤ call }
+        requires last { call ≤ length (accepted (reverse self.old.entries)) }
+        ensures entries { self.new.entries ≡ self.old.entries ++ Entry.Cancel call ∷ [] }
+        ensures spare { self.new.spare + 1 ≡ self.old.spare }
+    {
+        self.spare -= 1;
+        self.told[call as usize - 1] = true;
+        self.entries.push_reserved(Entry::Cancel { call });
+    }
+
+    /// Whether a call was asked to end.
+    pub fn asked(&self, call: u32) -> bool
+        ensures { result ≡ is_asked (reverse self.now.entries) call }
+    {
+        match call.checked_sub(1) {
+            None => false,
+            Some(at) => self.told.get(at as usize).copied().unwrap_or(false),
+        }
     }
 
     /// The entries, oldest first.

@@ -19,7 +19,7 @@ impl Group {
             }
             Cancelled::Flagged => {
                 self.calls.cancel(call);
-                self.log.add(Entry::Cancel { call }, 0);
+                self.log.flag(call);
             }
             Cancelled::Late => {}
         }

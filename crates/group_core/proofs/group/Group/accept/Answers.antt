@@ -1,12 +1,8 @@
-use Rattle.std.proofs.Common.{◌≡◌, ◌+◌, ◌≤◌, ◌<◌, ◌^◌, ◌∙◌, ap, sym, subst, true, false, refl, reverse, length, List, [], ◌∷◌, ◌++◌, arith, Option, Some, None, Ok, Err}
-use Rattle.std.specs.List.{filter}
+use Rattle.std.proofs.Common.{◌≡◌, ◌+◌, ◌∙◌, ap, sym, subst, true, false, reverse, length, [], ◌∷◌, ◌++◌, arith, Ok, Err}
 use Rattle.handle_model.specs.declared.entry.Entry.TheVariants.{Accept}
-use Rattle.handle_model.specs.Slots.{opens}
-use Rattle.handle_model.specs.Journal.{is_open, accepted, opened}
-use Rattle.handle_model.specs.Limits.{accept_limit}
+use Rattle.handle_model.specs.Journal.{is_open, accepted}
 use Rattle.handle_model.specs.History.{History, history_of}
-use Rattle.call_table.specs.Rows.{over, openings_of}
-use Rattle.call_table.specs.Shown.{rows_of}
+use Rattle.call_table.specs.Rows.{over}
 use Rattle.call_table.proofs.Found.{over_shown}
 use Rattle.group_core.specs.Refusals.{refusal_of}
 use Rattle.group_core.specs.Calls.{Accepts, numbered}
@@ -46,14 +42,14 @@ invariant_of-self-2 c =
     let free = sym (found ∙ accept_limit_is _ _ _ _ _ c.args.asked.slots c.count_opens-opens.result c.self.invariant many) in
     let number : c.self.inside.counts.accepted + 1 ≡ length (accepted past) + 1 = ap (λ n. n + 1) c.self.invariant.shows.accepted_is in
     let asked = rw c.self.invariant.shows.opened_is at c.numbered-asked.ensures in
-    let entries = rw c.in-Ok.ensures.entries at c.add.ensures.entries in
+    let entries = rw c.in-Ok.ensures.entries at c.enter.ensures.entries in
     let fits = fits_accept c.self.inside.home past c.args.asked c.numbered-asked.result (c.self.inside.counts.accepted + 1) open_then c.requires.few free number asked in
     let many_numbered = opens_numbered past c.args.asked c.numbered-asked.result c.count_opens-opens.result asked many in
     let rows = c.accept.ensures.rows ∙ ap (λ rs. rs ++ record { call = c.self.inside.counts.accepted + 1; conn = c.numbered-asked.result.conn; slots = c.numbered-asked.result.slots; runs = false; cancelled = false; orphaned = false } ∷ []) c.in-Ok.ensures.rows in
     let room = rw c.openings-openings.ensures at c.in-Ok.ensures.handles in
-    accept_kept c.self.inside.home c.self.inside.log c.add.new.self (c.self.inside.counts.accepted + 1) c.numbered-asked.result c.self.inside.handles
+    accept_kept c.self.inside.home c.self.inside.log c.enter.new.self (c.self.inside.counts.accepted + 1) c.numbered-asked.result c.self.inside.handles
     c.make_room-made.new.handles c.self.inside.calls c.accept.new.self c.self.inside.counts c.count_opens-opens.result c.self.invariant fits entries
-    (omega (arith, c.in-Ok.ensures.spare, c.add.ensures.spare)) c.in-Ok.ensures.items.0 c.in-Ok.ensures.items.1 rows many_numbered room
+    (omega (arith, c.in-Ok.ensures.spare, c.enter.ensures.spare)) c.in-Ok.ensures.items.0 c.in-Ok.ensures.items.1 rows many_numbered room
 
 pub returns : goal.returns
 returns c =
@@ -63,7 +59,7 @@ returns c =
     let free = sym (found ∙ accept_limit_is _ _ _ _ _ c.args.asked.slots c.count_opens-opens.result c.self.invariant many) in
     let number : c.self.inside.counts.accepted + 1 ≡ length (accepted past) + 1 = ap (λ n. n + 1) c.self.invariant.shows.accepted_is in
     let asked = rw c.self.invariant.shows.opened_is at c.numbered-asked.ensures in
-    let entries = rw c.in-Ok.ensures.entries at c.add.ensures.entries in
+    let entries = rw c.in-Ok.ensures.entries at c.enter.ensures.entries in
     let exact = rw asked at entries in
-    subst (λ (h : History). Accepts h c.args.asked (Ok (c.self.inside.counts.accepted + 1)) (history_of c.self.inside.home c.add.new.self.entries)) c.self.view_is
-    (free, number, adds_one c.self.inside.home c.self.inside.log c.add.new.self (Accept (c.self.inside.counts.accepted + 1) (numbered past c.args.asked)) exact)
+    subst (λ (h : History). Accepts h c.args.asked (Ok (c.self.inside.counts.accepted + 1)) (history_of c.self.inside.home c.enter.new.self.entries)) c.self.view_is
+    (free, number, adds_one c.self.inside.home c.self.inside.log c.enter.new.self (Accept (c.self.inside.counts.accepted + 1) (numbered past c.args.asked)) exact)

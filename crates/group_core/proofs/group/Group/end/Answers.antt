@@ -1,11 +1,10 @@
-use Rattle.std.proofs.Common.{◌≡◌, ◌+◌, ◌≤◌, ◌∙◌, ap, sym, subst, true, reverse, length, arith}
+use Rattle.std.proofs.Common.{◌≡◌, ◌∙◌, ap, subst, true, reverse, arith}
 use Rattle.handle_model.specs.declared.entry.Entry.TheVariants.{End}
-use Rattle.handle_model.specs.Journal.{runs, suit, slots, waits, is_shut}
+use Rattle.handle_model.specs.Journal.{runs, suit, slots}
 use Rattle.handle_model.specs.History.{History, history_of}
-use Rattle.handle_model.proofs.Held.{or_right}
 use Rattle.group_core.specs.Conns.{Goes}
-use Rattle.group_core.proofs.Telling.{left_is, slots_there}
-use Rattle.group_core.proofs.Going.{Mid, end_room, end_issues, end_mid, mid_room, closed_kept, closed_goes}
+use Rattle.group_core.proofs.Telling.{left_is}
+use Rattle.group_core.proofs.Going.{end_room, end_issues, end_mid, mid_room, closed_kept, closed_goes}
 use Rattle.group_core.proofs.group.Group.end.Goals as goal
 
 pub settle-freed-requires : goal.settle-freed-requires
@@ -15,8 +14,8 @@ settle-freed-requires c =
     let s : suit (slots past c.args.call) c.args.results ≡ true = ap (λ h. suit (slots h.past c.args.call) c.args.results) c.self.view_is ∙ c.requires.suit in
     rw c.as_slice.ensures (end_issues _ _ c.args.call _ _ _ _ c.self.invariant r s)
 
-pub add-requires : goal.add-requires
-add-requires c =
+pub add-requires-clause-room : goal.add-requires-clause-room
+add-requires-clause-room c =
     let past = reverse c.self.inside.log.entries in
     let r : runs past c.args.call ≡ true = ap (λ h. runs h.past c.args.call) c.self.view_is ∙ c.requires.runs in
     let freed = c.settle-freed.ensures.freed ∙ left_is _ _ _ _ _ c.args.call c.self.invariant r in

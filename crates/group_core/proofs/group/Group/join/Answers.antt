@@ -1,4 +1,4 @@
-use Rattle.std.proofs.Common.{◌≡◌, ◌+◌, ◌≤◌, ◌∙◌, ap, sym, false, reverse, length, arith, Option, None}
+use Rattle.std.proofs.Common.{◌≡◌, ◌+◌, ◌∙◌, ap, sym, false, reverse, length, arith, None}
 use Rattle.std.specs.List.{list_any}
 use Rattle.handle_model.specs.Journal.{is_shut, joined}
 use Rattle.handle_model.specs.Limits.{join_limit}

@@ -1,4 +1,4 @@
-use Rattle.std.proofs.Common.{◌≡◌, ◌+◌, ◌-◌, ◌≤◌, ◌∙◌, ap, sym, subst, true, reverse, arith}
+use Rattle.std.proofs.Common.{◌≡◌, ◌-◌, ◌∙◌, ap, subst, true, reverse, arith}
 use Rattle.handle_model.specs.declared.entry.Entry.TheVariants.{Leave}
 use Rattle.handle_model.specs.Journal.{is_open}
 use Rattle.handle_model.specs.History.{History, history_of}
@@ -11,8 +11,8 @@ overflow_sub-self c =
     let o : is_open (reverse c.self.inside.log.entries) c.args.conn ≡ true = ap (λ h. is_open h.past c.args.conn) c.self.view_is ∙ c.requires in
     leave_counted _ _ c.args.conn _ _ _ c.self.invariant o
 
-pub add-requires : goal.add-requires
-add-requires c =
+pub add-requires-clause-room : goal.add-requires-clause-room
+add-requires-clause-room c =
     let o : is_open (reverse c.self.inside.log.entries) c.args.conn ≡ true = ap (λ h. is_open h.past c.args.conn) c.self.view_is ∙ c.requires in
     leave_room _ _ c.args.conn _ _ _ c.self.invariant o
 

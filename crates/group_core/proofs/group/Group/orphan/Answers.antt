@@ -1,4 +1,4 @@
-use Rattle.std.proofs.Common.{◌≡◌, ◌+◌, ◌∙◌, sym, subst, true, false, refl, reverse, arith}
+use Rattle.std.proofs.Common.{◌≡◌, ◌∙◌, sym, subst, true, false, refl, reverse, arith}
 use Rattle.handle_model.specs.declared.entry.Entry.TheVariants.{Orphan}
 use Rattle.handle_model.specs.Journal.{waits, runs}
 use Rattle.handle_model.specs.History.{History, history_of}
@@ -9,8 +9,8 @@ use Rattle.group_core.proofs.Keeping.{over_room, dropped_kept, unanswered_room, 
 use Rattle.group_core.proofs.Telling.{waits_is, drops_is, runs_there, adds_one}
 use Rattle.group_core.proofs.group.Group.orphan.Goals as goal
 
-pub add-requires : goal.add-requires
-add-requires c =
+pub add-requires-clause-room : goal.add-requires-clause-room
+add-requires-clause-room c =
     let past = reverse c.self.inside.log.entries in
     let w : waits past c.args.call ≡ true = sym (waits_is _ _ _ _ _ c.args.call c.self.invariant) ∙ (rw c.in-Dropped.is at c.judge_orphan-found.ensures) in
     over_room _ _ _ _ _ _ c.self.invariant w
@@ -27,8 +27,8 @@ orphan-requires c =
     let t : is_orphanable past c.args.call ≡ true = sym (drops_is _ _ _ _ _ c.args.call c.self.invariant) ∙ (rw c.in-Running.is at c.judge_orphan-found.ensures) in
     runs_there _ _ _ _ _ c.args.call c.self.invariant ∙ and_left (runs past c.args.call) _ t
 
-pub add-requires-in-Running : goal.add-requires-in-Running
-add-requires-in-Running c =
+pub add-requires-in-Running-clause-room : goal.add-requires-in-Running-clause-room
+add-requires-in-Running-clause-room c =
     let past = reverse c.self.inside.log.entries in
     let t : is_orphanable past c.args.call ≡ true = sym (drops_is _ _ _ _ _ c.args.call c.self.invariant) ∙ (rw c.in-Running.is at c.judge_orphan-found.ensures) in
     unanswered_room _ _ _ _ _ _ c.self.invariant t

@@ -1,4 +1,4 @@
-use Rattle.std.proofs.Common.{◌≡◌, ◌∙◌, sym, ap, subst, refl, reverse}
+use Rattle.std.proofs.Common.{◌∙◌, ap}
 use Rattle.handle_model.specs.History.{History}
 use Rattle.group_core.specs.Stages as spec
 use Rattle.group_core.proofs.Telling.{stage_is}

@@ -1,5 +1,5 @@
-use Rattle.std.proofs.Common.{◌≡◌, ◌+◌, ◌∙◌, ap, sym, subst, true, refl, reverse, List, Option, ℕ, [], ◌∷◌, ◌++◌, arith}
-use Rattle.handle_model.specs.declared.entry.Entry.TheVariants.{Take, Deny}
+use Rattle.std.proofs.Common.{◌∙◌, ap, sym, subst, refl, reverse, List, Option, ℕ, [], ◌∷◌, ◌++◌, arith}
+use Rattle.handle_model.specs.declared.entry.Entry.TheVariants.{Take}
 use Rattle.handle_model.specs.Journal.{cookies_for, slots}
 use Rattle.handle_model.specs.History.{History, history_of}
 use Rattle.group_core.specs.declared.answer.Taking.TheVariants as taking
@@ -26,8 +26,8 @@ entered-cookies-requires c =
     let j = judged c.self.inside.home c.self.inside.log c.self.inside.handles c.self.inside.calls c.self.inside.counts c.args.call (Free c.in-Free.row c.in-Free.serial) c.self.invariant (rw c.in-Free.is at c.judge-judged.ensures) in
     few_blanks _ _ _ _ _ c.args.call c.start.result c.self.invariant j.0.0 c.start.ensures.cookies
 
-pub add-requires : goal.add-requires
-add-requires c =
+pub add-requires-clause-room : goal.add-requires-clause-room
+add-requires-clause-room c =
     let j = judged c.self.inside.home c.self.inside.log c.self.inside.handles c.self.inside.calls c.self.inside.counts c.args.call (Free c.in-Free.row c.in-Free.serial) c.self.invariant (rw c.in-Free.is at c.judge-judged.ensures) in
     take_room _ _ _ _ _ _ c.self.invariant j.0.0
 
@@ -41,8 +41,8 @@ invariant_of-self c =
     take_kept c.self.inside.home c.self.inside.log c.add.new.self c.args.call cs c.self.inside.handles c.self.inside.calls c.start.new.self
     c.self.inside.counts c.self.invariant j.0 entries (omega (arith, c.add.ensures.spare)) c.start.ensures.rows
 
-pub add-requires-in-AtFault : goal.add-requires-in-AtFault
-add-requires-in-AtFault c =
+pub add-requires-in-AtFault-clause-room : goal.add-requires-in-AtFault-clause-room
+add-requires-in-AtFault-clause-room c =
     let j = judged c.self.inside.home c.self.inside.log c.self.inside.handles c.self.inside.calls c.self.inside.counts c.args.call (AtFault c.in-AtFault.slot) c.self.invariant (rw c.in-AtFault.is at c.judge-judged.ensures) in
     over_room _ _ _ _ _ _ c.self.invariant j.0
 
