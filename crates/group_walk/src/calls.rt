@@ -1,13 +1,13 @@
 //! Calls on a group whose conditions are tried first.
-ghost use Rattle.std.specs.Prelude.{◌≡◌, ◌++◌, ◌∷◌, [], reverse};
+ghost use Rattle.std.specs.Prelude.{◌≡◌, reverse};
 ghost use Rattle.std.specs.List.{list_any};
 ghost use Rattle.handle_model.specs.Journal as spec;
 
-use group_core::{Group, JoinRefusal};
-use handle_model::{DueItem, DueItems, DueList, Entry, Rundown};
-use rpc_base::Items;
+use crate::step::{Answer, Step};
+use group_core::{Group, Rest};
+use handle_model::{Asked, DueItem, DueList, Entry, Outcomes, Rundown, Said};
+use handle_rules::{is_open, runs, slots, suit};
 use std::alloc::Global;
-use std::test::Fail;
 
 fn any_shuts(entries: &[Entry]) -> bool
     ensures { result ≡ list_any spec.is_shut entries.now }
@@ -15,6 +15,7 @@ fn any_shuts(entries: &[Entry]) -> bool
     entries.iter().any(|entry| entry.is_shut())
 }
 
+/// Whether the group has ended.
 #[tactic(auto, using(handle_model::proofs::Sets::reversed))]
 pub fn any_shut(entries: &[Entry]) -> bool
     ensures { result ≡ list_any spec.is_shut (reverse entries.now) }
@@ -22,17 +23,10 @@ pub fn any_shut(entries: &[Entry]) -> bool
     any_shuts(entries)
 }
 
-pub fn join(group: &mut Group) -> Result<Result<u32, JoinRefusal>, Fail> {
-    if any_shut(group.journal()) {
-        return Err("the group has ended")?;
-    }
-    Ok(group.join())
-}
-
 /// Lists the handles that are run down.
 #[derive(Drop)]
 struct Lister {
-    items: DueItems,
+    items: Vec<DueItem>,
     failed: bool,
 }
 
@@ -48,11 +42,11 @@ impl Rundown for Lister {
     }
 }
 
-/// The handles of a list, each run down.
-pub fn run_down(alloc: Global, list: DueList) -> Result<DueItems, Fail> {
+/// The handles of a list, each run down; none for want of memory.
+pub fn run_down(alloc: Global, list: DueList) -> Option<Vec<DueItem>> {
     let mut list = list;
     let mut lister = Lister {
-        items: Items::new(alloc),
+        items: Vec::new(alloc),
         failed: false,
     };
     while let Some(due) = list.take_first() {
@@ -60,7 +54,67 @@ pub fn run_down(alloc: Global, list: DueList) -> Result<DueItems, Fail> {
     }
     list.finish();
     if lister.failed {
-        return Err("out of memory")?;
+        None
+    } else {
+        Some(lister.items)
     }
-    Ok(lister.items)
+}
+
+fn went(alloc: Global, rest: Rest) -> Answer {
+    match rest {
+        Rest::Stays => Answer::Stays,
+        Rest::Shut(list) => match run_down(alloc, list) {
+            Some(items) => Answer::Shut(items),
+            None => Answer::Memory,
+        },
+    }
+}
+
+fn join(group: &mut Group) -> Answer {
+    if any_shut(group.journal()) {
+        return Answer::Unfit;
+    }
+    match group.join() {
+        Ok(conn) => Answer::Number(conn),
+        Err(refusal) => Answer::NoJoin(refusal),
+    }
+}
+
+fn accept(group: &mut Group, asked: Asked) -> Answer {
+    if !is_open(group.journal(), asked.conn) || asked.slots.len() > 4 {
+        return Answer::Unfit;
+    }
+    match group.accept(asked) {
+        Ok(call) => Answer::Number(call),
+        Err((_, refusal)) => Answer::NoAccept(refusal),
+    }
+}
+
+fn end(alloc: Global, group: &mut Group, call: u32, results: Outcomes, said: Said) -> Answer {
+    if !runs(group.journal(), call) || !suit(slots(group.journal(), call), results.as_slice()) {
+        return Answer::Unfit;
+    }
+    went(alloc, group.end(call, results, said))
+}
+
+fn leave(alloc: Global, group: &mut Group, conn: u32) -> Answer {
+    if !is_open(group.journal(), conn) {
+        return Answer::Unfit;
+    }
+    went(alloc, group.leave(conn))
+}
+
+/// Makes the call where its condition holds.
+pub fn play(alloc: Global, group: &mut Group, step: Step) -> Answer {
+    match step {
+        Step::Join => join(group),
+        Step::Accept(asked) => accept(group, asked),
+        Step::Take(call) => Answer::Taking(group.take(call)),
+        Step::Cancel(call) => Answer::Cancelled(group.cancel(call)),
+        Step::Orphan(call) => Answer::Orphaned(group.orphan(call)),
+        Step::End(call, results, said) => end(alloc, group, call, results, said),
+        Step::Leave(conn) => leave(alloc, group, conn),
+        Step::Asked(call) => Answer::Asked(group.asked(call)),
+        Step::Stage(call) => Answer::Stage(group.stage(call)),
+    }
 }

@@ -1,7 +1,20 @@
-//! Groups over many calls: as many handles as a group may have.
+//! Groups over many calls: by hand, by a fixed walk over all calls, and with as many handles as a group
+//! may have.
 #![tactic(auto)]
 
 #[cfg(test)]
 mod calls;
 #[cfg(test)]
 mod many;
+#[cfg(test)]
+mod plain;
+#[cfg(test)]
+mod random;
+#[cfg(test)]
+mod step;
+#[cfg(test)]
+mod stories;
+#[cfg(test)]
+mod walk;
+#[cfg(test)]
+mod words;

@@ -1,6 +1,6 @@
 use Rattle.std.proofs.Common.{◌≡◌, true}
 use Rattle.handle_model.specs.Journal.{is_open}
-use Rattle.group_walk.proofs.many.issue_all.Given as goal
+use Rattle.group_rounds.proofs.rounds.issue.Given as goal
 
 abbrev pub invariant-loop-before : goal.invariant-loop-before
 invariant-loop-before l = is_open l.group.past 1 ≡ true

@@ -1,0 +1,208 @@
+//! What a call on a group has to come to, by the plain rules over the journal before it.
+ghost use Rattle.std.specs.Prelude.{◌<◌, ◌^◌, reverse};
+ghost use Rattle.handle_model.specs.Journal as spec;
+
+use crate::calls::any_shut;
+use crate::step::{Answer, Step};
+use group_core::{AcceptRefusal, Cancelled, JoinRefusal, Orphaned, Stage, Taking};
+use handle_model::{
+    AcceptLimit, Asked, CookieRow, Cookies, Entry, Home, JoinLimit, Outcomes, Said, Slot,
+    count_opens,
+};
+use handle_rules::{
+    accept_limit, accepted_count, blocker, cookies_of, fault, is_open, join_limit, joined_count,
+    number_slots, opened, runs, slots, suit, waits,
+};
+use rpc_base::NoMemory;
+use std::alloc::Global;
+
+/// An answer, and the entry that comes, if any. That a Shut follows is not said.
+#[derive(Debug, Drop)]
+pub struct Came {
+    pub answer: Answer,
+    pub entry: Option<Entry>,
+}
+
+fn nothing(answer: Answer) -> Came {
+    Came {
+        answer,
+        entry: None,
+    }
+}
+
+fn entered(answer: Answer, entry: Entry) -> Came {
+    Came {
+        answer,
+        entry: Some(entry),
+    }
+}
+
+/// The number after so many.
+fn after(count: usize) -> u32 {
+    u32::try_from(count).unwrap_or(0).saturating_add(1)
+}
+
+fn join(entries: &[Entry]) -> Came {
+    if any_shut(entries) {
+        return nothing(Answer::Unfit);
+    }
+    match join_limit(entries) {
+        Some(JoinLimit::TooMany) => nothing(Answer::NoJoin(JoinRefusal::TooMany)),
+        Some(JoinLimit::Numbers) => nothing(Answer::NoJoin(JoinRefusal::Numbers)),
+        None => {
+            let conn = after(joined_count(entries));
+            entered(Answer::Number(conn), Entry::Join { conn })
+        }
+    }
+}
+
+fn accept(home: Home, entries: &[Entry], asked: Asked) -> Came
+    requires { spec.opened (reverse entries.now) < 2 ^ 32 }
+{
+    let slots = asked.slots.as_slice();
+    let given = opened(entries);
+    if !is_open(entries, asked.conn) || slots.len() > 4 {
+        return nothing(Answer::Unfit);
+    }
+    match accept_limit(home, entries, slots) {
+        Some(AcceptLimit::Calls) => return nothing(Answer::NoAccept(AcceptRefusal::Calls)),
+        Some(AcceptLimit::Handles) => return nothing(Answer::NoAccept(AcceptRefusal::Handles)),
+        Some(AcceptLimit::Numbers) => return nothing(Answer::NoAccept(AcceptRefusal::Numbers)),
+        None => {}
+    }
+    if given + count_opens(slots) >= 1 << 32 {
+        return nothing(Answer::NoAccept(AcceptRefusal::Numbers));
+    }
+    let mut asked = asked;
+    number_slots(&mut asked.slots, given);
+    let call = after(accepted_count(entries));
+    entered(Answer::Number(call), Entry::Accept { call, asked })
+}
+
+fn row_of(cookies: &Cookies) -> CookieRow {
+    let mut row: CookieRow = [None; 4];
+    for i in 0..4 {
+        if let Some(cookie) = cookies.get(i) {
+            row[i] = *cookie;
+        }
+    }
+    row
+}
+
+/// The serial of the first slot that may issue a handle, 0 where none may.
+fn first_serial(slots: &[Slot]) -> u32 {
+    for slot in slots {
+        if let Slot::Opens { serial, .. } = slot {
+            return *serial;
+        }
+    }
+    0
+}
+
+fn take(alloc: Global, home: Home, entries: &[Entry], call: u32) -> Result<Came, NoMemory> {
+    if !waits(entries, call) {
+        return Ok(nothing(Answer::Taking(Taking::Dropped)));
+    }
+    if let Some(other) = blocker(entries, call) {
+        return Ok(nothing(Answer::Taking(Taking::Wait(other))));
+    }
+    if let Some(at) = fault(home, entries, call) {
+        let slot = u8::try_from(at).unwrap_or(u8::MAX);
+        return Ok(entered(
+            Answer::Taking(Taking::Denied(slot)),
+            Entry::Deny { call, slot },
+        ));
+    }
+    let cookies = cookies_of(alloc, home, entries, call)?;
+    let serial = first_serial(slots(entries, call));
+    Ok(entered(
+        Answer::Taking(Taking::Run(row_of(&cookies), serial)),
+        Entry::Take { call, cookies },
+    ))
+}
+
+fn cancel(entries: &[Entry], call: u32) -> Came {
+    if waits(entries, call) {
+        return entered(Answer::Cancelled(Cancelled::Ended), Entry::Cancel { call });
+    }
+    if runs(entries, call) && !entries.iter().any(|entry| entry.cancels(call)) {
+        return entered(
+            Answer::Cancelled(Cancelled::Flagged),
+            Entry::Cancel { call },
+        );
+    }
+    nothing(Answer::Cancelled(Cancelled::Late))
+}
+
+fn orphan(entries: &[Entry], call: u32) -> Came {
+    if waits(entries, call) {
+        return entered(Answer::Orphaned(Orphaned::Dropped), Entry::Orphan { call });
+    }
+    if runs(entries, call) && !entries.iter().any(|entry| entry.orphans(call)) {
+        return entered(Answer::Orphaned(Orphaned::Running), Entry::Orphan { call });
+    }
+    nothing(Answer::Orphaned(Orphaned::Late))
+}
+
+fn end(entries: &[Entry], call: u32, results: Outcomes, said: Said) -> Came {
+    if !runs(entries, call) || !suit(slots(entries, call), results.as_slice()) {
+        return nothing(Answer::Unfit);
+    }
+    entered(
+        Answer::Stays,
+        Entry::End {
+            call,
+            results,
+            said,
+        },
+    )
+}
+
+fn leave(entries: &[Entry], conn: u32) -> Came {
+    if !is_open(entries, conn) {
+        return nothing(Answer::Unfit);
+    }
+    entered(Answer::Stays, Entry::Leave { conn })
+}
+
+/// Whether a Cancel of the call stands after its Take.
+pub fn is_asked(entries: &[Entry], call: u32) -> bool {
+    let mut taken = false;
+    for entry in entries {
+        if entry.takes(call) {
+            taken = true;
+        }
+        if entry.cancels(call) && taken {
+            return true;
+        }
+    }
+    false
+}
+
+/// Where the call is.
+pub fn stage(entries: &[Entry], call: u32) -> Stage {
+    if waits(entries, call) {
+        Stage::Waiting
+    } else if runs(entries, call) {
+        Stage::Running
+    } else {
+        Stage::Over
+    }
+}
+
+/// What the call has to come to.
+pub fn expected(alloc: Global, home: Home, entries: &[Entry], step: Step) -> Result<Came, NoMemory>
+    requires { spec.opened (reverse entries.now) < 2 ^ 32 }
+{
+    match step {
+        Step::Join => Ok(join(entries)),
+        Step::Accept(asked) => Ok(accept(home, entries, asked)),
+        Step::Take(call) => take(alloc, home, entries, call),
+        Step::Cancel(call) => Ok(cancel(entries, call)),
+        Step::Orphan(call) => Ok(orphan(entries, call)),
+        Step::End(call, results, said) => Ok(end(entries, call, results, said)),
+        Step::Leave(conn) => Ok(leave(entries, conn)),
+        Step::Asked(call) => Ok(nothing(Answer::Asked(is_asked(entries, call)))),
+        Step::Stage(call) => Ok(nothing(Answer::Stage(stage(entries, call)))),
+    }
+}

@@ -1,0 +1,58 @@
+//! A call on a group as a value, and what it came to.
+use group_core::{AcceptRefusal, Cancelled, JoinRefusal, Orphaned, Stage, Taking};
+use handle_model::{Asked, DueItem, Outcomes, Said};
+use std::fmt;
+
+/// A call on a group.
+#[derive(Debug, Drop)]
+pub enum Step {
+    Join,
+    Accept(Asked),
+    Take(u32),
+    Cancel(u32),
+    Orphan(u32),
+    End(u32, Outcomes, Said),
+    Leave(u32),
+    Asked(u32),
+    Stage(u32),
+}
+
+/// What a call came to.
+#[derive(Debug, Drop, PartialEq)]
+pub enum Answer {
+    /// The number of a connection or a call.
+    Number(u32),
+    NoJoin(JoinRefusal),
+    NoAccept(AcceptRefusal),
+    Taking(Taking),
+    Cancelled(Cancelled),
+    Orphaned(Orphaned),
+    Stays,
+    /// The group has ended, and these handles were run down.
+    Shut(Vec<DueItem>),
+    Asked(bool),
+    Stage(Stage),
+    /// The condition of the call doesn't hold, so it was not made.
+    Unfit,
+    /// Want of memory.
+    Memory,
+}
+
+impl fmt::Display for Answer {
+    fn fmt<W: fmt::Write>(&self, f: &mut fmt::Formatter<W>) -> fmt::Result {
+        match self {
+            Answer::Number(number) => write!(f, "{number}"),
+            Answer::NoJoin(refusal) => write!(f, "{refusal:?}"),
+            Answer::NoAccept(refusal) => write!(f, "{refusal:?}"),
+            Answer::Taking(taking) => write!(f, "{taking:?}"),
+            Answer::Cancelled(cancelled) => write!(f, "{cancelled:?}"),
+            Answer::Orphaned(orphaned) => write!(f, "{orphaned:?}"),
+            Answer::Stays => write!(f, "stays"),
+            Answer::Shut(items) => write!(f, "{items:?}"),
+            Answer::Asked(asked) => write!(f, "{asked}"),
+            Answer::Stage(stage) => write!(f, "{stage:?}"),
+            Answer::Unfit => write!(f, "unfit"),
+            Answer::Memory => write!(f, "out of memory"),
+        }
+    }
+}

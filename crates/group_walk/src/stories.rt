@@ -1,0 +1,645 @@
+//! Groups by hand: the calls on each, with what each has to come to, and the journal that is then there.
+use crate::calls::play;
+use crate::step::Answer;
+use crate::words::{HOME, read_step};
+use group_core::Group;
+use handle_text::journal_text;
+use std::alloc::Global;
+use std::test::Fail;
+
+/// A handle is issued, closed, and then named again.
+const OPENED_AND_CLOSED: &str = "\
+join -> 1
+accept 1 opens:0 -> 1
+take 1 -> Run([None, None, None, None], 1)
+end 1 issue:1:5 -> stays
+accept 1 changes:0:1 -> 2
+take 2 -> Run([Some(5), None, None, None], 0)
+end 2 close -> stays
+accept 1 changes:0:1 -> 3
+take 3 -> Denied(0)
+leave 1 -> []
+
+group 1 boot 0102030405060708
+join 1
+accept 1 1 0.0 little answer opens:0:1 -
+take 1 none
+end 1 issue:1:5 out:-
+accept 2 1 0.0 little answer changes:0:0000000001020304050607080000000100000001 -
+take 2 5
+end 2 close out:-
+accept 3 1 0.0 little answer changes:0:0000000001020304050607080000000100000001 -
+deny 3 0
+leave 1
+shut -
+";
+
+/// A null handle is never live.
+const A_NULL_HANDLE_BESIDE_A_NEW_ONE: &str = "\
+join -> 1
+accept 1 holds:65536:null,opens:65537 -> 1
+take 1 -> Denied(0)
+leave 1 -> []
+
+group 1 boot 0102030405060708
+join 1
+accept 1 1 0.0 little answer holds:65536:0000000000000000000000000000000000000000,opens:65537:1 -
+deny 1 0
+leave 1
+shut -
+";
+
+/// The same where it may be shared, and a call that issues none.
+const A_NULL_HANDLE_THAT_IS_SHARED: &str = "\
+join -> 1
+accept 1 shares:65537:null -> 1
+take 1 -> Denied(0)
+accept 1 opens:65536 -> 2
+take 2 -> Run([None, None, None, None], 1)
+end 2 none -> stays
+leave 1 -> []
+
+group 1 boot 0102030405060708
+join 1
+accept 1 1 0.0 little answer shares:65537:0000000000000000000000000000000000000000 -
+deny 1 0
+accept 2 1 0.0 little answer opens:65536:1 -
+take 2 none
+end 2 none out:-
+leave 1
+shut -
+";
+
+/// Two calls of two connections change one handle, one after the other.
+const TWO_APPENDS: &str = "\
+join -> 1
+join -> 2
+accept 1 opens:65536 -> 1
+take 1 -> Run([None, None, None, None], 1)
+end 1 issue:1:4294967296 -> stays
+accept 1 changes:65536:1 -> 2
+accept 2 changes:65536:1 -> 3
+take 2 -> Run([Some(4294967296), None, None, None], 0)
+take 3 -> Wait(2)
+end 2 keep:4294967299 -> stays
+take 3 -> Run([Some(4294967299), None, None, None], 0)
+end 3 keep:4294967301 -> stays
+leave 1 -> stays
+leave 2 -> [DueItem { serial: 1, kind: 65536, cookie: 4294967301 }]
+
+group 1 boot 0102030405060708
+join 1
+join 2
+accept 1 1 0.0 little answer opens:65536:1 -
+take 1 none
+end 1 issue:1:4294967296 out:-
+accept 2 1 0.0 little answer changes:65536:0000000001020304050607080000000100000001 -
+accept 3 2 0.0 little answer changes:65536:0000000001020304050607080000000100000001 -
+take 2 4294967296
+end 2 keep:4294967299 out:-
+take 3 4294967299
+end 3 keep:4294967301 out:-
+leave 1
+leave 2
+shut 1:65536:4294967301
+";
+
+/// Two calls share a handle, and its close waits for both.
+const A_SHARED_VIEW: &str = "\
+join -> 1
+join -> 2
+join -> 3
+accept 1 opens:65537 -> 1
+take 1 -> Run([None, None, None, None], 1)
+end 1 issue:1:7 -> stays
+accept 1 shares:65537:1 -> 2
+accept 2 shares:65537:1 -> 3
+take 2 -> Run([Some(7), None, None, None], 0)
+take 3 -> Run([Some(7), None, None, None], 0)
+accept 3 changes:65537:1 -> 4
+take 4 -> Wait(2)
+end 2 none -> stays
+take 4 -> Wait(3)
+end 3 none -> stays
+take 4 -> Run([Some(7), None, None, None], 0)
+end 4 close -> stays
+leave 1 -> stays
+leave 2 -> stays
+leave 3 -> []
+
+group 1 boot 0102030405060708
+join 1
+join 2
+join 3
+accept 1 1 0.0 little answer opens:65537:1 -
+take 1 none
+end 1 issue:1:7 out:-
+accept 2 1 0.0 little answer shares:65537:0000000001020304050607080000000100000001 -
+accept 3 2 0.0 little answer shares:65537:0000000001020304050607080000000100000001 -
+take 2 7
+take 3 7
+accept 4 3 0.0 little answer changes:65537:0000000001020304050607080000000100000001 -
+end 2 none out:-
+end 3 none out:-
+take 4 7
+end 4 close out:-
+leave 1
+leave 2
+leave 3
+shut -
+";
+
+/// A call runs, a close waits, and a call behind both is denied in the end.
+const CLOSE_QUEUED_FIRST: &str = "\
+join -> 1
+join -> 2
+join -> 3
+accept 1 opens:65536 -> 1
+take 1 -> Run([None, None, None, None], 1)
+end 1 issue:1:4 -> stays
+accept 1 changes:65536:1 -> 2
+take 2 -> Run([Some(4), None, None, None], 0)
+accept 2 changes:65536:1 -> 3
+accept 3 changes:65536:1 -> 4
+take 3 -> Wait(2)
+take 4 -> Wait(2)
+end 2 keep:6 -> stays
+take 4 -> Wait(3)
+take 3 -> Run([Some(6), None, None, None], 0)
+take 4 -> Wait(3)
+end 3 close -> stays
+take 4 -> Denied(0)
+leave 1 -> stays
+leave 2 -> stays
+leave 3 -> []
+
+group 1 boot 0102030405060708
+join 1
+join 2
+join 3
+accept 1 1 0.0 little answer opens:65536:1 -
+take 1 none
+end 1 issue:1:4 out:-
+accept 2 1 0.0 little answer changes:65536:0000000001020304050607080000000100000001 -
+take 2 4
+accept 3 2 0.0 little answer changes:65536:0000000001020304050607080000000100000001 -
+accept 4 3 0.0 little answer changes:65536:0000000001020304050607080000000100000001 -
+end 2 keep:6 out:-
+take 3 6
+end 3 close out:-
+deny 4 0
+leave 1
+leave 2
+leave 3
+shut -
+";
+
+/// The last connection leaves while a call runs, which then issues a handle.
+const LOSS_WHILE_OPEN_RUNS: &str = "\
+join -> 1
+accept 1 opens:0 -> 1
+take 1 -> Run([None, None, None, None], 1)
+leave 1 -> stays
+end 1 issue:1:5 -> [DueItem { serial: 1, kind: 0, cookie: 5 }]
+
+group 1 boot 0102030405060708
+join 1
+accept 1 1 0.0 little answer opens:0:1 -
+take 1 none
+leave 1
+end 1 issue:1:5 out:-
+shut 1:0:5
+";
+
+/// Three handles are run down, and nothing more comes of the group.
+const RUNDOWN: &str = "\
+join -> 1
+accept 1 opens:0 -> 1
+take 1 -> Run([None, None, None, None], 1)
+end 1 issue:1:5 -> stays
+accept 1 opens:0 -> 2
+take 2 -> Run([None, None, None, None], 2)
+end 2 issue:2:6 -> stays
+accept 1 opens:0 -> 3
+take 3 -> Run([None, None, None, None], 3)
+end 3 issue:3:7 -> stays
+leave 1 -> [DueItem { serial: 1, kind: 0, cookie: 5 }, DueItem { serial: 2, kind: 0, cookie: 6 }, DueItem { serial: 3, kind: 0, cookie: 7 }]
+join -> unfit
+accept 1 changes:0:1 -> unfit
+leave 1 -> unfit
+end 3 none -> unfit
+take 3 -> Dropped
+cancel 3 -> Late
+orphan 3 -> Late
+stage 3 -> Over
+asked 3 -> false
+
+group 1 boot 0102030405060708
+join 1
+accept 1 1 0.0 little answer opens:0:1 -
+take 1 none
+end 1 issue:1:5 out:-
+accept 2 1 0.0 little answer opens:0:2 -
+take 2 none
+end 2 issue:2:6 out:-
+accept 3 1 0.0 little answer opens:0:3 -
+take 3 none
+end 3 issue:3:7 out:-
+leave 1
+shut 1:0:5,2:0:6,3:0:7
+";
+
+/// A connection joins and leaves.
+const NOTHING_HELD: &str = "\
+join -> 1
+leave 1 -> []
+
+group 1 boot 0102030405060708
+join 1
+leave 1
+shut -
+";
+
+/// 256 calls wait or run, and one ends.
+const BUSY: &str = "\
+join -> 1
+256 x accept 1 - -> 256
+accept 1 - -> Calls
+accept 1 opens:0 -> Calls
+take 1 -> Run([None, None, None, None], 0)
+accept 1 - -> Calls
+end 1 - -> stays
+accept 1 - -> 257
+accept 1 - -> Calls
+";
+
+/// 64 connections are open, and one leaves.
+const SIXTY_FIVE_CONNECTIONS: &str = "\
+64 x join -> 64
+join -> TooMany
+leave 64 -> stays
+join -> 65
+join -> TooMany
+leave 64 -> unfit
+";
+
+/// A running call is cancelled twice.
+const CANCELLED_TWICE: &str = "\
+join -> 1
+accept 1 opens:0 -> 1
+take 1 -> Run([None, None, None, None], 1)
+asked 1 -> false
+cancel 1 -> Flagged
+cancel 1 -> Late
+asked 1 -> true
+end 1 none cancelled -> stays
+asked 1 -> true
+cancel 1 -> Late
+stage 1 -> Over
+leave 1 -> []
+asked 1 -> true
+
+group 1 boot 0102030405060708
+join 1
+accept 1 1 0.0 little answer opens:0:1 -
+take 1 none
+cancel 1
+end 1 none fault:1c00000d
+leave 1
+shut -
+";
+
+/// A running call is orphaned twice, cancelled, and issues a handle.
+const ORPHANED_TWICE: &str = "\
+join -> 1
+accept 1 opens:0 -> 1
+take 1 -> Run([None, None, None, None], 1)
+orphan 1 -> Running
+orphan 1 -> Late
+asked 1 -> false
+cancel 1 -> Flagged
+end 1 issue:1:5 -> stays
+orphan 1 -> Late
+accept 1 changes:0:1 -> 2
+take 2 -> Run([Some(5), None, None, None], 0)
+end 2 close -> stays
+leave 1 -> []
+
+group 1 boot 0102030405060708
+join 1
+accept 1 1 0.0 little answer opens:0:1 -
+take 1 none
+orphan 1
+cancel 1
+end 1 issue:1:5 out:-
+accept 2 1 0.0 little answer changes:0:0000000001020304050607080000000100000001 -
+take 2 5
+end 2 close out:-
+leave 1
+shut -
+";
+
+/// Waiting calls are cancelled and orphaned, twice, and calls that were never accepted.
+const OVER_WHILE_THEY_WAIT: &str = "\
+join -> 1
+2 x accept 1 - -> 2
+stage 1 -> Waiting
+cancel 1 -> Ended
+stage 1 -> Over
+asked 1 -> false
+cancel 1 -> Late
+orphan 1 -> Late
+take 1 -> Dropped
+orphan 2 -> Dropped
+orphan 2 -> Late
+cancel 2 -> Late
+take 2 -> Dropped
+end 2 - -> unfit
+cancel 3 -> Late
+orphan 3 -> Late
+take 3 -> Dropped
+stage 3 -> Over
+asked 3 -> false
+end 3 - -> unfit
+cancel 0 -> Late
+orphan 4294967295 -> Late
+asked 0 -> false
+asked 4294967295 -> false
+leave 1 -> []
+
+group 1 boot 0102030405060708
+join 1
+accept 1 1 0.0 little answer - -
+accept 2 1 0.0 little answer - -
+cancel 1
+orphan 2
+leave 1
+shut -
+";
+
+/// The call behind a waiting one goes on where that is cancelled.
+const A_CANCEL_MAKES_WAY: &str = "\
+join -> 1
+accept 1 opens:0 -> 1
+take 1 -> Run([None, None, None, None], 1)
+end 1 issue:1:5 -> stays
+3 x accept 1 changes:0:1 -> 4
+take 2 -> Run([Some(5), None, None, None], 0)
+cancel 3 -> Ended
+take 4 -> Wait(2)
+end 2 keep:6 -> stays
+take 4 -> Run([Some(6), None, None, None], 0)
+end 4 close -> stays
+leave 1 -> []
+
+group 1 boot 0102030405060708
+join 1
+accept 1 1 0.0 little answer opens:0:1 -
+take 1 none
+end 1 issue:1:5 out:-
+accept 2 1 0.0 little answer changes:0:0000000001020304050607080000000100000001 -
+accept 3 1 0.0 little answer changes:0:0000000001020304050607080000000100000001 -
+accept 4 1 0.0 little answer changes:0:0000000001020304050607080000000100000001 -
+take 2 5
+cancel 3
+end 2 keep:6 out:-
+take 4 6
+end 4 close out:-
+leave 1
+shut -
+";
+
+/// A call names one handle twice.
+const ONE_HANDLE_TWICE: &str = "\
+join -> 1
+accept 1 opens:0 -> 1
+take 1 -> Run([None, None, None, None], 1)
+end 1 issue:1:5 -> stays
+accept 1 shares:0:1,holds:0:1 -> 2
+take 2 -> Denied(1)
+accept 1 holds:0:1,shares:0:1 -> 3
+take 3 -> Denied(1)
+accept 1 changes:0:1,changes:0:1 -> 4
+take 4 -> Denied(1)
+accept 1 shares:0:1,opens:0,shares:0:1,holds:0:1 -> 5
+take 5 -> Denied(2)
+accept 1 shares:0:1,shares:0:1 -> 6
+take 6 -> Run([Some(5), Some(5), None, None], 0)
+end 6 none,none -> stays
+leave 1 -> [DueItem { serial: 1, kind: 0, cookie: 5 }]
+";
+
+/// Handles of others, of another type, of no one yet, and closed ones.
+const HANDLES_THAT_ARE_NOT_LIVE: &str = "\
+join -> 1
+accept 1 opens:0 -> 1
+take 1 -> Run([None, None, None, None], 1)
+accept 1 shares:0:1 -> 2
+take 2 -> Denied(0)
+end 1 issue:1:5 -> stays
+accept 1 changes:0:foreign -> 3
+take 3 -> Denied(0)
+accept 1 changes:0:former -> 4
+take 4 -> Denied(0)
+accept 1 changes:0:marked -> 5
+take 5 -> Denied(0)
+accept 1 changes:1:1 -> 6
+take 6 -> Denied(0)
+accept 1 shares:0:2 -> 7
+take 7 -> Denied(0)
+accept 1 shares:0:1,holds:0:null -> 8
+take 8 -> Denied(1)
+accept 1 changes:0:1 -> 9
+take 9 -> Run([Some(5), None, None, None], 0)
+end 9 close -> stays
+accept 1 opens:0,holds:0:1 -> 10
+take 10 -> Denied(1)
+leave 1 -> []
+";
+
+/// What becomes of the calls of a connection that left.
+const CONNECTIONS_THAT_LEFT: &str = "\
+join -> 1
+join -> 2
+accept 1 opens:0 -> 1
+take 1 -> Run([None, None, None, None], 1)
+accept 1 - -> 2
+leave 1 -> stays
+accept 1 - -> unfit
+leave 1 -> unfit
+accept 3 - -> unfit
+leave 3 -> unfit
+accept 0 - -> unfit
+take 2 -> Dropped
+stage 2 -> Over
+cancel 2 -> Late
+orphan 2 -> Late
+stage 1 -> Running
+cancel 1 -> Flagged
+orphan 1 -> Running
+end 1 issue:1:5 -> stays
+accept 2 changes:0:1 -> 3
+take 3 -> Run([Some(5), None, None, None], 0)
+leave 2 -> stays
+end 3 keep:6 -> [DueItem { serial: 1, kind: 0, cookie: 6 }]
+
+group 1 boot 0102030405060708
+join 1
+join 2
+accept 1 1 0.0 little answer opens:0:1 -
+take 1 none
+accept 2 1 0.0 little answer - -
+leave 1
+cancel 1
+orphan 1
+end 1 issue:1:5 out:-
+accept 3 2 0.0 little answer changes:0:0000000001020304050607080000000100000001 -
+take 3 5
+leave 2
+end 3 keep:6 out:-
+shut 1:0:6
+";
+
+/// Results that don't suit the slots are no end.
+const ENDS_THAT_DO_NOT_FIT: &str = "\
+join -> 1
+accept 1 opens:0,opens:1 -> 1
+end 1 none,none -> unfit
+take 1 -> Run([None, None, None, None], 1)
+end 1 none -> unfit
+end 1 none,none,none -> unfit
+end 1 close,none -> unfit
+end 1 keep:5,none -> unfit
+end 1 issue:2:5,none -> unfit
+end 1 issue:1:5,issue:1:6 -> unfit
+end 1 issue:1:5,issue:2:6 -> stays
+end 1 issue:1:5,issue:2:6 -> unfit
+accept 1 shares:0:1,holds:1:2 -> 2
+take 2 -> Run([Some(5), Some(6), None, None], 0)
+end 2 keep:5,none -> unfit
+end 2 none,close -> unfit
+end 2 none,none -> stays
+accept 1 changes:0:1 -> 3
+take 3 -> Run([Some(5), None, None, None], 0)
+end 3 none -> unfit
+end 3 issue:3:7 -> unfit
+end 3 keep:7 -> stays
+end 4 - -> unfit
+leave 1 -> [DueItem { serial: 1, kind: 0, cookie: 7 }, DueItem { serial: 2, kind: 1, cookie: 6 }]
+";
+
+/// The serials of slots that may issue a handle go on, whether one was issued or not.
+const SERIALS_GO_ON: &str = "\
+join -> 1
+accept 1 opens:0,shares:0:null,opens:0 -> 1
+take 1 -> Denied(1)
+accept 1 opens:0 -> 2
+take 2 -> Run([None, None, None, None], 3)
+end 2 none -> stays
+accept 1 shares:0:3,opens:0 -> 3
+take 3 -> Denied(0)
+accept 1 opens:0,opens:1,opens:0,opens:1 -> 4
+take 4 -> Run([None, None, None, None], 5)
+end 4 issue:5:1,none,none,issue:8:2 -> stays
+accept 1 opens:0,opens:0,opens:0,opens:0,opens:0 -> unfit
+leave 1 -> [DueItem { serial: 5, kind: 0, cookie: 1 }, DueItem { serial: 8, kind: 1, cookie: 2 }]
+
+group 1 boot 0102030405060708
+join 1
+accept 1 1 0.0 little answer opens:0:1,shares:0:0000000000000000000000000000000000000000,opens:0:2 -
+deny 1 1
+accept 2 1 0.0 little answer opens:0:3 -
+take 2 none
+end 2 none out:-
+accept 3 1 0.0 little answer shares:0:0000000001020304050607080000000100000003,opens:0:4 -
+deny 3 0
+accept 4 1 0.0 little answer opens:0:5,opens:1:6,opens:0:7,opens:1:8 -
+take 4 none,none,none,none
+end 4 issue:5:1,none,none,issue:8:2 out:-
+leave 1
+shut 5:0:1,8:1:2
+";
+
+/// How often a call is made, and its words.
+fn repeated(words: &str) -> Result<(u32, &str), Fail> {
+    match words.split_once(" x ") {
+        Some((count, step)) => Ok((count.parse()?, step)),
+        None => Ok((1, words)),
+    }
+}
+
+/// Makes the call of a line, and adds the line with what the call came to.
+fn tell(alloc: Global, group: &mut Group, line: &str, text: &mut String) -> Result<(), Fail> {
+    let words = match line.split_once(" -> ") {
+        Some((words, _)) => words,
+        None => line,
+    };
+    let (count, step) = repeated(words)?;
+    let mut answer = Answer::Unfit;
+    for _ in 0..count {
+        answer = play(alloc, group, read_step(alloc, step)?);
+    }
+    text.push_str(words)?;
+    text.push_str(" -> ")?;
+    text.push_str(format!(in alloc; "{answer}")?.as_str())?;
+    text.push_str("\n")?;
+    Ok(())
+}
+
+/// Adds an empty line and the journal.
+fn tell_journal(alloc: Global, group: &Group, text: &mut String) -> Result<(), Fail> {
+    let mut journal = Vec::new(alloc);
+    journal_text(alloc, HOME, group.journal(), &mut journal)?;
+    text.push_str("\n")?;
+    text.push_str(str::from_utf8(journal.as_slice())?)?;
+    Ok(())
+}
+
+/// The story as it goes: its calls are made, in turn, and written down with what they come to.
+fn told(alloc: Global, story: &str) -> Result<String, Fail> {
+    let mut group = Group::begin(alloc, HOME.boot, HOME.group)?;
+    let mut text = String::new(alloc);
+    let (calls, ends_with_journal) = match story.split_once("\n\n") {
+        Some((calls, _)) => (calls, true),
+        None => (story, false),
+    };
+    for line in calls.lines() {
+        tell(alloc, &mut group, line, &mut text)?;
+    }
+    if ends_with_journal {
+        tell_journal(alloc, &group, &mut text)?;
+    }
+    Ok(text)
+}
+
+const STORIES: &[&str] = &[
+    OPENED_AND_CLOSED,
+    A_NULL_HANDLE_BESIDE_A_NEW_ONE,
+    A_NULL_HANDLE_THAT_IS_SHARED,
+    TWO_APPENDS,
+    A_SHARED_VIEW,
+    CLOSE_QUEUED_FIRST,
+    LOSS_WHILE_OPEN_RUNS,
+    RUNDOWN,
+    NOTHING_HELD,
+    BUSY,
+    SIXTY_FIVE_CONNECTIONS,
+    CANCELLED_TWICE,
+    ORPHANED_TWICE,
+    OVER_WHILE_THEY_WAIT,
+    A_CANCEL_MAKES_WAY,
+    ONE_HANDLE_TWICE,
+    HANDLES_THAT_ARE_NOT_LIVE,
+    CONNECTIONS_THAT_LEFT,
+    ENDS_THAT_DO_NOT_FIT,
+    SERIALS_GO_ON,
+];
+
+#[test]
+fn each_story_goes_as_written(rt: HostRuntime) -> Result<(), Fail> {
+    let alloc = rt.alloc();
+    for story in STORIES {
+        assert_eq!(rt; told(alloc, story)?.as_str(), *story);
+    }
+    Ok(())
+}
