@@ -1,0 +1,10 @@
+pub mod Heads
+pub mod CutLaws
+pub mod HasCut
+pub mod Fronts
+pub mod Joins
+pub mod Takes
+pub mod Covers
+pub mod OpenRuns
+pub mod RunLaws
+pub mod Given
