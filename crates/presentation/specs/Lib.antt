@@ -1,0 +1,3 @@
+pub mod Serving
+pub mod Offers
+pub mod Laws
