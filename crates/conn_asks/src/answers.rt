@@ -1,0 +1,148 @@
+//! The octets of answers.
+ghost use Rattle.std.specs.Prelude.{◌≡◌, ◌≤◌, ◌<◌, ◌^◌, [], length, ⊤, IfOk, IfSome, IsSomeAnd, MatchResult};
+ghost use Rattle.pdu_codec.specs.Pdus.{pdu_octets, IsWritable};
+ghost use Rattle.conn_asks.specs.Answers as spec;
+
+use crate::{Caller, ConnFault, Link};
+use pdu_codec::{
+    AlterRespBody, BindAckBody, BindNakBody, Body, FaultBody, Pdu, Results, Version, Versions,
+    write_pdu,
+};
+use rpc_base::{Items, NoMemory, Octets, Status};
+use std::alloc::Global;
+
+/// A PDU to the caller.
+pub(crate) fn answer(caller: Caller, flags: u8, body: Body) -> Pdu
+    ensures { result ≡ spec.answer caller flags body }
+{
+    Pdu {
+        minor: 0,
+        flags,
+        order: caller.order,
+        call_id: caller.call_id,
+        body,
+    }
+}
+
+/// The octets of a PDU.
+pub(crate) fn written(alloc: Global, pdu: &Pdu) -> Result<Octets, NoMemory>
+    requires { IsWritable pdu.now }
+    ensures { IfOk result (λ octets. octets ≡ pdu_octets pdu.now) }
+{
+    let mut octets = Vec::new(alloc);
+    write_pdu(pdu, &mut octets)?;
+    Ok(Octets::from_vec(octets))
+}
+
+/// What a bind_ack says, but for the group, where the bind says these sizes.
+pub fn link(max_xmit: u16, max_recv: u16) -> Link
+    ensures { result ≡ spec.link_at max_xmit max_recv 0 }
+{
+    Link {
+        max_xmit: max_recv.min(4280),
+        max_recv: max_xmit.min(4280).max(1432),
+        group: 0,
+    }
+}
+
+/// The octets of an alter_context_resp.
+pub fn alter_resp(
+    alloc: Global,
+    caller: Caller,
+    link: Link,
+    results: Results,
+) -> Result<Octets, NoMemory>
+    requires { spec.AreResults results }
+    ensures { IfOk result (λ octets. octets ≡ pdu_octets (spec.alter_resp caller link results)) }
+{
+    let body = AlterRespBody {
+        max_xmit: link.max_xmit,
+        max_recv: link.max_recv,
+        group: link.group,
+        address: Octets::new(alloc),
+        results,
+    };
+    written(alloc, &answer(caller, 0x03, Body::AlterResp(body)))
+}
+
+/// The octets of a bind_nak.
+pub fn bind_nak(alloc: Global, caller: Caller, reason: u16) -> Result<Octets, NoMemory>
+    ensures { IfOk result (λ octets. octets ≡ pdu_octets (spec.bind_nak caller reason)) }
+{
+    let mut versions = Items::new(alloc);
+    versions.push(Version { major: 5, minor: 0 })?;
+    let body = BindNakBody { reason, versions };
+    written(alloc, &answer(caller, 0x03, Body::BindNak(body)))
+}
+
+/// The octets of a fault, of a call that was executed or of one that wasn't.
+pub fn fault(
+    alloc: Global,
+    caller: Caller,
+    executed: bool,
+    status: Status,
+) -> Result<Octets, NoMemory>
+    ensures { IfOk result (λ octets. octets ≡ pdu_octets (spec.fault caller executed status)) }
+{
+    let flags = if executed { 0x03 } else { 0x23 };
+    let body = FaultBody {
+        alloc_hint: 0,
+        context: caller.context,
+        cancel_count: 0,
+        status,
+    };
+    written(alloc, &answer(caller, flags, Body::Fault(body)))
+}
+
+/// The last octets to a caller, once the protocol is broken.
+pub fn closing(alloc: Global, caller: Caller, why: ConnFault) -> Result<Octets, NoMemory>
+    ensures { IfOk result (λ octets. octets ≡ pdu_octets (spec.closing caller why)) }
+{
+    match why {
+        ConnFault::Nak(reason) => bind_nak(alloc, caller, reason),
+        _ => fault(alloc, caller, false, Status::NCA_S_PROTO_ERROR),
+    }
+}
+
+/// The octets of the answer to a request whose presentation context isn't accepted: none where no
+/// answer is wanted.
+pub fn refusal(alloc: Global, caller: Caller, maybe: bool) -> Result<Octets, NoMemory>
+    ensures { IfOk result (λ octets. octets ≡ spec.refusal caller maybe) }
+{
+    if maybe {
+        Ok(Octets::new(alloc))
+    } else {
+        fault(alloc, caller, false, Status::NCA_S_INVALID_PRES_CONTEXT_ID)
+    }
+}
+
+/// The octets of a bind_ack for the group, and the body; where there is no memory it is as before.
+pub fn bind_ack(
+    alloc: Global,
+    caller: Caller,
+    ack: BindAckBody,
+    group: u32,
+) -> Result<Octets, (BindAckBody, NoMemory)>
+    requires address { ack.address ≡ [] }
+    requires results { spec.AreResults ack.results }
+    ensures { MatchResult result (λ octets. octets ≡ pdu_octets (spec.bind_ack caller (spec.link_with ack group) ack.results)) (λ back. back.0 ≡ ack) }
+{
+    let before = ack.group;
+    let body = BindAckBody { group, ..ack };
+    let pdu = answer(caller, 0x03, Body::BindAck(body));
+    match written(alloc, &pdu) {
+        Ok(octets) => Ok(octets),
+        Err(fault) => Err((given_back(pdu, before), fault)),
+    }
+}
+
+/// The body of a bind_ack that could not be written, with the group that it had.
+fn given_back(pdu: Pdu, group: u32) -> BindAckBody
+    requires { IsSomeAnd (spec.ack_in pdu.body) (λ ack. ⊤) }
+    ensures { IfSome (spec.ack_in pdu.body) (λ ack. result ≡ record ack { group = group }) }
+{
+    match pdu.body {
+        Body::BindAck(ack) => BindAckBody { group, ..ack },
+        _ => unreachable!(),
+    }
+}

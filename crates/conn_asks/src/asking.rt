@@ -1,0 +1,153 @@
+//! What a PDU asks.
+ghost use Rattle.std.specs.Prelude.{◌≡◌, ◌<◌, ◌+◌, ◌≤◌, length, IfOk, IfSome};
+ghost use Rattle.pdu_codec.specs.Faults.{length_order};
+ghost use Rattle.conn_asks.specs.Asks as spec;
+ghost use Rattle.conn_asks.specs.Asking.{FindsRequest, Finds, IsAnswerable};
+
+use crate::{Ask, Caller, ConnFault};
+use pdu_codec::{AlterBody, BindBody, Body, Pdu, PduFault, RequestBody};
+use pdu_stream::{JoinFault, Joiner};
+use rpc_base::{NoMemory, Order, get_u32};
+
+/// The least that a client has to take in one fragment, in octets.
+const LEAST_RECV: u16 = 1432;
+
+fn of_bind(bound: bool, caller: Caller, body: BindBody) -> Ask
+    ensures ask { result ≡ spec.of_bind bound caller body }
+    ensures few { length body.elements < 256 → IsAnswerable result }
+{
+    if bound {
+        Ask::Broken(caller, ConnFault::Rebound)
+    } else if body.max_recv < LEAST_RECV {
+        Ask::Broken(caller, ConnFault::Nak(0))
+    } else {
+        Ask::Bind(caller, body)
+    }
+}
+
+fn of_alter(bound: bool, caller: Caller, body: AlterBody) -> Ask
+    ensures ask { result ≡ spec.of_alter bound caller body }
+    ensures few { length body.elements < 256 → IsAnswerable result }
+{
+    if bound {
+        Ask::Alter(caller, body)
+    } else {
+        Ask::Broken(caller, ConnFault::Unbound)
+    }
+}
+
+fn of_request(
+    bound: bool,
+    joiner: &mut Joiner,
+    flags: u8,
+    caller: Caller,
+    part: RequestBody,
+) -> Result<Option<Ask>, NoMemory>
+    requires { caller.context ≡ part.context }
+    ensures few { IfOk result (λ ask. IfSome ask IsAnswerable) }
+    ensures found { FindsRequest bound joiner.old (record { order = caller.order; flags = flags; call_id = caller.call_id; part = part }) result joiner.new }
+{
+    if !bound {
+        return Ok(Some(Ask::Broken(caller, ConnFault::Unbound)));
+    }
+    match joiner.add(caller.order, flags, caller.call_id, part) {
+        Ok(None) => Ok(None),
+        Ok(Some(joined)) => Ok(Some(Ask::Call(joined))),
+        Err(JoinFault::Memory) => Err(NoMemory),
+        Err(fault) => Ok(Some(Ask::Broken(caller, ConnFault::Join(fault)))),
+    }
+}
+
+fn is_called(id: u32, called: Option<u32>) -> bool
+    ensures { result ≡ spec.is_called id called }
+{
+    match called {
+        Some(other) => other == id,
+        None => false,
+    }
+}
+
+/// What the PDU asks: given whether a bind came, and the call that was asked last, where only cancels
+/// and orphanings were asked since.
+pub fn ask(
+    bound: bool,
+    called: Option<u32>,
+    joiner: &mut Joiner,
+    pdu: Pdu,
+) -> Result<Option<Ask>, NoMemory>
+    ensures found { Finds bound joiner.old called pdu result joiner.new }
+    ensures few { length (spec.offered_by pdu.body) < 256 → IfOk result (λ ask. IfSome ask IsAnswerable) }
+{
+    let Pdu {
+        minor: _,
+        flags,
+        order,
+        call_id,
+        body,
+    } = pdu;
+    let caller = Caller {
+        order,
+        call_id,
+        context: 0,
+    };
+    match body {
+        Body::Bind(body) => Ok(Some(of_bind(bound, caller, body))),
+        Body::Alter(body) => Ok(Some(of_alter(bound, caller, body))),
+        Body::Request(part) => {
+            let caller = Caller {
+                order,
+                call_id,
+                context: part.context,
+            };
+            of_request(bound, joiner, flags, caller, part)
+        }
+        Body::CoCancel => {
+            joiner.mark(call_id);
+            Ok(is_called(call_id, called).then(|| Ask::Cancel(call_id)))
+        }
+        Body::Orphaned => {
+            joiner.drop_call(call_id);
+            Ok(is_called(call_id, called).then(|| Ask::Orphan(call_id)))
+        }
+        _ => Ok(Some(Ask::Broken(caller, ConnFault::Direction))),
+    }
+}
+
+/// The order of the numbers of a header whose data representation begins with this octet.
+fn order_at(octet: u8) -> Order
+    ensures { result ≡ length_order octet }
+{
+    if octet / 16 == 0 {
+        Order::Big
+    } else {
+        Order::Little
+    }
+}
+
+fn reason(fault: PduFault) -> u16
+    ensures { result ≡ spec.nak_reason fault }
+{
+    match fault {
+        PduFault::Version => 4,
+        _ => 0,
+    }
+}
+
+/// Whom octets with that fault have to be answered, and what breaks the protocol.
+pub fn broken(octets: &[u8], fault: PduFault) -> (Caller, ConnFault)
+    requires { 16 ≤ length octets.now }
+    ensures { result ≡ (spec.caller_at octets.now, spec.broken_by octets.now fault) }
+{
+    let order = order_at(octets[4]);
+    let caller = Caller {
+        order,
+        call_id: get_u32(order, octets, 12),
+        context: 0,
+    };
+    let why = if octets[2] == 11 {
+        ConnFault::Nak(reason(fault))
+    } else {
+        ConnFault::Pdu(fault)
+    };
+    (caller, why)
+}

@@ -1,0 +1,4 @@
+pub mod Talks
+pub mod Doing
+pub mod Steps
+pub mod Left

@@ -1,0 +1,90 @@
+-- One PDU of a connection.
+use Rattle.std.specs.Prelude.{◌≡◌, ℕ, ◌<◌, nat_le, Bool, ◌==◌, ◌&&◌, ◌||◌, Option, Some, None, if◌then◌else◌, Result, Ok, Err, List, ◌∷◌, ◌++◌, length, ⊤}
+use Rattle.rpc_base.specs.declared.fault.NoMemory.{NoMemory}
+use Rattle.pdu_codec.specs.declared.pdu.Pdu.{Pdu}
+use Rattle.pdu_codec.specs.declared.pdu.Body.{Body}
+use Rattle.pdu_codec.specs.declared.pdu.Body.TheVariants as bodies
+use Rattle.pdu_codec.specs.declared.fault.PduFault.{PduFault}
+use Rattle.pdu_codec.specs.Pdus.{IsPdu, AreSpelled, pdu_octets}
+use Rattle.pdu_codec.specs.Faults.{kind_at}
+use Rattle.pdu_stream.specs.Cuts.{IsStop}
+use Rattle.conn_asks.specs.declared.events.Ask.{Ask}
+use Rattle.conn_asks.specs.declared.events.Act.{Act}
+use Rattle.conn_asks.specs.declared.events.Act.TheVariants.{Close, Cancel, Orphan}
+use Rattle.conn_asks.specs.declared.events.Waits.{Waits}
+use Rattle.conn_asks.specs.declared.events.Waits.TheVariants.{Nothing, Over}
+use Rattle.conn_asks.specs.Asks.{Asks, caller_at, broken_by}
+use Rattle.conn_asks.specs.Answers.{closing}
+use Rattle.conn_asks.specs.Moments.{Moment, Does, IsIdle, Skips, Acts, SkipsAll, IsStuck, MayFail}
+use Rattle.conn_core.specs.declared.next.Step.{Step}
+use Rattle.conn_core.specs.declared.next.Step.TheVariants.{Stuck, Skipped, Acted}
+use Rattle.conn_core.specs.Talks.{Talk, Keeps, Knows, IsAt}
+
+-- PDUs were taken, and these are as they were.
+pub record Passes (old new : Talk) : Type 0 where
+  pub pdus : List Pdu
+  pub front : List ℕ
+  pub spelled : AreSpelled IsPdu pdus front
+  pub rest : old.fed.rest ≡ front ++ new.fed.rest
+  pub ids : new.served.ids ≡ old.served.ids
+  pub link : new.link ≡ old.link
+
+-- a skipped PDU had octets
+abbrev pub Shortens : Result Step NoMemory → ℕ → ℕ → Type 0
+Shortens (Ok Skipped) old new = new < old
+Shortens _ old new = ⊤
+
+-- a step from a moment
+abbrev pub StepsFrom : Moment → Result Step NoMemory → Talk → Type 0
+StepsFrom m (Ok Stuck) new = IsAt new m × IsStuck m.waits m.rest
+StepsFrom m (Ok Skipped) new = (p : Pdu) × (n : Moment) × Skips m p n × IsAt new n
+StepsFrom m (Ok (Acted act)) new = (n : Moment) × Acts m act n × IsAt new n
+StepsFrom m (Err _) new = MayFail m.waits
+
+-- the steps up to the next act
+abbrev pub GoesFrom : Moment → Result (Option Act) NoMemory → Talk → Type 0
+GoesFrom m (Ok None) new = (skipped : List Pdu) × (n : Moment) × SkipsAll m skipped n × IsStuck n.waits n.rest × IsAt new n
+GoesFrom m (Ok (Some act)) new = (skipped : List Pdu) × (between n : Moment) × SkipsAll m skipped between × Acts between act n × IsAt new n
+GoesFrom m (Err _) new = MayFail m.waits
+
+-- ---- a PDU while nothing is waited for
+
+-- A connection that waits for nothing, whatever it has still to read.
+pub record IsFree (t : Talk) (m : Moment) : Type 0 where
+  pub ids : t.served.ids ≡ m.ids
+  pub waits : t.waits ≡ Nothing
+  pub free : m.waits ≡ Nothing
+  pub link : t.link ≡ m.link
+  pub keeps : Keeps t m
+
+-- the moment behind a PDU
+abbrev pub behind : Moment → Pdu → Waits → Moment
+behind m p waits = record m { past = p ∷ m.past; waits = waits }
+
+-- the PDU was heard behind the moment
+abbrev pub HearsAt : Moment → Pdu → Result Step NoMemory → Talk → Type 0
+HearsAt m p (Ok Stuck) new = ⊥
+HearsAt m p (Ok Skipped) new = (ask : Option Ask) × Asks m.past p ask × IsIdle Nothing ask × (new.waits ≡ Nothing) × Keeps new (behind m p Nothing)
+HearsAt m p (Ok (Acted act)) new = (ask : Ask) × Asks m.past p (Some ask) × Does m ask act new.waits × Knows new.waits new (behind m p new.waits)
+HearsAt m p (Err _) new = ⊤
+
+-- the connection is closed at a fault of the octets
+abbrev pub Stops : List ℕ → PduFault → Result Step NoMemory → Talk → Talk → Type 0
+Stops rest fault (Ok (Acted act)) old new =
+    IsStop rest fault × (act ≡ Close (pdu_octets (closing (caller_at rest) (broken_by rest fault))) (broken_by rest fault))
+    × (new ≡ record old { waits = Over })
+Stops rest fault (Ok _) old new = ⊥
+Stops rest fault (Err _) old new = new ≡ old
+
+-- ---- a PDU while a call is unanswered
+
+-- a header stands in front, with the PTYPE of a co_cancel or an orphaned
+abbrev pub calls_off : List ℕ → Bool
+calls_off octets = nat_le 16 (length octets) && (kind_at octets == 18 || kind_at octets == 19)
+
+abbrev pub act_with : ℕ → Body → Act
+act_with id bodies.CoCancel = Cancel id
+act_with id _ = Orphan id
+
+abbrev pub heard_off : ℕ → Pdu → Step
+heard_off id p = if id == p.call_id then Acted (act_with p.call_id p.body) else Skipped

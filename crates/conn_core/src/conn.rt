@@ -1,0 +1,168 @@
+//! A connection.
+ghost use Rattle.std.specs.Prelude.{◌≡◌, ◌≤◌, ◌^◌, ◌↔◌, length, IsTrue, IfOk, OnOk, OnErr};
+ghost use Rattle.std.specs.Option.{option_copied};
+ghost use Rattle.conn_asks.specs.Answers.{FitsStub};
+ghost use Rattle.conn_asks.specs.Moments.{Moment as AMoment, at_start, with_octets, Goes, IsGrouping, Bound, Refused, IsCalling, Replied};
+
+use crate::left::left;
+use conn_asks::{Act, Link, Waits, bind_ack, bind_nak, reply};
+use handle_model::Said;
+use pdu_stream::{Feed, Joiner};
+use presentation::Contexts;
+use rpc_base::{NoMemory, Octets, SyntaxId};
+use std::alloc::Global;
+use std::marker::Model;
+use std::mem;
+
+/// A connection of a server (C706, "Connection-oriented RPC protocol machines"), as far as it depends on its
+/// octets alone: what comes, in any pieces, and what is answered. Contracts see what it keeps, and say at
+/// which moment of its history it is.
+#[derive(Drop)]
+pub struct Conn {
+    pub(crate) feed: Feed,
+    pub(crate) bound: bool,
+    pub(crate) joiner: Joiner,
+    pub(crate) contexts: Contexts,
+    pub(crate) waits: Waits,
+    pub(crate) link: Link,
+    pub(crate) alloc: Global,
+}
+
+impl Model for Conn {
+    ghost use Rattle.conn_core.specs.Talks.{Talk, IsSound};
+
+    ghost Value = { Talk };
+
+    ghost view = { λ c. record { fed = c.feed; bound = c.bound; joining = c.joiner; served = c.contexts; waits = c.waits; link = c.link } };
+
+    ghost invariant = { λ c. IsSound c.feed c.waits c.link };
+}
+
+impl Conn {
+    ghost use Rattle.conn_core.specs.Talks.{IsAt, Leads, Leaves};
+
+    /// A new connection to a server of these interfaces, which are numbered from 0.
+    pub fn new(alloc: Global, ids: &[SyntaxId]) -> Result<Conn, NoMemory>
+        requires { length ids.now ≤ 2 ^ 16 }
+        ensures { IfOk result (λ conn. IsAt conn (at_start ids.now)) }
+    {
+        Ok(Conn {
+            feed: Feed::new(alloc),
+            bound: false,
+            joiner: Joiner::new(),
+            contexts: Contexts::new(alloc, ids)?,
+            waits: Waits::Nothing,
+            link: Link {
+                max_xmit: 1432,
+                max_recv: 1432,
+                group: 0,
+            },
+            alloc,
+        })
+    }
+
+    /// Octets come, which may end anywhere. At `NoMemory` none came.
+    pub fn feed(&mut self, piece: &[u8]) -> Result<(), NoMemory>
+        ensures ok { OnOk result (Leads (λ m n. n ≡ with_octets m piece.now) self.old self.new) }
+        ensures err { OnErr result (self.new ≡ self.old) }
+    {
+        self.feed.push(piece)
+    }
+
+    /// The next act. `None` where the octets of the next PDU haven't come, or it has to wait: while a group is
+    /// waited for every PDU does, and while a call is unanswered every one but a co_cancel or an orphaned.
+    /// After a `Close`, and after `nak`, it is `None` for good; after `NoMemory` it is that for good.
+    pub fn next(&mut self) -> Result<Option<Act>, NoMemory>
+        ensures { Leads (λ m n. Goes m result n) self.old self.new }
+    {
+        match self.go() {
+            Ok(act) => Ok(act),
+            Err(fault) => {
+                self.waits = Waits::Failed;
+                Err(fault)
+            }
+        }
+    }
+
+    /// Whether a group is waited for.
+    pub fn is_grouping(&self) -> bool
+        ensures { IsTrue result ↔ IsGrouping self.now.waits }
+    {
+        matches!(self.waits, Waits::Group(..))
+    }
+
+    /// Whether a call is unanswered.
+    pub fn is_calling(&self) -> bool
+        ensures { IsTrue result ↔ IsCalling self.now.waits }
+    {
+        matches!(self.waits, Waits::Call(..))
+    }
+
+    /// Joins the connection to the group: the octets of its bind_ack. PDUs may then come again. At `NoMemory`
+    /// nothing changes.
+    pub fn bound(&mut self, group: u32) -> Result<Octets, NoMemory>
+        requires { IsGrouping self.old.waits }
+        ensures { Leads (λ m n. Bound m group result n) self.old self.new }
+    {
+        let (caller, ack) = match mem::replace(&mut self.waits, Waits::Failed) {
+            Waits::Group(caller, ack) => (caller, ack),
+            _ => unreachable!(),
+        };
+        let link = Link {
+            max_xmit: ack.max_xmit,
+            max_recv: ack.max_recv,
+            group,
+        };
+        match bind_ack(self.alloc, caller, ack, group) {
+            Ok(octets) => {
+                self.link = link;
+                self.waits = Waits::Nothing;
+                Ok(octets)
+            }
+            Err((ack, fault)) => {
+                self.waits = Waits::Group(caller, ack);
+                Err(fault)
+            }
+        }
+    }
+
+    /// Refuses the bind for a reason: the octets of the bind_nak. The connection is then closed. At `NoMemory`
+    /// nothing changes.
+    pub fn nak(&mut self, reason: u16) -> Result<Octets, NoMemory>
+        requires { IsGrouping self.old.waits }
+        ensures { Leads (λ m n. Refused m reason result n) self.old self.new }
+    {
+        let caller = match &self.waits {
+            Waits::Group(caller, _) => *caller,
+            _ => unreachable!(),
+        };
+        let octets = bind_nak(self.alloc, caller, reason)?;
+        self.waits = Waits::Over;
+        Ok(octets)
+    }
+
+    /// Answers the call: the octets of what its end says, or of a fault before it was executed. There are
+    /// none for `None`, and where the client wants no answer. PDUs may then come again. At `NoMemory` nothing
+    /// changes.
+    pub fn reply(&mut self, said: Option<&Said>, executed: bool) -> Result<Octets, NoMemory>
+        requires calling { IsCalling self.old.waits }
+        requires stub { FitsStub (option_copied said) }
+        ensures { Leads (λ m n. Replied m (option_copied said.entry) executed result n) self.old self.new }
+    {
+        let (caller, maybe) = match &self.waits {
+            Waits::Call(caller, maybe) => (*caller, *maybe),
+            _ => unreachable!(),
+        };
+        let most = self.link.max_xmit;
+        let octets = reply(self.alloc, caller, most, maybe, executed, said)?;
+        self.waits = Waits::Nothing;
+        Ok(octets)
+    }
+
+    /// The number of octets that are left of all that came, once the whole PDUs at their front are taken.
+    pub fn rest(self) -> Result<usize, NoMemory>
+        ensures { (m : AMoment) → IsAt self m → IfOk result (Leaves m.rest) }
+    {
+        left(self.feed)
+    }
+}

@@ -1,0 +1,15 @@
+//! One connection of a server as a pure machine: octets come in any pieces, and acts come out, in the order
+//! of what the PDUs ask.
+#![tactic(auto)]
+
+mod acts;
+mod conn;
+mod left;
+mod next;
+mod off;
+
+pub use conn::Conn;
+pub use conn_asks::{Act, ConnFault};
+
+#[cfg(test)]
+mod tests;

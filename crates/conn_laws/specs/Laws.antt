@@ -1,0 +1,34 @@
+-- A connection's moments and the stream of its octets.
+use Rattle.std.specs.Prelude.{◌≡◌, ℕ, Option, Some, None, Ok, List, ◌++◌, length, reverse}
+use Rattle.pdu_codec.specs.Pdus.{IsPdu, AreSpelled}
+use Rattle.pdu_stream.specs.declared.cut.Cut.{Cut}
+use Rattle.pdu_stream.specs.Cuts.{IsCut}
+use Rattle.conn_asks.specs.declared.events.Act.{Act}
+use Rattle.conn_asks.specs.Moments.{Moment, with_octets, Goes}
+
+-- The PDUs that were taken and the octets behind them are the stream.
+pub record HasCome (stream : List ℕ) (m : Moment) : Type 0 where
+  pub front : List ℕ
+  pub spelled : AreSpelled IsPdu (reverse m.past) front
+  pub whole : stream ≡ front ++ m.rest
+
+-- so many octets stand behind the whole PDUs
+abbrev pub Leaves : List ℕ → ℕ → Type 0
+Leaves octets count = (cut : Cut) × IsCut octets cut × (count ≡ length cut.rest)
+
+abbrev pub ComesOn : Type 0
+ComesOn = (stream piece : List ℕ) (m : Moment) → HasCome stream m → HasCome (stream ++ piece) (with_octets m piece)
+
+abbrev pub GoesOnInTheStream : Type 0
+GoesOnInTheStream = (stream : List ℕ) (m n : Moment) (act : Option Act) → HasCome stream m → Goes m (Ok act) n → HasCome stream n
+
+abbrev pub LeavesOfAll : Type 0
+LeavesOfAll = (stream : List ℕ) (m : Moment) (count : ℕ) → HasCome stream m → Leaves m.rest count → Leaves stream count
+
+abbrev pub ActStays : Type 0
+ActStays =
+    (m n : Moment) (act : Act) (more : List ℕ) → Goes m (Ok (Some act)) n → Goes (with_octets m more) (Ok (Some act)) (with_octets n more)
+
+abbrev pub SkippedBefore : Type 0
+SkippedBefore =
+    (m n k : Moment) (act : Option Act) (more : List ℕ) → Goes m (Ok None) n → Goes (with_octets n more) (Ok act) k → Goes (with_octets m more) (Ok act) k
