@@ -1,3 +1,4 @@
 pub mod Plain
 pub mod Names
 pub mod Outline
+pub mod Kept

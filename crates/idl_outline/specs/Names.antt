@@ -3,6 +3,7 @@
 use Rattle.std.specs.Prelude.{ℕ, ◌==◌, Bool, true, false, not, ◌||◌, ◌&&◌, List, [], ◌∷◌, Option, Some, None, is_some, map, reverse, if◌then◌else◌, bytes_eq}
 use Rattle.std.specs.List.{list_any}
 use Rattle.std.specs.Option.{option_or}
+use Rattle.idl_tree.specs.declared.leaf.Ident.{Ident}
 use Rattle.idl_tree.specs.declared.leaf.Num.{Num}
 use Rattle.idl_tree.specs.declared.leaf.Pk.{Pk}
 use Rattle.idl_tree.specs.declared.leaf.Pk.TheVariants as pks
@@ -201,3 +202,37 @@ first_field_open (f ∷ fs) = last_open f.declared
 -- a conformant array ends the body
 abbrev pub ends_open : List Field → Bool
 ends_open fs = first_field_open (reverse fs)
+
+-- ---- what an event declares
+
+-- the name of the interface that an event declares, and the tag
+abbrev pub name_in : Event → Option Ident
+name_in (events.Typedef i t) = Some i
+name_in (events.Constant b i n) = Some i
+name_in (events.EnumName i n) = Some i
+name_in (events.Operation i) = Some i
+name_in _ = None
+
+abbrev pub tag_in : Event → Option Ident
+tag_in (events.StructBegins i itself) = Some i
+tag_in (events.OtherTag i) = Some i
+tag_in _ = None
+
+abbrev pub is_named : List ℕ → Option Ident → Bool
+is_named name None = false
+is_named name (Some i) = bytes_eq i.text name
+
+abbrev pub declares : List ℕ → Event → Bool
+declares name e = is_named name (name_in e)
+
+abbrev pub declares_tag : List ℕ → Event → Bool
+declares_tag name e = is_named name (tag_in e)
+
+abbrev pub is_operation : Event → Bool
+is_operation (events.Operation i) = true
+is_operation _ = false
+
+-- a declarator of a typedef
+abbrev pub is_typedef_event : Event → Bool
+is_typedef_event (events.Typedef i t) = true
+is_typedef_event _ = false

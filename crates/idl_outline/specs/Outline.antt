@@ -219,7 +219,10 @@ abbrev mutual
 
   pub switch_past : Setting → PSwitch → Past → Past
   switch_past g no_switch p = p
-  switch_past g (switch s i) p = spec_past (alone g.default tags.Missing) s p
+  -- its spec is a field that declares nothing
+  switch_past g (switch s i) p =
+      events.Single (field_of g.default places.Alone [] (spec_type (alone g.default tags.Missing) s p) (bare_spec s) [] (spec_past (alone g.default tags.Missing) s p))
+      ∷ spec_past (alone g.default tags.Missing) s p
 
   -- what gives a union its tag
   pub switch_tag : Setting → PSwitch → Past → Tag
@@ -303,6 +306,10 @@ abbrev mutual
   arm_labels default no_arm p = []
   arm_labels default (then_arm a as') p = arm_label a p ++ arm_labels default as' (arm_past default a p)
 
+-- the past behind the arms of a union, with what gives it its tag
+abbrev pub union_past : Pk → Tag → PArms → Past → Past
+union_past default t arms p = events.Union t (arm_labels default arms p) ∷ events.Body (arm_fields default arms p) ∷ arms_past default arms p
+
 -- ---- declarations
 
 -- what a typedef's declarators declare
@@ -310,17 +317,33 @@ abbrev pub types_past : List Dtor → List Declared → Past → Past
 types_past (d ∷ ds) (x ∷ xs) p = types_past ds xs (events.Typedef x.name x.ty ∷ size_past d.array p)
 types_past _ _ p = p
 
-abbrev pub typedef_past : Pk → PAttrs → PSpec → List Dtor → Setting → List Attribute → Past → Past
-typedef_past default as' s ds g marks p =
-    let before : Past = attrs_past default as' p in
-    let behind : Past = spec_past g s before in
-    let field : Field = field_of default places.Typedef marks (spec_type g s before) (bare_spec s) ds behind in
-    events.Single field ∷ types_past ds field.declared behind
+-- a spec between its attributes and what follows it: the setting that the attributes make of it
+abbrev pub typedef_setting : Pk → List Attribute → List Dtor → Setting
+typedef_setting default marks ds = before_declarators default ds (has_handle_word marks) (tag_given marks)
 
-abbrev pub lone_past : Pk → PAttrs → PSpec → Setting → List Attribute → Past → Past
-lone_past default as' s g marks p =
-    let before : Past = attrs_past default as' p in
-    events.Single (field_of default places.Alone marks (spec_type g s before) (bare_spec s) [] (spec_past g s before)) ∷ spec_past g s before
+abbrev pub typedef_behind : Pk → PAttrs → PSpec → List Dtor → Past → Past
+typedef_behind default as' s ds p = spec_past (typedef_setting default (attributes default as' p) ds) s (attrs_past default as' p)
+
+abbrev pub typedef_field : Pk → PAttrs → PSpec → List Dtor → Past → Field
+typedef_field default as' s ds p =
+    field_of default places.Typedef (attributes default as' p) (spec_type (typedef_setting default (attributes default as' p) ds) s (attrs_past default as' p))
+    (bare_spec s) ds (typedef_behind default as' s ds p)
+
+abbrev pub typedef_past : Pk → PAttrs → PSpec → List Dtor → Past → Past
+typedef_past default as' s ds p =
+    events.Single (typedef_field default as' s ds p) ∷ types_past ds (typedef_field default as' s ds p).declared (typedef_behind default as' s ds p)
+
+abbrev pub lone_setting : Pk → List Attribute → Setting
+lone_setting default marks = alone default (tag_given marks)
+
+abbrev pub lone_behind : Pk → PAttrs → PSpec → Past → Past
+lone_behind default as' s p = spec_past (lone_setting default (attributes default as' p)) s (attrs_past default as' p)
+
+abbrev pub lone_past : Pk → PAttrs → PSpec → Past → Past
+lone_past default as' s p =
+    events.Single (field_of default places.Alone (attributes default as' p) (spec_type (lone_setting default (attributes default as' p)) s (attrs_past default as' p))
+    (bare_spec s) [] (lone_behind default as' s p))
+    ∷ lone_behind default as' s p
 
 -- a parameter is what one spec and one declarator declare
 abbrev pub param_plain : ParamNode → PMember
@@ -341,22 +364,23 @@ result_dtor i = record { stars = 0; name = i; array = None }
 abbrev pub result_setting : Pk → List Attribute → Setting
 result_setting default marks = record { default = default; pointed = false; void_allowed = true; given = tag_given marks }
 
+abbrev pub result_past : Pk → PAttrs → PSpec → Past → Past
+result_past default as' s p = spec_past (result_setting default (attributes default as' p)) s (attrs_past default as' p)
+
+abbrev pub result_field : Pk → PAttrs → PSpec → Ident → Past → Field
+result_field default as' s name p =
+    field_of default places.Operation (attributes default as' p) (spec_type (result_setting default (attributes default as' p)) s (attrs_past default as' p))
+    (bare_spec s) (result_dtor name ∷ []) (result_past default as' s p)
+
 abbrev pub op_past : Pk → PAttrs → PSpec → Ident → List ParamNode → Past → Past
 op_past default as' s name ns p =
-    let marks : List Attribute = attributes default as' p in
-    let before : Past = attrs_past default as' p in
-    let behind : Past = spec_past (result_setting default marks) s before in
-    let result : Field = field_of default places.Operation marks (spec_type (result_setting default marks) s before) (bare_spec s) (result_dtor name ∷ []) behind in
-    events.Call result (param_fields default ns (events.Operation name ∷ behind)) ∷ params_past default ns (events.Operation name ∷ behind)
+    events.Call (result_field default as' s name p) (param_fields default ns (events.Operation name ∷ result_past default as' s p))
+    ∷ params_past default ns (events.Operation name ∷ result_past default as' s p)
 
 abbrev pub decl_past : Pk → DeclKind → Past → Past
 decl_past default (decl_kinds.Const base name value) p = events.Constant base name value ∷ p
-decl_past default (decl_kinds.Typedef as' s ds) p =
-    let marks : List Attribute = attributes default (plain_attrs as'.items) p in
-    typedef_past default (plain_attrs as'.items) (plain_spec s) ds.items (before_declarators default ds.items (has_handle_word marks) (tag_given marks)) marks p
-decl_past default (decl_kinds.Lone as' s) p =
-    let marks : List Attribute = attributes default (plain_attrs as'.items) p in
-    lone_past default (plain_attrs as'.items) (plain_spec s) (alone default (tag_given marks)) marks p
+decl_past default (decl_kinds.Typedef as' s ds) p = typedef_past default (plain_attrs as'.items) (plain_spec s) ds.items p
+decl_past default (decl_kinds.Lone as' s) p = lone_past default (plain_attrs as'.items) (plain_spec s) p
 decl_past default (decl_kinds.Op as' s name void ps) p = op_past default (plain_attrs as'.items) (plain_spec s) name ps.items p
 
 abbrev pub decls_past : Pk → List Decl → Past → Past

@@ -4,11 +4,12 @@ ghost use Rattle.idl_tree.specs.declared.leaf.Dtor.{Dtor};
 ghost use Rattle.idl_outline.specs.Names as spec;
 ghost use Rattle.idl_outline.specs.Outline.{by_value, all_pointed, alone, before_declarators, result_setting, size_of, array_past, size_past, sizes_past, field_of, types_past, result_dtor};
 
-use crate::event::{Event, Events, Tag};
+use crate::event::{Event, Tag};
 use crate::field::{
     Attribute, Attributes, Bare, Declared, Extent, Field, Mark, Named, Place, Size,
 };
-use crate::names::{copy_name, happen};
+use crate::names::copy_name;
+use crate::outline::Outline;
 use crate::setting::Setting;
 use crate::ty::{Core, DataType, Layer};
 use crate::types::{declared_type, extent_of};
@@ -116,16 +117,16 @@ fn is_typedef(place: Place) -> bool
 
 fn declared(
     alloc: Global,
-    events: &[Event],
+    outline: &Outline,
     handle: bool,
     class: Pk,
     ty: DataType,
     dtor: &Dtor,
 ) -> Result<Declared, NoMemory>
-    ensures { IfOk result (λ d. d ≡ spec.declared (reverse events.now) handle class ty dtor.now) }
+    ensures { IfOk result (λ d. d ≡ spec.declared outline.now handle class ty dtor.now) }
 {
     let name = copy_name(alloc, &dtor.name)?;
-    let extent = extent_of(events, &dtor.array);
+    let extent = extent_of(outline, &dtor.array);
     Ok(Declared {
         name,
         stars: dtor.stars,
@@ -136,35 +137,35 @@ fn declared(
 
 fn each_declared(
     alloc: Global,
-    events: &[Event],
+    outline: &Outline,
     handle: bool,
     class: Pk,
     ty: DataType,
     dtors: &[Dtor],
 ) -> Result<Items<Declared>, NoMemory>
-    ensures { IfOk result (λ ds. ds ≡ spec.each_declared (reverse events.now) handle class ty dtors.now) }
+    ensures { IfOk result (λ ds. ds ≡ spec.each_declared outline.now handle class ty dtors.now) }
 {
     let mut all = Vec::new(alloc);
     for dtor in dtors {
-        all.push(declared(alloc, events, handle, class, ty, dtor)?)?;
+        all.push(declared(alloc, outline, handle, class, ty, dtor)?)?;
     }
     Ok(Items::from_vec(all))
 }
 
 fn declared_all(
     alloc: Global,
-    events: &[Event],
+    outline: &Outline,
     place: Place,
     default: Pk,
     attributes: &[Attribute],
     ty: DataType,
     dtors: &[Dtor],
 ) -> Result<Items<Declared>, NoMemory>
-    ensures { IfOk result (λ ds. ds ≡ spec.declared_all (reverse events.now) place default attributes.now ty dtors.now) }
+    ensures { IfOk result (λ ds. ds ≡ spec.declared_all outline.now place default attributes.now ty dtors.now) }
 {
     let handle = is_typedef(place) && has_handle_word(attributes);
     let class = or_class(pointer_given(attributes), class_at(default, place));
-    each_declared(alloc, events, handle, class, ty, dtors)
+    each_declared(alloc, outline, handle, class, ty, dtors)
 }
 
 /// The field of a spec, its attributes and its declarators. The class of a pointer is that of the
@@ -175,7 +176,7 @@ fn declared_all(
 /// `NoMemory` where there is no memory for the declared names.
 pub fn field_with(
     alloc: Global,
-    events: &[Event],
+    outline: &Outline,
     default: Pk,
     place: Place,
     attributes: Attributes,
@@ -183,11 +184,11 @@ pub fn field_with(
     bare: Bare,
     dtors: &[Dtor],
 ) -> Result<Field, NoMemory>
-    ensures { IfOk result (λ f. f ≡ field_of default place attributes ty bare dtors.now (reverse events.now)) }
+    ensures { IfOk result (λ f. f ≡ field_of default place attributes ty bare dtors.now outline.now) }
 {
     let declared = declared_all(
         alloc,
-        events,
+        outline,
         place,
         default,
         attributes.as_slice(),
@@ -322,13 +323,13 @@ pub fn size(alloc: Global, size: &SizeRef) -> Result<Size, NoMemory>
     }
 }
 
-fn array_used(alloc: Global, size: &ArraySize, events: &mut Events) -> Result<(), NoMemory>
-    ensures { OnOk result (reverse events.new ≡ array_past size.now (reverse events.old)) }
+fn array_used(alloc: Global, size: &ArraySize, outline: &mut Outline) -> Result<(), NoMemory>
+    ensures { OnOk result (outline.new ≡ array_past size.now outline.old) }
 {
     match size {
         ArraySize::Named(name) => {
             let name = copy_name(alloc, name)?;
-            happen(events, Event::ConstantUsed(name))
+            outline.happen(Event::ConstantUsed(name))
         }
         ArraySize::Empty => Ok(()),
         ArraySize::Star => Ok(()),
@@ -336,12 +337,21 @@ fn array_used(alloc: Global, size: &ArraySize, events: &mut Events) -> Result<()
     }
 }
 
-fn size_used(alloc: Global, array: &Option<ArraySize>, events: &mut Events) -> Result<(), NoMemory>
-    ensures { OnOk result (reverse events.new ≡ size_past array.now (reverse events.old)) }
+/// Adds the name that an array uses as its size.
+///
+/// # Errors
+///
+/// `NoMemory` where there is no memory for the name or the event.
+pub fn size_used(
+    alloc: Global,
+    array: &Option<ArraySize>,
+    outline: &mut Outline,
+) -> Result<(), NoMemory>
+    ensures { OnOk result (outline.new ≡ size_past array.now outline.old) }
 {
     match array {
         None => Ok(()),
-        Some(size) => array_used(alloc, size, events),
+        Some(size) => array_used(alloc, size, outline),
     }
 }
 
@@ -350,11 +360,11 @@ fn size_used(alloc: Global, array: &Option<ArraySize>, events: &mut Events) -> R
 /// # Errors
 ///
 /// `NoMemory` where there is no memory for a name or an event.
-pub fn sizes_used(alloc: Global, dtors: &[Dtor], events: &mut Events) -> Result<(), NoMemory>
-    ensures { OnOk result (reverse events.new ≡ sizes_past dtors.now (reverse events.old)) }
+pub fn sizes_used(alloc: Global, dtors: &[Dtor], outline: &mut Outline) -> Result<(), NoMemory>
+    ensures { OnOk result (outline.new ≡ sizes_past dtors.now outline.old) }
 {
     for dtor in dtors {
-        size_used(alloc, &dtor.array, events)?;
+        size_used(alloc, &dtor.array, outline)?;
     }
     Ok(())
 }

@@ -58,7 +58,7 @@ pub enum Event {
     Union { tag: Tag, labels: Labels },
     /// The body of a structure, or the arms of a union.
     Body(Fields),
-    /// A typedef, or a declaration without a declarator.
+    /// A typedef, a declaration without a declarator, or the spec of a union's switch.
     Single(Field),
     /// An operation with its parameters; its result and attributes stand in a field of their own.
     Call { result: Field, parameters: Fields },

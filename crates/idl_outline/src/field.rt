@@ -72,7 +72,7 @@ pub struct Declared {
 #[derive(Clone, Copy, PartialEq, Eq)]
 pub enum Place {
     Typedef,
-    /// A declaration without a declarator.
+    /// A declaration without a declarator, or the spec of a union's switch.
     Alone,
     /// The result of an operation, whose name is the declarator.
     Operation,

@@ -6,20 +6,23 @@
 mod declarators;
 mod event;
 mod field;
+mod known;
 mod names;
+mod outline;
 mod setting;
 mod ty;
 mod types;
 
 pub use declarators::{
     any_by_value, ends_open, field_with, has_handle_word, setting_alone, setting_of,
-    setting_of_result, size, sizes_used, tag_given,
+    setting_of_result, size, size_used, sizes_used, tag_given,
 };
 pub use event::{Event, Events, Label, Labels, Tag};
 pub use field::{
     Attribute, Attributes, Bare, Declared, Extent, Field, Fields, Mark, Named, Place, Size,
 };
-pub use names::{constant_named, copy_name, happen, is_name, newest, struct_named, type_named};
+pub use names::{copy_name, is_name};
+pub use outline::Outline;
 pub use setting::Setting;
 pub use ty::{Core, DataType, Layer};
 pub use types::{bare, core_of, named_type, tagged_type};

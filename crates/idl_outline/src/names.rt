@@ -1,25 +1,13 @@
-//! What names stand for, at a place of the text. The events come oldest first.
-ghost use Rattle.std.specs.Prelude.{◌≡◌, ◌+◌, [], ◌∷◌, reverse, length, None, Some, MatchOption, IfSome, IfOk, OnOk, bytes_eq};
+//! The names in events.
+ghost use Rattle.std.specs.Prelude.{◌≡◌, IfOk, bytes_eq};
+ghost use Rattle.std.specs.Option.{option_copied};
+ghost use Rattle.idl_outline.specs.Kept as kept;
 ghost use Rattle.idl_outline.specs.Names as spec;
 
-use crate::event::{Event, Events};
-use crate::ty::DataType;
-use idl_tree::{Ident, Num};
+use crate::event::Event;
+use idl_tree::Ident;
 use rpc_base::NoMemory;
 use std::alloc::Global;
-
-/// Adds an event, as the newest.
-///
-/// # Errors
-///
-/// `NoMemory` where there is no memory for it.
-#[tactic(auto, using(crate::proofs::Past::steps))]
-pub fn happen(events: &mut Events, event: Event) -> Result<(), NoMemory>
-    ensures { OnOk result (reverse events.new ≡ event ∷ reverse events.old) }
-{
-    events.push(event)?;
-    Ok(())
-}
 
 /// A copy of the name, with its octet.
 ///
@@ -33,14 +21,6 @@ pub fn copy_name(alloc: Global, name: &Ident) -> Result<Ident, NoMemory>
     Ok(Ident { at: name.at, text })
 }
 
-/// The newest event, and those before it.
-pub fn newest(events: &[Event]) -> Option<(&Event, &[Event])>
-    ensures past { MatchOption result (reverse events.now ≡ []) (λ p. reverse events.now ≡ p.0.now ∷ reverse p.1.now) }
-    ensures shorter { IfSome result (λ p. length events.now ≡ length p.1.now + 1) }
-{
-    events.split_last()
-}
-
 /// Whether the name has that text.
 pub fn is_name(name: &Ident, text: &[u8]) -> bool
     ensures { result ≡ bytes_eq name.now.text text.now }
@@ -48,97 +28,65 @@ pub fn is_name(name: &Ident, text: &[u8]) -> bool
     name.text.as_slice() == text
 }
 
-fn type_in(event: &Event, name: &[u8]) -> Option<DataType>
-    ensures { result ≡ spec.type_in name.now event.now }
+fn name_in(event: &Event) -> Option<&Ident>
+    ensures { option_copied result ≡ spec.name_in event.now }
 {
     match event {
-        Event::Typedef { name: other, ty } => match is_name(other, name) {
-            true => Some(*ty),
-            false => None,
-        },
+        Event::Typedef { name, .. } => Some(name),
+        Event::Constant { name, .. } => Some(name),
+        Event::EnumName { name, .. } => Some(name),
+        Event::Operation(name) => Some(name),
         _ => None,
     }
 }
 
-fn constant_in(event: &Event, name: &[u8]) -> Option<Num>
-    ensures { result ≡ spec.constant_in name.now event.now }
+fn tag_said(event: &Event) -> Option<&Ident>
+    ensures { option_copied result ≡ kept.tag_said event.now }
 {
     match event {
-        Event::Constant {
-            name: other,
-            value,
-            ..
-        } => match is_name(other, name) {
-            true => Some(*value),
-            false => None,
-        },
-        Event::EnumName { name: other, value } => match is_name(other, name) {
-            true => Some(*value),
-            false => None,
-        },
+        Event::StructBegins { tag, .. } => Some(tag),
+        Event::StructEnds { tag, .. } => Some(tag),
+        Event::OtherTag(tag) => Some(tag),
         _ => None,
     }
 }
 
-fn struct_in(event: &Event, name: &[u8]) -> Option<Option<bool>>
-    ensures { result ≡ spec.struct_in name.now event.now }
+fn key_of(alloc: Global, name: &Ident) -> Result<Vec<u8>, NoMemory>
+    ensures { IfOk result (λ key. key.items ≡ name.now.text) }
 {
-    match event {
-        Event::StructBegins { tag, .. } => match is_name(tag, name) {
-            true => Some(None),
-            false => None,
-        },
-        Event::StructEnds { tag, open } => match is_name(tag, name) {
-            true => Some(Some(*open)),
-            false => None,
-        },
-        _ => None,
+    Ok(name.text.copy(alloc)?.into_vec())
+}
+
+/// The name of the interface that the event declares, as a key.
+pub(crate) fn name_key(alloc: Global, event: &Event) -> Result<Option<Vec<u8>>, NoMemory>
+    ensures { IfOk result (λ key. kept.items_of key ≡ kept.text_of (spec.name_in event.now)) }
+{
+    match name_in(event) {
+        None => Ok(None),
+        Some(name) => Ok(Some(key_of(alloc, name)?)),
     }
 }
 
-/// The type that a name stands for: that of its newest typedef.
-pub fn type_named(events: &[Event], name: &[u8]) -> Option<DataType>
-    ensures { result ≡ spec.type_named name.now (reverse events.now) }
+/// The tag that the event says something of, as a key.
+pub(crate) fn tag_key(alloc: Global, event: &Event) -> Result<Option<Vec<u8>>, NoMemory>
+    ensures { IfOk result (λ key. kept.items_of key ≡ kept.text_of (kept.tag_said event.now)) }
 {
-    let mut rest = events;
-    while let Some((event, before)) = newest(rest) {
-        let found = type_in(event, name);
-        if found.is_some() {
-            return found;
-        }
-        rest = before;
+    match tag_said(event) {
+        None => Ok(None),
+        Some(tag) => Ok(Some(key_of(alloc, tag)?)),
     }
-    None
 }
 
-/// The number that a name stands for: that of its newest declaration as a constant or an
-/// enumeration's name.
-pub fn constant_named(events: &[Event], name: &[u8]) -> Option<Num>
-    ensures { result ≡ spec.constant_named name.now (reverse events.now) }
+/// Whether the event declares an operation.
+pub(crate) fn is_operation(event: &Event) -> bool
+    ensures { result ≡ spec.is_operation event.now }
 {
-    let mut rest = events;
-    while let Some((event, before)) = newest(rest) {
-        let found = constant_in(event, name);
-        if found.is_some() {
-            return found;
-        }
-        rest = before;
-    }
-    None
+    matches!(event, Event::Operation(_))
 }
 
-/// Where the structure with that tag is: its body hasn't ended (None), or it has, and then whether a
-/// conformant array ends it.
-pub fn struct_named(events: &[Event], name: &[u8]) -> Option<Option<bool>>
-    ensures { result ≡ spec.struct_named name.now (reverse events.now) }
+/// Whether the event is a declarator of a typedef.
+pub(crate) fn is_typedef(event: &Event) -> bool
+    ensures { result ≡ spec.is_typedef_event event.now }
 {
-    let mut rest = events;
-    while let Some((event, before)) = newest(rest) {
-        let found = struct_in(event, name);
-        if found.is_some() {
-            return found;
-        }
-        rest = before;
-    }
-    None
+    matches!(event, Event::Typedef { .. })
 }

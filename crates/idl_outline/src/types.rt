@@ -2,9 +2,8 @@
 ghost use Rattle.std.specs.Prelude.{◌≡◌, reverse};
 ghost use Rattle.idl_outline.specs.Names as spec;
 
-use crate::event::Event;
 use crate::field::Extent;
-use crate::names::{constant_named, struct_named, type_named};
+use crate::outline::Outline;
 use crate::ty::{Core, DataType, Layer};
 use idl_tree::{ArraySize, Base, Ident, Pk};
 
@@ -83,10 +82,10 @@ pub(crate) fn declared_type(
 }
 
 /// The type that a name stands for; `Core::Unknown` where no event declares it.
-pub fn named_type(events: &[Event], name: &Ident) -> DataType
-    ensures { result ≡ spec.or_unknown (spec.type_named name.now.text (reverse events.now)) }
+pub fn named_type(outline: &Outline, name: &Ident) -> DataType
+    ensures { result ≡ spec.or_unknown (spec.type_named name.now.text outline.now) }
 {
-    match type_named(events, name.text.as_slice()) {
+    match outline.type_named(name.text.as_slice()) {
         Some(ty) => ty,
         None => bare(Core::Unknown),
     }
@@ -112,29 +111,29 @@ fn struct_type(pointed: bool, found: Option<Option<bool>>) -> DataType
 
 /// The type that a structure's tag stands for. `pointed`: it stands behind a pointer, as it has to
 /// inside of the structure's own body; `Core::Unknown` elsewhere there, and where no event declares it.
-pub fn tagged_type(events: &[Event], pointed: bool, tag: &Ident) -> DataType
-    ensures { result ≡ spec.struct_type pointed (spec.struct_named tag.now.text (reverse events.now)) }
+pub fn tagged_type(outline: &Outline, pointed: bool, tag: &Ident) -> DataType
+    ensures { result ≡ spec.struct_type pointed (spec.struct_named tag.now.text outline.now) }
 {
-    struct_type(pointed, struct_named(events, tag.text.as_slice()))
+    struct_type(pointed, outline.struct_named(tag.text.as_slice()))
 }
 
-fn size_extent(events: &[Event], size: &ArraySize) -> Extent
-    ensures { result ≡ spec.size_extent (reverse events.now) size.now }
+fn size_extent(outline: &Outline, size: &ArraySize) -> Extent
+    ensures { result ≡ spec.size_extent outline.now size.now }
 {
     match size {
         ArraySize::Empty => Extent::Open,
         ArraySize::Star => Extent::Open,
         ArraySize::Number(number) => Extent::Fixed(Some(*number)),
-        ArraySize::Named(name) => Extent::Fixed(constant_named(events, name.text.as_slice())),
+        ArraySize::Named(name) => Extent::Fixed(outline.constant_named(name.text.as_slice())),
     }
 }
 
 /// Whether a declarator with these brackets, or with none, is an array, and of what size.
-pub(crate) fn extent_of(events: &[Event], array: &Option<ArraySize>) -> Extent
-    ensures { result ≡ spec.extent_of (reverse events.now) array.now }
+pub(crate) fn extent_of(outline: &Outline, array: &Option<ArraySize>) -> Extent
+    ensures { result ≡ spec.extent_of outline.now array.now }
 {
     match array {
         None => Extent::Single,
-        Some(size) => size_extent(events, size),
+        Some(size) => size_extent(outline, size),
     }
 }

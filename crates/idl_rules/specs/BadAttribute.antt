@@ -84,15 +84,18 @@ is_countable f = is_listed f.place && list_all (is_plain_array (has says_string 
 abbrev pub is_text : Field → Bool
 is_text f = has_declarator f && (is_char_spec f && list_all has_star_or_array f.declared)
 
+abbrev pub is_pointed : Field → Bool
+is_pointed f = has_declarator f && list_all has_star f.declared
+
 -- it leads to a union without a switch
 abbrev pub is_switchable : Field → Bool
-is_switchable f = is_listed f.place && (is_unknown f.spec.core || is_bare_union f.spec.core)
+is_switchable f = is_unknown f.spec.core || is_bare_union f.spec.core
 
 -- the attribute has a meaning on each declarator of its field
 abbrev pub has_meaning : Field → Mark → Bool
 has_meaning f marks.In = is_parameter f.place
 has_meaning f marks.Out = is_parameter f.place
-has_meaning f (marks.Pointer k) = has_declarator f && list_all has_star f.declared
+has_meaning f (marks.Pointer k) = is_pointed f
 has_meaning f marks.Text = is_text f
 has_meaning f marks.Idempotent = is_operation f.place
 has_meaning f marks.Maybe = is_operation f.place
@@ -128,7 +131,7 @@ attribute_places f a = at_if (not (has_meaning f a.mark) || (is_parameter f.plac
 
 -- neither in nor out
 abbrev pub lacks_direction : Field → Declared → Bool
-lacks_direction f d = not (has says_in f || has says_out f) && not (is_handle_t d.ty.core)
+lacks_direction f d = not (has says_in f || has says_out f) && not (is_handle_t d.ty.core || is_unknown d.ty.core)
 
 -- a pointer that a typedef brought, which isn't ref
 abbrev pub is_brought_pointer : Declared → Bool

@@ -1,36 +1,14 @@
 -- Rule 2, Duplicate: a name is declared twice among the interface's names (types, constants, names of enumerations, operations),
 -- among its tags, among one operation's parameters, or among one body's members.
-use Rattle.std.specs.Prelude.{ℕ, Bool, true, false, List, [], ◌++◌, Option, Some, None, map, bytes_eq}
+use Rattle.std.specs.Prelude.{ℕ, Bool, List, [], ◌++◌, Option, Some, None, map, bytes_eq}
 use Rattle.std.specs.List.{list_any, flat_map}
 use Rattle.idl_tree.specs.declared.leaf.Ident.{Ident}
 use Rattle.idl_outline.specs.declared.field.Declared.{Declared}
 use Rattle.idl_outline.specs.declared.field.Field.{Field}
 use Rattle.idl_outline.specs.declared.event.Event.{Event}
 use Rattle.idl_outline.specs.declared.event.Event.TheVariants as events
+use Rattle.idl_outline.specs.Names.{name_in, tag_in, declares, declares_tag}
 use Rattle.idl_rules.specs.Places.{at_if, repeats}
-
--- the name of the interface that an event declares, and the tag
-abbrev pub name_in : Event → Option Ident
-name_in (events.Typedef i t) = Some i
-name_in (events.Constant b i n) = Some i
-name_in (events.EnumName i n) = Some i
-name_in (events.Operation i) = Some i
-name_in _ = None
-
-abbrev pub tag_in : Event → Option Ident
-tag_in (events.StructBegins i itself) = Some i
-tag_in (events.OtherTag i) = Some i
-tag_in _ = None
-
-abbrev pub is_named : List ℕ → Option Ident → Bool
-is_named name None = false
-is_named name (Some i) = bytes_eq i.text name
-
-abbrev pub declares : List ℕ → Event → Bool
-declares name e = is_named name (name_in e)
-
-abbrev pub declares_tag : List ℕ → Event → Bool
-declares_tag name e = is_named name (tag_in e)
 
 abbrev pub again : (List ℕ → Event → Bool) → List Event → Option Ident → List ℕ
 again declared past None = []

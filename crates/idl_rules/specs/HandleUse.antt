@@ -1,9 +1,11 @@
 -- Rule 5, HandleUse: a context handle type isn't `void *`, or is used other than as an [in] parameter or through one pointer, a ref
--- one, as an [out] or [in, out] one; handle_t other than as the first parameter, by value.
+-- one, as an [out] or [in, out] one; handle_t other than as the first parameter, by value. The type of a union's tag is such a use too.
 use Rattle.std.specs.Prelude.{ℕ, ◌==◌, Bool, true, false, not, ◌&&◌, ◌||◌, List, [], ◌∷◌, ◌++◌}
 use Rattle.std.specs.List.{flat_map}
 use Rattle.idl_outline.specs.declared.field.Declared.{Declared}
 use Rattle.idl_outline.specs.declared.field.Field.{Field}
+use Rattle.idl_outline.specs.declared.event.Tag.{Tag}
+use Rattle.idl_outline.specs.declared.event.Tag.TheVariants as tags
 use Rattle.idl_outline.specs.declared.event.Event.{Event}
 use Rattle.idl_outline.specs.declared.event.Event.TheVariants as events
 use Rattle.idl_rules.specs.Places.{at_if}
@@ -37,8 +39,15 @@ abbrev pub parameter_places : List Field → List ℕ
 parameter_places [] = []
 parameter_places (p ∷ ps) = field_places true p ++ flat_map (field_places false) ps
 
+-- the type of a union's switch
+abbrev pub tag_places : Tag → List ℕ
+tag_places (tags.Switch at t) = at_if (is_handle_t t.core || is_context_handle t.core) at
+tag_places (tags.Given at t) = []
+tag_places tags.Missing = []
+
 abbrev pub handle_use : List Event → Event → List ℕ
 handle_use past (events.Single f) = field_places false f
 handle_use past (events.Body fs) = flat_map (field_places false) fs
 handle_use past (events.Call r ps) = field_places false r ++ parameter_places ps
+handle_use past (events.Union t ls) = tag_places t
 handle_use past _ = []

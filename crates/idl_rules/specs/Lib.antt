@@ -11,3 +11,4 @@ pub mod Recursion
 pub mod UnionTag
 pub mod OutsideProfile
 pub mod Broken
+pub mod Seen

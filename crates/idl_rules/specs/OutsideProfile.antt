@@ -2,8 +2,8 @@
 -- operation's result or in a context handle type; pointers to pointers in a typedef; a 65,536th operation, declared type or name of
 -- one enumeration; a 256th parameter of an operation or member of a body; an array size that isn't from 1 to 2^32 - 1; a number above
 -- 2^32 - 1 in size_is or length_is, or above 2^32 - 2 in max_is; a constant that doesn't fit its type.
-use Rattle.std.specs.Prelude.{ℕ, ◌+◌, ◌^◌, ◌==◌, nat_lt, nat_le, Bool, true, false, not, ◌&&◌, ◌||◌, List, [], ◌∷◌, ◌++◌, length, Option, Some, None, if◌then◌else◌, ℤ, pos, slice_get, bytes_eq}
-use Rattle.std.specs.List.{list_any, filter, flat_map}
+use Rattle.std.specs.Prelude.{ℕ, ◌+◌, ◌^◌, ◌==◌, nat_lt, nat_le, Bool, true, false, not, ◌&&◌, ◌||◌, List, [], ◌∷◌, ◌++◌, Option, Some, None, if◌then◌else◌, ℤ, pos, slice_get, bytes_eq}
+use Rattle.std.specs.List.{list_any, count_by, flat_map}
 use Rattle.std.specs.Prelude.{codes}
 use Rattle.idl_tree.specs.declared.leaf.Ident.{Ident}
 use Rattle.idl_tree.specs.declared.leaf.Num.{Num}
@@ -20,6 +20,7 @@ use Rattle.idl_outline.specs.declared.field.Declared.{Declared}
 use Rattle.idl_outline.specs.declared.field.Field.{Field}
 use Rattle.idl_outline.specs.declared.event.Event.{Event}
 use Rattle.idl_outline.specs.declared.event.Event.TheVariants as events
+use Rattle.idl_outline.specs.Names.{is_operation, is_typedef_event}
 use Rattle.idl_rules.specs.Places.{at_if}
 use Rattle.idl_rules.specs.Types.{value_of, is_typedef, is_pointer_layer}
 use Rattle.idl_rules.specs.UnionTag.{within, int_holds}
@@ -40,17 +41,9 @@ base_holds (bases.Int unsigned size int_word) z = int_holds unsigned size z
 
 -- ---- how many there are
 
-abbrev pub is_operation_event : Event → Bool
-is_operation_event (events.Operation i) = true
-is_operation_event _ = false
-
-abbrev pub is_typedef_event : Event → Bool
-is_typedef_event (events.Typedef i t) = true
-is_typedef_event _ = false
-
 -- one more than 65,535 of these
 abbrev pub is_too_many : (Event → Bool) → List Event → Bool
-is_too_many is past = length (filter is past) == 65535
+is_too_many is past = count_by is past == 65535
 
 -- the 256th of a list
 abbrev pub too_many_places : List Field → List ℕ
@@ -98,7 +91,7 @@ listed_places fs = too_many_places fs ++ flat_map field_places fs
 abbrev pub outside_profile : List Event → Event → List ℕ
 outside_profile past (events.TypeUsed i) = at_if (is_outside_name i.text) i.at
 outside_profile past (events.VoidUsed at) = at ∷ []
-outside_profile past (events.Operation i) = at_if (is_too_many is_operation_event past) i.at
+outside_profile past (events.Operation i) = at_if (is_too_many is_operation past) i.at
 outside_profile past (events.Typedef i t) = at_if (is_too_many is_typedef_event past) i.at
 outside_profile past (events.EnumName i n) = at_if (n.value == 65535) i.at
 outside_profile past (events.Constant base i n) = at_if (not (base_holds base (value_of n))) i.at

@@ -2,7 +2,6 @@
 -- a union's tag may have; *name isn't a parameter that points to such a type; an [in] parameter names a parameter that isn't [in].
 use Rattle.std.specs.Prelude.{ℕ, Bool, true, false, not, ◌&&◌, ◌||◌, List, [], ◌++◌, bytes_eq, if◌then◌else◌}
 use Rattle.std.specs.List.{list_any, flat_map}
-use Rattle.idl_outline.specs.declared.ty.Core.{Core}
 use Rattle.idl_outline.specs.declared.field.Named.{Named}
 use Rattle.idl_outline.specs.declared.field.Size.{Size}
 use Rattle.idl_outline.specs.declared.field.Size.TheVariants as sizes
@@ -13,18 +12,10 @@ use Rattle.idl_outline.specs.declared.field.Declared.{Declared}
 use Rattle.idl_outline.specs.declared.field.Field.{Field}
 use Rattle.idl_outline.specs.declared.event.Event.{Event}
 use Rattle.idl_outline.specs.declared.event.Event.TheVariants as events
+use Rattle.idl_rules.specs.declared.asked.Asked.{Asked}
+use Rattle.idl_rules.specs.declared.asked.Asked.TheVariants as kinds
 use Rattle.idl_rules.specs.Places.{at_if}
-use Rattle.idl_rules.specs.Types.{by_value, is_one_pointer, is_unknown, is_integer, is_tag_core, is_parameter, says_in, has}
-
--- the kind of type that a name has to be of
-pub data Asked : Type 0 where
-  an_integer : Asked
-  a_tag : Asked
-
--- the kind of type that is asked for
-abbrev pub is_asked : Asked → Core → Bool
-is_asked an_integer c = is_integer c
-is_asked a_tag c = is_tag_core c
+use Rattle.idl_rules.specs.Types.{by_value, is_one_pointer, is_unknown, is_asked, is_parameter, says_in, has}
 
 -- of the type that is asked for, or with a star, a parameter that points to it; an unknown type is passed over
 abbrev pub is_of : Asked → Bool → Field → Declared → Bool
@@ -42,13 +33,13 @@ name_places asked list f n = at_if (not (list_any (offers asked f n) list)) n.na
 
 abbrev pub size_places : List Field → Field → Size → List ℕ
 size_places list f (sizes.Number n) = []
-size_places list f (sizes.Of n) = name_places an_integer list f n
+size_places list f (sizes.Of n) = name_places kinds.Integer list f n
 
 abbrev pub mark_places : List Field → Field → Mark → List ℕ
 mark_places list f (marks.SizeIs s) = size_places list f s
 mark_places list f (marks.MaxIs s) = size_places list f s
 mark_places list f (marks.LengthIs s) = size_places list f s
-mark_places list f (marks.SwitchIs n) = name_places a_tag list f n
+mark_places list f (marks.SwitchIs n) = name_places kinds.Tag list f n
 mark_places list f _ = []
 
 abbrev pub attribute_places : List Field → Field → Attribute → List ℕ

@@ -17,6 +17,8 @@ use Rattle.idl_outline.specs.declared.field.Mark.{Mark}
 use Rattle.idl_outline.specs.declared.field.Mark.TheVariants as marks
 use Rattle.idl_outline.specs.declared.field.Attribute.{Attribute}
 use Rattle.idl_outline.specs.declared.field.Field.{Field}
+use Rattle.idl_rules.specs.declared.asked.Asked.{Asked}
+use Rattle.idl_rules.specs.declared.asked.Asked.TheVariants as kinds
 
 -- the number, with its sign
 abbrev pub value_of : Num → ℤ
@@ -57,6 +59,11 @@ is_tag_core cores.Char = true
 is_tag_core cores.Boolean = true
 is_tag_core (cores.Enum count) = true
 is_tag_core _ = false
+
+-- the kind of type that is asked for
+abbrev pub is_asked : Asked → Core → Bool
+is_asked kinds.Integer c = is_integer c
+is_asked kinds.Tag c = is_tag_core c
 
 -- a structure that a conformant array ends
 abbrev pub is_open_struct : Core → Bool

@@ -1,102 +1,49 @@
 //! The second rule: names that are declared twice.
-ghost use Rattle.std.specs.Prelude.{◌≡◌, ◌++◌, reverse, map, IfOk, OnOk};
-ghost use Rattle.std.specs.List.{list_any};
-ghost use Rattle.std.specs.Option.{option_copied};
+ghost use Rattle.std.specs.Prelude.{◌≡◌, ◌++◌, ◌||◌, ℕ, List, map, Some, IfOk, OnOk, bytes_eq};
+ghost use Rattle.idl_outline.specs.Names.{name_in, tag_in, declares, declares_tag};
 ghost use Rattle.idl_rules.specs.Least.{least};
+ghost use Rattle.idl_rules.specs.Places.{repeats};
+ghost use Rattle.idl_rules.specs.Seen.{has_name};
 ghost use Rattle.idl_rules.specs.Duplicate as spec;
 
 use crate::least::{lesser, place_if};
-use crate::repeated::{Again, repeated};
-use idl_outline::{Declared, Event, Field, copy_name, is_name};
+use idl_outline::{Declared, Event, Field, Outline, copy_name};
 use idl_tree::Ident;
 use rpc_base::{Items, NoMemory};
 use std::alloc::Global;
+use std::collections::BTreeSet;
 
-impl Again for Ident {
-    ghost use Rattle.idl_rules.specs.Duplicate as spec;
-
-    ghost same = { spec.same_name };
-
-    ghost place = { spec.place_of };
-
-    fn is_same(&self, other: &Self) -> bool {
-        is_name(self, other.text.as_slice())
-    }
-
-    fn place(&self) -> usize {
-        self.at
-    }
+fn declared_again(past: &Outline, name: &Ident) -> Option<usize>
+    ensures { result ≡ least (spec.again declares past.now (Some name.now)) }
+{
+    place_if(past.declares(name.text.as_slice()), name.at)
 }
 
-fn name_in(event: &Event) -> Option<&Ident>
-    ensures { option_copied result ≡ spec.name_in event.now }
+fn tagged_again(past: &Outline, tag: &Ident) -> Option<usize>
+    ensures { result ≡ least (spec.again declares_tag past.now (Some tag.now)) }
+{
+    place_if(past.declares_tag(tag.text.as_slice()), tag.at)
+}
+
+fn name_again(past: &Outline, event: &Event) -> Option<usize>
+    ensures { result ≡ least (spec.again declares past.now (name_in event.now)) }
 {
     match event {
-        Event::Typedef { name, .. } => Some(name),
-        Event::Constant { name, .. } => Some(name),
-        Event::EnumName { name, .. } => Some(name),
-        Event::Operation(name) => Some(name),
+        Event::Typedef { name, .. } => declared_again(past, name),
+        Event::Constant { name, .. } => declared_again(past, name),
+        Event::EnumName { name, .. } => declared_again(past, name),
+        Event::Operation(name) => declared_again(past, name),
         _ => None,
     }
 }
 
-fn tag_in(event: &Event) -> Option<&Ident>
-    ensures { option_copied result ≡ spec.tag_in event.now }
+fn tag_again(past: &Outline, event: &Event) -> Option<usize>
+    ensures { result ≡ least (spec.again declares_tag past.now (tag_in event.now)) }
 {
     match event {
-        Event::StructBegins { tag, .. } => Some(tag),
-        Event::OtherTag(tag) => Some(tag),
+        Event::StructBegins { tag, .. } => tagged_again(past, tag),
+        Event::OtherTag(tag) => tagged_again(past, tag),
         _ => None,
-    }
-}
-
-fn declares(event: &Event, name: &[u8]) -> bool
-    ensures { result ≡ spec.declares name.now event.now }
-{
-    match name_in(event) {
-        None => false,
-        Some(other) => is_name(other, name),
-    }
-}
-
-fn declares_tag(event: &Event, name: &[u8]) -> bool
-    ensures { result ≡ spec.declares_tag name.now event.now }
-{
-    match tag_in(event) {
-        None => false,
-        Some(other) => is_name(other, name),
-    }
-}
-
-fn any_declares(events: &[Event], name: &[u8]) -> bool
-    ensures { result ≡ list_any (spec.declares name.now) events.now }
-{
-    events.iter().any(|event| declares(event, name))
-}
-
-fn any_declares_tag(events: &[Event], name: &[u8]) -> bool
-    ensures { result ≡ list_any (spec.declares_tag name.now) events.now }
-{
-    events.iter().any(|event| declares_tag(event, name))
-}
-
-#[tactic(auto, using(crate::proofs::Reversed::reversed))]
-fn name_again(before: &[Event], event: &Event) -> Option<usize>
-    ensures { result ≡ least (spec.again spec.declares (reverse before.now) (spec.name_in event.now)) }
-{
-    match name_in(event) {
-        None => None,
-        Some(name) => place_if(any_declares(before, name.text.as_slice()), name.at),
-    }
-}
-
-#[tactic(auto, using(crate::proofs::Reversed::reversed))]
-fn tag_again(before: &[Event], event: &Event) -> Option<usize>
-    ensures { result ≡ least (spec.again spec.declares_tag (reverse before.now) (spec.tag_in event.now)) }
-{
-    match tag_in(event) {
-        None => None,
-        Some(tag) => place_if(any_declares_tag(before, tag.text.as_slice()), tag.at),
     }
 }
 
@@ -121,11 +68,37 @@ fn all_names(alloc: Global, fields: &[Field]) -> Result<Items<Ident>, NoMemory>
     Ok(names)
 }
 
+/// Whether the name was seen before; it has been seen now.
+#[tactic(auto, using(crate::proofs::Seen::inserted))]
+fn was_seen(alloc: Global, seen: &mut BTreeSet<Vec<u8>>, name: &Ident) -> Result<bool, NoMemory>
+    ensures before { IfOk result (λ was. was ≡ has_name seen.old name.now.text) }
+    ensures now { OnOk result ((text : List ℕ) → has_name seen.new text ≡ (bytes_eq name.now.text text || has_name seen.old text)) }
+{
+    let was = seen.contains(name.text.as_slice());
+    let key = name.text.copy(alloc)?.into_vec();
+    let Ok(_) = seen.insert(key) else {
+        return Err(NoMemory);
+    };
+    Ok(was)
+}
+
+fn repeated_names(alloc: Global, names: &[Ident]) -> Result<Option<usize>, NoMemory>
+    ensures { IfOk result (λ at. at ≡ least (repeats spec.same_name spec.place_of names.now)) }
+{
+    let mut seen = BTreeSet::new(alloc);
+    let mut found = None;
+    for name in names {
+        let again = was_seen(alloc, &mut seen, name)?;
+        found = lesser(found, place_if(again, name.at));
+    }
+    Ok(found)
+}
+
 fn names_again(alloc: Global, fields: &[Field]) -> Result<Option<usize>, NoMemory>
     ensures { IfOk result (λ at. at ≡ least (spec.names_again fields.now)) }
 {
     let names = all_names(alloc, fields)?;
-    Ok(repeated(names.as_slice()))
+    repeated_names(alloc, names.as_slice())
 }
 
 fn listed_again(alloc: Global, event: &Event) -> Result<Option<usize>, NoMemory>
@@ -140,12 +113,12 @@ fn listed_again(alloc: Global, event: &Event) -> Result<Option<usize>, NoMemory>
 
 /// The least place of a name that the event declares and that was declared before.
 #[tactic(auto, using(crate::proofs::Leasts::leasts))]
-pub fn duplicate(alloc: Global, before: &[Event], event: &Event) -> Result<Option<usize>, NoMemory>
-    ensures { IfOk result (λ at. at ≡ least (spec.duplicate (reverse before.now) event.now)) }
+pub fn duplicate(alloc: Global, past: &Outline, event: &Event) -> Result<Option<usize>, NoMemory>
+    ensures { IfOk result (λ at. at ≡ least (spec.duplicate past.now event.now)) }
 {
     let listed = listed_again(alloc, event)?;
     Ok(lesser(
-        name_again(before, event),
-        lesser(tag_again(before, event), listed),
+        name_again(past, event),
+        lesser(tag_again(past, event), listed),
     ))
 }

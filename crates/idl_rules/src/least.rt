@@ -15,7 +15,7 @@ pub fn lesser(a: Option<usize>, b: Option<usize>) -> Option<usize>
 }
 
 /// The place, where something is broken there.
-pub(crate) fn place_if(broken: bool, at: usize) -> Option<usize>
+pub fn place_if(broken: bool, at: usize) -> Option<usize>
     ensures { result ≡ spec.least (at_if broken at) }
 {
     if broken { Some(at) } else { None }

@@ -1,0 +1,336 @@
+//! What is asked of types, of where a field stands and of its attributes.
+ghost use Rattle.std.specs.Prelude.{◌≡◌};
+ghost use Rattle.idl_rules.specs.Types as spec;
+
+use idl_outline::{Core, DataType, Extent, Field, Layer, Mark, Place};
+use idl_tree::Pk;
+
+/// Whether it is neither a pointer nor an array.
+pub fn by_value(ty: DataType) -> bool
+    ensures { result ≡ spec.by_value ty }
+{
+    ty.outer.is_none()
+}
+
+/// Whether it is what an undeclared name stands for.
+pub fn is_unknown(core: Core) -> bool
+    ensures { result ≡ spec.is_unknown core }
+{
+    matches!(core, Core::Unknown)
+}
+
+/// Whether it is char.
+pub fn is_char(core: Core) -> bool
+    ensures { result ≡ spec.is_char core }
+{
+    matches!(core, Core::Char)
+}
+
+/// Whether it is void.
+pub fn is_void(core: Core) -> bool
+    ensures { result ≡ spec.is_void core }
+{
+    matches!(core, Core::Void)
+}
+
+/// Whether it is `handle_t`.
+pub fn is_handle_t(core: Core) -> bool
+    ensures { result ≡ spec.is_handle_t core }
+{
+    matches!(core, Core::HandleT)
+}
+
+/// Whether it is a context handle.
+pub fn is_context_handle(core: Core) -> bool
+    ensures { result ≡ spec.is_context_handle core }
+{
+    matches!(core, Core::ContextHandle)
+}
+
+/// Whether it is an integer.
+pub fn is_integer(core: Core) -> bool
+    ensures { result ≡ spec.is_integer core }
+{
+    matches!(core, Core::Int { .. })
+}
+
+/// Whether it is an integer but `unsigned hyper`, char, boolean or an enumeration: what a union's tag
+/// may be.
+pub fn is_tag_core(core: Core) -> bool
+    ensures { result ≡ spec.is_tag_core core }
+{
+    match core {
+        Core::Int { unsigned, size } => !(unsigned && size == 8),
+        Core::Char => true,
+        Core::Boolean => true,
+        Core::Enum(_) => true,
+        _ => false,
+    }
+}
+
+/// The kind of type that a name in an attribute has to be of.
+#[derive(Clone, Copy, PartialEq, Eq)]
+pub enum Asked {
+    Integer,
+    /// What a union's tag may be.
+    Tag,
+}
+
+/// Whether it is of the kind that is asked for.
+pub fn is_asked(asked: Asked, core: Core) -> bool
+    ensures { result ≡ spec.is_asked asked core }
+{
+    match asked {
+        Asked::Integer => is_integer(core),
+        Asked::Tag => is_tag_core(core),
+    }
+}
+
+/// Whether it is a structure that a conformant array ends.
+pub fn is_open_struct(core: Core) -> bool
+    ensures { result ≡ spec.is_open_struct core }
+{
+    match core {
+        Core::Struct { open } => open,
+        _ => false,
+    }
+}
+
+/// Whether it is a union without a switch.
+pub fn is_bare_union(core: Core) -> bool
+    ensures { result ≡ spec.is_bare_union core }
+{
+    match core {
+        Core::Union { switched } => !switched,
+        _ => false,
+    }
+}
+
+/// Whether it is a pointer.
+pub fn is_pointer_layer(layer: Option<Layer>) -> bool
+    ensures { result ≡ spec.is_pointer_layer layer }
+{
+    match layer {
+        None => false,
+        Some(layer) => match layer {
+            Layer::Pointer(_) => true,
+            Layer::Array => false,
+            Layer::OpenArray => false,
+        },
+    }
+}
+
+/// Whether it is a reference pointer.
+pub fn is_ref_layer(layer: Option<Layer>) -> bool
+    ensures { result ≡ spec.is_ref_layer layer }
+{
+    match layer {
+        None => false,
+        Some(layer) => match layer {
+            Layer::Array => false,
+            Layer::OpenArray => false,
+            Layer::Pointer(class) => match class {
+                Pk::Ref => true,
+                Pk::Unique => false,
+                Pk::Ptr => false,
+            },
+        },
+    }
+}
+
+/// Whether it is a conformant array.
+pub fn is_open_layer(layer: Option<Layer>) -> bool
+    ensures { result ≡ spec.is_open_layer layer }
+{
+    match layer {
+        None => false,
+        Some(layer) => match layer {
+            Layer::OpenArray => true,
+            Layer::Array => false,
+            Layer::Pointer(_) => false,
+        },
+    }
+}
+
+/// Whether it is `ref`.
+pub fn is_ref(class: Pk) -> bool
+    ensures { result ≡ spec.is_ref class }
+{
+    matches!(class, Pk::Ref)
+}
+
+/// Whether it is one pointer to what has no further pointers or arrays.
+pub fn is_one_pointer(ty: DataType) -> bool
+    ensures { result ≡ spec.is_one_pointer ty }
+{
+    is_pointer_layer(ty.outer) && !ty.deeper
+}
+
+/// Whether a declarator is no array.
+pub fn is_single(extent: Extent) -> bool
+    ensures { result ≡ spec.is_single extent }
+{
+    matches!(extent, Extent::Single)
+}
+
+/// Whether a declarator is a conformant array.
+pub fn is_open_extent(extent: Extent) -> bool
+    ensures { result ≡ spec.is_open_extent extent }
+{
+    matches!(extent, Extent::Open)
+}
+
+/// Whether it is the place of a typedef.
+pub fn is_typedef(place: Place) -> bool
+    ensures { result ≡ spec.is_typedef place }
+{
+    matches!(place, Place::Typedef)
+}
+
+/// Whether it is the place of an operation.
+pub fn is_operation(place: Place) -> bool
+    ensures { result ≡ spec.is_operation place }
+{
+    matches!(place, Place::Operation)
+}
+
+/// Whether it is the place of a parameter.
+pub fn is_parameter(place: Place) -> bool
+    ensures { result ≡ spec.is_parameter place }
+{
+    matches!(place, Place::Parameter)
+}
+
+/// Whether it is the place of a member.
+pub fn is_member(place: Place) -> bool
+    ensures { result ≡ spec.is_member place }
+{
+    matches!(place, Place::Member)
+}
+
+/// Whether it is the place of an arm.
+pub fn is_arm(place: Place) -> bool
+    ensures { result ≡ spec.is_arm place }
+{
+    matches!(place, Place::Arm)
+}
+
+/// Whether it is the place of a parameter, a member or an arm.
+pub fn is_listed(place: Place) -> bool
+    ensures { result ≡ spec.is_listed place }
+{
+    is_parameter(place) || is_member(place) || is_arm(place)
+}
+
+fn says_in(mark: &Mark) -> bool
+    ensures { result ≡ spec.says_in mark.now }
+{
+    matches!(mark, Mark::In)
+}
+
+fn says_out(mark: &Mark) -> bool
+    ensures { result ≡ spec.says_out mark.now }
+{
+    matches!(mark, Mark::Out)
+}
+
+fn says_string(mark: &Mark) -> bool
+    ensures { result ≡ spec.says_string mark.now }
+{
+    matches!(mark, Mark::Text)
+}
+
+fn says_handle(mark: &Mark) -> bool
+    ensures { result ≡ spec.says_handle mark.now }
+{
+    matches!(mark, Mark::Handle)
+}
+
+/// Whether it is the word `maybe`.
+pub fn says_maybe(mark: &Mark) -> bool
+    ensures { result ≡ spec.says_maybe mark.now }
+{
+    matches!(mark, Mark::Maybe)
+}
+
+fn says_switch_type(mark: &Mark) -> bool
+    ensures { result ≡ spec.says_switch_type mark.now }
+{
+    matches!(mark, Mark::SwitchType { .. })
+}
+
+fn says_most(mark: &Mark) -> bool
+    ensures { result ≡ spec.says_most mark.now }
+{
+    match mark {
+        Mark::SizeIs(_) => true,
+        Mark::MaxIs(_) => true,
+        _ => false,
+    }
+}
+
+/// Whether an attribute of the field is `in`.
+pub fn has_direction_in(field: &Field) -> bool
+    ensures { result ≡ spec.has spec.says_in field.now }
+{
+    field
+        .attributes
+        .as_slice()
+        .iter()
+        .any(|attribute| says_in(&attribute.mark))
+}
+
+/// Whether an attribute of the field is `out`.
+pub fn has_direction_out(field: &Field) -> bool
+    ensures { result ≡ spec.has spec.says_out field.now }
+{
+    field
+        .attributes
+        .as_slice()
+        .iter()
+        .any(|attribute| says_out(&attribute.mark))
+}
+
+/// Whether an attribute of the field is `string`.
+pub fn has_string(field: &Field) -> bool
+    ensures { result ≡ spec.has spec.says_string field.now }
+{
+    field
+        .attributes
+        .as_slice()
+        .iter()
+        .any(|attribute| says_string(&attribute.mark))
+}
+
+/// Whether an attribute of the field is a word for context handles.
+pub fn has_handle_word(field: &Field) -> bool
+    ensures { result ≡ spec.has spec.says_handle field.now }
+{
+    field
+        .attributes
+        .as_slice()
+        .iter()
+        .any(|attribute| says_handle(&attribute.mark))
+}
+
+/// Whether an attribute of the field is `size_is` or `max_is`.
+pub fn has_size(field: &Field) -> bool
+    ensures { result ≡ spec.has spec.says_most field.now }
+{
+    field
+        .attributes
+        .as_slice()
+        .iter()
+        .any(|attribute| says_most(&attribute.mark))
+}
+
+/// Whether an attribute of the field is `switch_type`.
+pub fn has_switch_type(field: &Field) -> bool
+    ensures { result ≡ spec.has spec.says_switch_type field.now }
+{
+    field
+        .attributes
+        .as_slice()
+        .iter()
+        .any(|attribute| says_switch_type(&attribute.mark))
+}

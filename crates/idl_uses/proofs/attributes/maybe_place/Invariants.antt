@@ -1,0 +1,8 @@
+use Rattle.std.proofs.Common.{◌≡◌, drop}
+use Rattle.std.specs.List.{flat_map}
+use Rattle.idl_rules.specs.Least.{least, lesser}
+use Rattle.idl_rules.specs.BadAttribute.{maybe_places}
+use Rattle.idl_uses.proofs.attributes.maybe_place.Given as goal
+
+abbrev pub invariant-loop-attribute : goal.invariant-loop-attribute
+invariant-loop-attribute l = lesser l.found (least (flat_map (maybe_places l.field l.parameters) (drop l.attribute-index l.field.attributes))) ≡ least (flat_map (maybe_places l.field l.parameters) l.field.attributes)

@@ -1,0 +1,284 @@
+//! Declarations and whole trees.
+ghost use Rattle.std.specs.Prelude.{◌≡◌, IfOk, OnOk};
+ghost use Rattle.idl_outline.specs.declared.field.Place.TheVariants as places;
+ghost use Rattle.idl_outline.specs.Plain.{plain_spec, plain_attrs};
+ghost use Rattle.idl_outline.specs.Outline as outlines;
+
+use crate::specs::{attributes_walked, spec_walked};
+use crate::used::{bare_spec, declared_field};
+use idl_outline::{
+    Declared, Event, Field, Fields, Outline, Place, copy_name, field_with, has_handle_word,
+    setting_alone, setting_of, setting_of_result, size_used, tag_given,
+};
+use idl_tree::{
+    Ast, Attr, Decl, DeclKind, Dtor, FileAttr, FileAttrKind, Ident, ParamNode, Pk, Spec,
+};
+use rpc_base::NoMemory;
+use std::alloc::Global;
+use std::slice;
+
+fn types_declared(
+    alloc: Global,
+    dtors: &[Dtor],
+    declared: &[Declared],
+    outline: &mut Outline,
+) -> Result<(), NoMemory>
+    ensures { OnOk result (outline.new ≡ outlines.types_past dtors.now declared.now outline.old) }
+{
+    let mut others = declared;
+    for dtor in dtors {
+        let Some((one, more)) = others.split_first() else {
+            return Ok(());
+        };
+        size_used(alloc, &dtor.array, outline)?;
+        let name = copy_name(alloc, &one.name)?;
+        outline.happen(Event::Typedef { name, ty: one.ty })?;
+        others = more;
+    }
+    Ok(())
+}
+
+fn typedef_field(
+    alloc: Global,
+    default: Pk,
+    attrs: &[Attr],
+    spec: &Spec,
+    dtors: &[Dtor],
+    outline: &mut Outline,
+) -> Result<Field, NoMemory>
+    ensures field { IfOk result (λ f. f ≡ outlines.typedef_field default (plain_attrs attrs.now) (plain_spec spec.now) dtors.now outline.old) }
+    ensures past { OnOk result (outline.new ≡ outlines.typedef_behind default (plain_attrs attrs.now) (plain_spec spec.now) dtors.now outline.old) }
+{
+    let attributes = attributes_walked(alloc, default, attrs, outline)?;
+    let handle = has_handle_word(attributes.as_slice());
+    let setting = setting_of(default, dtors, handle, attributes.as_slice());
+    let ty = spec_walked(alloc, setting, spec, outline)?;
+    let bare = bare_spec(spec);
+    field_with(
+        alloc,
+        outline,
+        default,
+        Place::Typedef,
+        attributes,
+        ty,
+        bare,
+        dtors,
+    )
+}
+
+fn typedef(
+    alloc: Global,
+    default: Pk,
+    attrs: &[Attr],
+    spec: &Spec,
+    dtors: &[Dtor],
+    outline: &mut Outline,
+) -> Result<(), NoMemory>
+    ensures { OnOk result (outline.new ≡ outlines.typedef_past default (plain_attrs attrs.now) (plain_spec spec.now) dtors.now outline.old) }
+{
+    let field = typedef_field(alloc, default, attrs, spec, dtors, outline)?;
+    types_declared(alloc, dtors, field.declared.as_slice(), outline)?;
+    outline.happen(Event::Single(field))
+}
+
+fn lone(
+    alloc: Global,
+    default: Pk,
+    attrs: &[Attr],
+    spec: &Spec,
+    outline: &mut Outline,
+) -> Result<(), NoMemory>
+    ensures { OnOk result (outline.new ≡ outlines.lone_past default (plain_attrs attrs.now) (plain_spec spec.now) outline.old) }
+{
+    let attributes = attributes_walked(alloc, default, attrs, outline)?;
+    let setting = setting_alone(default, tag_given(attributes.as_slice()));
+    let ty = spec_walked(alloc, setting, spec, outline)?;
+    let bare = bare_spec(spec);
+    let field = field_with(
+        alloc,
+        outline,
+        default,
+        Place::Alone,
+        attributes,
+        ty,
+        bare,
+        &[],
+    )?;
+    outline.happen(Event::Single(field))
+}
+
+fn parameter(
+    alloc: Global,
+    default: Pk,
+    node: &ParamNode,
+    outline: &mut Outline,
+) -> Result<Field, NoMemory>
+    ensures field { IfOk result (λ f. f ≡ outlines.member_field default places.Parameter (outlines.param_plain node.now) outline.old) }
+    ensures past { OnOk result (outline.new ≡ outlines.member_past default (outlines.param_plain node.now) outline.old) }
+{
+    let dtors = slice::from_ref(&node.dtor);
+    let attributes = attributes_walked(alloc, default, &node.attrs, outline)?;
+    let setting = setting_of(default, dtors, false, attributes.as_slice());
+    let ty = spec_walked(alloc, setting, &node.spec, outline)?;
+    let bare = bare_spec(&node.spec);
+    declared_field(
+        alloc,
+        default,
+        Place::Parameter,
+        attributes,
+        ty,
+        bare,
+        dtors,
+        outline,
+    )
+}
+
+#[tactic(auto, using(crate::proofs::Walks::lists))]
+fn parameters(
+    alloc: Global,
+    default: Pk,
+    nodes: &[ParamNode],
+    outline: &mut Outline,
+) -> Result<Fields, NoMemory>
+    ensures fields { IfOk result (λ fs. fs ≡ outlines.param_fields default nodes.now outline.old) }
+    ensures past { OnOk result (outline.new ≡ outlines.params_past default nodes.now outline.old) }
+{
+    let mut fields = Fields::new(alloc);
+    for node in nodes {
+        let field = parameter(alloc, default, node, outline)?;
+        fields.push(field)?;
+    }
+    Ok(fields)
+}
+
+fn result_field(
+    alloc: Global,
+    default: Pk,
+    attrs: &[Attr],
+    spec: &Spec,
+    name: &Ident,
+    outline: &mut Outline,
+) -> Result<Field, NoMemory>
+    ensures field { IfOk result (λ f. f ≡ outlines.result_field default (plain_attrs attrs.now) (plain_spec spec.now) name.now outline.old) }
+    ensures past { OnOk result (outline.new ≡ outlines.result_past default (plain_attrs attrs.now) (plain_spec spec.now) outline.old) }
+{
+    let attributes = attributes_walked(alloc, default, attrs, outline)?;
+    let setting = setting_of_result(default, attributes.as_slice());
+    let ty = spec_walked(alloc, setting, spec, outline)?;
+    let bare = bare_spec(spec);
+    let dtor = Dtor {
+        stars: 0,
+        name: copy_name(alloc, name)?,
+        array: None,
+    };
+    let dtors = slice::from_ref(&dtor);
+    field_with(
+        alloc,
+        outline,
+        default,
+        Place::Operation,
+        attributes,
+        ty,
+        bare,
+        dtors,
+    )
+}
+
+fn operation(
+    alloc: Global,
+    default: Pk,
+    attrs: &[Attr],
+    spec: &Spec,
+    name: &Ident,
+    nodes: &[ParamNode],
+    outline: &mut Outline,
+) -> Result<(), NoMemory>
+    ensures { OnOk result (outline.new ≡ outlines.op_past default (plain_attrs attrs.now) (plain_spec spec.now) name.now nodes.now outline.old) }
+{
+    let result = result_field(alloc, default, attrs, spec, name, outline)?;
+    let name = copy_name(alloc, name)?;
+    outline.happen(Event::Operation(name))?;
+    let parameters = parameters(alloc, default, nodes, outline)?;
+    outline.happen(Event::Call { result, parameters })
+}
+
+fn declaration(
+    alloc: Global,
+    default: Pk,
+    kind: &DeclKind,
+    outline: &mut Outline,
+) -> Result<(), NoMemory>
+    ensures { OnOk result (outline.new ≡ outlines.decl_past default kind.now outline.old) }
+{
+    match kind {
+        DeclKind::Const { base, name, value } => {
+            let name = copy_name(alloc, name)?;
+            outline.happen(Event::Constant {
+                base: *base,
+                name,
+                value: *value,
+            })
+        }
+        DeclKind::Typedef { attrs, spec, dtors } => {
+            typedef(alloc, default, attrs, spec, dtors, outline)
+        }
+        DeclKind::Lone { attrs, spec } => lone(alloc, default, attrs, spec, outline),
+        DeclKind::Op {
+            attrs,
+            spec,
+            name,
+            params,
+            ..
+        } => operation(alloc, default, attrs, spec, name, params, outline),
+    }
+}
+
+fn declarations(
+    alloc: Global,
+    default: Pk,
+    decls: &[Decl],
+    outline: &mut Outline,
+) -> Result<(), NoMemory>
+    ensures { OnOk result (outline.new ≡ outlines.decls_past default decls.now outline.old) }
+{
+    for decl in decls {
+        declaration(alloc, default, &decl.what, outline)?;
+    }
+    Ok(())
+}
+
+fn default_in(kind: &FileAttrKind) -> Option<Pk>
+    ensures { result ≡ outlines.default_in kind.now }
+{
+    match kind {
+        FileAttrKind::PointerDefault(class) => Some(*class),
+        FileAttrKind::Uuid(_) => None,
+        FileAttrKind::Version(..) => None,
+        FileAttrKind::Endpoint(_) => None,
+    }
+}
+
+fn pointer_default(attributes: &[FileAttr]) -> Pk
+    ensures { result ≡ outlines.pointer_default attributes.now }
+{
+    for attribute in attributes {
+        if let Some(class) = default_in(&attribute.what) {
+            return class;
+        }
+    }
+    Pk::Unique
+}
+
+/// The outline of an interface: all events of its text.
+///
+/// # Errors
+///
+/// `NoMemory` where there is no memory for it.
+pub fn outline(alloc: Global, tree: &Ast) -> Result<Outline, NoMemory>
+    ensures { IfOk result (λ o. o ≡ outlines.outline tree.now) }
+{
+    let default = pointer_default(&tree.attributes);
+    let mut outline = Outline::new(alloc);
+    declarations(alloc, default, &tree.decls, &mut outline)?;
+    Ok(outline)
+}

@@ -1,0 +1,10 @@
+//! From the tree of an interface text to its outline (C706, chapter "Interface Definition Language"):
+//! one walk over the tree, in the order of the text.
+#![tactic(auto)]
+
+mod declarations;
+mod holding;
+mod specs;
+mod used;
+
+pub use declarations::outline;

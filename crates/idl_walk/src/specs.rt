@@ -1,0 +1,335 @@
+//! Type specs and what they hold, which hold one another. The recursion goes as deep as the tree.
+ghost use Rattle.std.specs.Prelude.{◌≡◌, [], ◌∷◌, ◌++◌, false, IfOk, OnOk};
+ghost use Rattle.idl_outline.specs.declared.ty.Core.TheVariants as cores;
+ghost use Rattle.idl_outline.specs.Plain.{plain_spec, plain_kind, plain_member, plain_members, plain_switch, plain_arm, plain_arms, plain_mark, plain_attr, plain_attrs, of_struct, of_union, no_switch, is_switch_type};
+ghost use Rattle.idl_outline.specs.declared.field.Place.TheVariants as places;
+ghost use Rattle.idl_outline.specs.Names as names;
+ghost use Rattle.idl_outline.specs.Outline as outlines;
+
+use crate::used::{
+    bare_spec, declared_field, enumeration, labels_read, labels_used, named, other_tag,
+    structure_begins, structure_ends, tag_used, void,
+};
+use idl_outline::{
+    Attribute, Attributes, Core, DataType, Event, Field, Fields, Labels, Mark, Named, Outline,
+    Place, Setting, Tag, bare, copy_name, core_of, field_with, setting_alone, setting_of, size,
+};
+use idl_tree::{ArmNode, Attr, AttrKind, Ident, Member, Pk, Spec, SpecKind, Switch};
+use rpc_base::NoMemory;
+use std::alloc::Global;
+
+/// Adds what a spec declares and uses, and gives its type.
+#[cycle(walk)]
+pub(crate) fn spec_walked(
+    alloc: Global,
+    setting: Setting,
+    spec: &Spec,
+    outline: &mut Outline,
+) -> Result<DataType, NoMemory>
+    ensures ty { IfOk result (λ t. t ≡ outlines.spec_type setting (plain_spec spec.now) outline.old) }
+    ensures past { OnOk result (outline.new ≡ outlines.spec_past setting (plain_spec spec.now) outline.old) }
+{
+    kind_walked(alloc, setting, spec.at, &spec.what, outline)
+}
+
+#[cycle(walk)]
+#[tactic(auto, using(crate::proofs::Layers::kinds))]
+fn kind_walked(
+    alloc: Global,
+    setting: Setting,
+    at: usize,
+    kind: &SpecKind,
+    outline: &mut Outline,
+) -> Result<DataType, NoMemory>
+    ensures ty { IfOk result (λ t. t ≡ outlines.kind_type setting (plain_kind kind.now) outline.old) }
+    ensures past { OnOk result (outline.new ≡ outlines.kind_past setting at (plain_kind kind.now) outline.old) }
+{
+    match kind {
+        SpecKind::Base(base) => Ok(bare(core_of(*base))),
+        SpecKind::Named(name) => named(alloc, name, outline),
+        SpecKind::Void => void(setting, at, outline),
+        SpecKind::HandleT => Ok(bare(Core::HandleT)),
+        SpecKind::ErrorStatus => Ok(bare(Core::ErrorStatus)),
+        SpecKind::Struct { tag, members } => match members {
+            None => tag_used(alloc, setting, tag, outline),
+            Some(members) => Ok(structure(alloc, setting, tag, members, outline)?),
+        },
+        SpecKind::Union { tag, switch, arms } => match switch {
+            None => bare_union(alloc, setting, tag, arms, outline),
+            Some(switch) => {
+                other_tag(alloc, tag, outline)?;
+                let given = switch_walked(alloc, setting, switch, outline)?;
+                union_body(alloc, setting.default, given, arms, outline)?;
+                Ok(bare(Core::Union { switched: true }))
+            }
+        },
+        SpecKind::Enum { tag, names } => enumeration(alloc, tag, names, outline),
+    }
+}
+
+#[cycle(walk)]
+fn structure(
+    alloc: Global,
+    setting: Setting,
+    tag: &Option<Ident>,
+    members: &[Member],
+    outline: &mut Outline,
+) -> Result<DataType, NoMemory>
+    ensures ty { IfOk result (λ t. t ≡ outlines.kind_type setting (of_struct tag.now (plain_members members.now)) outline.old) }
+    ensures past { OnOk result (outline.new ≡ outlines.kind_past setting 0 (of_struct tag.now (plain_members members.now)) outline.old) }
+{
+    structure_begins(alloc, tag, members, outline)?;
+    let fields = members_walked(alloc, setting.default, members, outline)?;
+    structure_ends(alloc, tag, fields, outline)
+}
+
+#[cycle(walk)]
+fn bare_union(
+    alloc: Global,
+    setting: Setting,
+    tag: &Option<Ident>,
+    arms: &[ArmNode],
+    outline: &mut Outline,
+) -> Result<DataType, NoMemory>
+    ensures ty { IfOk result (λ t. t ≡ names.bare (cores.Union false)) }
+    ensures past { OnOk result (outline.new ≡ outlines.kind_past setting 0 (of_union tag.now no_switch (plain_arms arms.now)) outline.old) }
+{
+    other_tag(alloc, tag, outline)?;
+    union_body(alloc, setting.default, setting.given, arms, outline)?;
+    Ok(bare(Core::Union { switched: false }))
+}
+
+#[cycle(walk)]
+fn switch_walked(
+    alloc: Global,
+    setting: Setting,
+    switch: &Switch,
+    outline: &mut Outline,
+) -> Result<Tag, NoMemory>
+    ensures tag { IfOk result (λ t. t ≡ outlines.switch_tag setting (plain_switch switch.now) outline.old) }
+    ensures past { OnOk result (outline.new ≡ outlines.switch_past setting (plain_switch switch.now) outline.old) }
+{
+    let inner = setting_alone(setting.default, Tag::Missing);
+    let spec: &Spec = &switch.spec;
+    let ty = spec_walked(alloc, inner, spec, outline)?;
+    let none = Attributes::new(alloc);
+    let bare = bare_spec(spec);
+    let field = field_with(
+        alloc,
+        outline,
+        setting.default,
+        Place::Alone,
+        none,
+        ty,
+        bare,
+        &[],
+    )?;
+    outline.happen(Event::Single(field))?;
+    Ok(Tag::Switch {
+        at: switch.name.at,
+        ty,
+    })
+}
+
+#[cycle(walk)]
+fn union_body(
+    alloc: Global,
+    default: Pk,
+    tag: Tag,
+    arms: &[ArmNode],
+    outline: &mut Outline,
+) -> Result<(), NoMemory>
+    ensures { OnOk result (outline.new ≡ outlines.union_past default tag (plain_arms arms.now) outline.old) }
+{
+    let mut fields = Fields::new(alloc);
+    let mut labels = Labels::new(alloc);
+    arms_walked(alloc, default, arms, &mut fields, &mut labels, outline)?;
+    outline.happen(Event::Body(fields))?;
+    outline.happen(Event::Union { tag, labels })
+}
+
+#[cycle(walk)]
+#[tactic(auto, using(crate::proofs::Walks::lists))]
+fn arms_walked(
+    alloc: Global,
+    default: Pk,
+    arms: &[ArmNode],
+    fields: &mut Fields,
+    labels: &mut Labels,
+    outline: &mut Outline,
+) -> Result<(), NoMemory>
+    ensures fields { OnOk result (fields.new ≡ fields.old ++ outlines.arm_fields default (plain_arms arms.now) outline.old) }
+    ensures labels { OnOk result (labels.new ≡ labels.old ++ outlines.arm_labels default (plain_arms arms.now) outline.old) }
+    ensures past { OnOk result (outline.new ≡ outlines.arms_past default (plain_arms arms.now) outline.old) }
+{
+    for arm in arms {
+        arm_walked(alloc, default, arm, fields, labels, outline)?;
+    }
+    Ok(())
+}
+
+#[cycle(walk)]
+fn arm_walked(
+    alloc: Global,
+    default: Pk,
+    arm: &ArmNode,
+    fields: &mut Fields,
+    labels: &mut Labels,
+    outline: &mut Outline,
+) -> Result<(), NoMemory>
+    ensures fields { OnOk result (fields.new ≡ fields.old ++ outlines.arm_field default (plain_arm arm.now) outline.old) }
+    ensures labels { OnOk result (labels.new ≡ labels.old ++ outlines.arm_label (plain_arm arm.now) outline.old) }
+    ensures past { OnOk result (outline.new ≡ outlines.arm_past default (plain_arm arm.now) outline.old) }
+{
+    labels_read(&arm.labels, labels, outline)?;
+    labels_used(alloc, &arm.labels, outline)?;
+    match &arm.member {
+        None => Ok(()),
+        Some(member) => arm_member(alloc, default, member, fields, outline),
+    }
+}
+
+#[cycle(walk)]
+fn arm_member(
+    alloc: Global,
+    default: Pk,
+    member: &Member,
+    fields: &mut Fields,
+    outline: &mut Outline,
+) -> Result<(), NoMemory>
+    ensures fields { OnOk result (fields.new ≡ fields.old ++ outlines.member_field default places.Arm (plain_member member.now) outline.old ∷ []) }
+    ensures past { OnOk result (outline.new ≡ outlines.member_past default (plain_member member.now) outline.old) }
+{
+    let field = member_walked(alloc, default, Place::Arm, member, outline)?;
+    fields.push(field)
+}
+
+#[cycle(walk)]
+#[tactic(auto, using(crate::proofs::Walks::lists))]
+fn members_walked(
+    alloc: Global,
+    default: Pk,
+    members: &[Member],
+    outline: &mut Outline,
+) -> Result<Fields, NoMemory>
+    ensures fields { IfOk result (λ fs. fs ≡ outlines.member_fields default (plain_members members.now) outline.old) }
+    ensures past { OnOk result (outline.new ≡ outlines.members_past default (plain_members members.now) outline.old) }
+{
+    let mut fields = Fields::new(alloc);
+    for member in members {
+        let field = member_walked(alloc, default, Place::Member, member, outline)?;
+        fields.push(field)?;
+    }
+    Ok(fields)
+}
+
+#[cycle(walk)]
+fn member_walked(
+    alloc: Global,
+    default: Pk,
+    place: Place,
+    member: &Member,
+    outline: &mut Outline,
+) -> Result<Field, NoMemory>
+    ensures field { IfOk result (λ f. f ≡ outlines.member_field default place (plain_member member.now) outline.old) }
+    ensures past { OnOk result (outline.new ≡ outlines.member_past default (plain_member member.now) outline.old) }
+{
+    let attributes = attributes_walked(alloc, default, &member.attrs, outline)?;
+    let setting = setting_of(default, &member.dtors, false, attributes.as_slice());
+    let ty = spec_walked(alloc, setting, &member.spec, outline)?;
+    let bare = bare_spec(&member.spec);
+    declared_field(
+        alloc,
+        default,
+        place,
+        attributes,
+        ty,
+        bare,
+        &member.dtors,
+        outline,
+    )
+}
+
+/// Adds what attributes use, and gives them.
+#[cycle(walk)]
+#[tactic(auto, using(crate::proofs::Walks::lists))]
+pub(crate) fn attributes_walked(
+    alloc: Global,
+    default: Pk,
+    attrs: &[Attr],
+    outline: &mut Outline,
+) -> Result<Attributes, NoMemory>
+    ensures attributes { IfOk result (λ xs. xs ≡ outlines.attributes default (plain_attrs attrs.now) outline.old) }
+    ensures past { OnOk result (outline.new ≡ outlines.attrs_past default (plain_attrs attrs.now) outline.old) }
+{
+    let mut attributes = Attributes::new(alloc);
+    for attr in attrs {
+        let attribute = attribute_walked(alloc, default, attr, outline)?;
+        attributes.push(attribute)?;
+    }
+    Ok(attributes)
+}
+
+#[cycle(walk)]
+fn attribute_walked(
+    alloc: Global,
+    default: Pk,
+    attr: &Attr,
+    outline: &mut Outline,
+) -> Result<Attribute, NoMemory>
+    ensures attribute { IfOk result (λ a. a ≡ outlines.attribute default (plain_attr attr.now) outline.old) }
+    ensures past { OnOk result (outline.new ≡ outlines.attr_past default (plain_attr attr.now) outline.old) }
+{
+    let mark = mark_walked(alloc, default, &attr.what, outline)?;
+    Ok(Attribute { at: attr.at, mark })
+}
+
+#[cycle(walk)]
+#[tactic(auto, using(crate::proofs::Layers::marks))]
+fn mark_walked(
+    alloc: Global,
+    default: Pk,
+    kind: &AttrKind,
+    outline: &mut Outline,
+) -> Result<Mark, NoMemory>
+    ensures mark { IfOk result (λ m. m ≡ outlines.mark_of default (plain_mark kind.now) outline.old) }
+    ensures past { OnOk result (outline.new ≡ outlines.mark_past default (plain_mark kind.now) outline.old) }
+{
+    match kind {
+        AttrKind::In => Ok(Mark::In),
+        AttrKind::Out => Ok(Mark::Out),
+        AttrKind::Pointer(class) => Ok(Mark::Pointer(*class)),
+        AttrKind::Text => Ok(Mark::Text),
+        AttrKind::Idempotent => Ok(Mark::Idempotent),
+        AttrKind::Maybe => Ok(Mark::Maybe),
+        AttrKind::Handle => Ok(Mark::Handle),
+        AttrKind::HandleSerialize => Ok(Mark::Handle),
+        AttrKind::HandleNoserialize => Ok(Mark::Handle),
+        AttrKind::SizeIs(given) => Ok(Mark::SizeIs(size(alloc, given)?)),
+        AttrKind::MaxIs(given) => Ok(Mark::MaxIs(size(alloc, given)?)),
+        AttrKind::LengthIs(given) => Ok(Mark::LengthIs(size(alloc, given)?)),
+        AttrKind::SwitchIs { star, name } => {
+            let name = copy_name(alloc, name)?;
+            Ok(Mark::SwitchIs(Named { star: *star, name }))
+        }
+        AttrKind::SwitchType(spec) => switch_type(alloc, default, spec, outline),
+    }
+}
+
+#[cycle(walk)]
+fn switch_type(
+    alloc: Global,
+    default: Pk,
+    spec: &Spec,
+    outline: &mut Outline,
+) -> Result<Mark, NoMemory>
+    ensures mark { IfOk result (λ m. m ≡ outlines.mark_of default (is_switch_type (plain_spec spec.now)) outline.old) }
+    ensures past { OnOk result (outline.new ≡ outlines.mark_past default (is_switch_type (plain_spec spec.now)) outline.old) }
+{
+    let inner = setting_alone(default, Tag::Missing);
+    let ty = spec_walked(alloc, inner, spec, outline)?;
+    Ok(Mark::SwitchType {
+        spec_at: spec.at,
+        ty,
+    })
+}

@@ -1,0 +1,282 @@
+//! The uses of names, and what is declared without a part of its own kind.
+ghost use Rattle.std.specs.Prelude.{◌≡◌, ◌∷◌, ◌++◌, length, IfOk, OnOk};
+ghost use Rattle.idl_outline.specs.declared.ty.Core.TheVariants as cores;
+ghost use Rattle.idl_outline.specs.declared.event.Event.TheVariants as events;
+ghost use Rattle.idl_outline.specs.Plain.{plain_spec, plain_members};
+ghost use Rattle.idl_outline.specs.Names as names;
+ghost use Rattle.idl_outline.specs.Outline as outlines;
+
+use crate::holding::members_hold;
+use idl_outline::{
+    Attributes, Bare, Core, DataType, Event, Field, Fields, Label, Labels, Outline, Place, Setting,
+    bare, copy_name, ends_open, field_with, named_type, sizes_used, tagged_type,
+};
+use idl_tree::{Dtor, Ident, Label as LabelNode, LabelKind, Member, Num, Pk, Spec, SpecKind};
+use rpc_base::NoMemory;
+use std::alloc::Global;
+
+/// A name that is used as a type.
+pub(crate) fn named(
+    alloc: Global,
+    name: &Ident,
+    outline: &mut Outline,
+) -> Result<DataType, NoMemory>
+    ensures ty { IfOk result (λ t. t ≡ names.or_unknown (names.type_named name.now.text outline.old)) }
+    ensures past { OnOk result (outline.new ≡ events.TypeUsed name.now ∷ outline.old) }
+{
+    let ty = named_type(outline, name);
+    let used = copy_name(alloc, name)?;
+    outline.happen(Event::TypeUsed(used))?;
+    Ok(ty)
+}
+
+/// The word `void` as a type.
+pub(crate) fn void(setting: Setting, at: usize, outline: &mut Outline) -> Result<DataType, NoMemory>
+    ensures ty { IfOk result (λ t. t ≡ names.bare cores.Void) }
+    ensures past { OnOk result (outline.new ≡ outlines.void_past setting at outline.old) }
+{
+    if !setting.void_allowed {
+        outline.happen(Event::VoidUsed(at))?;
+    }
+    Ok(bare(Core::Void))
+}
+
+/// A structure's tag, where it is used.
+pub(crate) fn tag_used(
+    alloc: Global,
+    setting: Setting,
+    tag: &Option<Ident>,
+    outline: &mut Outline,
+) -> Result<DataType, NoMemory>
+    ensures ty { IfOk result (λ t. t ≡ outlines.tag_used_type setting tag.now outline.old) }
+    ensures past { OnOk result (outline.new ≡ outlines.tag_used_past setting tag.now outline.old) }
+{
+    match tag {
+        None => Ok(bare(Core::Unknown)),
+        Some(tag) => {
+            let ty = tagged_type(outline, setting.pointed, tag);
+            let tag = copy_name(alloc, tag)?;
+            outline.happen(Event::TagUsed {
+                tag,
+                pointed: setting.pointed,
+            })?;
+            Ok(ty)
+        }
+    }
+}
+
+/// The tag of a structure, before its body.
+pub(crate) fn structure_begins(
+    alloc: Global,
+    tag: &Option<Ident>,
+    members: &[Member],
+    outline: &mut Outline,
+) -> Result<(), NoMemory>
+    ensures { OnOk result (outline.new ≡ outlines.struct_past tag.now (outlines.tag_holds tag.now (plain_members members.now)) outline.old) }
+{
+    match tag {
+        None => Ok(()),
+        Some(tag) => {
+            let holds_itself = members_hold(tag.text.as_slice(), members);
+            let tag = copy_name(alloc, tag)?;
+            outline.happen(Event::StructBegins { tag, holds_itself })
+        }
+    }
+}
+
+fn tag_ends(
+    alloc: Global,
+    tag: &Option<Ident>,
+    ends_open: bool,
+    fields: Fields,
+    outline: &mut Outline,
+) -> Result<(), NoMemory>
+    requires { ends_open ≡ names.ends_open fields }
+    ensures { OnOk result (outline.new ≡ outlines.struct_end tag.now fields outline.old) }
+{
+    outline.happen(Event::Body(fields))?;
+    match tag {
+        None => Ok(()),
+        Some(tag) => {
+            let tag = copy_name(alloc, tag)?;
+            outline.happen(Event::StructEnds {
+                tag,
+                open: ends_open,
+            })
+        }
+    }
+}
+
+/// The body of a structure.
+pub(crate) fn structure_ends(
+    alloc: Global,
+    tag: &Option<Ident>,
+    fields: Fields,
+    outline: &mut Outline,
+) -> Result<DataType, NoMemory>
+    ensures ty { IfOk result (λ t. t ≡ names.bare (cores.Struct (names.ends_open fields))) }
+    ensures past { OnOk result (outline.new ≡ outlines.struct_end tag.now fields outline.old) }
+{
+    let open = ends_open(fields.as_slice());
+    tag_ends(alloc, tag, open, fields, outline)?;
+    Ok(bare(Core::Struct { open }))
+}
+
+/// The tag of a union or an enumeration.
+pub(crate) fn other_tag(
+    alloc: Global,
+    tag: &Option<Ident>,
+    outline: &mut Outline,
+) -> Result<(), NoMemory>
+    ensures { OnOk result (outline.new ≡ outlines.other_tag_past tag.now outline.old) }
+{
+    match tag {
+        None => Ok(()),
+        Some(tag) => {
+            let tag = copy_name(alloc, tag)?;
+            outline.happen(Event::OtherTag(tag))
+        }
+    }
+}
+
+fn enum_names(alloc: Global, list: &[Ident], outline: &mut Outline) -> Result<(), NoMemory>
+    ensures { OnOk result (outline.new ≡ outlines.names_past 0 list.now outline.old) }
+{
+    let mut number = 0u64;
+    for name in list {
+        let value = Num {
+            at: name.at,
+            minus: false,
+            value: number,
+        };
+        let name = copy_name(alloc, name)?;
+        outline.happen(Event::EnumName { name, value })?;
+        number += 1;
+    }
+    Ok(())
+}
+
+/// An enumeration.
+pub(crate) fn enumeration(
+    alloc: Global,
+    tag: &Option<Ident>,
+    list: &[Ident],
+    outline: &mut Outline,
+) -> Result<DataType, NoMemory>
+    ensures ty { IfOk result (λ t. t ≡ names.bare (cores.Enum (length list.now))) }
+    ensures past { OnOk result (outline.new ≡ outlines.names_past 0 list.now (outlines.other_tag_past tag.now outline.old)) }
+{
+    other_tag(alloc, tag, outline)?;
+    enum_names(alloc, list, outline)?;
+    Ok(bare(Core::Enum(list.len())))
+}
+
+fn label(outline: &Outline, at: usize, kind: &LabelKind) -> Label
+    ensures { result ≡ outlines.label_of outline.now at kind.now }
+{
+    match kind {
+        LabelKind::Number(number) => Label::Case {
+            at: number.at,
+            value: Some(*number),
+        },
+        LabelKind::Named(name) => Label::Case {
+            at: name.at,
+            value: outline.constant_named(name.text.as_slice()),
+        },
+        LabelKind::Default => Label::Default(at),
+    }
+}
+
+/// Adds the labels of an arm to those of its union.
+#[tactic(auto, using(crate::proofs::Walks::lists))]
+pub(crate) fn labels_read(
+    list: &[LabelNode],
+    labels: &mut Labels,
+    outline: &Outline,
+) -> Result<(), NoMemory>
+    ensures { OnOk result (labels.new ≡ labels.old ++ outlines.labels_of outline.now list.now) }
+{
+    for one in list {
+        labels.push(label(outline, one.at, &one.what))?;
+    }
+    Ok(())
+}
+
+fn label_used(alloc: Global, kind: &LabelKind, outline: &mut Outline) -> Result<(), NoMemory>
+    ensures { OnOk result (outline.new ≡ outlines.label_past kind.now outline.old) }
+{
+    match kind {
+        LabelKind::Number(_) => Ok(()),
+        LabelKind::Named(name) => {
+            let name = copy_name(alloc, name)?;
+            outline.happen(Event::ConstantUsed(name))
+        }
+        LabelKind::Default => Ok(()),
+    }
+}
+
+/// Adds the names that labels use as constants.
+pub(crate) fn labels_used(
+    alloc: Global,
+    list: &[LabelNode],
+    outline: &mut Outline,
+) -> Result<(), NoMemory>
+    ensures { OnOk result (outline.new ≡ outlines.labels_past list.now outline.old) }
+{
+    for one in list {
+        label_used(alloc, &one.what, outline)?;
+    }
+    Ok(())
+}
+
+fn bare_tag(tag: &Option<Ident>) -> Bare
+    ensures { result ≡ outlines.bare_tag tag.now }
+{
+    match tag {
+        None => Bare::Tagless,
+        Some(tag) => Bare::Tagged(tag.at),
+    }
+}
+
+/// Whether a spec is itself a union without a switch.
+#[tactic(auto, using(crate::proofs::Layers::kinds))]
+pub(crate) fn bare_spec(spec: &Spec) -> Bare
+    ensures { result ≡ outlines.bare_spec (plain_spec spec.now) }
+{
+    match &spec.what {
+        SpecKind::Base(_) => Bare::No,
+        SpecKind::Named(_) => Bare::No,
+        SpecKind::Void => Bare::No,
+        SpecKind::HandleT => Bare::No,
+        SpecKind::ErrorStatus => Bare::No,
+        SpecKind::Struct { members, .. } => match members {
+            None => Bare::No,
+            Some(_) => Bare::No,
+        },
+        SpecKind::Union { tag, switch, .. } => match switch {
+            None => bare_tag(tag),
+            Some(_) => Bare::No,
+        },
+        SpecKind::Enum { .. } => Bare::No,
+    }
+}
+
+/// The field of a member, an arm or a parameter behind its spec, and the names that its arrays use as
+/// sizes.
+pub(crate) fn declared_field(
+    alloc: Global,
+    default: Pk,
+    place: Place,
+    attributes: Attributes,
+    ty: DataType,
+    bare: Bare,
+    dtors: &[Dtor],
+    outline: &mut Outline,
+) -> Result<Field, NoMemory>
+    ensures field { IfOk result (λ f. f ≡ outlines.field_of default place attributes ty bare dtors.now outline.old) }
+    ensures past { OnOk result (outline.new ≡ outlines.sizes_past dtors.now outline.old) }
+{
+    let field = field_with(alloc, outline, default, place, attributes, ty, bare, dtors)?;
+    sizes_used(alloc, dtors, outline)?;
+    Ok(field)
+}
