@@ -1,0 +1,5 @@
+//! Interface texts and what the checker says of them.
+#![tactic(auto)]
+
+#[cfg(test)]
+mod tests;

@@ -1,0 +1,5 @@
+use Rattle.idl_check.specs.Firsts.{first_place}
+use Rattle.idl_check.proofs.checking.first_breach.Goals as goal
+
+pub returns : goal.returns
+returns c = c.first.ensures (first_place c.args.tree.now) c.in_ok-firsts.ensures

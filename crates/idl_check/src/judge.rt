@@ -1,0 +1,63 @@
+//! What the rules say of events.
+ghost use Rattle.std.specs.Prelude.{◌≡◌, IfOk};
+ghost use Rattle.idl_outline.specs.Outline as outlines;
+ghost use Rattle.idl_check.specs.Firsts as spec;
+
+use crate::firsts::Firsts;
+use idl_counts::{outside_profile, too_many_handles, union_tag};
+use idl_outline::{Event, Outline};
+use idl_rules::{duplicate, recursion, unknown};
+use idl_tree::Ast;
+use idl_uses::{bad_attribute, bad_file, handle_use, size_name};
+use rpc_base::NoMemory;
+use std::alloc::Global;
+
+fn judged(alloc: Global, past: &Outline, event: &Event) -> Result<Firsts, NoMemory>
+    ensures { IfOk result (λ f. f ≡ spec.firsts_at past.now event.now) }
+{
+    let again = duplicate(alloc, past, event)?;
+    Ok(Firsts {
+        unknown: unknown(past, event),
+        duplicate: again,
+        bad_attribute: bad_attribute(event),
+        size_name: size_name(event),
+        handle_use: handle_use(event),
+        too_many_handles: too_many_handles(event),
+        recursion: recursion(event),
+        union_tag: union_tag(event),
+        outside_profile: outside_profile(past, event),
+    })
+}
+
+fn judged_events(alloc: Global, outline: Outline) -> Result<Firsts, NoMemory>
+    ensures { IfOk result (λ f. f ≡ spec.firsts_of outline) }
+{
+    let mut events = outline.into_events().into_vec();
+    events.reverse();
+    let mut past = Outline::new(alloc);
+    let mut firsts = Firsts::none();
+    while let Some(event) = events.pop() {
+        firsts = judged(alloc, &past, &event)?.or(firsts);
+        past.happen(event)?;
+    }
+    Ok(firsts)
+}
+
+fn judged_file(tree: &Ast) -> Firsts
+    ensures { result ≡ spec.firsts_of_file tree.now }
+{
+    Firsts {
+        bad_attribute: bad_file(tree),
+        ..Firsts::none()
+    }
+}
+
+/// The first breach of each rule.
+#[tactic(auto, using(crate::proofs::Judged::judged))]
+pub(crate) fn judged_tree(alloc: Global, tree: &Ast, outline: Outline) -> Result<Firsts, NoMemory>
+    requires { outline ≡ outlines.outline tree.now }
+    ensures { IfOk result (λ f. spec.Gives (spec.first_place tree.now) f) }
+{
+    let events = judged_events(alloc, outline)?;
+    Ok(judged_file(tree).or(events))
+}

@@ -1,0 +1,3 @@
+pub mod Flat
+pub mod Outlines
+pub mod Breaches
