@@ -7,24 +7,38 @@ use Rattle.idl_tree.specs.declared.declaration.Ast.{Ast}
 use Rattle.idl_reader.specs.declared.fault.IdlFault.{IdlFault}
 use Rattle.idl_reader.specs.declared.fault.IdlFault.TheVariants as faults
 use Rattle.idl_reader.specs.Causes.{IsCause}
+use Rattle.idl_forms.proofs.Top.{text_one}
+use Rattle.idl_rules.specs.Broken.{NoneBroken}
+use Rattle.idl_same.proofs.Breaches.{broken_too}
+use Rattle.idl_check.specs.declared.fault.CheckFault.{CheckFault}
+use Rattle.idl_check.specs.declared.fault.CheckFault.TheVariants.{Rule}
+use Rattle.idl_check.specs.Firsts.{IsCause as IsBreach}
 use Rattle.idl_print.specs.Canonical.{canonical_text}
 use Rattle.rpc_app.specs.declared.command.Command.{Command}
 use Rattle.rpc_app.specs.declared.command.Command.TheVariants.{Replay, Idl}
-use Rattle.rpc_app.specs.Commands.{Makes, Takes, Says, DepartsAtPlace, IsPrinted}
+use Rattle.rpc_app.specs.Commands.{Makes, Takes, Refuses, Says, rule_refusal, IsPrinted}
 
 -- a fault of the reader, as it is said
-pub departs : (text said : List ℕ) (fault : IdlFault) → IsCause text fault → (fault ≡ faults.Memory) ⊎ ((tree : Ast) → IsIdl text tree → ⊥) → Says fault said → DepartsAtPlace text said × (((tree : Ast) × IsIdl text tree) → ⊥)
+pub departs : (text said : List ℕ) (fault : IdlFault) → IsCause text fault → (fault ≡ faults.Memory) ⊎ ((tree : Ast) → IsIdl text tree → ⊥) → Says fault said → Refuses Idl text said × (Takes Idl text → ⊥)
 departs text said fault cause (inl e) says = absurd (subst (λ f. Says f said) e says)
-departs text said fault cause (inr none) says = (record { fault = fault; cause = cause; treeless = none; said_is = says }, λ w. none w.0 w.1)
+departs text said fault cause (inr none) says = (inl (record { fault = fault; cause = cause; treeless = none; said_is = says }), λ w. none w.0 w.1)
+
+-- a breach, as it is said: the text has no other tree
+pub breaks : (text said : List ℕ) (tree : Ast) (fault : CheckFault) (number at : ℕ) → fault ≡ Rule number at → IsIdl text tree → IsBreach tree fault → said ≡ rule_refusal number at → Refuses Idl text said × (Takes Idl text → ⊥)
+breaks text said tree fault number at is idl cause e =
+    let least = subst (IsBreach tree) is cause in (
+      inr (record { tree = tree; idl = idl; number = number; at = at; least = least; said_is = e }),
+      λ w. w.2.none number at (broken_too tree w.0 (text_one text tree w.0 idl w.1) number at least.broken),
+    )
 
 -- a tree, as it is printed
-pub prints : (text printed : List ℕ) (tree : Ast) → IsIdl text tree → printed ≡ canonical_text tree → IsPrinted text printed
-prints text printed tree idl e = record { tree = tree; idl = idl; printed_is = e }
+pub prints : (text printed : List ℕ) (tree : Ast) → IsIdl text tree → NoneBroken tree → printed ≡ canonical_text tree → IsPrinted text printed
+prints text printed tree idl checked e = record { tree = tree; idl = idl; checked = checked; printed_is = e }
 
 -- the file of which something is made is one that the command takes
 pub makes_takes : (command : Command) (text out log : List ℕ) → Makes command text out log → Takes command text
 makes_takes Replay text out log m = record { lines = m.lines; fits = m.fits; script = (m.end, m.ends); text = m.written }
-makes_takes Idl text out log m = (m.0.tree, m.0.idl)
+makes_takes Idl text out log m = (m.0.tree, m.0.idl, m.0.checked)
 
 told_by : (o : Option (List ℕ)) (octets loaded : List ℕ) → o ≡ Some octets → IsSomeAnd o (λ file. file ≡ loaded) → octets ≡ loaded
 told_by None octets loaded e h = absurd h

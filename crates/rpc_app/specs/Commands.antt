@@ -1,11 +1,12 @@
 -- What the program is asked, and what it makes of a file.
-use Rattle.std.specs.Prelude.{◌≡◌, ℕ, ◌++◌, List, [], ◌∷◌, codes, decimal}
+use Rattle.std.specs.Prelude.{◌≡◌, ◌⊎◌, ℕ, ◌++◌, List, [], ◌∷◌, codes, decimal}
 use Rattle.replay_script.specs.Scripts.{IsScript, DepartsAt}
 use Rattle.idl_tree.specs.Idl.{IsIdl}
 use Rattle.idl_tree.specs.declared.declaration.Ast.{Ast}
 use Rattle.idl_reader.specs.declared.fault.IdlFault.{IdlFault}
 use Rattle.idl_reader.specs.declared.fault.IdlFault.TheVariants as faults
 use Rattle.idl_reader.specs.Causes.{IsCause}
+use Rattle.idl_rules.specs.Broken.{NoneBroken, IsLeastBreach}
 use Rattle.idl_print.specs.Canonical.{canonical_text}
 use Rattle.rpc_app.specs.declared.command.Command.{Command}
 use Rattle.rpc_app.specs.declared.command.Command.TheVariants.{Replay, Idl}
@@ -29,10 +30,11 @@ AsksFor words command file = words ≡ word_of command ∷ file ∷ []
 abbrev pub AsksForNothing : List (List ℕ) → Type 0
 AsksForNothing words = (command : Command) (file : List ℕ) → AsksFor words command file → ⊥
 
--- The text has a tree, whose canonical text this is.
+-- The text has a tree that breaks no rule, whose canonical text this is.
 pub record IsPrinted (text printed : List ℕ) : Type 0 where
   pub tree : Ast
   pub idl : IsIdl text tree
+  pub checked : NoneBroken tree
   pub printed_is : printed ≡ canonical_text tree
 
 -- what a command makes of a file: a script is replayed; of an interface text the canonical text is put on out
@@ -43,13 +45,16 @@ Makes Idl text out log = IsPrinted text out × (log ≡ [])
 -- the files of which it makes something
 abbrev pub Takes : Command → List ℕ → Type 0
 Takes Replay text = IsScript IsReplay text
-Takes Idl text = (tree : Ast) × IsIdl text tree
+Takes Idl text = (tree : Ast) × IsIdl text tree × NoneBroken tree
 
 unfoldable pub line_refusal : ℕ → List ℕ
 line_refusal n = codes "refused: script line " ++ decimal n ++ codes "\n"
 
 unfoldable pub place_refusal : ℕ → ℕ → List ℕ
 place_refusal number at = codes "refused: idl fault " ++ decimal number ++ codes " at " ++ decimal at ++ codes "\n"
+
+unfoldable pub rule_refusal : ℕ → ℕ → List ℕ
+rule_refusal number at = codes "refused: check fault " ++ decimal number ++ codes " at " ++ decimal at ++ codes "\n"
 
 -- how a fault of an interface text is said, where it is one of the text
 abbrev pub Says : IdlFault → List ℕ → Type 0
@@ -72,7 +77,16 @@ pub record DepartsAtPlace (text said : List ℕ) : Type 0 where
   pub treeless : (tree : Ast) → IsIdl text tree → ⊥
   pub said_is : Says fault said
 
+-- The interface text has a tree that breaks a rule, first there.
+pub record BreaksRule (text said : List ℕ) : Type 0 where
+  pub tree : Ast
+  pub idl : IsIdl text tree
+  pub number : ℕ
+  pub at : ℕ
+  pub least : IsLeastBreach tree number at
+  pub said_is : said ≡ rule_refusal number at
+
 -- why a command refuses a file, and how that is said
 abbrev pub Refuses : Command → List ℕ → List ℕ → Type 0
 Refuses Replay text said = DepartsAtLine text said
-Refuses Idl text said = DepartsAtPlace text said
+Refuses Idl text said = DepartsAtPlace text said ⊎ BreaksRule text said

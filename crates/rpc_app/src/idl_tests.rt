@@ -119,15 +119,16 @@ interface epm {
 
 /// An interface with each form of declaration, and its canonical text.
 const FORMS: &str =
-    "/* all forms */ [version(0x1),endpoint(\"ncacn_ip_tcp:[135]\",\"\")]interface all{
-const unsigned small int n=-0x5;enum e{a,b};
+    "/* all forms */ [uuid(00000000-0000-0000-0000-00000000000F),version(0x1),endpoint(\"ncacn_ip_tcp:[135]\",\"\")]interface all{
+const small int n=-0x5;enum e{a,b};
 union u switch(long t)body{case 1:case-2:[string]char*s;default:;};
-typedef[switch_type(short)]union{case n:struct e{long a,**b[*];}c;}x,y[n];
-[idempotent,maybe]void f(void);hyper g([in,switch_is(*v)]x*p,[max_is(7)]long q[]);}";
+typedef[switch_type(short)]union{case n:struct f{long a,*b[2];}c;}x,y[3];
+[idempotent,maybe]void g(void);hyper h([in,switch_is(*v)]x*p,[in]short*v,[in,max_is(7)]long q[]);}";
 
-const FORMS_PRINTED: &str = "[version(1), endpoint(\"ncacn_ip_tcp:[135]\", \"\")]
+const FORMS_PRINTED: &str =
+    "[uuid(00000000-0000-0000-0000-00000000000f), version(1), endpoint(\"ncacn_ip_tcp:[135]\", \"\")]
 interface all {
-  const unsigned small int n = - 5;
+  const small int n = - 5;
   enum e {
     a, b
   };
@@ -136,14 +137,18 @@ interface all {
     default:;
   };
   typedef [switch_type(short)] union {
-    case n: struct e {
-      long a, **b[*];
+    case n: struct f {
+      long a, *b[2];
     } c;
-  } x, y[n];
-  [idempotent, maybe] void f(void);
-  hyper g([in, switch_is(*v)] x *p, [max_is(7)] long q[]);
+  } x, y[3];
+  [idempotent, maybe] void g(void);
+  hyper h([in, switch_is(*v)] x *p, [in] short *v, [in, max_is(7)] long q[]);
 }
 ";
+
+/// `void` as the type of a parameter, and behind it an unknown name.
+const TWO_BREACHES: &str =
+    "[uuid(00000000-0000-0000-0000-00000000000f)] interface x { void f([in] void *p); foo g(); }";
 
 struct Case {
     text: &'static str,
@@ -151,7 +156,7 @@ struct Case {
     out: &'static str,
 }
 
-const CASES: [Case; 12] = [
+const CASES: [Case; 14] = [
     Case {
         text: PROBE,
         status: 0,
@@ -176,6 +181,16 @@ const CASES: [Case; 12] = [
         text: FORMS_PRINTED,
         status: 0,
         out: FORMS_PRINTED,
+    },
+    Case {
+        text: "[version(1.0)]\ninterface x {\n}\n",
+        status: 2,
+        out: "refused: check fault 3 at 25\n",
+    },
+    Case {
+        text: TWO_BREACHES,
+        status: 2,
+        out: "refused: check fault 9 at 71\n",
     },
     Case {
         text: "",

@@ -1,11 +1,14 @@
 //! What a command makes of a file.
-ghost use Rattle.std.specs.Prelude.{◌≡◌, IfOk, IfErr};
-ghost use Rattle.rpc_app.specs.Commands.{Makes, Says, line_refusal, place_refusal};
+ghost use Rattle.std.specs.Prelude.{◌≡◌, [], IfOk, IfErr};
+ghost use Rattle.idl_print.specs.Canonical.{canonical_text};
+ghost use Rattle.rpc_app.specs.Commands.{Makes, Says, line_refusal, place_refusal, rule_refusal};
 ghost use Rattle.rpc_app.specs.Making.{IsWhy};
 
 use crate::command::Command;
+use idl_check::{CheckFault, check};
 use idl_print::print_idl;
 use idl_reader::{IdlFault, read_idl};
+use idl_tree::Ast;
 use replay::{ReplayFault, Replayed, replay};
 use rpc_base::{NoMemory, Octets};
 use rpc_words::{put, put_decimal};
@@ -70,21 +73,48 @@ fn fault_line(alloc: Global, fault: IdlFault) -> Result<Vec<u8>, MakeFault>
     Ok(line)
 }
 
-/// Reads an interface text and prints its tree.
+/// How the breach of a rule is said.
+#[tactic(auto, unfolding(crate::specs::Commands::rule_refusal))]
+fn rule_refusal(alloc: Global, number: u8, at: usize) -> Result<Vec<u8>, NoMemory>
+    ensures { IfOk result (λ text. text.items ≡ rule_refusal number at) }
+{
+    let mut text = Vec::new(alloc);
+    put(b"refused: check fault ", &mut text)?;
+    put_decimal(alloc, u64::from(number), &mut text)?;
+    put(b" at ", &mut text)?;
+    put_decimal(alloc, at as u64, &mut text)?;
+    put(b"\n", &mut text)?;
+    Ok(text)
+}
+
+/// The tree's canonical text.
+fn printed(alloc: Global, tree: &Ast) -> Result<Replayed, NoMemory>
+    ensures out { IfOk result (λ r. r.out ≡ canonical_text tree.now) }
+    ensures log { IfOk result (λ r. r.log ≡ []) }
+{
+    let mut text = Vec::new(alloc);
+    print_idl(alloc, tree, &mut text)?;
+    Ok(Replayed {
+        out: Octets::from_vec(text),
+        log: Octets::new(alloc),
+    })
+}
+
+/// Reads an interface text, checks its tree and prints it.
 fn reprint(alloc: Global, text: &[u8]) -> Result<Replayed, MakeFault>
     ensures made { IfOk result (λ r. Makes Command.Idl text.now r.out r.log) }
     ensures fault { IfErr result (IsWhy Command.Idl text.now) }
 {
-    match read_idl(alloc, text) {
-        Ok(tree) => {
-            let mut printed = Vec::new(alloc);
-            print_idl(alloc, &tree, &mut printed)?;
-            Ok(Replayed {
-                out: Octets::from_vec(printed),
-                log: Octets::new(alloc),
-            })
+    let tree = match read_idl(alloc, text) {
+        Ok(tree) => tree,
+        Err(fault) => return Err(MakeFault::Refused(fault_line(alloc, fault)?)),
+    };
+    match check(alloc, &tree) {
+        Ok(_) => Ok(printed(alloc, &tree)?),
+        Err(CheckFault::Rule { number, at }) => {
+            Err(MakeFault::Refused(rule_refusal(alloc, number, at)?))
         }
-        Err(fault) => Err(MakeFault::Refused(fault_line(alloc, fault)?)),
+        Err(CheckFault::Memory) => Err(MakeFault::Memory),
     }
 }
 
