@@ -20,7 +20,7 @@ fn named_shape<'a>(types: &'a [Shape], shape: &Shape) -> Option<&'a Shape>
     ensures { MatchOption result (named (map form types.now) (form shape.now) ≡ None) (λ s. named (map form types.now) (form shape.now) ≡ Some (form s.now)) }
 {
     match shape {
-        Shape::Named(number, _) => types.get(*number as usize),
+        Shape::Named(number, _) => types.get(*number),
         _ => None,
     }
 }

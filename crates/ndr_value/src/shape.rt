@@ -25,7 +25,7 @@ pub enum Shape {
     /// The names of an enumeration, by their count.
     Enum(u16),
     /// A number in a list of types, and where it is a union whose tag stands outside it, what names the tag.
-    Named(u16, Option<Count>),
+    Named(usize, Option<Count>),
     Struct(Shapes),
     Union { tag: Box<Shape>, arms: Arms },
     Array(ArrayKind, Box<Shape>),

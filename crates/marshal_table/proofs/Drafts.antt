@@ -1,0 +1,239 @@
+-- What an interface declares is a table, but for the number of its operations.
+use Rattle.std.proofs.Common.{◌≡◌, ℕ, ◌+◌, ◌<◌, ◌≤◌, List, [], ◌∷◌, ◌++◌, length, take, refl, ap, subst, sym, ◌∙◌, arith, Bool, true, false, length-append}
+use Rattle.std.specs.Prelude.{◌==◌, nat_le, nat_lt, not, if◌then◌else◌}
+use Rattle.std.specs.List.{list_any, list_all}
+use Rattle.idl_tree.specs.declared.leaf.Ident.{Ident}
+use Rattle.idl_tree.specs.declared.leaf.Pk.{Pk}
+use Rattle.idl_tree.specs.declared.leaf.Dtor.{Dtor}
+use Rattle.idl_tree.specs.declared.spec.Attr.{Attr}
+use Rattle.idl_tree.specs.declared.declaration.Ast.{Ast}
+use Rattle.idl_tree.specs.declared.declaration.Decl.{Decl}
+use Rattle.idl_tree.specs.declared.declaration.DeclKind.{DeclKind}
+use Rattle.idl_tree.specs.declared.declaration.DeclKind.TheVariants as decl_kinds
+use Rattle.idl_tree.specs.declared.declaration.ParamNode.{ParamNode}
+use Rattle.idl_outline.specs.declared.field.Place.TheVariants as places
+use Rattle.idl_outline.specs.Outline.{all_pointed, pointer_default}
+use Rattle.idl_outline.specs.Plain.{PSpec, PAttrs, plain_spec, plain_attrs}
+use Rattle.ndr_value.specs.Forms.{Form}
+use Rattle.table_form.specs.declared.operation.HandleUse.{HandleUse}
+use Rattle.table_form.specs.Ordered.{fits}
+use Rattle.table_form.specs.Tables.{OpForm, IsTable, param_fits, result_fits, op_fits}
+use Rattle.marshal_table.specs.declared.known.Sort.{Sort}
+use Rattle.marshal_table.specs.declared.known.Sort.TheVariants as sorts
+use Rattle.marshal_table.specs.declared.terms.Terms.{Terms}
+use Rattle.marshal_table.specs.Known.{Sense, Scope}
+use Rattle.marshal_table.specs.Marks.{says, says_handle}
+use Rattle.marshal_table.specs.Declarators.{terms, declared}
+use Rattle.marshal_table.specs.Specs.{within, attrs_within, spec_at, attrs_at}
+use Rattle.marshal_table.specs.Interfaces.{Listed, Draft, is_binding, param_names, param_sense, listed_at, param_at, params_at, sort_result, alone_at, op_of, op_at, is_serialised, typedef_one, typedef_all, typedef_sense, typedef_at, decl_at, decls_at, nothing_declared, declared_in}
+use Rattle.marshal_table.proofs.Fitting.{both_of, and_of, less_of, or_left, or_right, fits_more, declared_fits}
+use Rattle.marshal_table.proofs.Sounds.{Sound, Goes, reach, reach_not, reach_far, spec_sound, attrs_sound}
+
+all_more : {X : Type 0} (f : X → Bool) (xs ys : List X) → list_all f xs ≡ true → list_all f ys ≡ true → list_all f (xs ++ ys) ≡ true
+all_more f [] ys h k = k
+all_more f (x ∷ xs) ys h k = let e = both_of (f x) (list_all f xs) h in and_of (f x) (list_all f (xs ++ ys)) e.0 (all_more f xs ys e.1 k)
+
+-- ---- a spec behind its attributes
+
+-- attributes, and then the spec
+abbrev behind : Pk → Bool → PAttrs → PSpec → Scope → Sense × Scope
+behind k pointed as' s p = spec_at k pointed (attrs_at k as' p).0 s (attrs_at k as' p).1
+
+behind_sound : (far : ℕ) (k : Pk) (pointed : Bool) (as' : PAttrs) (s : PSpec) (p : Scope) → Sound far p → length p.types + (attrs_within as' + within s) ≤ far
+    → Goes far (attrs_within as' + within s) p (behind k pointed as' s p).1 × (fits (reach pointed (length (behind k pointed as' s p).1.types) far) far (behind k pointed as' s p).0.shape ≡ true)
+behind_sound far k pointed as' s p ok room =
+    let marks = attrs_sound far k as' p ok (omega (arith, room)) in
+    let before = marks.0.count in
+    let last = spec_sound far k pointed (attrs_at k as' p).0 s (attrs_at k as' p).1 marks.0.sound (omega (arith, before, room)) marks.1 in
+    let count = last.0.count in
+    (record { count = omega (arith, before, count); sound = last.0.sound }, last.1)
+
+-- ---- parameters
+
+abbrev if_listed : Bool → ℕ → ℕ
+if_listed true n = 0
+if_listed false n = n
+
+abbrev param_within : ParamNode → ℕ
+param_within n = if_listed (is_binding (plain_spec n.spec)) (attrs_within (plain_attrs n.attrs.items) + within (plain_spec n.spec))
+
+abbrev params_within : List ParamNode → ℕ
+params_within [] = 0
+params_within (n ∷ ns) = param_within n + params_within ns
+
+abbrev ListedSound : ℕ → ℕ → Scope → Listed × Scope → Type 0
+ListedSound far n p q = Goes far n p q.1 × (list_all (param_fits far) q.0.0 ≡ true)
+
+listed_any : (far n : ℕ) (p : Scope) (b : Bool) (x : Listed × Scope) → Sound far p → (b ≡ false → ListedSound far n p x) → ListedSound far (if_listed b n) p (if b then (([], []), p) else x)
+listed_any far n p true x ok h = (record { count = omega arith; sound = ok }, refl)
+listed_any far n p false x ok h = h refl
+
+listed_room : (b : Bool) (m n far : ℕ) → m + if_listed b n ≤ far → b ≡ false → m + n ≤ far
+listed_room true m n far h e = absurd cc
+listed_room false m n far h e = h
+
+param_sound : (far : ℕ) (k : Pk) (names : List Ident) (n : ParamNode) (p : Scope) → Sound far p → length p.types + param_within n ≤ far → ListedSound far (param_within n) p (param_at k names n p)
+param_sound far k names n p ok room =
+    let as' : PAttrs = plain_attrs n.attrs.items in
+    let q : Sense × Scope = param_sense k n p in
+    listed_any far (attrs_within as' + within (plain_spec n.spec)) p (is_binding (plain_spec n.spec)) (listed_at k names as' n.dtor q) ok (λ e.
+    let h = behind_sound far k (not (n.dtor.stars == 0)) as' (plain_spec n.spec) p ok (listed_room (is_binding (plain_spec n.spec)) (length p.types) (attrs_within as' + within (plain_spec n.spec)) far room e) in
+    let few = h.0.sound.few in
+    let t : Terms = terms k places.Parameter true names as' in
+    let f = declared_fits (length q.1.types) far t q.1.constants q.0.shape n.dtor (reach_not (n.dtor.stars == 0) (length q.1.types) far q.0.shape h.1) (reach_far (not (n.dtor.stars == 0)) (length q.1.types) far few q.0.shape h.1) in
+    (h.0, and_of (fits far far (declared t q.1.constants q.0.shape n.dtor)) true (fits_more (length q.1.types) far far few (declared t q.1.constants q.0.shape n.dtor) f) refl))
+
+params_sound : (far : ℕ) (k : Pk) (names : List Ident) (ns : List ParamNode) (p : Scope) → Sound far p → length p.types + params_within ns ≤ far → ListedSound far (params_within ns) p (params_at k names ns p)
+params_sound far k names [] p ok room = (record { count = omega arith; sound = ok }, refl)
+params_sound far k names (n ∷ ns) p ok room =
+    let first = param_sound far k names n p ok (omega (arith, room)) in
+    let before = first.0.count in
+    let others = params_sound far k names ns (param_at k names n p).1 first.0.sound (omega (arith, before, room)) in
+    let count = others.0.count in (
+      record { count = omega (arith, before, count); sound = others.0.sound },
+      all_more (param_fits far) (param_at k names n p).0.0 (params_at k names ns (param_at k names n p).1).0.0 first.1 others.1,
+    )
+
+-- ---- drafts
+
+pub record DraftSound (far : ℕ) (d : Draft) : Type 0 where
+  pub scope : Sound far d.scope
+  pub few : length d.ops < 65536
+  pub of_each : length d.uses ≡ length d.ops
+  pub few_uses : list_all (λ us. nat_le (length us) 4) d.uses ≡ true
+  pub ops : list_all (op_fits far) d.ops ≡ true
+
+pub record DraftGoes (far n : ℕ) (d e : Draft) : Type 0 where
+  pub count : length e.scope.types ≡ length d.scope.types + n
+  pub sound : DraftSound far e
+
+result_sound : (far : ℕ) (s : Sort) (f : Form) → fits far far f ≡ true → result_fits far (sort_result s f) ≡ true
+result_sound far sorts.Value f e = e
+result_sound far sorts.ErrorStatus f e = e
+result_sound far sorts.Void f e = refl
+result_sound far sorts.HandleT f e = e
+result_sound far (sorts.Handle kind serialised) f e = e
+
+four_at_most : (us : List HandleUse) → nat_le (length (take 4 us)) 4 ≡ true
+four_at_most [] = refl
+four_at_most (a ∷ []) = refl
+four_at_most (a ∷ b ∷ []) = refl
+four_at_most (a ∷ b ∷ c ∷ []) = refl
+four_at_most (a ∷ b ∷ c ∷ d ∷ us) = refl
+
+-- one operation more, where there is room
+record OpsSound (far : ℕ) (ops : List OpForm) (uses : List (List HandleUse)) : Type 0 where
+  few : length ops < 65536
+  of_each : length uses ≡ length ops
+  few_uses : list_all (λ us. nat_le (length us) 4) uses ≡ true
+  fit : list_all (op_fits far) ops ≡ true
+
+kept_any : (far : ℕ) (b : Bool) (ops : List OpForm) (uses : List (List HandleUse)) (o : OpForm) (us : List HandleUse) → OpsSound far ops uses → (b ≡ true → length ops < 65535) → op_fits far o ≡ true
+    → OpsSound far (if b then ops ++ o ∷ [] else ops) (if b then uses ++ take 4 us ∷ [] else uses)
+kept_any far false ops uses o us ok room f = ok
+kept_any far true ops uses o us ok room f =
+    let less = room refl in
+    let same = ok.of_each in
+    let more = length-append ops (o ∷ []) in
+    let longer = length-append uses (take 4 us ∷ []) in
+    record {
+      few = omega (arith, less, more);
+      of_each = omega (arith, same, more, longer);
+      few_uses = all_more (λ (x : List HandleUse). nat_le (length x) 4) uses (take 4 us ∷ []) ok.few_uses (and_of (nat_le (length (take 4 us)) 4) true (four_at_most us) refl);
+      fit = all_more (op_fits far) ops (o ∷ []) ok.fit (and_of (op_fits far o) true f refl);
+    }
+
+op_sound : (far : ℕ) (k : Pk) (as' : PAttrs) (s : PSpec) (name : Ident) (ns : List ParamNode) (d : Draft) → DraftSound far d → length d.scope.types + (attrs_within as' + within s + params_within ns) ≤ far
+    → DraftGoes far (attrs_within as' + within s + params_within ns) d (op_at k as' s name ns d)
+op_sound far k as' s name ns d ok room =
+    let r = behind_sound far k false as' s d.scope ok.scope (omega (arith, room)) in
+    let q : Sense × Scope = alone_at k as' s d.scope in
+    let before = r.0.count in
+    let few = r.0.sound.few in
+    let ps = params_sound far k (param_names ns) ns q.1 r.0.sound (omega (arith, before, room)) in
+    let count = ps.0.count in
+    let l : Listed = (params_at k (param_names ns) ns q.1).0 in
+    let o : OpForm = op_of name.text as' q.0 l.0 in
+    let fit : op_fits far o ≡ true =
+    and_of (list_all (param_fits far) l.0) (result_fits far (sort_result q.0.sort q.0.shape)) ps.1 (result_sound far q.0.sort q.0.shape (reach_far false (length q.1.types) far few q.0.shape r.1)) in
+    let kept = kept_any far (nat_lt (length d.ops) 65535) d.ops d.uses o l.1 (record { few = ok.few; of_each = ok.of_each; few_uses = ok.few_uses; fit = ok.ops }) (less_of (length d.ops) 65535) fit in
+    record {
+      count = omega (arith, before, count);
+      sound = record { scope = ps.0.sound; few = kept.few; of_each = kept.of_each; few_uses = kept.few_uses; ops = kept.fit };
+    }
+
+-- ---- typedefs
+
+typedef_sound : (far : ℕ) (handle serialised : Bool) (t : Terms) (m : Sense) (ds : List Dtor) (p : Scope) → Sound far p → (list_any (λ d. d.stars == 0) ds ≡ true → fits (length p.types) far m.shape ≡ true) → fits far far m.shape ≡ true
+    → Goes far 0 p (typedef_all handle serialised t m ds p)
+typedef_sound far handle serialised t m [] p ok here e = record { count = omega arith; sound = ok }
+typedef_sound far true serialised t m (d ∷ ds) p ok here e =
+    let rest = typedef_sound far true serialised t m ds (typedef_one true serialised t m d p) (record { types = ok.types; few = ok.few; named = (refl, ok.named); tags = ok.tags })
+    (λ h. here (or_right (d.stars == 0) (list_any (λ x. x.stars == 0) ds) h)) e in
+    record { count = rest.count; sound = rest.sound }
+typedef_sound far false serialised t m (d ∷ ds) p ok here e =
+    let f = declared_fits (length p.types) far t p.constants m.shape d (λ h. here (or_left (d.stars == 0) (list_any (λ x. x.stars == 0) ds) h)) e in
+    let rest = typedef_sound far false serialised t m ds (typedef_one false serialised t m d p) (record { types = ok.types; few = ok.few; named = (f, ok.named); tags = ok.tags })
+    (λ h. here (or_right (d.stars == 0) (list_any (λ x. x.stars == 0) ds) h)) e in
+    record { count = rest.count; sound = rest.sound }
+
+typedef_at_sound : (far : ℕ) (k : Pk) (nodes : List Attr) (as' : PAttrs) (s : PSpec) (ds : List Dtor) (p : Scope) → Sound far p → length p.types + (attrs_within as' + within s) ≤ far
+    → Goes far (attrs_within as' + within s) p (typedef_at k nodes as' s ds p)
+typedef_at_sound far k nodes as' s ds p ok room =
+    let h = behind_sound far k (all_pointed ds) as' s p ok room in
+    let q : Sense × Scope = typedef_sense k as' s ds p in
+    let before = h.0.count in
+    let few = h.0.sound.few in
+    let rest = typedef_sound far (says says_handle as') (is_serialised nodes) (terms k places.Typedef false [] as') q.0 ds q.1 h.0.sound (reach_not (list_any (λ d. d.stars == 0) ds) (length q.1.types) far q.0.shape h.1) (reach_far (all_pointed ds) (length q.1.types) far few q.0.shape h.1) in
+    let count = rest.count in
+    record { count = omega (arith, before, count); sound = rest.sound }
+
+-- ---- declarations
+
+abbrev decl_within : DeclKind → ℕ
+decl_within (decl_kinds.Const base name value) = 0
+decl_within (decl_kinds.Typedef as' s ds) = attrs_within (plain_attrs as'.items) + within (plain_spec s)
+decl_within (decl_kinds.Lone as' s) = attrs_within (plain_attrs as'.items) + within (plain_spec s)
+decl_within (decl_kinds.Op as' s name void ps) = attrs_within (plain_attrs as'.items) + within (plain_spec s) + params_within ps.items
+
+abbrev decls_within : List Decl → ℕ
+decls_within [] = 0
+decls_within (x ∷ xs) = decl_within x.what + decls_within xs
+
+in_draft : (far n : ℕ) (d : Draft) (p : Scope) → DraftSound far d → Goes far n d.scope p → DraftGoes far n d (record { scope = p; ops = d.ops; uses = d.uses })
+in_draft far n d p ok goes = record { count = goes.count; sound = record { scope = goes.sound; few = ok.few; of_each = ok.of_each; few_uses = ok.few_uses; ops = ok.ops } }
+
+decl_sound : (far : ℕ) (k : Pk) (x : DeclKind) (d : Draft) → DraftSound far d → length d.scope.types + decl_within x ≤ far → DraftGoes far (decl_within x) d (decl_at k x d)
+decl_sound far k (decl_kinds.Const base name value) d ok room =
+    record { count = omega arith; sound = record { scope = record { types = ok.scope.types; few = ok.scope.few; named = ok.scope.named; tags = ok.scope.tags }; few = ok.few; of_each = ok.of_each; few_uses = ok.few_uses; ops = ok.ops } }
+decl_sound far k (decl_kinds.Typedef as' s ds) d ok room = in_draft far _ d _ ok (typedef_at_sound far k as'.items (plain_attrs as'.items) (plain_spec s) ds.items d.scope ok.scope room)
+decl_sound far k (decl_kinds.Lone as' s) d ok room = in_draft far _ d _ ok (behind_sound far k false (plain_attrs as'.items) (plain_spec s) d.scope ok.scope room).0
+decl_sound far k (decl_kinds.Op as' s name void ps) d ok room = op_sound far k (plain_attrs as'.items) (plain_spec s) name ps.items d ok room
+
+decls_sound : (far : ℕ) (k : Pk) (xs : List Decl) (d : Draft) → DraftSound far d → length d.scope.types + decls_within xs ≤ far → DraftGoes far (decls_within xs) d (decls_at k xs d)
+decls_sound far k [] d ok room = record { count = omega arith; sound = ok }
+decls_sound far k (x ∷ xs) d ok room =
+    let first = decl_sound far k x.what d ok (omega (arith, room)) in
+    let before = first.count in
+    let others = decls_sound far k xs (decl_at k x.what d) first.sound (omega (arith, before, room)) in
+    let count = others.count in
+    record { count = omega (arith, before, count); sound = others.sound }
+
+empty_sound : (far : ℕ) → DraftSound far nothing_declared
+empty_sound far = record { scope = record { types = refl; few = omega arith; named = tt; tags = tt }; few = omega arith; of_each = refl; few_uses = refl; ops = refl }
+
+pub tabled_is : (tree : Ast) → IsTable (declared_in tree).scope.types (declared_in tree).ops (declared_in tree).uses
+tabled_is tree =
+    let k = pointer_default tree.attributes.items in
+    let n = decls_within tree.decls.items in
+    let goes = decls_sound n k tree.decls.items nothing_declared (empty_sound n) (omega arith) in
+    let count = goes.count in
+    let same : length (declared_in tree).scope.types ≡ n = omega (arith, count) in
+    let all = subst (λ (m : ℕ). DraftSound m (declared_in tree)) (sym same) goes.sound in
+    record { few = all.few; of_each = all.of_each; few_uses = all.few_uses; types_are = all.scope.types; ops_are = all.ops }
+
+-- the same of what code has made
+pub made_is : (tree : Ast) (k : Pk) (start made : Draft) → k ≡ pointer_default tree.attributes.items → start ≡ nothing_declared → made ≡ decls_at k tree.decls.items start → IsTable made.scope.types made.ops made.uses
+made_is tree k start made k_is start_is is =
+    let e : made ≡ declared_in tree = is ∙ ap (λ (d : Draft). decls_at k tree.decls.items d) start_is ∙ ap (λ (c : Pk). decls_at c tree.decls.items nothing_declared) k_is in
+    subst (λ (d : Draft). IsTable d.scope.types d.ops d.uses) (sym e) (tabled_is tree)

@@ -1,0 +1,338 @@
+-- What is known at a place fits a table: a type holds types of lesser numbers alone, and names what will be one of the list.
+use Rattle.std.proofs.Common.{◌≡◌, ℕ, ◌+◌, ◌<◌, ◌≤◌, List, [], ◌∷◌, ◌++◌, length, refl, ap, subst, arith, Bool, true, false, Option, None, Some, length-append}
+use Rattle.std.specs.Prelude.{◌==◌, ◌&&◌, not, if◌then◌else◌, bytes_eq}
+use Rattle.std.specs.List.{list_any}
+use Rattle.std.specs.Option.{option_or}
+use Rattle.idl_tree.specs.declared.leaf.Ident.{Ident}
+use Rattle.idl_tree.specs.declared.leaf.Pk.{Pk}
+use Rattle.idl_tree.specs.declared.leaf.Base.{Base}
+use Rattle.idl_tree.specs.declared.leaf.Base.TheVariants as bases
+use Rattle.idl_outline.specs.declared.field.Place.TheVariants as places
+use Rattle.idl_outline.specs.Outline.{all_pointed}
+use Rattle.idl_outline.specs.Plain.{PSpec, spec, PKind, of_base, of_name, of_void, of_handle_t, of_error_status, of_tag, of_struct, of_union, of_enum, PSwitch, no_switch, switch, PMember, member, PMembers, no_member, then_member, PArm, arm, empty_arm, PArms, no_arm, then_arm, PMark, is_in, is_out, is_pointer, is_text, is_idempotent, is_maybe, is_handle, is_size, is_max, is_length, is_switch, is_switch_type, PAttr, attr, PAttrs, no_attr, then_attr}
+use Rattle.ndr_value.specs.Forms.{Form, OfNamed, OfStruct, OfUnion}
+use Rattle.table_form.specs.Ordered.{is_body, fits, arms_fit, body_fits, ordered_from}
+use Rattle.table_form.specs.Ordered.{is_size as is_number_size}
+use Rattle.marshal_table.specs.declared.known.TagName.{TagName}
+use Rattle.marshal_table.specs.Known.{Sense, TypeSense, Scope, nothing, type_named, tag_named, found_form, tag_form, with_constant, with_names, begun, with_entry, ended}
+use Rattle.marshal_table.specs.Declarators.{terms}
+use Rattle.marshal_table.specs.Specs.{Face, base_form, row, arm_row, or_nothing, struct_at, union_at, member_names, arm_names, within, kind_within, switch_within, member_within, members_within, arm_within, arms_within, mark_within, attr_within, attrs_within, spec_at, kind_at, switch_at, mark_at, attr_at, attrs_at, member_at, members_at, arm_at, arms_at}
+use Rattle.marshal_table.proofs.Fitting.{both_of, and_of, less_is, fits_more, body_more, all_declared, AllFit, all_more, all_join, row_fits, held_fits, FacesFit, arm_row_fits}
+
+abbrev pub NamedFit : ℕ → ℕ → List TypeSense → Type 0
+NamedFit near far [] = Unit {0}
+NamedFit near far (t ∷ ts) = (fits near far t.sense.shape ≡ true) × NamedFit near far ts
+
+-- a structure whose body has ended is a type; one whose body hasn't will be
+abbrev pub TagsFit : ℕ → ℕ → List TagName → Type 0
+TagsFit near far [] = Unit {0}
+TagsFit near far (t ∷ ts) = ((t.whole ≡ true → t.number < near) × (t.number < far)) × TagsFit near far ts
+
+pub record Sound (far : ℕ) (p : Scope) : Type 0 where
+  pub types : ordered_from 0 far p.types ≡ true
+  pub few : length p.types ≤ far
+  pub named : NamedFit (length p.types) far p.named
+  pub tags : TagsFit (length p.types) far p.tags
+
+-- from p so many types on
+pub record Goes (far n : ℕ) (p q : Scope) : Type 0 where
+  pub count : length q.types ≡ length p.types + n
+  pub sound : Sound far q
+
+-- behind a pointer any type may stand
+abbrev pub reach : Bool → ℕ → ℕ → ℕ
+reach true near far = far
+reach false near far = near
+
+abbrev pub GivenFits : ℕ → ℕ → Option Form → Type 0
+GivenFits near far None = Unit {0}
+GivenFits near far (Some s) = fits near far s ≡ true
+
+-- ---- small parts
+
+reach_fits : (b : Bool) (near far : ℕ) → near ≤ far → (s : Form) → fits near far s ≡ true → fits (reach b near far) far s ≡ true
+reach_fits true near far le s e = fits_more near far far le s e
+reach_fits false near far le s e = e
+
+pub reach_far : (b : Bool) (near far : ℕ) → near ≤ far → (s : Form) → fits (reach b near far) far s ≡ true → fits far far s ≡ true
+reach_far true near far le s e = e
+reach_far false near far le s e = fits_more near far far le s e
+
+pub reach_not : (b : Bool) (near far : ℕ) (s : Form) → fits (reach (not b) near far) far s ≡ true → b ≡ true → fits near far s ≡ true
+reach_not true near far s e is = e
+reach_not false near far s e is = absurd cc
+
+number_fits : (b : Bool) (near far n : ℕ) → n < near → n < far → fits (reach b near far) far (OfNamed n None) ≡ true
+number_fits true near far n here there = less_is n far there
+number_fits false near far n here there = less_is n near here
+
+given_more : (near more far : ℕ) → near ≤ more → (o : Option Form) → GivenFits near far o → GivenFits more far o
+given_more near more far le None h = tt
+given_more near more far le (Some s) h = fits_more near more far le s h
+
+given_or : (near far : ℕ) (a b : Option Form) → GivenFits near far a → GivenFits near far b → GivenFits near far (option_or a b)
+given_or near far None b h k = k
+given_or near far (Some s) b h k = h
+
+nothing_or : (near far : ℕ) (o : Option Form) → GivenFits near far o → fits near far (or_nothing o) ≡ true
+nothing_or near far None h = refl
+nothing_or near far (Some s) h = h
+
+octets_cases : (a b c : Bool) → is_number_size (if a then 1 else (if b then 2 else (if c then 4 else 8))) ≡ true
+octets_cases true b c = refl
+octets_cases false true c = refl
+octets_cases false false true = refl
+octets_cases false false false = refl
+
+base_fits : (near far : ℕ) (b : Base) → fits near far (base_form b) ≡ true
+base_fits near far bases.Boolean = refl
+base_fits near far bases.Byte = refl
+base_fits near far (bases.Char unsigned) = refl
+base_fits near far (bases.Int true size int_word) = octets_cases (size == 1) (size == 2) (size == 4)
+base_fits near far (bases.Int false size int_word) = octets_cases (size == 1) (size == 2) (size == 4)
+
+-- ---- lists that grow
+
+named_more : (near more far : ℕ) → near ≤ more → (ts : List TypeSense) → NamedFit near far ts → NamedFit more far ts
+named_more near more far le [] h = tt
+named_more near more far le (t ∷ ts) h = (fits_more near more far le t.sense.shape h.0, named_more near more far le ts h.1)
+
+tags_more : (near more far : ℕ) → near ≤ more → (ts : List TagName) → TagsFit near far ts → TagsFit more far ts
+tags_more near more far le [] h = tt
+tags_more near more far le (t ∷ ts) h = ((λ w. let n = h.0.0 w in omega (arith, n, le), h.0.1), tags_more near more far le ts h.1)
+
+ordered_more : (k far : ℕ) (ts : List Form) (t : Form) → ordered_from k far ts ≡ true → is_body t ≡ true → fits (k + length ts) far t ≡ true → ordered_from k far (ts ++ t ∷ []) ≡ true
+ordered_more k far [] t e b f =
+    let g : fits k far t ≡ true = subst (λ (n : ℕ). fits n far t ≡ true) (omega arith) f in
+    and_of (is_body t) (fits k far t && true) b (and_of (fits k far t) true g refl)
+ordered_more k far (x ∷ ts) t e b f =
+    let h = both_of (is_body x) (fits k far x && ordered_from (k + 1) far ts) e in
+    let i = both_of (fits k far x) (ordered_from (k + 1) far ts) h.1 in
+    let g : fits (k + 1 + length ts) far t ≡ true = subst (λ (n : ℕ). fits n far t ≡ true) (omega arith) f in
+    and_of (is_body x) (fits k far x && ordered_from (k + 1) far (ts ++ t ∷ [])) h.0
+    (and_of (fits k far x) (ordered_from (k + 1) far (ts ++ t ∷ [])) i.0 (ordered_more (k + 1) far ts t i.1 b g))
+
+one_longer : (ts : List Form) (t : Form) → length (ts ++ t ∷ []) ≡ length ts + 1
+one_longer ts t = length-append ts (t ∷ [])
+
+with_entry_sound : (far : ℕ) (t : Form) (p : Scope) → Sound far p → length p.types + 1 ≤ far → is_body t ≡ true → fits (length p.types) far t ≡ true → Sound far (with_entry t p)
+with_entry_sound far t p ok room b f =
+    let longer = one_longer p.types t in
+    record {
+      types = ordered_more 0 far p.types t ok.types b (subst (λ (n : ℕ). fits n far t ≡ true) (omega arith) f);
+      few = omega (arith, longer, room);
+      named = named_more (length p.types) (length (p.types ++ t ∷ [])) far (omega (arith, longer)) p.named ok.named;
+      tags = tags_more (length p.types) (length (p.types ++ t ∷ [])) far (omega (arith, longer)) p.tags ok.tags;
+    }
+
+ended_sound : (far : ℕ) (tag : Option Ident) (t : Form) (p : Scope) → Sound far p → length p.types + 1 ≤ far → is_body t ≡ true → fits (length p.types) far t ≡ true → Goes far 1 p (ended tag t p)
+ended_sound far None t p ok room b f = record { count = one_longer p.types t; sound = with_entry_sound far t p ok room b f }
+ended_sound far (Some i) t p ok room b f =
+    let e = with_entry_sound far t p ok room b f in
+    let longer = one_longer p.types t in
+    record {
+      count = longer;
+      sound = record { types = e.types; few = e.few; named = e.named; tags = ((λ w. omega (arith, longer), omega (arith, room)), e.tags) };
+    }
+
+begun_types : (tag : Option Ident) (n : ℕ) (p : Scope) → (begun tag n p).types ≡ p.types
+begun_types None n p = refl
+begun_types (Some i) n p = refl
+
+begun_sound : (far : ℕ) (tag : Option Ident) (n : ℕ) (p : Scope) → Sound far p → length p.types + n < far → Sound far (begun tag n p)
+begun_sound far None n p ok room = ok
+begun_sound far (Some i) n p ok room = record { types = ok.types; few = ok.few; named = ok.named; tags = ((λ w. absurd cc, room), ok.tags) }
+
+names_sound : (far n : ℕ) (is : List Ident) (p : Scope) → Sound far p → Goes far 0 p (with_names n is p)
+names_sound far n [] p ok = record { count = omega arith; sound = ok }
+names_sound far n (i ∷ is) p ok =
+    let rest = names_sound far (n + 1) is (with_constant i (record { at = i.at; minus = false; value = n }) p) (record { types = ok.types; few = ok.few; named = ok.named; tags = ok.tags }) in
+    record { count = rest.count; sound = rest.sound }
+
+stays : (far : ℕ) (p : Scope) → Sound far p → Goes far 0 p p
+stays far p ok = record { count = omega arith; sound = ok }
+
+-- ---- names
+
+sense_pick : (near far : ℕ) (b : Bool) (x y : Sense) → fits near far x.shape ≡ true → fits near far y.shape ≡ true → fits near far (if b then x else y).shape ≡ true
+sense_pick near far true x y e f = e
+sense_pick near far false x y e f = f
+
+named_fits : (near far : ℕ) (name : List ℕ) (ts : List TypeSense) → NamedFit near far ts → fits near far (type_named name ts).shape ≡ true
+named_fits near far name [] h = refl
+named_fits near far name (t ∷ ts) h = sense_pick near far (bytes_eq t.name.text name) t.sense (type_named name ts) h.0 (named_fits near far name ts h.1)
+
+abbrev Found : ℕ → ℕ → Option (Bool × ℕ) → Type 0
+Found near far None = Unit {0}
+Found near far (Some f) = (f.0 ≡ true → f.1 < near) × (f.1 < far)
+
+found_pick : (near far : ℕ) (b : Bool) (x y : Option (Bool × ℕ)) → Found near far x → Found near far y → Found near far (if b then x else y)
+found_pick near far true x y h k = h
+found_pick near far false x y h k = k
+
+tag_found : (near far : ℕ) (name : List ℕ) (ts : List TagName) → TagsFit near far ts → Found near far (tag_named name ts)
+tag_found near far name [] h = tt
+tag_found near far name (t ∷ ts) h = found_pick near far (bytes_eq t.name.text name) (Some (t.whole, t.number)) (tag_named name ts) h.0 (tag_found near far name ts h.1)
+
+found_any : (near far : ℕ) (pointed whole : Bool) (n : ℕ) → (whole ≡ true → n < near) → n < far
+    → fits (reach pointed near far) far (if whole then OfNamed n None else (if pointed then OfNamed n None else nothing)) ≡ true
+found_any near far true true n here there = less_is n far there
+found_any near far true false n here there = less_is n far there
+found_any near far false true n here there = less_is n near (here refl)
+found_any near far false false n here there = refl
+
+found_fits : (near far : ℕ) (pointed : Bool) (o : Option (Bool × ℕ)) → Found near far o → fits (reach pointed near far) far (found_form pointed o) ≡ true
+found_fits near far true None h = refl
+found_fits near far false None h = refl
+found_fits near far pointed (Some f) h = found_any near far pointed f.0 f.1 h.0 h.1
+
+tag_fits : (near far : ℕ) (pointed : Bool) (tag : Option Ident) (ts : List TagName) → TagsFit near far ts → fits (reach pointed near far) far (tag_form pointed tag ts) ≡ true
+tag_fits near far true None ts h = refl
+tag_fits near far false None ts h = refl
+tag_fits near far pointed (Some i) ts h = found_fits near far pointed (tag_named i.text ts) (tag_found near far i.text ts h)
+
+plain_fits : (b : Bool) (near far : ℕ) (s : Form) → ((n : ℕ) → fits n far s ≡ true) → fits (reach b near far) far s ≡ true
+plain_fits b near far s h = h (reach b near far)
+
+-- ---- structures and unions
+
+struct_sound : (far n : ℕ) (pointed : Bool) (tag : Option Ident) (p : Scope) (i : List Form × Scope) → Goes far n p i.1 → AllFit (length i.1.types) far i.0 → length p.types + (n + 1) ≤ far
+    → Goes far (n + 1) p (struct_at tag i).1 × (fits (reach pointed (length (struct_at tag i).1.types) far) far (struct_at tag i).0.shape ≡ true)
+struct_sound far n pointed tag p i goes all room =
+    let count = goes.count in
+    let end = ended_sound far tag (OfStruct (row i.0)) i.1 goes.sound (omega (arith, count, room)) refl (row_fits (length i.1.types) far i.0 all) in
+    let last = end.count in (
+      record { count = omega (arith, count, last); sound = end.sound },
+      number_fits pointed (length (struct_at tag i).1.types) far (length i.1.types) (omega (arith, last)) (omega (arith, count, room)),
+    )
+
+union_sound : (far n : ℕ) (pointed : Bool) (t : Form) (p : Scope) (i : List Face × Scope) → Goes far n p i.1 → fits (length i.1.types) far t ≡ true → FacesFit (length i.1.types) far i.0 → length p.types + (n + 1) ≤ far
+    → Goes far (n + 1) p (union_at t i).1 × (fits (reach pointed (length (union_at t i).1.types) far) far (union_at t i).0.shape ≡ true)
+union_sound far n pointed t p i goes f all room =
+    let count = goes.count in
+    let body = and_of (fits (length i.1.types) far t) (arms_fit (length i.1.types) far (arm_row i.0)) f (arm_row_fits (length i.1.types) far i.0 all) in
+    let end = ended_sound far None (OfUnion t (arm_row i.0)) i.1 goes.sound (omega (arith, count, room)) refl body in
+    let last = end.count in (
+      record { count = omega (arith, count, last); sound = end.sound },
+      number_fits pointed (length (union_at t i).1.types) far (length i.1.types) (omega (arith, last)) (omega (arith, count, room)),
+    )
+
+faces_more : (near more far : ℕ) → near ≤ more → (as' : List Face) → FacesFit near far as' → FacesFit more far as'
+faces_more near more far le [] h = tt
+faces_more near more far le (a ∷ rest) h = (body_more near more far le a.2 h.0, faces_more near more far le rest h.1)
+
+-- ---- specs
+
+abbrev SpecSound : ℕ → ℕ → Bool → Scope → Sense × Scope → Type 0
+SpecSound far n pointed p q = Goes far n p q.1 × (fits (reach pointed (length q.1.types) far) far q.0.shape ≡ true)
+
+abbrev GivenSound : ℕ → ℕ → Scope → Option Form × Scope → Type 0
+GivenSound far n p q = Goes far n p q.1 × GivenFits (length q.1.types) far q.0
+
+mutual
+  pub spec_sound : (far : ℕ) (k : Pk) (pointed : Bool) (given : Option Form) (s : PSpec) (p : Scope) → Sound far p → length p.types + within s ≤ far → GivenFits (length p.types) far given → SpecSound far (within s) pointed p (spec_at k pointed given s p)
+  spec_sound far k pointed given (spec at what) p ok room g = kind_sound far k pointed given what p ok room g
+
+  kind_sound : (far : ℕ) (k : Pk) (pointed : Bool) (given : Option Form) (s : PKind) (p : Scope) → Sound far p → length p.types + kind_within s ≤ far → GivenFits (length p.types) far given → SpecSound far (kind_within s) pointed p (kind_at k pointed given s p)
+  kind_sound far k pointed given (of_base b) p ok room g = (stays far p ok, base_fits (reach pointed (length p.types) far) far b)
+  kind_sound far k pointed given (of_name i) p ok room g = (stays far p ok, reach_fits pointed (length p.types) far ok.few (type_named i.text p.named).shape (named_fits (length p.types) far i.text p.named ok.named))
+  kind_sound far k pointed given of_void p ok room g = (stays far p ok, refl)
+  kind_sound far k pointed given of_handle_t p ok room g = (stays far p ok, refl)
+  kind_sound far k pointed given of_error_status p ok room g = (stays far p ok, refl)
+  kind_sound far k pointed given (of_tag tag) p ok room g = (stays far p ok, tag_fits (length p.types) far pointed tag p.tags ok.tags)
+  kind_sound far k pointed given (of_struct tag ms) p ok room g =
+      let same = ap (λ (ts : List Form). length ts) (begun_types tag (members_within ms) p) in
+      let inside = members_sound far k (member_names ms) ms (begun tag (members_within ms) p) (begun_sound far tag (members_within ms) p ok (omega (arith, room))) (omega (arith, same, room)) in
+      let count = inside.0.count in
+      struct_sound far (members_within ms) pointed tag p (members_at k (member_names ms) ms (begun tag (members_within ms) p)) (record { count = omega (arith, same, count); sound = inside.0.sound }) inside.1 room
+  kind_sound far k pointed given (of_union tag s arms) p ok room g =
+      let t = switch_sound far k given s p ok (omega (arith, room)) g in
+      let before = t.0.count in
+      let inside = arms_sound far k (arm_names arms) arms (switch_at k given s p).1 t.0.sound (omega (arith, before, room)) in
+      let count = inside.0.count in
+      union_sound far (switch_within s + arms_within arms) pointed (switch_at k given s p).0 p (arms_at k (arm_names arms) arms (switch_at k given s p).1)
+      (record { count = omega (arith, before, count); sound = inside.0.sound })
+      (fits_more (length (switch_at k given s p).1.types) (length (arms_at k (arm_names arms) arms (switch_at k given s p).1).1.types) far (omega (arith, count)) (switch_at k given s p).0 t.1)
+      inside.1 room
+  kind_sound far k pointed given (of_enum tag names) p ok room g = (names_sound far 0 names p ok, refl)
+
+  switch_sound : (far : ℕ) (k : Pk) (given : Option Form) (s : PSwitch) (p : Scope) → Sound far p → length p.types + switch_within s ≤ far → GivenFits (length p.types) far given
+      → Goes far (switch_within s) p (switch_at k given s p).1 × (fits (length (switch_at k given s p).1.types) far (switch_at k given s p).0 ≡ true)
+  switch_sound far k given no_switch p ok room g = (stays far p ok, nothing_or (length p.types) far given g)
+  switch_sound far k given (switch s i) p ok room g = spec_sound far k false None s p ok room tt
+
+  mark_sound : (far : ℕ) (k : Pk) (m : PMark) (p : Scope) → Sound far p → length p.types + mark_within m ≤ far → GivenSound far (mark_within m) p (mark_at k m p)
+  mark_sound far k is_in p ok room = (stays far p ok, tt)
+  mark_sound far k is_out p ok room = (stays far p ok, tt)
+  mark_sound far k (is_pointer c) p ok room = (stays far p ok, tt)
+  mark_sound far k is_text p ok room = (stays far p ok, tt)
+  mark_sound far k is_idempotent p ok room = (stays far p ok, tt)
+  mark_sound far k is_maybe p ok room = (stays far p ok, tt)
+  mark_sound far k is_handle p ok room = (stays far p ok, tt)
+  mark_sound far k (is_size r) p ok room = (stays far p ok, tt)
+  mark_sound far k (is_max r) p ok room = (stays far p ok, tt)
+  mark_sound far k (is_length r) p ok room = (stays far p ok, tt)
+  mark_sound far k (is_switch star i) p ok room = (stays far p ok, tt)
+  mark_sound far k (is_switch_type s) p ok room = spec_sound far k false None s p ok room tt
+
+  attr_sound : (far : ℕ) (k : Pk) (a : PAttr) (p : Scope) → Sound far p → length p.types + attr_within a ≤ far → GivenSound far (attr_within a) p (attr_at k a p)
+  attr_sound far k (attr at m) p ok room = mark_sound far k m p ok room
+
+  pub attrs_sound : (far : ℕ) (k : Pk) (as' : PAttrs) (p : Scope) → Sound far p → length p.types + attrs_within as' ≤ far → GivenSound far (attrs_within as') p (attrs_at k as' p)
+  attrs_sound far k no_attr p ok room = (stays far p ok, tt)
+  attrs_sound far k (then_attr a rest) p ok room =
+      let first = attr_sound far k a p ok (omega (arith, room)) in
+      let before = first.0.count in
+      let others = attrs_sound far k rest (attr_at k a p).1 first.0.sound (omega (arith, before, room)) in
+      let count = others.0.count in (
+        record { count = omega (arith, before, count); sound = others.0.sound },
+        given_or (length (attrs_at k rest (attr_at k a p).1).1.types) far (attr_at k a p).0 (attrs_at k rest (attr_at k a p).1).0
+            (given_more (length (attr_at k a p).1.types) (length (attrs_at k rest (attr_at k a p).1).1.types) far (omega (arith, count)) (attr_at k a p).0 first.1) others.1,
+      )
+
+  member_sound : (far : ℕ) (k : Pk) (names : List Ident) (m : PMember) (p : Scope) → Sound far p → length p.types + member_within m ≤ far
+      → Goes far (member_within m) p (member_at k names m p).1 × AllFit (length (member_at k names m p).1.types) far (member_at k names m p).0
+  member_sound far k names (member as' s ds) p ok room =
+      let marks = attrs_sound far k as' p ok (omega (arith, room)) in
+      let before = marks.0.count in
+      let behind = spec_sound far k (all_pointed ds) (attrs_at k as' p).0 s (attrs_at k as' p).1 marks.0.sound (omega (arith, before, room)) marks.1 in
+      let count = behind.0.count in
+      let few = behind.0.sound.few in
+      let q : Sense × Scope = spec_at k (all_pointed ds) (attrs_at k as' p).0 s (attrs_at k as' p).1 in (
+        record { count = omega (arith, before, count); sound = behind.0.sound },
+        all_declared (length q.1.types) far (terms k places.Member false names as') q.1.constants q.0.shape ds
+            (reach_not (list_any (λ d. d.stars == 0) ds) (length q.1.types) far q.0.shape behind.1)
+            (reach_far (all_pointed ds) (length q.1.types) far few q.0.shape behind.1),
+      )
+
+  members_sound : (far : ℕ) (k : Pk) (names : List Ident) (ms : PMembers) (p : Scope) → Sound far p → length p.types + members_within ms ≤ far
+      → Goes far (members_within ms) p (members_at k names ms p).1 × AllFit (length (members_at k names ms p).1.types) far (members_at k names ms p).0
+  members_sound far k names no_member p ok room = (stays far p ok, tt)
+  members_sound far k names (then_member m ms) p ok room =
+      let first = member_sound far k names m p ok (omega (arith, room)) in
+      let before = first.0.count in
+      let others = members_sound far k names ms (member_at k names m p).1 first.0.sound (omega (arith, before, room)) in
+      let count = others.0.count in (
+        record { count = omega (arith, before, count); sound = others.0.sound },
+        all_join (length (members_at k names ms (member_at k names m p).1).1.types) far (member_at k names m p).0 (members_at k names ms (member_at k names m p).1).0
+            (all_more (length (member_at k names m p).1.types) (length (members_at k names ms (member_at k names m p).1).1.types) far (omega (arith, count)) (member_at k names m p).0 first.1) others.1,
+      )
+
+  arm_sound : (far : ℕ) (k : Pk) (names : List Ident) (a : PArm) (p : Scope) → Sound far p → length p.types + arm_within a ≤ far
+      → Goes far (arm_within a) p (arm_at k names a p).1 × (body_fits (length (arm_at k names a p).1.types) far (arm_at k names a p).0.2 ≡ true)
+  arm_sound far k names (arm ls m) p ok room =
+      let inside = member_sound far k names m p ok room in
+      (inside.0, held_fits (length (member_at k names m p).1.types) far (member_at k names m p).0 inside.1)
+  arm_sound far k names (empty_arm ls) p ok room = (stays far p ok, refl)
+
+  arms_sound : (far : ℕ) (k : Pk) (names : List Ident) (as' : PArms) (p : Scope) → Sound far p → length p.types + arms_within as' ≤ far
+      → Goes far (arms_within as') p (arms_at k names as' p).1 × FacesFit (length (arms_at k names as' p).1.types) far (arms_at k names as' p).0
+  arms_sound far k names no_arm p ok room = (stays far p ok, tt)
+  arms_sound far k names (then_arm a rest) p ok room =
+      let first = arm_sound far k names a p ok (omega (arith, room)) in
+      let before = first.0.count in
+      let others = arms_sound far k names rest (arm_at k names a p).1 first.0.sound (omega (arith, before, room)) in
+      let count = others.0.count in (
+        record { count = omega (arith, before, count); sound = others.0.sound },
+        (body_more (length (arm_at k names a p).1.types) (length (arms_at k names rest (arm_at k names a p).1).1.types) far (omega (arith, count)) (arm_at k names a p).0.2 first.1, others.1),
+      )

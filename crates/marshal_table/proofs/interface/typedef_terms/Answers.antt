@@ -1,0 +1,11 @@
+use Rattle.std.proofs.Common.{◌≡◌, List, [], ap, ◌∙◌, false}
+use Rattle.idl_tree.specs.declared.leaf.Ident.{Ident}
+use Rattle.idl_outline.specs.declared.field.Place.TheVariants as places
+use Rattle.idl_outline.specs.Plain.{plain_attrs}
+use Rattle.marshal_table.specs.Declarators.{terms}
+use Rattle.marshal_table.proofs.interface.typedef_terms.Goals as goal
+
+pub returns : goal.returns
+returns c =
+    let none : c.as_slice.result.now ≡ [] = cc in
+    c.terms.ensures ∙ ap (λ (ns : List Ident). terms c.args.default places.Typedef false ns (plain_attrs c.args.attrs.now)) none

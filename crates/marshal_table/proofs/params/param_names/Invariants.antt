@@ -1,0 +1,6 @@
+use Rattle.std.proofs.Common.{◌≡◌, ◌++◌, drop}
+use Rattle.marshal_table.specs.Interfaces.{param_names}
+use Rattle.marshal_table.proofs.params.param_names.Given as goal
+
+abbrev pub invariant-loop-node : goal.invariant-loop-node
+invariant-loop-node l = l.names.items ++ param_names (drop l.node-index l.nodes) ≡ param_names l.nodes

@@ -1,0 +1,11 @@
+use Rattle.std.proofs.Common.{◌≡◌, drop}
+use Rattle.marshal_table.specs.Known.{scope}
+use Rattle.marshal_table.specs.Interfaces.{listing, joined, params_at}
+use Rattle.marshal_table.proofs.params.params.Given as goal
+
+abbrev pub invariant-loop-node : goal.invariant-loop-node
+invariant-loop-node l =
+    record {
+      value : joined (listing l.all) (params_at l.default l.names (drop l.node-index l.nodes) (scope l.known)).0 ≡ (params_at l.default l.names l.nodes (scope l.initial.known)).0;
+      past : (params_at l.default l.names (drop l.node-index l.nodes) (scope l.known)).1 ≡ (params_at l.default l.names l.nodes (scope l.initial.known)).1;
+    }

@@ -1,0 +1,23 @@
+use Rattle.std.proofs.Common.{◌≡◌, List, [], map, ap, ◌∙◌}
+use Rattle.idl_tree.specs.declared.declaration.Decl.{Decl}
+use Rattle.idl_outline.specs.Outline.{pointer_default}
+use Rattle.table_form.specs.declared.operation.HandleUse.{HandleUse}
+use Rattle.table_form.specs.declared.operation.Op.{Op}
+use Rattle.table_form.specs.Tables.{op_form}
+use Rattle.marshal_table.specs.Known.{Scope, scope, nothing_known}
+use Rattle.marshal_table.specs.Interfaces.{Draft, draft, decls_at, nothing_declared}
+use Rattle.marshal_table.proofs.Drafts.{made_is}
+use Rattle.marshal_table.proofs.tables.build_tree.Goals as goal
+
+begun : (p : Scope) (os : List Op) (us : List (List HandleUse)) → p ≡ nothing_known → os ≡ [] → us ≡ [] → record { scope = p; ops = map op_form os; uses = us } ≡ nothing_declared
+begun p os us p_is os_are us_are =
+    let none : map op_form os ≡ [] = ap (map op_form) os_are in
+    cc
+
+pub of-requires : goal.of-requires
+of-requires c =
+    let start : Draft = draft c.nothing_known-known.result c.no_operations-all.result in
+    made_is c.args.tree.now c.pointer_default-default.result start (draft c.declarations.new.known c.declarations.new.into)
+    (c.pointer_default-default.ensures ∙ ap pointer_default c.deref.ensures.value)
+    (begun (scope c.nothing_known-known.result) c.no_operations-all.result.ops.items c.no_operations-all.result.uses.items c.nothing_known-known.ensures c.no_operations-all.ensures.ops c.no_operations-all.ensures.uses)
+    (c.in_ok-declarations.ensures ∙ ap (λ (xs : List Decl). decls_at c.pointer_default-default.result xs start) c.deref-2.ensures.value)

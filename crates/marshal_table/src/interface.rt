@@ -1,0 +1,288 @@
+//! Declarations, and the interface's own attributes.
+ghost use Rattle.std.specs.Prelude.{◌≡◌, [], reverse, false, IfOk, OnOk};
+ghost use Rattle.idl_outline.specs.Outline as outline;
+ghost use Rattle.idl_outline.specs.Plain.{plain_spec, plain_attrs};
+ghost use Rattle.idl_outline.specs.declared.field.Place.TheVariants as places;
+ghost use Rattle.marshal_table.specs.Known.{sense, scope};
+ghost use Rattle.marshal_table.specs.Declarators as declarators;
+ghost use Rattle.marshal_table.specs.Interfaces as spec;
+
+use crate::counts::kept_16;
+use crate::declarators::{all_pointed, declared, terms};
+use crate::known::{ConstantName, Known, Meaning, Sort};
+use crate::listing::Operations;
+use crate::marks::{is_serialised, says_handle};
+use crate::operations::{alone, operation};
+use crate::scope::{with_constant, with_handle, with_type};
+use crate::specs::{attrs_tag, spec_meaning};
+use crate::terms::Terms;
+use idl_outline::Place;
+use idl_tree::{
+    ArraySize, Attr, Decl, DeclKind, Dtor, FileAttr, FileAttrKind, Ident, Num, Pk, Spec,
+};
+use rpc_base::{NoMemory, SyntaxId};
+use std::alloc::Global;
+use uuid::Uuid;
+
+fn bare_sort(array: &Option<ArraySize>, sort: Sort) -> Sort
+    ensures { result ≡ spec.bare_sort array.now sort }
+{
+    match array {
+        None => sort,
+        Some(_) => Sort::Value,
+    }
+}
+
+fn sort_of(dtor: &Dtor, sort: Sort) -> Sort
+    ensures { result ≡ spec.sort_of dtor.now sort }
+{
+    if dtor.stars == 0 {
+        bare_sort(&dtor.array, sort)
+    } else {
+        Sort::Value
+    }
+}
+
+// What a typedef's declarator stands for.
+fn typed(
+    alloc: Global,
+    terms: &Terms,
+    constants: &[ConstantName],
+    meaning: &Meaning,
+    dtor: &Dtor,
+) -> Result<Meaning, NoMemory>
+    ensures { IfOk result (λ m. sense m ≡ spec.typed terms.now (reverse constants.now) (sense meaning.now) dtor.now) }
+{
+    let shape = declared(alloc, terms, constants, &meaning.shape, dtor)?;
+    Ok(Meaning {
+        shape,
+        sort: sort_of(dtor, meaning.sort),
+    })
+}
+
+fn typedef_one(
+    dtor: &Dtor,
+    alloc: Global,
+    known: &mut Known,
+    handle: bool,
+    serialised: bool,
+    terms: &Terms,
+    meaning: &Meaning,
+) -> Result<(), NoMemory>
+    ensures { OnOk result (scope known.new ≡ spec.typedef_one handle serialised terms.now (sense meaning.now) dtor.now (scope known.old)) }
+{
+    if handle {
+        return with_handle(known, alloc, &dtor.name, serialised);
+    }
+    let own = typed(alloc, terms, known.constants.as_slice(), meaning, dtor)?;
+    with_type(known, alloc, &dtor.name, own)
+}
+
+fn typedef_all(
+    dtors: &[Dtor],
+    alloc: Global,
+    known: &mut Known,
+    handle: bool,
+    serialised: bool,
+    terms: &Terms,
+    meaning: &Meaning,
+) -> Result<(), NoMemory>
+    ensures { OnOk result (scope known.new ≡ spec.typedef_all handle serialised terms.now (sense meaning.now) dtors.now (scope known.old)) }
+{
+    for dtor in dtors {
+        typedef_one(dtor, alloc, known, handle, serialised, terms, meaning)?;
+    }
+    Ok(())
+}
+
+// What a typedef's spec stands for.
+fn typedef_meaning(
+    attrs: &[Attr],
+    of: &Spec,
+    dtors: &[Dtor],
+    alloc: Global,
+    known: &mut Known,
+    default: Pk,
+) -> Result<Meaning, NoMemory>
+    ensures value { IfOk result (λ m. sense m ≡ (spec.typedef_sense default (plain_attrs attrs.now) (plain_spec of.now) dtors.now (scope known.old)).0) }
+    ensures past { OnOk result (scope known.new ≡ (spec.typedef_sense default (plain_attrs attrs.now) (plain_spec of.now) dtors.now (scope known.old)).1) }
+{
+    let tag = attrs_tag(attrs, alloc, known, default)?;
+    let pointed = all_pointed(dtors);
+    spec_meaning(of, alloc, known, default, pointed, &tag)
+}
+
+// What attributes say of a typedef's declarators, which have no counts.
+fn typedef_terms(attrs: &[Attr], alloc: Global, default: Pk) -> Terms
+    ensures { result ≡ declarators.terms default places.Typedef false [] (plain_attrs attrs.now) }
+{
+    let none: Vec<Ident> = Vec::new(alloc);
+    terms(attrs, default, Place::Typedef, false, none.as_slice())
+}
+
+fn typedef(
+    attrs: &[Attr],
+    of: &Spec,
+    dtors: &[Dtor],
+    alloc: Global,
+    known: &mut Known,
+    default: Pk,
+) -> Result<(), NoMemory>
+    ensures { OnOk result (scope known.new ≡ spec.typedef_at default attrs.now (plain_attrs attrs.now) (plain_spec of.now) dtors.now (scope known.old)) }
+{
+    let meaning = typedef_meaning(attrs, of, dtors, alloc, known, default)?;
+    let terms = typedef_terms(attrs, alloc, default);
+    let handle = says_handle(attrs);
+    let serialised = is_serialised(attrs);
+    typedef_all(dtors, alloc, known, handle, serialised, &terms, &meaning)
+}
+
+fn lone(
+    attrs: &[Attr],
+    of: &Spec,
+    alloc: Global,
+    known: &mut Known,
+    default: Pk,
+) -> Result<(), NoMemory>
+    ensures { OnOk result (scope known.new ≡ spec.lone_at default (plain_attrs attrs.now) (plain_spec of.now) (scope known.old)) }
+{
+    alone(attrs, of, alloc, known, default)?;
+    Ok(())
+}
+
+fn declaration(
+    kind: &DeclKind,
+    alloc: Global,
+    default: Pk,
+    known: &mut Known,
+    into: &mut Operations,
+) -> Result<(), NoMemory>
+    ensures { OnOk result (spec.draft known.new into.new ≡ spec.decl_at default kind.now (spec.draft known.old into.old)) }
+{
+    match kind {
+        DeclKind::Const { name, value, .. } => with_constant(known, alloc, name, *value),
+        DeclKind::Typedef {
+            attrs,
+            spec: of,
+            dtors,
+        } => typedef(attrs, of, dtors, alloc, known, default),
+        DeclKind::Lone { attrs, spec: of } => lone(attrs, of, alloc, known, default),
+        DeclKind::Op {
+            attrs,
+            spec: of,
+            name,
+            params,
+            ..
+        } => operation(attrs, of, name, params, alloc, default, known, into),
+    }
+}
+
+/// Adds what declarations declare.
+///
+/// # Errors
+///
+/// `NoMemory` where there is no memory for it.
+pub fn declarations(
+    list: &[Decl],
+    alloc: Global,
+    default: Pk,
+    known: &mut Known,
+    into: &mut Operations,
+) -> Result<(), NoMemory>
+    ensures { OnOk result (spec.draft known.new into.new ≡ spec.decls_at default list.now (spec.draft known.old into.old)) }
+{
+    for decl in list {
+        declaration(&decl.what, alloc, default, known, into)?;
+    }
+    Ok(())
+}
+
+// ---- the interface's own attributes
+
+fn default_in(kind: &FileAttrKind) -> Option<Pk>
+    ensures { result ≡ outline.default_in kind.now }
+{
+    match kind {
+        FileAttrKind::PointerDefault(class) => Some(*class),
+        _ => None,
+    }
+}
+
+fn uuid_in(kind: &FileAttrKind) -> Option<Uuid>
+    ensures { result ≡ spec.uuid_in kind.now }
+{
+    match kind {
+        FileAttrKind::Uuid(id) => Some(*id),
+        _ => None,
+    }
+}
+
+fn minor_of(minor: Option<Num>) -> u16
+    ensures { result ≡ spec.minor_of minor }
+{
+    match minor {
+        None => 0,
+        Some(number) => kept_16(number.value),
+    }
+}
+
+fn version_in(kind: &FileAttrKind) -> Option<(u16, u16)>
+    ensures { result ≡ spec.version_in kind.now }
+{
+    match kind {
+        FileAttrKind::Version(major, minor) => Some((kept_16(major.value), minor_of(*minor))),
+        _ => None,
+    }
+}
+
+/// The pointer class of an interface, unique where it says none.
+pub fn pointer_default(attrs: &[FileAttr]) -> Pk
+    ensures { result ≡ outline.pointer_default attrs.now }
+{
+    for attr in attrs {
+        match default_in(&attr.what) {
+            Some(class) => return class,
+            None => {}
+        }
+    }
+    Pk::Unique
+}
+
+fn first_uuid(attrs: &[FileAttr]) -> Option<Uuid>
+    ensures { result ≡ spec.first_in spec.uuid_in attrs.now }
+{
+    for attr in attrs {
+        let found = uuid_in(&attr.what);
+        if found.is_some() {
+            return found;
+        }
+    }
+    None
+}
+
+fn first_version(attrs: &[FileAttr]) -> Option<(u16, u16)>
+    ensures { result ≡ spec.first_in spec.version_in attrs.now }
+{
+    for attr in attrs {
+        let found = version_in(&attr.what);
+        if found.is_some() {
+            return found;
+        }
+    }
+    None
+}
+
+/// The interface's identifier and version; 0.0 where no version is given.
+pub fn syntax_of(attrs: &[FileAttr]) -> SyntaxId
+    ensures { result ≡ spec.syntax_of attrs.now }
+{
+    let id = match first_uuid(attrs) {
+        Some(id) => id,
+        None => Uuid::nil(),
+    };
+    let (major, minor) = match first_version(attrs) {
+        Some(version) => version,
+        None => (0, 0),
+    };
+    SyntaxId { id, major, minor }
+}

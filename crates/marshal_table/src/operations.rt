@@ -1,0 +1,151 @@
+//! Operations.
+ghost use Rattle.std.specs.Prelude.{◌≡◌, ◌++◌, ◌∷◌, [], map, take, false, IfOk, OnOk};
+ghost use Rattle.ndr_value.specs.Forms.{form};
+ghost use Rattle.table_form.specs.Tables.{result_form, param_form, op_form};
+ghost use Rattle.idl_outline.specs.Plain.{plain_spec, plain_attrs};
+ghost use Rattle.marshal_table.specs.Known.{sense, scope};
+ghost use Rattle.marshal_table.specs.Interfaces as spec;
+
+use crate::known::{Known, Meaning, Sort};
+use crate::listing::{Listing, Operations};
+use crate::marks::says_maybe;
+use crate::params::{param_names, params};
+use crate::specs::{attrs_tag, spec_meaning};
+use idl_tree::{Attr, Ident, ParamNode, Pk, Spec};
+use ndr_value::Shape;
+use rpc_base::NoMemory;
+use std::alloc::Global;
+use table_form::{HandleUses, Op, Params};
+
+fn result_of(sort: Sort, shape: Shape) -> Option<Shape>
+    ensures { result_form result ≡ spec.sort_result sort (form shape) }
+{
+    match sort {
+        Sort::Void => None,
+        Sort::Value => Some(shape),
+        Sort::ErrorStatus => Some(shape),
+        Sort::HandleT => Some(shape),
+        Sort::Handle { .. } => Some(shape),
+    }
+}
+
+fn is_status(sort: Sort) -> bool
+    ensures { result ≡ spec.is_status sort }
+{
+    matches!(sort, Sort::ErrorStatus)
+}
+
+fn op_of(
+    alloc: Global,
+    name: &Ident,
+    attrs: &[Attr],
+    meaning: Meaning,
+    params: Params,
+) -> Result<Op, NoMemory>
+    ensures { IfOk result (λ o. op_form o ≡ spec.op_of name.now.text (plain_attrs attrs.now) (sense meaning) (map param_form params.items)) }
+{
+    let name = name.text.copy(alloc)?;
+    let status = is_status(meaning.sort);
+    let maybe = says_maybe(attrs);
+    let result = result_of(meaning.sort, meaning.shape);
+    Ok(Op {
+        name,
+        params,
+        result,
+        status,
+        maybe,
+    })
+}
+
+// The first four.
+fn first_four(uses: HandleUses) -> HandleUses
+    ensures { result ≡ take 4 uses }
+{
+    let mut all = uses.into_vec();
+    all.truncate(4);
+    HandleUses::from_vec(all)
+}
+
+fn add_op(into: &mut Operations, op: Op, uses: HandleUses) -> Result<(), NoMemory>
+    ensures ops { OnOk result (map op_form into.new.ops.items ≡ spec.kept_ops (map op_form into.old.ops.items) (op_form op)) }
+    ensures uses { OnOk result (into.new.uses.items ≡ spec.kept_uses (map op_form into.old.ops.items) into.old.uses.items uses) }
+{
+    if into.ops.len() >= 65_535 {
+        return Ok(());
+    }
+    into.ops.push(op)?;
+    into.uses.push(first_four(uses))?;
+    Ok(())
+}
+
+/// What a spec without a declarator stands for, behind its attributes.
+///
+/// # Errors
+///
+/// `NoMemory` where there is no memory for it.
+pub fn alone(
+    attrs: &[Attr],
+    of: &Spec,
+    alloc: Global,
+    known: &mut Known,
+    default: Pk,
+) -> Result<Meaning, NoMemory>
+    ensures value { IfOk result (λ m. sense m ≡ (spec.alone_at default (plain_attrs attrs.now) (plain_spec of.now) (scope known.old)).0) }
+    ensures past { OnOk result (scope known.new ≡ (spec.alone_at default (plain_attrs attrs.now) (plain_spec of.now) (scope known.old)).1) }
+{
+    let tag = attrs_tag(attrs, alloc, known, default)?;
+    spec_meaning(of, alloc, known, default, false, &tag)
+}
+
+// The parameters that are listed.
+fn listed(
+    nodes: &[ParamNode],
+    alloc: Global,
+    known: &mut Known,
+    default: Pk,
+) -> Result<Listing, NoMemory>
+    ensures value { IfOk result (λ l. spec.listing l ≡ (spec.params_at default (spec.param_names nodes.now) nodes.now (scope known.old)).0) }
+    ensures past { OnOk result (scope known.new ≡ (spec.params_at default (spec.param_names nodes.now) nodes.now (scope known.old)).1) }
+{
+    let names = param_names(nodes, alloc)?;
+    params(nodes, alloc, known, default, &names)
+}
+
+// Adds an operation with that result and these parameters.
+fn add_with(
+    alloc: Global,
+    name: &Ident,
+    attrs: &[Attr],
+    meaning: Meaning,
+    all: Listing,
+    known: &Known,
+    into: &mut Operations,
+) -> Result<(), NoMemory>
+    ensures { OnOk result (spec.draft known.now into.new ≡ spec.op_with name.now.text (plain_attrs attrs.now) (sense meaning) (spec.listing all, scope known.now) (spec.draft known.now into.old)) }
+{
+    let Listing { params, uses } = all;
+    let op = op_of(alloc, name, attrs, meaning, params)?;
+    add_op(into, op, uses)
+}
+
+/// Adds an operation.
+///
+/// # Errors
+///
+/// `NoMemory` where there is no memory for it.
+pub fn operation(
+    attrs: &[Attr],
+    of: &Spec,
+    name: &Ident,
+    nodes: &[ParamNode],
+    alloc: Global,
+    default: Pk,
+    known: &mut Known,
+    into: &mut Operations,
+) -> Result<(), NoMemory>
+    ensures { OnOk result (spec.draft known.new into.new ≡ spec.op_at default (plain_attrs attrs.now) (plain_spec of.now) name.now nodes.now (spec.draft known.old into.old)) }
+{
+    let meaning = alone(attrs, of, alloc, known, default)?;
+    let all = listed(nodes, alloc, known, default)?;
+    add_with(alloc, name, attrs, meaning, all, known, into)
+}

@@ -1,0 +1,195 @@
+//! Parameters.
+ghost use Rattle.std.specs.Prelude.{◌≡◌, ◌++◌, ◌∷◌, [], ◌==◌, not, map, reverse, true, IfOk, OnOk};
+ghost use Rattle.std.specs.List.{flat_map};
+ghost use Rattle.ndr_value.specs.Forms.{form};
+ghost use Rattle.table_form.specs.Tables.{result_form, param_form};
+ghost use Rattle.idl_outline.specs.Plain.{plain_spec, plain_kind, plain_attrs};
+ghost use Rattle.idl_outline.specs.declared.field.Place.TheVariants as places;
+ghost use Rattle.marshal_table.specs.Known.{sense, scope};
+ghost use Rattle.marshal_table.specs.Declarators as declarators;
+ghost use Rattle.marshal_table.specs.Marks as marks;
+ghost use Rattle.marshal_table.specs.Interfaces as spec;
+
+use crate::declarators::{declared, terms};
+use crate::known::{ConstantName, Known, Meaning, Sort};
+use crate::listing::Listing;
+use crate::marks::{says_in, says_out};
+use crate::specs::{attrs_tag, spec_meaning};
+use idl_outline::{Place, copy_name};
+use idl_tree::{Attr, Dtor, Ident, ParamNode, Pk, Spec, SpecKind};
+use ndr_value::Shape;
+use rpc_base::NoMemory;
+use std::alloc::Global;
+use table_form::{HandleUse, HandleUses, Param, Params};
+
+fn is_binding_kind(kind: &SpecKind) -> bool
+    ensures { result ≡ spec.is_binding_kind (plain_kind kind.now) }
+{
+    matches!(kind, SpecKind::HandleT)
+}
+
+fn is_binding(of: &Spec) -> bool
+    ensures { result ≡ spec.is_binding (plain_spec of.now) }
+{
+    is_binding_kind(&of.what)
+}
+
+fn add_name(node: &ParamNode, alloc: Global, names: &mut Vec<Ident>) -> Result<(), NoMemory>
+    ensures { OnOk result (names.new.items ≡ names.old.items ++ spec.listed_name node.now) }
+{
+    if is_binding(&node.spec) {
+        return Ok(());
+    }
+    names.push(copy_name(alloc, &node.dtor.name)?)?;
+    Ok(())
+}
+
+/// The names of the parameters that are listed.
+///
+/// # Errors
+///
+/// `NoMemory` where there is no memory for them.
+pub fn param_names(nodes: &[ParamNode], alloc: Global) -> Result<Vec<Ident>, NoMemory>
+    ensures { IfOk result (λ names. names.items ≡ spec.param_names nodes.now) }
+{
+    let mut names = Vec::new(alloc);
+    for node in nodes {
+        add_name(node, alloc, &mut names)?;
+    }
+    Ok(names)
+}
+
+fn add_use(uses: &mut HandleUses, inward: bool, outward: bool, sort: Sort) -> Result<(), NoMemory>
+    ensures { OnOk result (uses.new ≡ uses.old ++ spec.handle_use inward outward sort) }
+{
+    match sort {
+        Sort::Handle { kind, serialised } => uses.push(HandleUse {
+            kind,
+            inward,
+            outward,
+            serialised,
+        }),
+        Sort::Value => Ok(()),
+        Sort::ErrorStatus => Ok(()),
+        Sort::Void => Ok(()),
+        Sort::HandleT => Ok(()),
+    }
+}
+
+fn add_param(params: &mut Params, param: Param) -> Result<(), NoMemory>
+    ensures { OnOk result (map param_form params.new.items ≡ map param_form params.old.items ++ param_form param ∷ []) }
+{
+    params.push(param)?;
+    Ok(())
+}
+
+// What a parameter's spec stands for.
+fn param_meaning(
+    node: &ParamNode,
+    alloc: Global,
+    known: &mut Known,
+    default: Pk,
+) -> Result<Meaning, NoMemory>
+    ensures value { IfOk result (λ m. sense m ≡ (spec.param_sense default node.now (scope known.old)).0) }
+    ensures past { OnOk result (scope known.new ≡ (spec.param_sense default node.now (scope known.old)).1) }
+{
+    let tag = attrs_tag(&node.attrs, alloc, known, default)?;
+    let pointed = node.dtor.stars != 0;
+    spec_meaning(&node.spec, alloc, known, default, pointed, &tag)
+}
+
+// A parameter of that shape.
+fn one_param(
+    alloc: Global,
+    attrs: &[Attr],
+    dtor: &Dtor,
+    default: Pk,
+    names: &[Ident],
+    constants: &[ConstantName],
+    shape: &Shape,
+) -> Result<Param, NoMemory>
+    ensures { IfOk result (λ p. param_form p ≡ record { shape = declarators.declared (declarators.terms default places.Parameter true names.now (plain_attrs attrs.now)) (reverse constants.now) (form shape.now) dtor.now; inward = marks.says marks.says_in (plain_attrs attrs.now); outward = marks.says marks.says_out (plain_attrs attrs.now) }) }
+{
+    let terms = terms(attrs, default, Place::Parameter, true, names);
+    let shape = declared(alloc, &terms, constants, shape, dtor)?;
+    let inward = says_in(attrs);
+    let outward = says_out(attrs);
+    Ok(Param {
+        shape,
+        inward,
+        outward,
+    })
+}
+
+// Adds a parameter whose spec stands for that.
+fn add_listed(
+    node: &ParamNode,
+    alloc: Global,
+    known: &Known,
+    default: Pk,
+    names: &[Ident],
+    meaning: &Meaning,
+    into: &mut Listing,
+) -> Result<(), NoMemory>
+    ensures { OnOk result (spec.listing into.new ≡ spec.joined (spec.listing into.old) (spec.listed_at default names.now (plain_attrs node.now.attrs.items) node.now.dtor (sense meaning.now, scope known.now)).0) }
+{
+    let constants = known.constants.as_slice();
+    let shape = &meaning.shape;
+    let param = one_param(
+        alloc,
+        &node.attrs,
+        &node.dtor,
+        default,
+        names,
+        constants,
+        shape,
+    )?;
+    add_use(&mut into.uses, param.inward, param.outward, meaning.sort)?;
+    add_param(&mut into.params, param)?;
+    Ok(())
+}
+
+// Adds a parameter, unless it is a `handle_t`.
+fn param(
+    node: &ParamNode,
+    alloc: Global,
+    known: &mut Known,
+    default: Pk,
+    names: &[Ident],
+    into: &mut Listing,
+) -> Result<(), NoMemory>
+    ensures value { OnOk result (spec.listing into.new ≡ spec.joined (spec.listing into.old) (spec.param_at default names.now node.now (scope known.old)).0) }
+    ensures past { OnOk result (scope known.new ≡ (spec.param_at default names.now node.now (scope known.old)).1) }
+{
+    if is_binding(&node.spec) {
+        return Ok(());
+    }
+    let meaning = param_meaning(node, alloc, known, default)?;
+    add_listed(node, alloc, known, default, names, &meaning, into)
+}
+
+/// The parameters that are listed, with the names of all of them.
+///
+/// # Errors
+///
+/// `NoMemory` where there is no memory for them.
+#[tactic(auto, using(crate::proofs::Rows::joins))]
+pub fn params(
+    nodes: &[ParamNode],
+    alloc: Global,
+    known: &mut Known,
+    default: Pk,
+    names: &[Ident],
+) -> Result<Listing, NoMemory>
+    ensures value { IfOk result (λ l. spec.listing l ≡ (spec.params_at default names.now nodes.now (scope known.old)).0) }
+    ensures past { OnOk result (scope known.new ≡ (spec.params_at default names.now nodes.now (scope known.old)).1) }
+{
+    let mut all = Listing {
+        params: Vec::new(alloc),
+        uses: HandleUses::new(alloc),
+    };
+    for node in nodes {
+        param(node, alloc, known, default, names, &mut all)?;
+    }
+    Ok(all)
+}

@@ -1,0 +1,3 @@
+pub mod Aligns
+pub mod Bodies
+pub mod Sizes

@@ -1,0 +1,4 @@
+pub mod Aligned
+pub mod Ordered
+pub mod Shown
+pub mod Tables

@@ -1,0 +1,48 @@
+-- The types of a table: none is reached from itself without a pointer between, since a type holds types of lesser numbers alone.
+use Rattle.std.specs.Prelude.{ℕ, ◌+◌, ◌==◌, Bool, true, false, ◌&&◌, ◌||◌, nat_lt, List, [], ◌∷◌, length}
+use Rattle.ndr_value.specs.Forms.{Form, OfInt, OfUint, OfNamed, OfStruct, OfUnion, OfArray, OfRef, OfUnique, OfFull, Forms, no_form, then_form, Body, empty, holds, ArmForms, no_arm, then_arm}
+
+-- the octets of a number
+abbrev pub is_size : ℕ → Bool
+is_size n = n == 1 || (n == 2 || (n == 4 || n == 8))
+
+abbrev mutual
+  -- the shape names types below near, and behind pointers types below far; its numbers have 1, 2, 4 or 8 octets
+  pub fits : ℕ → ℕ → Form → Bool
+  fits near far (OfInt size) = is_size size
+  fits near far (OfUint size) = is_size size
+  fits near far (OfNamed number switch) = nat_lt number near
+  fits near far (OfStruct ss) = each_fits near far ss
+  fits near far (OfUnion tag arms) = fits near far tag && arms_fit near far arms
+  fits near far (OfArray kind s) = fits near far s
+  fits near far (OfRef s) = fits far far s
+  fits near far (OfUnique s) = fits far far s
+  fits near far (OfFull s) = fits far far s
+  fits near far _ = true
+
+  pub each_fits : ℕ → ℕ → Forms → Bool
+  each_fits near far no_form = true
+  each_fits near far (then_form s ss) = fits near far s && each_fits near far ss
+
+  pub arms_fit : ℕ → ℕ → ArmForms → Bool
+  arms_fit near far no_arm = true
+  arms_fit near far (then_arm cases default b rest) = body_fits near far b && arms_fit near far rest
+
+  pub body_fits : ℕ → ℕ → Body → Bool
+  body_fits near far empty = true
+  body_fits near far (holds s) = fits near far s
+
+-- a structure or a union
+abbrev pub is_body : Form → Bool
+is_body (OfStruct ss) = true
+is_body (OfUnion tag arms) = true
+is_body _ = false
+
+-- the types from that number on; far: how many there are
+abbrev pub ordered_from : ℕ → ℕ → List Form → Bool
+ordered_from number far [] = true
+ordered_from number far (s ∷ ss) = is_body s && (fits number far s && ordered_from (number + 1) far ss)
+
+-- structures and unions, each of which holds those of lesser numbers, and points to any of them
+abbrev pub ordered : List Form → Bool
+ordered types = ordered_from 0 (length types) types
