@@ -1,2 +1,15 @@
 pub mod Comes
 pub mod More
+pub mod OneAsk
+pub mod OneAct
+pub mod Told
+pub mod Early
+pub mod Passing
+pub mod Late
+pub mod Calls
+pub mod Left
+pub mod Walks
+pub mod Done
+pub mod Asking
+pub mod Goes
+pub mod Rests

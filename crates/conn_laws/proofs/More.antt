@@ -12,7 +12,7 @@ use Rattle.conn_asks.specs.Asks.{caller_at, broken_by}
 use Rattle.conn_asks.specs.Answers.{closing}
 use Rattle.conn_asks.specs.Moments.{Moment, with_octets, Takes, SkipsAll, Acts, Goes}
 
-takes_more : (m n : Moment) (p : Pdu) (more : List ℕ) → Takes m p n → Takes (with_octets m more) p (with_octets n more)
+pub takes_more : (m n : Moment) (p : Pdu) (more : List ℕ) → Takes m p n → Takes (with_octets m more) p (with_octets n more)
 takes_more m n p more t = record {
   may = t.may;
   next = (t.next.0, t.next.1, ap (λ (x : List ℕ). x ++ more) t.next.2 ∙ append_assoc t.next.0 n.rest more);
@@ -21,13 +21,13 @@ takes_more m n p more t = record {
   link = t.link;
 }
 
-skips_more : (m : Moment) (ps : List Pdu) (n : Moment) (more : List ℕ) → SkipsAll m ps n → SkipsAll (with_octets m more) ps (with_octets n more)
+pub skips_more : (m : Moment) (ps : List Pdu) (n : Moment) (more : List ℕ) → SkipsAll m ps n → SkipsAll (with_octets m more) ps (with_octets n more)
 skips_more m [] n more e = ap (λ (x : Moment). with_octets x more) e
 skips_more m (p ∷ ps) n more all =
     let s = all.1 in
     (with_octets all.0 more, record { takes = takes_more m all.0 p more s.takes; ask = s.ask; asks = s.asks; idle = s.idle; waits = s.waits }, skips_more all.0 ps n more all.2)
 
-skips_append : (m : Moment) (ps qs : List Pdu) (n k : Moment) → SkipsAll m ps n → SkipsAll n qs k → SkipsAll m (ps ++ qs) k
+pub skips_append : (m : Moment) (ps qs : List Pdu) (n k : Moment) → SkipsAll m ps n → SkipsAll n qs k → SkipsAll m (ps ++ qs) k
 skips_append m [] qs n k e all = subst (λ (x : Moment). SkipsAll x qs k) e all
 skips_append m (p ∷ ps) qs n k all later = (all.0, all.1, skips_append all.0 ps qs n k all.2 later)
 
@@ -55,7 +55,7 @@ close_more : (rest more : List ℕ) (f : PduFault) → 16 ≤ length rest
     ≡ acts.Close (pdu_octets (closing (caller_at (rest ++ more)) (broken_by (rest ++ more) f))) (broken_by (rest ++ more) f)
 close_more rest more f long = rw (caller_more rest more long, broken_more rest more f long) refl
 
-acts_more : (m n : Moment) (act : Act) (more : List ℕ) → Acts m act n → Acts (with_octets m more) act (with_octets n more)
+pub acts_more : (m n : Moment) (act : Act) (more : List ℕ) → Acts m act n → Acts (with_octets m more) act (with_octets n more)
 acts_more m n act more (inl a) =
     let s = a.1 in
     inl (a.0, record { takes = takes_more m n a.0 more s.takes; ask = s.ask; asks = s.asks; does = s.does })

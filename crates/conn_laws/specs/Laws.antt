@@ -32,3 +32,7 @@ ActStays =
 abbrev pub SkippedBefore : Type 0
 SkippedBefore =
     (m n k : Moment) (act : Option Act) (more : List ℕ) → Goes m (Ok None) n → Goes (with_octets n more) (Ok act) k → Goes (with_octets m more) (Ok act) k
+
+-- One moment has one next act, or none, and one moment behind it.
+abbrev pub OneAct : Type 0
+OneAct = (m n k : Moment) (a b : Option Act) → Goes m (Ok a) n → Goes m (Ok b) k → (a ≡ b) × (n ≡ k)

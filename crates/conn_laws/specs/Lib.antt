@@ -1,1 +1,4 @@
 pub mod Laws
+pub mod Histories
+pub mod WholeRuns
+pub mod Played

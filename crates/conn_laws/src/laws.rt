@@ -1,5 +1,8 @@
 //! Laws of the definitions, each the contract of a function that does nothing.
-ghost use Rattle.conn_laws.specs.Laws.{ComesOn, GoesOnInTheStream, LeavesOfAll, ActStays, SkippedBefore};
+ghost use Rattle.conn_laws.specs.Laws.{ComesOn, GoesOnInTheStream, LeavesOfAll, ActStays, SkippedBefore, OneAct};
+ghost use Rattle.conn_laws.specs.Histories.{AllHasCome, EachGoes, EachRests, OneAnswer, SameActs, SameAnswers};
+ghost use Rattle.conn_laws.specs.Played.{ActsAreAsks, OneAsking, EachAsks};
+ghost use Rattle.conn_laws.specs.WholeRuns.{CallsAreWholeRuns, WholeRunsAreRuns};
 
 /// The PDUs that were taken and the octets behind them are what came, whatever the pieces.
 pub fn comes_on()
@@ -24,4 +27,72 @@ pub fn act_stays()
 /// PDUs that were skipped before further octets came are skipped with these too: the next act is the same.
 pub fn skipped_before()
     ensures { SkippedBefore }
+{}
+
+/// A moment has one next act, or none, and one moment behind it, unless memory runs out.
+pub fn one_act()
+    ensures { OneAct }
+{}
+
+/// The octets that came are the PDUs that were taken and the octets behind them, whatever happened.
+pub fn all_has_come()
+    ensures { AllHasCome }
+{}
+
+/// Each moment of a connection to which octets came has a next act, or none.
+pub fn each_goes()
+    ensures { EachGoes }
+{}
+
+/// Each moment of a connection to which octets came is at rest behind some further acts, with no further
+/// octets and no word of those above.
+pub fn each_rests()
+    ensures { EachRests }
+{}
+
+/// What those above say at a moment is answered by one list of octets, and leads to one moment.
+pub fn one_answer()
+    ensures { OneAnswer }
+{}
+
+/// Octets that come in other pieces give the same acts and answers, in the same order, where each word of
+/// those above comes behind as many of them; and the same moment, once nothing more is to be done.
+pub fn same_acts()
+    ensures { SameActs }
+{}
+
+/// Octets that come in other pieces give the same answers, and the same acts but for cancels and orphanings,
+/// in the same order, and end at the same moment, whenever those above say the same. Only which cancels and
+/// orphanings find their call unanswered depends on when it is answered.
+pub fn same_answers()
+    ensures { SameAnswers }
+{}
+
+/// A PDU asks a call exactly where a bind came before and the PDU is the last fragment of a whole run.
+pub fn calls_are_whole_runs()
+    ensures { CallsAreWholeRuns }
+{}
+
+/// A whole run goes from a first fragment to the next last one among the requests, all of one call,
+/// context, operation and order. Its stub is that of all of them, in order; it is marked where one of them
+/// has PENDING_CANCEL or a co_cancel with its id came between; no orphaned with its id did.
+pub fn whole_runs_are_runs()
+    ensures { WholeRunsAreRuns }
+{}
+
+/// What is done and answered on a connection is what the octets that came ask, in order: each ask has its
+/// piece, and nothing else is done or answered. All of it is done where nothing is waited for and no whole
+/// PDU is left, and where the connection is closed, unless its bind was refused.
+pub fn acts_are_asks()
+    ensures { ActsAreAsks }
+{}
+
+/// Octets ask one list.
+pub fn one_asking()
+    ensures { OneAsking }
+{}
+
+/// All octets ask something, or nothing: there is such a list.
+pub fn each_asks()
+    ensures { EachAsks }
 {}
