@@ -1,18 +1,20 @@
 //! The answers of calls.
 ghost use Rattle.std.specs.Prelude.{◌≡◌, ◌+◌, ◌≤◌, ◌<◌, ◌^◌, ◌++◌, length, IfOk, OnOk};
 ghost use Rattle.std.specs.Option.{option_copied};
-ghost use Rattle.pdu_codec.specs.Pdus.{pdu_octets};
+ghost use Rattle.pdu_codec.specs.Pdus.{drep_octet, pdu_octets};
 ghost use Rattle.conn_asks.specs.Answers as spec;
 
 use crate::Caller;
-use crate::answers::{answer, fault};
+use crate::answers::fault;
 use handle_model::Said;
-use pdu_codec::{Body, ResponseBody, write_pdu};
-use rpc_base::{NoMemory, Octets};
+use rpc_base::{NoMemory, Octets, Order, put_u16, put_u32};
 use std::alloc::Global;
 
 /// The octets of a response in front of its stub.
 const HEAD: u16 = 24;
+
+/// The PTYPE of a response.
+const RESPONSE: u8 = 2;
 
 /// The flags of a fragment.
 fn flags(first: bool, last: bool) -> u8
@@ -26,9 +28,18 @@ fn flags(first: bool, last: bool) -> u8
     }
 }
 
-/// Adds a fragment with a piece of the stub, behind which there are so many octets.
+/// The first octet of the data representation of ASCII characters and numbers in the order.
+fn drep(order: Order) -> u8
+    ensures { result ≡ drep_octet order }
+{
+    match order {
+        Order::Big => 0x00,
+        Order::Little => 0x10,
+    }
+}
+
+/// Adds a fragment with a piece of the stub, behind which there are so many octets. The piece is copied once.
 fn put_fragment(
-    alloc: Global,
     caller: Caller,
     first: bool,
     piece: &[u8],
@@ -39,16 +50,17 @@ fn put_fragment(
     requires hint { length piece.now + later ≤ 2 ^ 24 }
     ensures { OnOk result (into.new.items ≡ into.old.items ++ pdu_octets (spec.fragment caller first piece.now later)) }
 {
-    let mut stub = Octets::new(alloc);
-    stub.append(piece)?;
-    let body = ResponseBody {
-        alloc_hint: (piece.len() + later) as u32,
-        context: caller.context,
-        cancel_count: 0,
-        stub,
-    };
-    let fragment = answer(caller, flags(first, later == 0), Body::Response(body));
-    write_pdu(&fragment, into)
+    let order = caller.order;
+    let flags = flags(first, later == 0);
+    into.extend_from_slice(&[5, 0, RESPONSE, flags, drep(order), 0, 0, 0])?;
+    put_u16(order, HEAD + piece.len() as u16, into)?;
+    put_u16(order, 0, into)?;
+    put_u32(order, caller.call_id, into)?;
+    put_u32(order, (piece.len() + later) as u32, into)?;
+    put_u16(order, caller.context, into)?;
+    into.extend_from_slice(&[0, 0])?;
+    into.extend_from_slice(piece)?;
+    Ok(())
 }
 
 /// The octets of a response with the stub, in fragments of at most so many octets.
@@ -58,16 +70,17 @@ fn respond(alloc: Global, caller: Caller, most: u16, stub: &[u8]) -> Result<Octe
     ensures { IfOk result (λ octets. spec.IsResponse caller most stub.now octets) }
 {
     let size = ((most - HEAD) / 8 * 8) as usize;
-    let mut octets = Vec::new(alloc);
+    let fragments = stub.len().div_ceil(size).max(1);
+    let mut octets = Vec::with_capacity(alloc, stub.len() + fragments * HEAD as usize)?;
     let mut first = true;
     let mut rest = stub;
     while rest.len() > size {
         let (piece, later) = rest.split_at(size);
-        put_fragment(alloc, caller, first, piece, later.len(), &mut octets)?;
+        put_fragment(caller, first, piece, later.len(), &mut octets)?;
         first = false;
         rest = later;
     }
-    put_fragment(alloc, caller, first, rest, 0, &mut octets)?;
+    put_fragment(caller, first, rest, 0, &mut octets)?;
     Ok(Octets::from_vec(octets))
 }
 

@@ -10,6 +10,3 @@ mod off;
 
 pub use conn::Conn;
 pub use conn_asks::{Act, ConnFault};
-
-#[cfg(test)]
-mod tests;

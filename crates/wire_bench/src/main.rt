@@ -1,47 +1,94 @@
-//! The program: `wire_bench REQUESTS FRAGMENTS PART PIECE` makes a stream of so many requests, each of so many
-//! fragments with PART octets of stub data, lets it come in pieces of PIECE octets, and prints how many
-//! requests were joined, and how many octets their stubs have.
+//! The program: `wire_bench TAKER REQUESTS FRAGMENTS PART PIECE` makes a stream of so many requests, each of so
+//! many fragments with PART octets of stub data, and lets it come in pieces of PIECE octets. TAKER is `joined`,
+//! which takes the PDUs off the stream and joins the fragments, or `served`, a connection of a server that answers
+//! each call by its own stub. It prints how many requests there were and how many octets their stubs have, and, of
+//! a connection, how many octets were answered.
 #![tactic(auto)]
 
 ghost use Rattle.std.specs.Prelude.{◌<◌, ◌≤◌, IfOk, IfSome};
 
 mod line;
 mod plan;
+mod served;
 
 use anyhow::{Context, Result};
 use line::Line;
 use plan::Plan;
+use served::Served;
 use std::alloc::Global;
 use std::env;
+use std::io::Print;
 use std::rt::Env;
 
-/// The plan that the words ask for.
-fn asked(rt: &(impl Env + AllocGlobal), alloc: Global) -> Result<Option<Plan>>
-    ensures part { IfOk result (λ plan. IfSome plan (λ p. p.part ≤ 65511)) }
-    ensures piece { IfOk result (λ plan. IfSome plan (λ p. 0 < p.piece)) }
-{
-    let words = env::args(rt).context("the words")?;
-    let mut numbers = Vec::new(alloc);
-    for word in words.skip(1) {
-        numbers.push(word.as_str().parse::<u64>().context("a number")?)?;
-    }
-    match numbers.as_slice() {
-        [requests, fragments, part, piece] => Ok(Plan::of(*requests, *fragments, *part, *piece)),
-        _ => Ok(None),
+/// What takes a stream.
+#[derive(Clone, Copy, Debug, PartialEq, Eq)]
+enum Taker {
+    Joined,
+    Served,
+}
+
+fn taker_of(word: &str) -> Option<Taker> {
+    match word {
+        "joined" => Some(Taker::Joined),
+        "served" => Some(Taker::Served),
+        _ => None,
     }
 }
 
-fn main(rt: HostRuntime) -> Result<()> {
-    let alloc = rt.alloc();
-    let Some(plan) = asked(&rt, alloc)? else {
-        println!(rt; "wire_bench REQUESTS FRAGMENTS PART PIECE")?;
-        return Ok(());
+/// What the words ask for.
+fn asked(rt: &(impl Env + AllocGlobal), alloc: Global) -> Result<Option<(Taker, Plan)>>
+    ensures part { IfOk result (λ asked. IfSome asked (λ a. a.1.part ≤ 65511)) }
+    ensures piece { IfOk result (λ asked. IfSome asked (λ a. 0 < a.1.piece)) }
+{
+    let mut words = env::args(rt).context("the words")?.skip(1);
+    let Some(taker) = words.next().and_then(|word| taker_of(word.as_str())) else {
+        return Ok(None);
     };
-    let octets = plan::stream(alloc, &plan)?;
+    let mut numbers = Vec::new(alloc);
+    for word in words {
+        numbers.push(word.as_str().parse::<u64>().context("a number")?)?;
+    }
+    let plan = match numbers.as_slice() {
+        [requests, fragments, part, piece] => Plan::of(*requests, *fragments, *part, *piece),
+        _ => None,
+    };
+    Ok(plan.map(|plan| (taker, plan)))
+}
+
+/// Joins the fragments of a stream.
+fn join(rt: &impl Print, alloc: Global, stream: &[u8], piece: usize) -> Result<()>
+    requires { 0 < piece }
+{
     let mut line = Line::new(alloc);
-    line.come(octets.as_slice(), plan.piece)?;
+    line.come(stream, piece)?;
     let requests = line.requests();
     let octets = line.octets();
     println!(rt; "requests {requests} octets {octets}")?;
     Ok(())
+}
+
+/// Serves a stream on a connection.
+fn serve(rt: &impl Print, alloc: Global, stream: &[u8], piece: usize) -> Result<()>
+    requires { 0 < piece }
+{
+    let mut served = Served::new(alloc)?;
+    served.come(stream, piece)?;
+    let calls = served.calls();
+    let octets = served.octets();
+    let answered = served.answered();
+    println!(rt; "calls {calls} octets {octets} answered {answered}")?;
+    Ok(())
+}
+
+fn main(rt: HostRuntime) -> Result<()> {
+    let alloc = rt.alloc();
+    let Some((taker, plan)) = asked(&rt, alloc)? else {
+        println!(rt; "wire_bench joined|served REQUESTS FRAGMENTS PART PIECE")?;
+        return Ok(());
+    };
+    let stream = plan::stream(alloc, &plan)?;
+    match taker {
+        Taker::Joined => join(&rt, alloc, stream.as_slice(), plan.piece),
+        Taker::Served => serve(&rt, alloc, stream.as_slice(), plan.piece),
+    }
 }

@@ -1,7 +1,17 @@
-use Rattle.std.proofs.Common.{refl, arith}
-use Rattle.pdu_codec.proofs.SizeLaws.{response_writable}
+use Rattle.conn_asks.proofs.Fragments.{fragment_octets}
 use Rattle.conn_asks.proofs.replies.put_fragment.Goals as goal
 
-pub write_pdu-requires : goal.write_pdu-requires
-write_pdu-requires c =
-    rw (c.answer-fragment.ensures, c.in_ok-append.ensures.ok, c.new-stub.ensures) (response_writable _ _ (omega arith) refl (omega (arith, c.requires.short)))
+pub returns : goal.returns
+returns c =
+    rw (
+      c.in_ok-extend_from_slice-3.ensures.items,
+      c.in_ok-extend_from_slice-2.ensures.items,
+      c.in_ok-put_u16-3.ensures.ok,
+      c.in_ok-put_u32-2.ensures.ok,
+      c.in_ok-put_u32.ensures.ok,
+      c.in_ok-put_u16-2.ensures.ok,
+      c.in_ok-put_u16.ensures.ok,
+      c.in_ok-extend_from_slice.ensures.items,
+      c.drep.ensures,
+      c.flags-flags.ensures,
+    ) (fragment_octets c.args.caller c.args.first c.args.piece.now c.args.later c.args.into.now.items)
