@@ -16,15 +16,18 @@ fn judged(alloc: Global, past: &Outline, event: &Event) -> Result<Firsts, NoMemo
     ensures { IfOk result (λ f. f ≡ spec.firsts_at past.now event.now) }
 {
     let again = duplicate(alloc, past, event)?;
+    let attributes = bad_attribute(alloc, event)?;
+    let size = size_name(alloc, event)?;
+    let tag = union_tag(alloc, event)?;
     Ok(Firsts {
         unknown: unknown(past, event),
         duplicate: again,
-        bad_attribute: bad_attribute(event),
-        size_name: size_name(event),
+        bad_attribute: attributes,
+        size_name: size,
         handle_use: handle_use(event),
         too_many_handles: too_many_handles(event),
         recursion: recursion(event),
-        union_tag: union_tag(event),
+        union_tag: tag,
         outside_profile: outside_profile(past, event),
     })
 }
@@ -43,13 +46,14 @@ fn judged_events(alloc: Global, outline: Outline) -> Result<Firsts, NoMemory>
     Ok(firsts)
 }
 
-fn judged_file(tree: &Ast) -> Firsts
-    ensures { result ≡ spec.firsts_of_file tree.now }
+fn judged_file(alloc: Global, tree: &Ast) -> Result<Firsts, NoMemory>
+    ensures { IfOk result (λ f. f ≡ spec.firsts_of_file tree.now) }
 {
-    Firsts {
-        bad_attribute: bad_file(tree),
+    let attribute = bad_file(alloc, tree)?;
+    Ok(Firsts {
+        bad_attribute: attribute,
         ..Firsts::none()
-    }
+    })
 }
 
 /// The first breach of each rule.
@@ -59,5 +63,6 @@ pub(crate) fn judged_tree(alloc: Global, tree: &Ast, outline: Outline) -> Result
     ensures { IfOk result (λ f. spec.Gives (spec.first_place tree.now) f) }
 {
     let events = judged_events(alloc, outline)?;
-    Ok(judged_file(tree).or(events))
+    let file = judged_file(alloc, tree)?;
+    Ok(file.or(events))
 }

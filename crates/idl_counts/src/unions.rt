@@ -1,5 +1,5 @@
 //! The eighth rule: the tags of unions, and their cases.
-ghost use Rattle.std.specs.Prelude.{◌≡◌, List};
+ghost use Rattle.std.specs.Prelude.{◌≡◌, List, IfOk};
 ghost use Rattle.std.specs.List.{flat_map};
 ghost use Rattle.idl_outline.specs.declared.event.Event.{Event};
 ghost use Rattle.idl_rules.specs.Least.{least};
@@ -11,6 +11,8 @@ use idl_rules::{
     by_value, has_switch_type, is_tag_core, is_unknown, lesser, place_if, repeated, value_of,
 };
 use idl_tree::Num;
+use rpc_base::NoMemory;
+use std::alloc::Global;
 
 fn is_bad_tag(ty: DataType) -> bool
     ensures { result ≡ spec.is_bad_tag ty }
@@ -86,13 +88,11 @@ fn outside_place(tag: Tag, labels: &[Label]) -> Option<usize>
 }
 
 #[tactic(auto, using(idl_rules::proofs::Leasts::leasts))]
-fn labels_place(tag: Tag, labels: &[Label]) -> Option<usize>
-    ensures { result ≡ least (spec.labels_places tag labels.now) }
+fn labels_place(alloc: Global, tag: Tag, labels: &[Label]) -> Result<Option<usize>, NoMemory>
+    ensures { IfOk result (λ at. at ≡ least (spec.labels_places tag labels.now)) }
 {
-    lesser(
-        tag_place(tag),
-        lesser(repeated(labels), outside_place(tag, labels)),
-    )
+    let again = repeated(alloc, labels)?;
+    Ok(lesser(tag_place(tag), lesser(again, outside_place(tag, labels))))
 }
 
 fn first_name(declared: &[Declared]) -> Option<usize>
@@ -137,18 +137,22 @@ fn each_untagged(fields: &[Field]) -> Option<usize>
 
 /// The least place where a union of the event has a tag of a wrong type, a case that stands twice or
 /// isn't one of the tag's, a second default, or no tag.
+///
+/// # Errors
+///
+/// `NoMemory` where there is no memory for the cases that were seen.
 #[tactic(auto, using(idl_rules::proofs::Leasts::leasts))]
-pub fn union_tag(event: &Event) -> Option<usize>
-    ensures { (past : List Event) → result ≡ least (spec.union_tag past event.now) }
+pub fn union_tag(alloc: Global, event: &Event) -> Result<Option<usize>, NoMemory>
+    ensures { IfOk result (λ at. (past : List Event) → at ≡ least (spec.union_tag past event.now)) }
 {
     match event {
-        Event::Union { tag, labels } => labels_place(*tag, labels.as_slice()),
-        Event::Single(field) => untagged(field),
-        Event::Body(fields) => each_untagged(fields.as_slice()),
-        Event::Call { result, parameters } => lesser(
+        Event::Union { tag, labels } => Ok(labels_place(alloc, *tag, labels.as_slice())?),
+        Event::Single(field) => Ok(untagged(field)),
+        Event::Body(fields) => Ok(each_untagged(fields.as_slice())),
+        Event::Call { result, parameters } => Ok(lesser(
             untagged(result),
             each_untagged(parameters.as_slice()),
-        ),
-        _ => None,
+        )),
+        _ => Ok(None),
     }
 }

@@ -1,23 +1,23 @@
 -- What stands again, as something that was seen before.
-use Rattle.std.proofs.Common.{◌≡◌, ◌⊎◌, ℕ, ◌<◌, ◌≤◌, min, Bool, true, false, ◌||◌, List, [], ◌∷◌, ◌++◌, map, Option, Some, None, Vec, Global, refl, ap, sym, ◌∙◌, arith}
+use Rattle.std.proofs.Common.{◌≡◌, ◌⊎◌, ℕ, ◌<◌, ◌≤◌, min, Bool, true, false, cond, ◌||◌, List, [], ◌∷◌, ◌++◌, map, Option, Some, None, Vec, Global, ℤ, refl, ap, sym, ◌∙◌, arith}
 use Rattle.std.specs.Prelude.{bytes_eq, if◌then◌else◌}
 use Rattle.std.specs.declared.cmp.Ordering.{Ordering}
 use Rattle.std.specs.declared.cmp.Ordering.TheVariants.{Less, Equal, Greater}
-use Rattle.std.specs.Ordering.{nat_cmp, is_eq, match_ordering}
+use Rattle.std.specs.Ordering.{nat_cmp, int_cmp, int_eq, is_eq, match_ordering}
 use Rattle.std.specs.Cmp.Lexicographic.{slice_cmp}
 use Rattle.std.specs.List.{list_any, filter}
-use Rattle.std.specs.BTreeSet.{BTreeSet, insert_key}
+use Rattle.std.specs.BTreeSet.{BTreeSet, insert_key, Updates}
 use Rattle.std.specs.Cmp.{nat_eq_equiv}
 use Rattle.std.proofs.lemmas.Cmp.{lists_equiv}
 use Rattle.std.proofs.lemmas.Map.Text.{is_eq-slice_cmp}
 use Rattle.std.proofs.lemmas.Slice.Eq.{bytes_eq-Decides}
 use Rattle.std.proofs.lemmas.List.Elements.{filter-append}
 use Rattle.std.proofs.lemmas.List.Folds.{list_any-append}
-use Rattle.idl_tree.specs.declared.leaf.Ident.{Ident}
+use Rattle.idl_rules.specs.declared.again.Key.{Key as SeenKey}
 use Rattle.idl_rules.specs.Least.{least, lesser}
 use Rattle.idl_rules.specs.Places.{at_if, repeats}
-use Rattle.idl_rules.specs.Duplicate.{same_name, place_of}
-use Rattle.idl_rules.specs.Seen.{has_name}
+use Rattle.idl_rules.specs.Key.{same_key}
+use Rattle.idl_rules.specs.Seen.{has_name, has_number}
 use Rattle.idl_rules.proofs.Leasts.{least_append, lesser_assoc, lesser_none}
 
 -- ---- a set of names behind an insertion
@@ -65,7 +65,15 @@ seen_more old new k name text e keys =
     ∙ (any_inserted text k old.keys
     ∙ ap (λ (b : Bool). b || list_any (at text) old.keys) (is_eq-slice_cmp text k.items ∙ ((lists_equiv nat_eq_equiv).symm text k.items ∙ ap (λ (xs : List ℕ). bytes_eq xs text) e)))
 
-pub ruleset inserted = (seen_more)
+-- a set of numbers behind an insertion
+or_is : (a b : Bool) → cond a true b ≡ a || b
+or_is true b = refl
+or_is false b = refl
+
+pub number_more : (old new : BTreeSet ℤ) (k z : ℤ) → Updates int_cmp old new k true → has_number new z ≡ (int_eq k z || has_number old z)
+number_more old new k z u = u.0 z ∙ or_is (int_eq k z) (has_number old z)
+
+pub ruleset inserted = (seen_more, number_more)
 
 -- ---- one more
 
@@ -119,15 +127,7 @@ repeats_snoc same place (x ∷ xs) y =
     ∙ (crossed (least (map place (filter (same x) xs))) (one (same x y) (place y)) (least (repeats same place xs)) (one (list_any (λ z. same z y) xs) (place y))
     ∙ (λ j. lesser (sym (least_append (map place (filter (same x) xs)) (repeats same place xs)) j) (either (same x y) (list_any (λ z. same z y) xs) (place y) j))))
 
--- ---- one name more
-
-pub least_more : (xs ys : List Ident) (y : Ident) (seen : BTreeSet Key) (found more : Option ℕ) (again : Bool) → ys ≡ xs ++ y ∷ [] → found ≡ least (repeats same_name place_of xs)
-    → ((text : List ℕ) → has_name seen text ≡ list_any (λ n. bytes_eq n.text text) xs) → again ≡ has_name seen y.text → more ≡ lesser found (least (at_if again y.at)) → more ≡ least (repeats same_name place_of ys)
-least_more xs ys y seen found more again e f s a m =
-    m
-    ∙ ((λ j. lesser (f j) (one ((a ∙ s y.text) j) y.at))
-    ∙ (sym (repeats_snoc same_name place_of xs y)
-    ∙ ap (λ zs. least (repeats same_name place_of zs)) (sym e)))
+-- ---- one item more
 
 or_last : (a b : Bool) → b || a ≡ a || (b || false)
 or_last true true = refl
@@ -135,11 +135,23 @@ or_last true false = refl
 or_last false true = refl
 or_last false false = refl
 
-pub names_more : (xs ys : List Ident) (y : Ident) (seen new : BTreeSet Key) (text : List ℕ) → ys ≡ xs ++ y ∷ [] → has_name seen text ≡ list_any (λ n. bytes_eq n.text text) xs
-    → has_name new text ≡ (bytes_eq y.text text || has_name seen text) → has_name new text ≡ list_any (λ n. bytes_eq n.text text) ys
-names_more xs ys y seen new text e s n =
+pub any_more : {X : Type 0} (p : X → Bool) (xs ys : List X) (y : X) (seen new : Bool) → ys ≡ xs ++ y ∷ [] → seen ≡ list_any p xs → new ≡ (p y || seen) → new ≡ list_any p ys
+any_more p xs ys y seen new e s n =
     n
-    ∙ (ap (λ (b : Bool). bytes_eq y.text text || b) s
-    ∙ (or_last (list_any (λ z. bytes_eq z.text text) xs) (bytes_eq y.text text)
-    ∙ (sym (list_any-append (λ z. bytes_eq z.text text) xs (y ∷ []))
-    ∙ ap (list_any (λ z. bytes_eq z.text text)) (sym e))))
+    ∙ (ap (λ (b : Bool). p y || b) s
+    ∙ (or_last (list_any p xs) (p y)
+    ∙ (sym (list_any-append p xs (y ∷ []))
+    ∙ ap (list_any p) (sym e))))
+
+pub least_more : {X : Type 0} (same : X → X → Bool) (place : X → ℕ) (xs ys : List X) (y : X) (found more : Option ℕ) (again : Bool) → ys ≡ xs ++ y ∷ [] → found ≡ least (repeats same place xs)
+    → again ≡ list_any (λ x. same x y) xs → more ≡ lesser found (least (at_if again (place y))) → more ≡ least (repeats same place ys)
+least_more same place xs ys y found more again e f a m =
+    m
+    ∙ ((λ j. lesser (f j) (one (a j) (place y)))
+    ∙ (sym (repeats_snoc same place xs y)
+    ∙ ap (λ zs. least (repeats same place zs)) (sym e)))
+
+-- where those that are the same have one key
+pub any_by_key : {X : Type 0} (same : X → X → Bool) (key : X → SeenKey) → ((a b : X) → same a b ≡ same_key (key a) (key b)) → (xs : List X) (y : X) → list_any (λ x. same_key (key x) (key y)) xs ≡ list_any (λ x. same x y) xs
+any_by_key same key by [] y = refl
+any_by_key same key by (x ∷ xs) y = λ j. sym (by x y) j || any_by_key same key by xs y j

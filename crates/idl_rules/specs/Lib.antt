@@ -6,6 +6,9 @@ pub mod Duplicate
 pub mod BadAttribute
 pub mod SizeName
 pub mod HandleUse
+pub mod Key
+pub mod Keys
+pub mod ByKey
 pub mod TooManyHandles
 pub mod Recursion
 pub mod UnionTag

@@ -10,7 +10,7 @@ mod recursions;
 mod same;
 mod unknown_names;
 
-pub use again::{Again, repeated};
+pub use again::{Again, Key, repeated};
 pub use asked::{
     Asked, by_value, has_direction_in, has_direction_out, has_handle_word, has_size, has_string,
     has_switch_type, is_arm, is_asked, is_bare_union, is_char, is_context_handle, is_handle_t,

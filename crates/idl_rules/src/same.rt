@@ -3,8 +3,9 @@ ghost use Rattle.std.specs.Prelude.{◌≡◌};
 ghost use Rattle.idl_rules.specs.Types as types;
 ghost use Rattle.idl_rules.specs.UnionTag as tags;
 ghost use Rattle.idl_rules.specs.BadAttribute as attributes;
+ghost use Rattle.idl_rules.specs.Keys as keys;
 
-use crate::again::Again;
+use crate::again::{Again, Key};
 use idl_outline::{Attribute, Label, Mark};
 use idl_tree::{FileAttr, FileAttrKind, Num};
 
@@ -16,35 +17,32 @@ pub fn value_of(number: Num) -> i128
     if number.minus { -size } else { size }
 }
 
-fn same_number(a: Option<Num>, b: Option<Num>) -> bool
-    ensures { result ≡ tags.same_number a b }
+fn number_key(number: Option<Num>) -> Key
+    ensures { result ≡ keys.number_key number }
 {
-    match a {
-        None => false,
-        Some(a) => match b {
-            None => false,
-            Some(b) => value_of(a) == value_of(b),
-        },
+    match number {
+        None => Key::Own,
+        Some(number) => Key::Number(value_of(number)),
     }
 }
 
 impl Again for Label {
     ghost use Rattle.idl_rules.specs.UnionTag as tags;
+    ghost use Rattle.idl_rules.specs.Keys as keys;
+    ghost use Rattle.idl_rules.specs.ByKey as keyed;
 
     ghost same = { tags.same_label };
 
-    ghost place = { tags.label_place };
+    ghost place_of = { tags.label_place };
 
-    fn is_same(&self, other: &Self) -> bool {
+    ghost key_of = { keys.label_key };
+
+    ghost by_key = { keyed.labels_by_key };
+
+    fn key(&self) -> Key {
         match self {
-            Label::Case { value, .. } => match other {
-                Label::Case { value: second, .. } => same_number(*value, *second),
-                Label::Default(_) => false,
-            },
-            Label::Default(_) => match other {
-                Label::Case { .. } => false,
-                Label::Default(_) => true,
-            },
+            Label::Case { value, .. } => number_key(*value),
+            Label::Default(_) => Key::Word,
         }
     }
 
@@ -77,13 +75,19 @@ fn kind_of(mark: &Mark) -> u8
 
 impl Again for Attribute {
     ghost use Rattle.idl_rules.specs.BadAttribute as attributes;
+    ghost use Rattle.idl_rules.specs.Keys as keys;
+    ghost use Rattle.idl_rules.specs.ByKey as keyed;
 
     ghost same = { attributes.same_kind };
 
-    ghost place = { attributes.place_of };
+    ghost place_of = { attributes.place_of };
 
-    fn is_same(&self, other: &Self) -> bool {
-        kind_of(&self.mark) == kind_of(&other.mark)
+    ghost key_of = { keys.attribute_key };
+
+    ghost by_key = { keyed.attributes_by_key };
+
+    fn key(&self) -> Key {
+        Key::Number(i128::from(kind_of(&self.mark)))
     }
 
     fn place(&self) -> usize {
@@ -111,13 +115,19 @@ pub fn is_uuid(attribute: &FileAttr) -> bool
 
 impl Again for FileAttr {
     ghost use Rattle.idl_rules.specs.BadAttribute as attributes;
+    ghost use Rattle.idl_rules.specs.Keys as keys;
+    ghost use Rattle.idl_rules.specs.ByKey as keyed;
 
     ghost same = { attributes.same_file_kind };
 
-    ghost place = { attributes.file_place };
+    ghost place_of = { attributes.file_place };
 
-    fn is_same(&self, other: &Self) -> bool {
-        file_kind(&self.what) == file_kind(&other.what)
+    ghost key_of = { keys.file_key };
+
+    ghost by_key = { keyed.files_by_key };
+
+    fn key(&self) -> Key {
+        Key::Number(i128::from(file_kind(&self.what)))
     }
 
     fn place(&self) -> usize {

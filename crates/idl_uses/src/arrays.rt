@@ -2,18 +2,21 @@
 ghost use Rattle.std.specs.Prelude.{◌≡◌};
 ghost use Rattle.idl_rules.specs.Least.{least};
 ghost use Rattle.idl_rules.specs.BadAttribute as spec;
+ghost use Rattle.idl_uses.specs.Facts as facts;
 
+use crate::facts::Said;
 use crate::parameters::is_bad_parameter;
 use idl_outline::{Declared, Field};
 use idl_rules::{
-    by_value, has_size, has_string, is_arm, is_member, is_open_extent, is_open_layer,
-    is_open_struct, is_parameter, is_single, place_if,
+    by_value, is_arm, is_member, is_open_extent, is_open_layer, is_open_struct, is_parameter,
+    is_single, place_if,
 };
 
-fn is_sized(field: &Field, declared: &Declared) -> bool
+fn is_sized(field: &Field, said: Said, declared: &Declared) -> bool
+    requires { said ≡ facts.said_by field.now }
     ensures { result ≡ spec.is_sized field.now declared.now }
 {
-    has_size(field) || has_string(field) && declared.stars == 0
+    said.size || said.string && declared.stars == 0
 }
 
 fn may_be_open(field: &Field, followed: bool) -> bool
@@ -22,10 +25,12 @@ fn may_be_open(field: &Field, followed: bool) -> bool
     is_parameter(field.place) || is_member(field.place) && !followed
 }
 
-fn is_bad_array(field: &Field, followed: bool, declared: &Declared) -> bool
+fn is_bad_array(field: &Field, said: Said, followed: bool, declared: &Declared) -> bool
+    requires { said ≡ facts.said_by field.now }
     ensures { result ≡ spec.is_bad_array field.now followed declared.now }
 {
-    is_open_extent(declared.extent) && (!is_sized(field, declared) || !may_be_open(field, followed))
+    is_open_extent(declared.extent)
+        && (!is_sized(field, said, declared) || !may_be_open(field, followed))
 }
 
 fn is_open_by_value(field: &Field) -> bool
@@ -51,12 +56,18 @@ fn is_bad_struct(field: &Field, followed: bool, declared: &Declared) -> bool
 
 /// The declarator's place, where it is at fault. `followed`: a member of the same structure comes
 /// behind it.
-pub(crate) fn declared_place(field: &Field, followed: bool, declared: &Declared) -> Option<usize>
+pub(crate) fn declared_place(
+    field: &Field,
+    said: Said,
+    followed: bool,
+    declared: &Declared,
+) -> Option<usize>
+    requires { said ≡ facts.said_by field.now }
     ensures { result ≡ least (spec.declared_places field.now followed declared.now) }
 {
     place_if(
-        is_parameter(field.place) && is_bad_parameter(field, declared)
-            || is_bad_array(field, followed, declared)
+        is_parameter(field.place) && is_bad_parameter(field, said, declared)
+            || is_bad_array(field, said, followed, declared)
             || is_bad_element(field, declared)
             || is_bad_struct(field, followed, declared),
         declared.name.at,

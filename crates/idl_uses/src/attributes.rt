@@ -1,12 +1,14 @@
 //! The third rule: attributes, and what asks for them.
-ghost use Rattle.std.specs.Prelude.{◌≡◌, List};
+ghost use Rattle.std.specs.Prelude.{◌≡◌, List, IfOk};
 ghost use Rattle.std.specs.List.{flat_map, list_any};
 ghost use Rattle.idl_outline.specs.declared.event.Event.{Event};
 ghost use Rattle.idl_rules.specs.Types as types;
 ghost use Rattle.idl_rules.specs.Least.{least};
 ghost use Rattle.idl_rules.specs.BadAttribute as spec;
+ghost use Rattle.idl_uses.specs.Facts as facts;
 
 use crate::arrays::declared_place;
+use crate::facts::{Said, Together, holding, said_by};
 use crate::meanings::has_meaning;
 use crate::parameters::bad_on_parameter;
 use idl_outline::{Attribute, Declared, Event, Field};
@@ -15,24 +17,36 @@ use idl_rules::{
     says_maybe,
 };
 use idl_tree::{Ast, FileAttr};
+use rpc_base::NoMemory;
+use std::alloc::Global;
 
-fn attribute_place(field: &Field, attribute: &Attribute) -> Option<usize>
+fn attribute_place(
+    field: &Field,
+    said: Said,
+    together: Together,
+    attribute: &Attribute,
+) -> Option<usize>
+    requires said { said ≡ facts.said_by field.now }
+    requires together { together ≡ facts.holding field.now }
     ensures { result ≡ least (spec.attribute_places field.now attribute.now) }
 {
     let mark = &attribute.mark;
     place_if(
-        !has_meaning(field, mark) || is_parameter(field.place) && bad_on_parameter(field, mark),
+        !has_meaning(field, together, mark)
+            || is_parameter(field.place) && bad_on_parameter(field, said, together, mark),
         attribute.at,
     )
 }
 
 #[tactic(auto, using(idl_rules::proofs::Leasts::leasts))]
-fn attributes_place(field: &Field) -> Option<usize>
+fn attributes_place(field: &Field, said: Said) -> Option<usize>
+    requires { said ≡ facts.said_by field.now }
     ensures { result ≡ least (flat_map (spec.attribute_places field.now) field.now.attributes) }
 {
+    let together = holding(field);
     let mut found = None;
     for attribute in field.attributes.as_slice() {
-        found = lesser(found, attribute_place(field, attribute));
+        found = lesser(found, attribute_place(field, said, together, attribute));
     }
     found
 }
@@ -48,42 +62,46 @@ fn is_more<T>(rest: &[T]) -> bool
 
 /// `more`: another field follows it.
 #[tactic(auto, using(idl_rules::proofs::Leasts::leasts))]
-fn each_declared(field: &Field, more: bool, declared: &[Declared]) -> Option<usize>
+fn each_declared(field: &Field, said: Said, more: bool, declared: &[Declared]) -> Option<usize>
+    requires { said ≡ facts.said_by field.now }
     ensures { result ≡ least (spec.each_declared field.now more declared.now) }
 {
     let mut found = None;
     let mut rest = declared;
     while let Some((one, others)) = rest.split_first() {
-        found = lesser(found, declared_place(field, is_more(others) || more, one));
+        let followed = is_more(others) || more;
+        found = lesser(found, declared_place(field, said, followed, one));
         rest = others;
     }
     found
 }
 
 #[tactic(auto, using(idl_rules::proofs::Leasts::leasts))]
-fn field_place(field: &Field, more: bool) -> Option<usize>
-    ensures { result ≡ least (spec.field_places field.now more) }
+fn field_place(alloc: Global, field: &Field, more: bool) -> Result<Option<usize>, NoMemory>
+    ensures { IfOk result (λ at. at ≡ least (spec.field_places field.now more)) }
 {
-    lesser(
-        repeated(field.attributes.as_slice()),
+    let said = said_by(field);
+    let again = repeated(alloc, field.attributes.as_slice())?;
+    Ok(lesser(
+        again,
         lesser(
-            attributes_place(field),
-            each_declared(field, more, field.declared.as_slice()),
+            attributes_place(field, said),
+            each_declared(field, said, more, field.declared.as_slice()),
         ),
-    )
+    ))
 }
 
 #[tactic(auto, using(idl_rules::proofs::Leasts::leasts))]
-fn each_field(fields: &[Field]) -> Option<usize>
-    ensures { result ≡ least (spec.each_field fields.now) }
+fn each_field(alloc: Global, fields: &[Field]) -> Result<Option<usize>, NoMemory>
+    ensures { IfOk result (λ at. at ≡ least (spec.each_field fields.now)) }
 {
     let mut found = None;
     let mut rest = fields;
     while let Some((field, others)) = rest.split_first() {
-        found = lesser(found, field_place(field, is_more(others)));
+        found = lesser(found, field_place(alloc, field, is_more(others))?);
         rest = others;
     }
-    found
+    Ok(found)
 }
 
 fn any_out(parameters: &[Field]) -> bool
@@ -113,24 +131,27 @@ fn maybe_place(field: &Field, parameters: &[Field]) -> Option<usize>
 }
 
 #[tactic(auto, using(idl_rules::proofs::Leasts::leasts))]
-fn call_place(field: &Field, parameters: &[Field]) -> Option<usize>
-    ensures { result ≡ least (spec.call_places field.now parameters.now) }
+fn call_place(alloc: Global, field: &Field, parameters: &[Field]) -> Result<Option<usize>, NoMemory>
+    ensures { IfOk result (λ at. at ≡ least (spec.call_places field.now parameters.now)) }
 {
-    lesser(
-        field_place(field, false),
-        lesser(maybe_place(field, parameters), each_field(parameters)),
-    )
+    let own = field_place(alloc, field, false)?;
+    let each = each_field(alloc, parameters)?;
+    Ok(lesser(own, lesser(maybe_place(field, parameters), each)))
 }
 
 /// The least place where the event has an attribute twice or without a meaning, or lacks one.
-pub fn bad_attribute(event: &Event) -> Option<usize>
-    ensures { (past : List Event) → result ≡ least (spec.bad_attribute past event.now) }
+///
+/// # Errors
+///
+/// `NoMemory` where there is no memory for the attributes that were seen.
+pub fn bad_attribute(alloc: Global, event: &Event) -> Result<Option<usize>, NoMemory>
+    ensures { IfOk result (λ at. (past : List Event) → at ≡ least (spec.bad_attribute past event.now)) }
 {
     match event {
-        Event::Single(field) => field_place(field, false),
-        Event::Body(fields) => each_field(fields.as_slice()),
-        Event::Call { result, parameters } => call_place(result, parameters.as_slice()),
-        _ => None,
+        Event::Single(field) => Ok(field_place(alloc, field, false)?),
+        Event::Body(fields) => Ok(each_field(alloc, fields.as_slice())?),
+        Event::Call { result, parameters } => Ok(call_place(alloc, result, parameters.as_slice())?),
+        _ => Ok(None),
     }
 }
 
@@ -141,13 +162,15 @@ fn any_uuid(attributes: &[FileAttr]) -> bool
 }
 
 /// The least place where the interface's own attributes stand twice, or its name where it has no uuid.
+///
+/// # Errors
+///
+/// `NoMemory` where there is no memory for the attributes that were seen.
 #[tactic(auto, using(idl_rules::proofs::Leasts::leasts))]
-pub fn bad_file(tree: &Ast) -> Option<usize>
-    ensures { result ≡ least (spec.bad_file tree.now) }
+pub fn bad_file(alloc: Global, tree: &Ast) -> Result<Option<usize>, NoMemory>
+    ensures { IfOk result (λ at. at ≡ least (spec.bad_file tree.now)) }
 {
     let attributes: &[FileAttr] = &tree.attributes;
-    lesser(
-        repeated(attributes),
-        place_if(!any_uuid(attributes), tree.name.at),
-    )
+    let again = repeated(alloc, attributes)?;
+    Ok(lesser(again, place_if(!any_uuid(attributes), tree.name.at)))
 }

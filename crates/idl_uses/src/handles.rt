@@ -4,20 +4,22 @@ ghost use Rattle.std.specs.List.{flat_map};
 ghost use Rattle.idl_outline.specs.declared.event.Event.{Event};
 ghost use Rattle.idl_rules.specs.Least.{least};
 ghost use Rattle.idl_rules.specs.HandleUse as spec;
+ghost use Rattle.idl_uses.specs.Facts as facts;
 
+use crate::facts::{Said, said_by};
 use idl_outline::{Declared, Event, Field, Tag};
 use idl_rules::{
-    by_value, has_direction_in, has_direction_out, has_handle_word, is_context_handle, is_handle_t,
-    is_one_pointer, is_parameter, is_ref_layer, is_single, is_typedef, is_unknown, is_void, lesser,
-    place_if,
+    by_value, is_context_handle, is_handle_t, is_one_pointer, is_parameter, is_ref_layer,
+    is_single, is_typedef, is_unknown, is_void, lesser, place_if,
 };
 
-fn is_bad_handle_type(field: &Field, declared: &Declared) -> bool
+fn is_bad_handle_type(field: &Field, said: Said, declared: &Declared) -> bool
+    requires { said ≡ facts.said_by field.now }
     ensures { result ≡ spec.is_bad_handle_type field.now declared.now }
 {
     let ty = field.spec;
     is_typedef(field.place)
-        && has_handle_word(field)
+        && said.handle
         && !(is_unknown(ty.core)
             || is_void(ty.core)
                 && by_value(ty)
@@ -25,20 +27,21 @@ fn is_bad_handle_type(field: &Field, declared: &Declared) -> bool
                 && is_single(declared.extent))
 }
 
-fn is_good_use(field: &Field, declared: &Declared) -> bool
+fn is_good_use(field: &Field, said: Said, declared: &Declared) -> bool
+    requires { said ≡ facts.said_by field.now }
     ensures { result ≡ spec.is_good_use field.now declared.now }
 {
     let ty = declared.ty;
     let by_pointer = is_one_pointer(ty) && is_ref_layer(ty.outer);
     is_parameter(field.place)
-        && (has_direction_in(field) && !has_direction_out(field) && by_value(ty)
-            || has_direction_out(field) && by_pointer)
+        && (said.inward && !said.outward && by_value(ty) || said.outward && by_pointer)
 }
 
-fn is_bad_use(field: &Field, declared: &Declared) -> bool
+fn is_bad_use(field: &Field, said: Said, declared: &Declared) -> bool
+    requires { said ≡ facts.said_by field.now }
     ensures { result ≡ spec.is_bad_use field.now declared.now }
 {
-    is_context_handle(field.spec.core) && !is_good_use(field, declared)
+    is_context_handle(field.spec.core) && !is_good_use(field, said, declared)
 }
 
 fn is_bad_binding(first: bool, field: &Field, declared: &Declared) -> bool
@@ -47,12 +50,13 @@ fn is_bad_binding(first: bool, field: &Field, declared: &Declared) -> bool
     is_handle_t(field.spec.core) && !(first && by_value(declared.ty))
 }
 
-fn declared_place(first: bool, field: &Field, declared: &Declared) -> Option<usize>
+fn declared_place(first: bool, field: &Field, said: Said, declared: &Declared) -> Option<usize>
+    requires { said ≡ facts.said_by field.now }
     ensures { result ≡ least (spec.declared_places first field.now declared.now) }
 {
     place_if(
-        is_bad_handle_type(field, declared)
-            || is_bad_use(field, declared)
+        is_bad_handle_type(field, said, declared)
+            || is_bad_use(field, said, declared)
             || is_bad_binding(first, field, declared),
         declared.name.at,
     )
@@ -63,9 +67,10 @@ fn declared_place(first: bool, field: &Field, declared: &Declared) -> Option<usi
 fn field_place(first: bool, field: &Field) -> Option<usize>
     ensures { result ≡ least (spec.field_places first field.now) }
 {
+    let said = said_by(field);
     let mut found = None;
     for declared in field.declared.as_slice() {
-        found = lesser(found, declared_place(first, field, declared));
+        found = lesser(found, declared_place(first, field, said, declared));
     }
     found
 }

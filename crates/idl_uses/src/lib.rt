@@ -5,8 +5,10 @@
 
 mod arrays;
 mod attributes;
+mod facts;
 mod handles;
 mod meanings;
+mod offers;
 mod parameters;
 mod sizes;
 

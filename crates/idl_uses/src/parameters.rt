@@ -1,69 +1,44 @@
 //! What parameters ask of attributes.
 ghost use Rattle.std.specs.Prelude.{◌≡◌};
-ghost use Rattle.std.specs.List.{list_any};
-ghost use Rattle.idl_rules.specs.BadAttribute as spec;
+ghost use Rattle.idl_rules.specs.BadAttribute as rule;
+ghost use Rattle.idl_uses.specs.Facts as facts;
 
-use crate::meanings::has_star;
+use crate::facts::{Said, Together, has_star};
 use idl_outline::{Declared, Field, Mark};
-use idl_rules::{
-    by_value, has_direction_in, has_direction_out, is_context_handle, is_handle_t,
-    is_pointer_layer, is_ref, is_ref_layer, is_single, is_unknown,
-};
+use idl_rules::{is_handle_t, is_pointer_layer, is_ref, is_ref_layer, is_unknown};
 
-fn is_out_value(declared: &Declared) -> bool
-    ensures { result ≡ spec.is_out_value declared.now }
+fn is_out_alone(field: &Field, said: Said) -> bool
+    requires { said ≡ facts.said_by field.now }
+    ensures { result ≡ rule.is_out_alone field.now }
 {
-    let ty = declared.ty;
-    by_value(ty) && !(is_context_handle(ty.core) || is_unknown(ty.core))
-}
-
-fn is_out_alone(field: &Field) -> bool
-    ensures { result ≡ spec.is_out_alone field.now }
-{
-    has_direction_out(field) && !has_direction_in(field)
-}
-
-fn is_own_pointer(declared: &Declared) -> bool
-    ensures { result ≡ spec.is_own_pointer declared.now }
-{
-    has_star(declared) && is_single(declared.extent)
-}
-
-fn any_out_value(declared: &[Declared]) -> bool
-    ensures { result ≡ list_any spec.is_out_value declared.now }
-{
-    declared.iter().any(|one| is_out_value(one))
-}
-
-fn any_own_pointer(declared: &[Declared]) -> bool
-    ensures { result ≡ list_any spec.is_own_pointer declared.now }
-{
-    declared.iter().any(|one| is_own_pointer(one))
+    said.outward && !said.inward
 }
 
 /// Whether the attribute is at fault on a parameter.
-pub(crate) fn bad_on_parameter(field: &Field, mark: &Mark) -> bool
-    ensures { result ≡ spec.bad_on_parameter field.now mark.now }
+pub(crate) fn bad_on_parameter(field: &Field, said: Said, together: Together, mark: &Mark) -> bool
+    requires said { said ≡ facts.said_by field.now }
+    requires together { together ≡ facts.holding field.now }
+    ensures { result ≡ rule.bad_on_parameter field.now mark.now }
 {
     match mark {
-        Mark::Out => any_out_value(field.declared.as_slice()),
+        Mark::Out => together.out_value,
         Mark::Pointer(class) => {
-            !is_ref(*class) && is_out_alone(field) && any_own_pointer(field.declared.as_slice())
+            !is_ref(*class) && is_out_alone(field, said) && together.own_pointer
         }
         _ => false,
     }
 }
 
-fn lacks_direction(field: &Field, declared: &Declared) -> bool
-    ensures { result ≡ spec.lacks_direction field.now declared.now }
+fn lacks_direction(field: &Field, said: Said, declared: &Declared) -> bool
+    requires { said ≡ facts.said_by field.now }
+    ensures { result ≡ rule.lacks_direction field.now declared.now }
 {
     let core = declared.ty.core;
-    !(has_direction_in(field) || has_direction_out(field))
-        && !(is_handle_t(core) || is_unknown(core))
+    !(said.inward || said.outward) && !(is_handle_t(core) || is_unknown(core))
 }
 
 fn is_brought_pointer(declared: &Declared) -> bool
-    ensures { result ≡ spec.is_brought_pointer declared.now }
+    ensures { result ≡ rule.is_brought_pointer declared.now }
 {
     let outer = declared.ty.outer;
     !has_star(declared) && is_pointer_layer(outer) && !is_ref_layer(outer)
@@ -71,8 +46,10 @@ fn is_brought_pointer(declared: &Declared) -> bool
 
 /// Whether a parameter has no direction, or comes back alone through a pointer of a typedef that isn't
 /// `ref`.
-pub(crate) fn is_bad_parameter(field: &Field, declared: &Declared) -> bool
-    ensures { result ≡ spec.is_bad_parameter field.now declared.now }
+pub(crate) fn is_bad_parameter(field: &Field, said: Said, declared: &Declared) -> bool
+    requires { said ≡ facts.said_by field.now }
+    ensures { result ≡ rule.is_bad_parameter field.now declared.now }
 {
-    lacks_direction(field, declared) || is_out_alone(field) && is_brought_pointer(declared)
+    lacks_direction(field, said, declared)
+        || is_out_alone(field, said) && is_brought_pointer(declared)
 }

@@ -1,119 +1,139 @@
 //! The fourth rule: the names in attributes.
-ghost use Rattle.std.specs.Prelude.{◌≡◌, List, []};
-ghost use Rattle.std.specs.List.{flat_map, list_any};
+ghost use Rattle.std.specs.Prelude.{◌≡◌, List, [], IfOk};
+ghost use Rattle.std.specs.List.{flat_map};
 ghost use Rattle.idl_outline.specs.declared.event.Event.{Event};
 ghost use Rattle.idl_rules.specs.Least.{least};
 ghost use Rattle.idl_rules.specs.SizeName as spec;
+ghost use Rattle.idl_rules.specs.Types.{has, says_in};
+ghost use Rattle.idl_uses.specs.Offers.{IsOffers, want};
 
-use idl_outline::{Attribute, Declared, Event, Field, Mark, Named, Size, is_name};
-use idl_rules::{
-    Asked, by_value, has_direction_in, is_asked, is_one_pointer, is_parameter, is_unknown, lesser,
-    place_if,
-};
+use crate::offers::{Offers, Want, is_offered, offers_of};
+use idl_outline::{Attribute, Event, Field, Mark, Named, Size};
+use idl_rules::{Asked, has_direction_in, is_parameter, lesser, place_if};
+use rpc_base::NoMemory;
+use std::alloc::Global;
 
-fn is_of(asked: Asked, star: bool, field: &Field, declared: &Declared) -> bool
-    ensures { result ≡ spec.is_of asked star field.now declared.now }
+fn wanted(asked: Asked, field: &Field, inward: bool, named: &Named) -> Want
+    requires { inward ≡ has says_in field.now }
+    ensures { result ≡ want asked field.now named.now }
 {
-    let ty = declared.ty;
-    let fits = if star {
-        is_parameter(field.place) && is_one_pointer(ty)
-    } else {
-        by_value(ty)
-    };
-    is_unknown(ty.core) || is_asked(asked, ty.core) && fits
+    Want {
+        asked,
+        star: named.star,
+        inward: is_parameter(field.place) && inward,
+    }
 }
 
-fn is_it(asked: Asked, named: &Named, field: &Field, declared: &Declared) -> bool
-    ensures { result ≡ spec.is_it asked named.now field.now declared.now }
-{
-    is_name(&declared.name, named.name.text.as_slice()) && is_of(asked, named.star, field, declared)
-}
-
-fn declares(asked: Asked, named: &Named, field: &Field) -> bool
-    ensures { result ≡ list_any (spec.is_it asked named.now field.now) field.now.declared }
-{
-    field
-        .declared
-        .as_slice()
-        .iter()
-        .any(|declared| is_it(asked, named, field, declared))
-}
-
-/// Whether `other` declares what the attribute of `field` may name.
-fn offers(asked: Asked, field: &Field, named: &Named, other: &Field) -> bool
-    ensures { result ≡ spec.offers asked field.now named.now other.now }
-{
-    declares(asked, named, other)
-        && (has_direction_in(other) || !(is_parameter(field.place) && has_direction_in(field)))
-}
-
-fn is_offered(asked: Asked, list: &[Field], field: &Field, named: &Named) -> bool
-    ensures { result ≡ list_any (spec.offers asked field.now named.now) list.now }
-{
-    list.iter().any(|other| offers(asked, field, named, other))
-}
-
-fn name_place(asked: Asked, list: &[Field], field: &Field, named: &Named) -> Option<usize>
+fn name_place(
+    asked: Asked,
+    list: &[Field],
+    offers: &Offers,
+    field: &Field,
+    inward: bool,
+    named: &Named,
+) -> Option<usize>
+    requires offers { IsOffers list.now offers.now }
+    requires inward { inward ≡ has says_in field.now }
     ensures { result ≡ least (spec.name_places asked list.now field.now named.now) }
 {
-    place_if(!is_offered(asked, list, field, named), named.name.at)
+    let want = wanted(asked, field, inward, named);
+    place_if(
+        !is_offered(offers, named.name.text.as_slice(), want),
+        named.name.at,
+    )
 }
 
-fn size_place(list: &[Field], field: &Field, size: &Size) -> Option<usize>
+fn size_place(
+    list: &[Field],
+    offers: &Offers,
+    field: &Field,
+    inward: bool,
+    size: &Size,
+) -> Option<usize>
+    requires offers { IsOffers list.now offers.now }
+    requires inward { inward ≡ has says_in field.now }
     ensures { result ≡ least (spec.size_places list.now field.now size.now) }
 {
     match size {
         Size::Number(_) => None,
-        Size::Of(named) => name_place(Asked::Integer, list, field, named),
+        Size::Of(named) => name_place(Asked::Integer, list, offers, field, inward, named),
     }
 }
 
-fn attribute_place(list: &[Field], field: &Field, attribute: &Attribute) -> Option<usize>
+fn attribute_place(
+    list: &[Field],
+    offers: &Offers,
+    field: &Field,
+    inward: bool,
+    attribute: &Attribute,
+) -> Option<usize>
+    requires offers { IsOffers list.now offers.now }
+    requires inward { inward ≡ has says_in field.now }
     ensures { result ≡ least (spec.attribute_places list.now field.now attribute.now) }
 {
     match &attribute.mark {
-        Mark::SizeIs(size) => size_place(list, field, size),
-        Mark::MaxIs(size) => size_place(list, field, size),
-        Mark::LengthIs(size) => size_place(list, field, size),
-        Mark::SwitchIs(named) => name_place(Asked::Tag, list, field, named),
+        Mark::SizeIs(size) => size_place(list, offers, field, inward, size),
+        Mark::MaxIs(size) => size_place(list, offers, field, inward, size),
+        Mark::LengthIs(size) => size_place(list, offers, field, inward, size),
+        Mark::SwitchIs(named) => name_place(Asked::Tag, list, offers, field, inward, named),
         _ => None,
     }
 }
 
 #[tactic(auto, using(idl_rules::proofs::Leasts::leasts))]
-fn field_place(list: &[Field], field: &Field) -> Option<usize>
+fn field_place(list: &[Field], offers: &Offers, field: &Field) -> Option<usize>
+    requires { IsOffers list.now offers.now }
     ensures { result ≡ least (spec.field_places list.now field.now) }
 {
+    let inward = has_direction_in(field);
     let mut found = None;
     for attribute in field.attributes.as_slice() {
-        found = lesser(found, attribute_place(list, field, attribute));
+        found = lesser(
+            found,
+            attribute_place(list, offers, field, inward, attribute),
+        );
     }
     found
 }
 
-#[tactic(auto, using(idl_rules::proofs::Leasts::leasts))]
-fn each_place(list: &[Field]) -> Option<usize>
-    ensures { result ≡ least (flat_map (spec.field_places list.now) list.now) }
+/// The names of a field that stands in no list.
+fn alone(alloc: Global, field: &Field) -> Result<Option<usize>, NoMemory>
+    ensures { IfOk result (λ at. at ≡ least (spec.field_places [] field.now)) }
 {
+    let offers = offers_of(alloc, &[])?;
+    Ok(field_place(&[], &offers, field))
+}
+
+#[tactic(auto, using(idl_rules::proofs::Leasts::leasts))]
+fn each_place(alloc: Global, list: &[Field]) -> Result<Option<usize>, NoMemory>
+    ensures { IfOk result (λ at. at ≡ least (flat_map (spec.field_places list.now) list.now)) }
+{
+    let offers = offers_of(alloc, list)?;
     let mut found = None;
     for field in list {
-        found = lesser(found, field_place(list, field));
+        found = lesser(found, field_place(list, &offers, field));
     }
-    found
+    Ok(found)
 }
 
 /// The least place of a name in an attribute that isn't a parameter or member of the same list, or
 /// isn't of a type that may stand there.
+///
+/// # Errors
+///
+/// `NoMemory` where there is no memory for the names of the list.
 #[tactic(auto, using(idl_rules::proofs::Leasts::leasts))]
-pub fn size_name(event: &Event) -> Option<usize>
-    ensures { (past : List Event) → result ≡ least (spec.size_name past event.now) }
+pub fn size_name(alloc: Global, event: &Event) -> Result<Option<usize>, NoMemory>
+    ensures { IfOk result (λ at. (past : List Event) → at ≡ least (spec.size_name past event.now)) }
 {
     match event {
-        Event::Single(field) => field_place(&[], field),
-        Event::Body(fields) => each_place(fields.as_slice()),
+        Event::Single(field) => Ok(alone(alloc, field)?),
+        Event::Body(fields) => Ok(each_place(alloc, fields.as_slice())?),
         Event::Call { result, parameters } => {
-            lesser(field_place(&[], result), each_place(parameters.as_slice()))
+            let own = alone(alloc, result)?;
+            let each = each_place(alloc, parameters.as_slice())?;
+            Ok(lesser(own, each))
         }
-        _ => None,
+        _ => Ok(None),
     }
 }
