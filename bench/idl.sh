@@ -1,6 +1,8 @@
 #!/usr/bin/env bash
-# Times `dcerpc idl`: interface texts of 64 KiB to 1 MiB that are read and printed, with the ratio of
-# each time to the one before, a text of 1 MiB of names alone, and one that departs at its end.
+# Times `dcerpc idl`: interface texts of 64 KiB to 1 MiB that are read, checked and printed, with the ratio
+# of each time to the one before, a text of 1 MiB of names alone, and one that departs at its end. Then
+# texts of many parts of one shape that are read, checked and tabled (`idl_bench`), each twice as large as
+# the one before: interfaces, and texts that break a rule.
 set -eu
 top=$(cd "$(dirname "$0")/.." && pwd)
 work=$(mktemp -d)
@@ -53,3 +55,29 @@ awk -v t="$(microseconds "$work/early")" 'BEGIN { printf "1 MiB that ends too ea
     printf '};}'
 } | head -c 1048576 >"$work/names"
 awk -v t="$(microseconds "$work/names")" 'BEGIN { printf "65,537 names of one enum %.3f s\n", t / 1e6 }'
+
+(cd "$top/crates/idl_bench" && rt run >/dev/null) # builds it
+bench=$top/crates/idl_bench/out/idl_bench
+doubled() { # SHAPE LEAST
+    local shape=$1 n from to time before=
+    for n in $2 $(($2 * 2)) $(($2 * 4)) $(($2 * 8)); do
+        from=$(date +%s%N)
+        "$bench" "$shape" "$n" >"$work/line"
+        to=$(date +%s%N)
+        time=$(((to - from) / 1000))
+        awk -v s="$shape" -v n="$n" -v t="$time" -v b="${before:-$time}" \
+            '{ printf "%-12s %7d %9.3f s, %.2f times the one before: %s\n", s, n, t / 1e6, t / b, $0 }' "$work/line"
+        before=$time
+    done
+}
+doubled structures 3000
+doubled operations 1500
+doubled constants 3000
+doubled tags 3000
+doubled names 8000
+doubled declarators 8000
+doubled labels 10000
+doubled attributes 16000
+doubled both 8000
+doubled sizes 4000
+doubled endpoints 10000

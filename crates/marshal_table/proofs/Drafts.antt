@@ -18,16 +18,16 @@ use Rattle.ndr_value.specs.Forms.{Form}
 use Rattle.table_form.specs.declared.operation.HandleUse.{HandleUse}
 use Rattle.table_form.specs.Ordered.{fits}
 use Rattle.table_form.specs.Tables.{OpForm, IsTable, param_fits, result_fits, op_fits}
-use Rattle.marshal_table.specs.declared.known.Sort.{Sort}
-use Rattle.marshal_table.specs.declared.known.Sort.TheVariants as sorts
-use Rattle.marshal_table.specs.declared.terms.Terms.{Terms}
-use Rattle.marshal_table.specs.Known.{Sense, Scope}
-use Rattle.marshal_table.specs.Marks.{says, says_handle}
-use Rattle.marshal_table.specs.Declarators.{terms, declared}
-use Rattle.marshal_table.specs.Specs.{within, attrs_within, spec_at, attrs_at}
-use Rattle.marshal_table.specs.Interfaces.{Listed, Draft, is_binding, param_names, param_sense, listed_at, param_at, params_at, sort_result, alone_at, op_of, op_at, is_serialised, typedef_one, typedef_all, typedef_sense, typedef_at, decl_at, decls_at, nothing_declared, declared_in}
+use Rattle.table_scope.specs.declared.known.Sort.{Sort}
+use Rattle.table_scope.specs.declared.known.Sort.TheVariants as sorts
+use Rattle.table_scope.specs.declared.said.Terms.{Terms}
+use Rattle.table_scope.specs.Known.{Sense, Scope, handle_sense}
+use Rattle.table_scope.specs.Marks.{says, says_handle, is_serialised}
+use Rattle.table_scope.specs.Declarators.{terms, declared}
+use Rattle.table_specs.specs.Specs.{within, attrs_within, spec_at, attrs_at}
+use Rattle.marshal_table.specs.Interfaces.{Listed, Draft, is_binding, param_names, param_sense, listed_at, param_at, params_at, sort_result, alone_at, op_of, op_at, typed, typedef_one, typedef_all, typedef_sense, typedef_at, decl_at, decls_at, nothing_declared, declared_in}
 use Rattle.marshal_table.proofs.Fitting.{both_of, and_of, less_of, or_left, or_right, fits_more, declared_fits}
-use Rattle.marshal_table.proofs.Sounds.{Sound, Goes, reach, reach_not, reach_far, spec_sound, attrs_sound}
+use Rattle.marshal_table.proofs.Sounds.{SenseFits, put_all, Sound, Goes, reach, reach_not, reach_far, spec_sound, attrs_sound}
 
 all_more : {X : Type 0} (f : X → Bool) (xs ys : List X) → list_all f xs ≡ true → list_all f ys ≡ true → list_all f (xs ++ ys) ≡ true
 all_more f [] ys h k = k
@@ -168,12 +168,12 @@ typedef_sound : (far : ℕ) (handle serialised : Bool) (t : Terms) (m : Sense) (
     → Goes far 0 p (typedef_all handle serialised t m ds p)
 typedef_sound far handle serialised t m [] p ok here e = record { count = omega arith; sound = ok }
 typedef_sound far true serialised t m (d ∷ ds) p ok here e =
-    let rest = typedef_sound far true serialised t m ds (typedef_one true serialised t m d p) (record { types = ok.types; few = ok.few; named = (refl, ok.named); tags = ok.tags })
+    let rest = typedef_sound far true serialised t m ds (typedef_one true serialised t m d p) (record { types = ok.types; few = ok.few; named = put_all (SenseFits (length p.types) far) d.name.text (handle_sense p.kinds serialised) p.named refl ok.named; tags = ok.tags })
     (λ h. here (or_right (d.stars == 0) (list_any (λ x. x.stars == 0) ds) h)) e in
     record { count = rest.count; sound = rest.sound }
 typedef_sound far false serialised t m (d ∷ ds) p ok here e =
     let f = declared_fits (length p.types) far t p.constants m.shape d (λ h. here (or_left (d.stars == 0) (list_any (λ x. x.stars == 0) ds) h)) e in
-    let rest = typedef_sound far false serialised t m ds (typedef_one false serialised t m d p) (record { types = ok.types; few = ok.few; named = (f, ok.named); tags = ok.tags })
+    let rest = typedef_sound far false serialised t m ds (typedef_one false serialised t m d p) (record { types = ok.types; few = ok.few; named = put_all (SenseFits (length p.types) far) d.name.text (typed t p.constants m d) p.named f ok.named; tags = ok.tags })
     (λ h. here (or_right (d.stars == 0) (list_any (λ x. x.stars == 0) ds) h)) e in
     record { count = rest.count; sound = rest.sound }
 
@@ -220,7 +220,7 @@ decls_sound far k (x ∷ xs) d ok room =
     record { count = omega (arith, before, count); sound = others.sound }
 
 empty_sound : (far : ℕ) → DraftSound far nothing_declared
-empty_sound far = record { scope = record { types = refl; few = omega arith; named = tt; tags = tt }; few = omega arith; of_each = refl; few_uses = refl; ops = refl }
+empty_sound far = record { scope = record { types = refl; few = omega arith; named = λ name. tt; tags = λ name. tt }; few = omega arith; of_each = refl; few_uses = refl; ops = refl }
 
 pub tabled_is : (tree : Ast) → IsTable (declared_in tree).scope.types (declared_in tree).ops (declared_in tree).uses
 tabled_is tree =

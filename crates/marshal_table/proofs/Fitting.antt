@@ -11,10 +11,11 @@ use Rattle.idl_outline.specs.declared.field.Extent.TheVariants as extents
 use Rattle.ndr_value.specs.declared.shape.Count.{Count}
 use Rattle.ndr_value.specs.Forms.{Form, OfBool, OfByte, OfChar, OfInt, OfUint, OfEnum, OfNamed, OfStruct, OfUnion, OfArray, OfText, OfRef, OfUnique, OfFull, OfHandle, Forms, no_form, then_form, Body, empty, holds, ArmForms, no_arm, then_arm}
 use Rattle.table_form.specs.Ordered.{fits, each_fits, arms_fit, body_fits}
-use Rattle.marshal_table.specs.declared.known.ConstantName.{ConstantName}
-use Rattle.marshal_table.specs.declared.terms.Terms.{Terms}
-use Rattle.marshal_table.specs.Declarators.{pointer, chain, extent, array, text, outermost, tied, if_tied, by_value, target, shaped, declared}
-use Rattle.marshal_table.specs.Specs.{Face, row, arm_row, held}
+use Rattle.idl_tree.specs.declared.leaf.Num.{Num}
+use Rattle.table_scope.specs.declared.said.Terms.{Terms}
+use Rattle.table_scope.specs.Known.{Named}
+use Rattle.table_scope.specs.Declarators.{pointer, chain, extent, array, text, outermost, tied, if_tied, by_value, target, shaped, declared}
+use Rattle.table_specs.specs.Specs.{Face, row, arm_row, held}
 
 pub both_of : (a b : Bool) → (a && b) ≡ true → (a ≡ true) × (b ≡ true)
 both_of true true e = (refl, refl)
@@ -125,7 +126,7 @@ shaped_any near far t x false m s here e =
     array_fits near far t x (pointer (outermost t x) (chain t.inner m (target t s)))
     (pointer_fits near far (outermost t x) (chain t.inner m (target t s)) (chain_fits far t.inner m (target t s) (pick far far t.text (OfText None) s refl e)))
 
-pub declared_fits : (near far : ℕ) (t : Terms) (cs : List ConstantName) (s : Form) (d : Dtor) → ((d.stars == 0) ≡ true → fits near far s ≡ true) → fits far far s ≡ true
+pub declared_fits : (near far : ℕ) (t : Terms) (cs : Named Num) (s : Form) (d : Dtor) → ((d.stars == 0) ≡ true → fits near far s ≡ true) → fits far far s ≡ true
     → fits near far (declared t cs s d) ≡ true
 declared_fits near far t cs s d here e =
     if_tied_fits near far t.switch (shaped t (extent cs d.array) d.stars s) (shaped_any near far t (extent cs d.array) (d.stars == 0) (d.stars - 1) s here e)
@@ -144,7 +145,7 @@ pub or_right : (a b : Bool) → b ≡ true → (a || b) ≡ true
 or_right true b e = refl
 or_right false b e = e
 
-pub all_declared : (near far : ℕ) (t : Terms) (cs : List ConstantName) (s : Form) (ds : List Dtor) → (list_any (λ d. d.stars == 0) ds ≡ true → fits near far s ≡ true) → fits far far s ≡ true
+pub all_declared : (near far : ℕ) (t : Terms) (cs : Named Num) (s : Form) (ds : List Dtor) → (list_any (λ d. d.stars == 0) ds ≡ true → fits near far s ≡ true) → fits far far s ≡ true
     → AllFit near far (map (declared t cs s) ds)
 all_declared near far t cs s [] here e = tt
 all_declared near far t cs s (d ∷ ds) here e = (

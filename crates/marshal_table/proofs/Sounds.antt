@@ -13,20 +13,27 @@ use Rattle.idl_outline.specs.Plain.{PSpec, spec, PKind, of_base, of_name, of_voi
 use Rattle.ndr_value.specs.Forms.{Form, OfNamed, OfStruct, OfUnion}
 use Rattle.table_form.specs.Ordered.{is_body, fits, arms_fit, body_fits, ordered_from}
 use Rattle.table_form.specs.Ordered.{is_size as is_number_size}
-use Rattle.marshal_table.specs.declared.known.TagName.{TagName}
-use Rattle.marshal_table.specs.Known.{Sense, TypeSense, Scope, nothing, type_named, tag_named, found_form, tag_form, with_constant, with_names, begun, with_entry, ended}
-use Rattle.marshal_table.specs.Declarators.{terms}
-use Rattle.marshal_table.specs.Specs.{Face, base_form, row, arm_row, or_nothing, struct_at, union_at, member_names, arm_names, within, kind_within, switch_within, member_within, members_within, arm_within, arms_within, mark_within, attr_within, attrs_within, spec_at, kind_at, switch_at, mark_at, attr_at, attrs_at, member_at, members_at, arm_at, arms_at}
+use Rattle.table_scope.specs.declared.known.Tag.{Tag}
+use Rattle.table_scope.specs.Known.{Named, put, Sense, Scope, nothing, type_named, found_form, tag_form, with_constant, with_names, begun, with_entry, ended}
+use Rattle.table_scope.specs.Declarators.{terms}
+use Rattle.table_scope.specs.Known.{or_nothing as or_sense}
+use Rattle.table_specs.specs.Specs.{Face, base_form, row, arm_row, or_nothing, struct_at, union_at, member_names, arm_names, within, kind_within, switch_within, member_within, members_within, arm_within, arms_within, mark_within, attr_within, attrs_within, spec_at, kind_at, switch_at, mark_at, attr_at, attrs_at, member_at, members_at, arm_at, arms_at}
 use Rattle.marshal_table.proofs.Fitting.{both_of, and_of, less_is, fits_more, body_more, all_declared, AllFit, all_more, all_join, row_fits, held_fits, FacesFit, arm_row_fits}
 
-abbrev pub NamedFit : ℕ → ℕ → List TypeSense → Type 0
-NamedFit near far [] = Unit {0}
-NamedFit near far (t ∷ ts) = (fits near far t.sense.shape ≡ true) × NamedFit near far ts
+abbrev pub SenseFits : ℕ → ℕ → Option Sense → Type 0
+SenseFits near far None = Unit {0}
+SenseFits near far (Some m) = fits near far m.shape ≡ true
+
+abbrev pub NamedFit : ℕ → ℕ → Named Sense → Type 0
+NamedFit near far named = (name : List ℕ) → SenseFits near far (named name)
 
 -- a structure whose body has ended is a type; one whose body hasn't will be
-abbrev pub TagsFit : ℕ → ℕ → List TagName → Type 0
-TagsFit near far [] = Unit {0}
-TagsFit near far (t ∷ ts) = ((t.whole ≡ true → t.number < near) × (t.number < far)) × TagsFit near far ts
+abbrev pub TagFits : ℕ → ℕ → Option Tag → Type 0
+TagFits near far None = Unit {0}
+TagFits near far (Some t) = (t.whole ≡ true → t.number < near) × (t.number < far)
+
+abbrev pub TagsFit : ℕ → ℕ → Named Tag → Type 0
+TagsFit near far tags = (name : List ℕ) → TagFits near far (tags name)
 
 pub record Sound (far : ℕ) (p : Scope) : Type 0 where
   pub types : ordered_from 0 far p.types ≡ true
@@ -93,13 +100,21 @@ base_fits near far (bases.Int false size int_word) = octets_cases (size == 1) (s
 
 -- ---- lists that grow
 
-named_more : (near more far : ℕ) → near ≤ more → (ts : List TypeSense) → NamedFit near far ts → NamedFit more far ts
-named_more near more far le [] h = tt
-named_more near more far le (t ∷ ts) h = (fits_more near more far le t.sense.shape h.0, named_more near more far le ts h.1)
+sense_more : (near more far : ℕ) → near ≤ more → (o : Option Sense) → SenseFits near far o → SenseFits more far o
+sense_more near more far le None h = tt
+sense_more near more far le (Some m) h = fits_more near more far le m.shape h
 
-tags_more : (near more far : ℕ) → near ≤ more → (ts : List TagName) → TagsFit near far ts → TagsFit more far ts
-tags_more near more far le [] h = tt
-tags_more near more far le (t ∷ ts) h = ((λ w. let n = h.0.0 w in omega (arith, n, le), h.0.1), tags_more near more far le ts h.1)
+tag_more : (near more far : ℕ) → near ≤ more → (o : Option Tag) → TagFits near far o → TagFits more far o
+tag_more near more far le None h = tt
+tag_more near more far le (Some t) h = (λ w. let n = h.0 w in omega (arith, n, le), h.1)
+
+either : {X : Type 0} (P : Option X → Type 0) (b : Bool) (x y : Option X) → P x → P y → P (if b then x else y)
+either P true x y h k = h
+either P false x y h k = k
+
+-- what holds at each name holds there behind one name more
+pub put_all : {X : Type 0} (P : Option X → Type 0) (name : List ℕ) (x : X) (named : Named X) → P (Some x) → ((n : List ℕ) → P (named n)) → (n : List ℕ) → P (put name x named n)
+put_all P name x named h k n = either P (bytes_eq name n) (Some x) (named n) h (k n)
 
 ordered_more : (k far : ℕ) (ts : List Form) (t : Form) → ordered_from k far ts ≡ true → is_body t ≡ true → fits (k + length ts) far t ≡ true → ordered_from k far (ts ++ t ∷ []) ≡ true
 ordered_more k far [] t e b f =
@@ -121,8 +136,8 @@ with_entry_sound far t p ok room b f =
     record {
       types = ordered_more 0 far p.types t ok.types b (subst (λ (n : ℕ). fits n far t ≡ true) (omega arith) f);
       few = omega (arith, longer, room);
-      named = named_more (length p.types) (length (p.types ++ t ∷ [])) far (omega (arith, longer)) p.named ok.named;
-      tags = tags_more (length p.types) (length (p.types ++ t ∷ [])) far (omega (arith, longer)) p.tags ok.tags;
+      named = λ name. sense_more (length p.types) (length (p.types ++ t ∷ [])) far (omega (arith, longer)) (p.named name) (ok.named name);
+      tags = λ name. tag_more (length p.types) (length (p.types ++ t ∷ [])) far (omega (arith, longer)) (p.tags name) (ok.tags name);
     }
 
 ended_sound : (far : ℕ) (tag : Option Ident) (t : Form) (p : Scope) → Sound far p → length p.types + 1 ≤ far → is_body t ≡ true → fits (length p.types) far t ≡ true → Goes far 1 p (ended tag t p)
@@ -132,7 +147,7 @@ ended_sound far (Some i) t p ok room b f =
     let longer = one_longer p.types t in
     record {
       count = longer;
-      sound = record { types = e.types; few = e.few; named = e.named; tags = ((λ w. omega (arith, longer), omega (arith, room)), e.tags) };
+      sound = record { types = e.types; few = e.few; named = e.named; tags = put_all (TagFits (length (p.types ++ t ∷ [])) far) i.text (record { whole = true; number = length p.types }) p.tags (λ w. omega (arith, longer), omega (arith, room)) e.tags };
     }
 
 begun_types : (tag : Option Ident) (n : ℕ) (p : Scope) → (begun tag n p).types ≡ p.types
@@ -141,7 +156,7 @@ begun_types (Some i) n p = refl
 
 begun_sound : (far : ℕ) (tag : Option Ident) (n : ℕ) (p : Scope) → Sound far p → length p.types + n < far → Sound far (begun tag n p)
 begun_sound far None n p ok room = ok
-begun_sound far (Some i) n p ok room = record { types = ok.types; few = ok.few; named = ok.named; tags = ((λ w. absurd cc, room), ok.tags) }
+begun_sound far (Some i) n p ok room = record { types = ok.types; few = ok.few; named = ok.named; tags = put_all (TagFits (length p.types) far) i.text (record { whole = false; number = length p.types + n }) p.tags (λ w. absurd cc, room) ok.tags }
 
 names_sound : (far n : ℕ) (is : List Ident) (p : Scope) → Sound far p → Goes far 0 p (with_names n is p)
 names_sound far n [] p ok = record { count = omega arith; sound = ok }
@@ -154,25 +169,12 @@ stays far p ok = record { count = omega arith; sound = ok }
 
 -- ---- names
 
-sense_pick : (near far : ℕ) (b : Bool) (x y : Sense) → fits near far x.shape ≡ true → fits near far y.shape ≡ true → fits near far (if b then x else y).shape ≡ true
-sense_pick near far true x y e f = e
-sense_pick near far false x y e f = f
+sense_fits : (near far : ℕ) (o : Option Sense) → SenseFits near far o → fits near far (or_sense o).shape ≡ true
+sense_fits near far None h = refl
+sense_fits near far (Some m) h = h
 
-named_fits : (near far : ℕ) (name : List ℕ) (ts : List TypeSense) → NamedFit near far ts → fits near far (type_named name ts).shape ≡ true
-named_fits near far name [] h = refl
-named_fits near far name (t ∷ ts) h = sense_pick near far (bytes_eq t.name.text name) t.sense (type_named name ts) h.0 (named_fits near far name ts h.1)
-
-abbrev Found : ℕ → ℕ → Option (Bool × ℕ) → Type 0
-Found near far None = Unit {0}
-Found near far (Some f) = (f.0 ≡ true → f.1 < near) × (f.1 < far)
-
-found_pick : (near far : ℕ) (b : Bool) (x y : Option (Bool × ℕ)) → Found near far x → Found near far y → Found near far (if b then x else y)
-found_pick near far true x y h k = h
-found_pick near far false x y h k = k
-
-tag_found : (near far : ℕ) (name : List ℕ) (ts : List TagName) → TagsFit near far ts → Found near far (tag_named name ts)
-tag_found near far name [] h = tt
-tag_found near far name (t ∷ ts) h = found_pick near far (bytes_eq t.name.text name) (Some (t.whole, t.number)) (tag_named name ts) h.0 (tag_found near far name ts h.1)
+named_fits : (near far : ℕ) (name : List ℕ) (named : Named Sense) → NamedFit near far named → fits near far (type_named name named).shape ≡ true
+named_fits near far name named h = sense_fits near far (named name) (h name)
 
 found_any : (near far : ℕ) (pointed whole : Bool) (n : ℕ) → (whole ≡ true → n < near) → n < far
     → fits (reach pointed near far) far (if whole then OfNamed n None else (if pointed then OfNamed n None else nothing)) ≡ true
@@ -181,15 +183,15 @@ found_any near far true false n here there = less_is n far there
 found_any near far false true n here there = less_is n near (here refl)
 found_any near far false false n here there = refl
 
-found_fits : (near far : ℕ) (pointed : Bool) (o : Option (Bool × ℕ)) → Found near far o → fits (reach pointed near far) far (found_form pointed o) ≡ true
+found_fits : (near far : ℕ) (pointed : Bool) (o : Option Tag) → TagFits near far o → fits (reach pointed near far) far (found_form pointed o) ≡ true
 found_fits near far true None h = refl
 found_fits near far false None h = refl
-found_fits near far pointed (Some f) h = found_any near far pointed f.0 f.1 h.0 h.1
+found_fits near far pointed (Some t) h = found_any near far pointed t.whole t.number h.0 h.1
 
-tag_fits : (near far : ℕ) (pointed : Bool) (tag : Option Ident) (ts : List TagName) → TagsFit near far ts → fits (reach pointed near far) far (tag_form pointed tag ts) ≡ true
+tag_fits : (near far : ℕ) (pointed : Bool) (tag : Option Ident) (tags : Named Tag) → TagsFit near far tags → fits (reach pointed near far) far (tag_form pointed tag tags) ≡ true
 tag_fits near far true None ts h = refl
 tag_fits near far false None ts h = refl
-tag_fits near far pointed (Some i) ts h = found_fits near far pointed (tag_named i.text ts) (tag_found near far i.text ts h)
+tag_fits near far pointed (Some i) tags h = found_fits near far pointed (tags i.text) (h i.text)
 
 plain_fits : (b : Bool) (near far : ℕ) (s : Form) → ((n : ℕ) → fits n far s ≡ true) → fits (reach b near far) far s ≡ true
 plain_fits b near far s h = h (reach b near far)

@@ -10,8 +10,6 @@ use Rattle.idl_tree.specs.declared.leaf.Pk.{Pk}
 use Rattle.idl_tree.specs.declared.leaf.ArraySize.{ArraySize}
 use Rattle.idl_tree.specs.declared.leaf.Dtor.{Dtor}
 use Rattle.idl_tree.specs.declared.spec.Attr.{Attr}
-use Rattle.idl_tree.specs.declared.spec.AttrKind.{AttrKind}
-use Rattle.idl_tree.specs.declared.spec.AttrKind.TheVariants as attr_kinds
 use Rattle.idl_tree.specs.declared.file.FileAttr.{FileAttr}
 use Rattle.idl_tree.specs.declared.file.FileAttrKind.{FileAttrKind}
 use Rattle.idl_tree.specs.declared.file.FileAttrKind.TheVariants as file_kinds
@@ -26,17 +24,16 @@ use Rattle.idl_outline.specs.Plain.{PSpec, spec, PKind, of_handle_t, PAttrs, pla
 use Rattle.ndr_value.specs.Forms.{Form}
 use Rattle.table_form.specs.declared.operation.HandleUse.{HandleUse}
 use Rattle.table_form.specs.Tables.{ParamForm, OpForm, TableForm, param_form, op_form}
-use Rattle.marshal_table.specs.declared.known.Known.{Known}
-use Rattle.marshal_table.specs.declared.known.Sort.{Sort}
-use Rattle.marshal_table.specs.declared.known.Sort.TheVariants as sorts
-use Rattle.marshal_table.specs.declared.known.ConstantName.{ConstantName}
+use Rattle.table_scope.specs.declared.known.Known.{Known}
+use Rattle.table_scope.specs.declared.known.Sort.{Sort}
+use Rattle.table_scope.specs.declared.known.Sort.TheVariants as sorts
 use Rattle.marshal_table.specs.declared.listing.Listing.{Listing}
 use Rattle.marshal_table.specs.declared.listing.Operations.{Operations}
-use Rattle.marshal_table.specs.declared.terms.Terms.{Terms}
-use Rattle.marshal_table.specs.Marks.{says, says_in, says_out, says_maybe, says_handle}
-use Rattle.marshal_table.specs.Known.{Sense, Scope, scope, in_16, nothing_known, with_type, with_handle, with_constant}
-use Rattle.marshal_table.specs.Declarators.{terms, declared}
-use Rattle.marshal_table.specs.Specs.{spec_at, attrs_at}
+use Rattle.table_scope.specs.declared.said.Terms.{Terms}
+use Rattle.table_scope.specs.Marks.{says, says_in, says_out, says_maybe, says_handle, is_serialised}
+use Rattle.table_scope.specs.Known.{Named, Sense, Scope, scope, in_16, nothing_known, with_type, with_handle, with_constant}
+use Rattle.table_scope.specs.Declarators.{terms, declared}
+use Rattle.table_specs.specs.Specs.{spec_at, attrs_at}
 
 -- ---- parameters. handle_t is not listed, and has no index
 
@@ -142,14 +139,6 @@ op_at default as' s name ns d =
 
 -- ---- typedefs
 
-abbrev pub is_noserialize : AttrKind → Bool
-is_noserialize attr_kinds.HandleNoserialize = true
-is_noserialize _ = false
-
--- each word for context handles but context_handle_noserialize
-abbrev pub is_serialised : List Attr → Bool
-is_serialised as' = not (list_any (λ a. is_noserialize a.what) as')
-
 abbrev pub bare_sort : Option ArraySize → Sort → Sort
 bare_sort None s = s
 bare_sort (Some size) s = sorts.Value
@@ -158,7 +147,7 @@ bare_sort (Some size) s = sorts.Value
 abbrev pub sort_of : Dtor → Sort → Sort
 sort_of d s = if d.stars == 0 then bare_sort d.array s else sorts.Value
 
-abbrev pub typed : Terms → List ConstantName → Sense → Dtor → Sense
+abbrev pub typed : Terms → Named Num → Sense → Dtor → Sense
 typed t constants m d = record { shape = declared t constants m.shape d; sort = sort_of d m.sort }
 
 -- a declarator of a typedef; handle: a word for context handles stands there

@@ -1,5 +1,1 @@
-pub mod Declarators
 pub mod Interfaces
-pub mod Known
-pub mod Marks
-pub mod Specs

@@ -1,27 +1,27 @@
 //! Declarations, and the interface's own attributes.
-ghost use Rattle.std.specs.Prelude.{◌≡◌, [], reverse, false, IfOk, OnOk};
+ghost use Rattle.std.specs.Prelude.{◌≡◌, [], false, IfOk, OnOk};
 ghost use Rattle.idl_outline.specs.Outline as outline;
 ghost use Rattle.idl_outline.specs.Plain.{plain_spec, plain_attrs};
 ghost use Rattle.idl_outline.specs.declared.field.Place.TheVariants as places;
-ghost use Rattle.marshal_table.specs.Known.{sense, scope};
-ghost use Rattle.marshal_table.specs.Declarators as declarators;
+ghost use Rattle.table_scope.specs.Known.{sense, scope};
+ghost use Rattle.table_scope.specs.Declarators as declarators;
+ghost use Rattle.name_map.specs.Named.{at_name};
 ghost use Rattle.marshal_table.specs.Interfaces as spec;
 
-use crate::counts::kept_16;
-use crate::declarators::{all_pointed, declared, terms};
-use crate::known::{ConstantName, Known, Meaning, Sort};
 use crate::listing::Operations;
-use crate::marks::{is_serialised, says_handle};
 use crate::operations::{alone, operation};
-use crate::scope::{with_constant, with_handle, with_type};
-use crate::specs::{attrs_tag, spec_meaning};
-use crate::terms::Terms;
 use idl_outline::Place;
 use idl_tree::{
     ArraySize, Attr, Decl, DeclKind, Dtor, FileAttr, FileAttrKind, Ident, Num, Pk, Spec,
 };
+use name_map::Names;
 use rpc_base::{NoMemory, SyntaxId};
 use std::alloc::Global;
+use table_scope::{
+    Known, Meaning, Sort, Terms, all_pointed, declared, is_serialised, kept_16, says_handle, terms,
+    with_constant, with_handle, with_type,
+};
+use table_specs::{attrs_tag, spec_meaning};
 use uuid::Uuid;
 
 fn bare_sort(array: &Option<ArraySize>, sort: Sort) -> Sort
@@ -47,11 +47,11 @@ fn sort_of(dtor: &Dtor, sort: Sort) -> Sort
 fn typed(
     alloc: Global,
     terms: &Terms,
-    constants: &[ConstantName],
+    constants: &Names<Num>,
     meaning: &Meaning,
     dtor: &Dtor,
 ) -> Result<Meaning, NoMemory>
-    ensures { IfOk result (λ m. sense m ≡ spec.typed terms.now (reverse constants.now) (sense meaning.now) dtor.now) }
+    ensures { IfOk result (λ m. sense m ≡ spec.typed terms.now (at_name constants.now) (sense meaning.now) dtor.now) }
 {
     let shape = declared(alloc, terms, constants, &meaning.shape, dtor)?;
     Ok(Meaning {
@@ -74,7 +74,7 @@ fn typedef_one(
     if handle {
         return with_handle(known, alloc, &dtor.name, serialised);
     }
-    let own = typed(alloc, terms, known.constants.as_slice(), meaning, dtor)?;
+    let own = typed(alloc, terms, &known.constants, meaning, dtor)?;
     with_type(known, alloc, &dtor.name, own)
 }
 

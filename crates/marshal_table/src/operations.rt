@@ -3,19 +3,18 @@ ghost use Rattle.std.specs.Prelude.{◌≡◌, ◌++◌, ◌∷◌, [], map, tak
 ghost use Rattle.ndr_value.specs.Forms.{form};
 ghost use Rattle.table_form.specs.Tables.{result_form, param_form, op_form};
 ghost use Rattle.idl_outline.specs.Plain.{plain_spec, plain_attrs};
-ghost use Rattle.marshal_table.specs.Known.{sense, scope};
+ghost use Rattle.table_scope.specs.Known.{sense, scope};
 ghost use Rattle.marshal_table.specs.Interfaces as spec;
 
-use crate::known::{Known, Meaning, Sort};
 use crate::listing::{Listing, Operations};
-use crate::marks::says_maybe;
 use crate::params::{param_names, params};
-use crate::specs::{attrs_tag, spec_meaning};
 use idl_tree::{Attr, Ident, ParamNode, Pk, Spec};
 use ndr_value::Shape;
 use rpc_base::NoMemory;
 use std::alloc::Global;
 use table_form::{HandleUses, Op, Params};
+use table_scope::{Known, Meaning, Sort, says_maybe};
+use table_specs::{attrs_tag, spec_meaning};
 
 fn result_of(sort: Sort, shape: Shape) -> Option<Shape>
     ensures { result_form result ≡ spec.sort_result sort (form shape) }

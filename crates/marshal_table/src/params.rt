@@ -1,26 +1,26 @@
 //! Parameters.
-ghost use Rattle.std.specs.Prelude.{◌≡◌, ◌++◌, ◌∷◌, [], ◌==◌, not, map, reverse, true, IfOk, OnOk};
+ghost use Rattle.std.specs.Prelude.{◌≡◌, ◌++◌, ◌∷◌, [], ◌==◌, not, map, true, IfOk, OnOk};
 ghost use Rattle.std.specs.List.{flat_map};
 ghost use Rattle.ndr_value.specs.Forms.{form};
 ghost use Rattle.table_form.specs.Tables.{result_form, param_form};
 ghost use Rattle.idl_outline.specs.Plain.{plain_spec, plain_kind, plain_attrs};
 ghost use Rattle.idl_outline.specs.declared.field.Place.TheVariants as places;
-ghost use Rattle.marshal_table.specs.Known.{sense, scope};
-ghost use Rattle.marshal_table.specs.Declarators as declarators;
-ghost use Rattle.marshal_table.specs.Marks as marks;
+ghost use Rattle.table_scope.specs.Known.{sense, scope};
+ghost use Rattle.table_scope.specs.Declarators as declarators;
+ghost use Rattle.table_scope.specs.Marks as marks;
+ghost use Rattle.name_map.specs.Named.{at_name};
 ghost use Rattle.marshal_table.specs.Interfaces as spec;
 
-use crate::declarators::{declared, terms};
-use crate::known::{ConstantName, Known, Meaning, Sort};
 use crate::listing::Listing;
-use crate::marks::{says_in, says_out};
-use crate::specs::{attrs_tag, spec_meaning};
 use idl_outline::{Place, copy_name};
-use idl_tree::{Attr, Dtor, Ident, ParamNode, Pk, Spec, SpecKind};
+use idl_tree::{Attr, Dtor, Ident, Num, ParamNode, Pk, Spec, SpecKind};
+use name_map::Names;
 use ndr_value::Shape;
 use rpc_base::NoMemory;
 use std::alloc::Global;
 use table_form::{HandleUse, HandleUses, Param, Params};
+use table_scope::{Known, Meaning, Sort, declared, says_in, says_out, terms};
+use table_specs::{attrs_tag, spec_meaning};
 
 fn is_binding_kind(kind: &SpecKind) -> bool
     ensures { result ≡ spec.is_binding_kind (plain_kind kind.now) }
@@ -105,10 +105,10 @@ fn one_param(
     dtor: &Dtor,
     default: Pk,
     names: &[Ident],
-    constants: &[ConstantName],
+    constants: &Names<Num>,
     shape: &Shape,
 ) -> Result<Param, NoMemory>
-    ensures { IfOk result (λ p. param_form p ≡ record { shape = declarators.declared (declarators.terms default places.Parameter true names.now (plain_attrs attrs.now)) (reverse constants.now) (form shape.now) dtor.now; inward = marks.says marks.says_in (plain_attrs attrs.now); outward = marks.says marks.says_out (plain_attrs attrs.now) }) }
+    ensures { IfOk result (λ p. param_form p ≡ record { shape = declarators.declared (declarators.terms default places.Parameter true names.now (plain_attrs attrs.now)) (at_name constants.now) (form shape.now) dtor.now; inward = marks.says marks.says_in (plain_attrs attrs.now); outward = marks.says marks.says_out (plain_attrs attrs.now) }) }
 {
     let terms = terms(attrs, default, Place::Parameter, true, names);
     let shape = declared(alloc, &terms, constants, shape, dtor)?;
@@ -133,7 +133,7 @@ fn add_listed(
 ) -> Result<(), NoMemory>
     ensures { OnOk result (spec.listing into.new ≡ spec.joined (spec.listing into.old) (spec.listed_at default names.now (plain_attrs node.now.attrs.items) node.now.dtor (sense meaning.now, scope known.now)).0) }
 {
-    let constants = known.constants.as_slice();
+    let constants = &known.constants;
     let shape = &meaning.shape;
     let param = one_param(
         alloc,
@@ -173,7 +173,7 @@ fn param(
 /// # Errors
 ///
 /// `NoMemory` where there is no memory for them.
-#[tactic(auto, using(crate::proofs::Rows::joins))]
+#[tactic(auto, using(crate::proofs::Joins::joins))]
 pub fn params(
     nodes: &[ParamNode],
     alloc: Global,

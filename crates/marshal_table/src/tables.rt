@@ -1,28 +1,15 @@
 //! The table of an interface.
 ghost use Rattle.std.specs.Prelude.{◌≡◌, [], IfOk};
 ghost use Rattle.table_form.specs.Shown.{shown};
-ghost use Rattle.marshal_table.specs.Known as known;
 ghost use Rattle.marshal_table.specs.Interfaces as spec;
 
 use crate::interface::{declarations, pointer_default, syntax_of};
-use crate::known::Known;
 use crate::listing::Operations;
 use idl_tree::Ast;
 use rpc_base::NoMemory;
 use std::alloc::Global;
 use table_form::Table;
-
-fn nothing_known(alloc: Global) -> Known
-    ensures { known.scope result ≡ known.nothing_known }
-{
-    Known {
-        types: Vec::new(alloc),
-        kinds: 0,
-        named: Vec::new(alloc),
-        constants: Vec::new(alloc),
-        tags: Vec::new(alloc),
-    }
-}
+use table_scope::nothing_known;
 
 fn no_operations(alloc: Global) -> Operations
     ensures ops { result.ops.items ≡ [] }

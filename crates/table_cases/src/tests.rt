@@ -5,7 +5,7 @@
 use crate::text::table_text;
 use idl_check::check;
 use idl_reader::read_idl;
-use marshal_table::build;
+use marshal_table::{Table, build};
 use std::alloc::Global;
 use std::process::Abort;
 use std::test::Fail;
@@ -151,10 +151,14 @@ const DECLARATIONS: &[(&str, &str)] = &[
     ),
 ];
 
-fn table_of(alloc: Global, text: &str) -> Result<String, Fail> {
+fn built(alloc: Global, text: &str) -> Result<Table, Fail> {
     let tree = read_idl(alloc, text.as_bytes())?;
     let checked = check(alloc, &tree)?;
-    let table = build(alloc, &checked)?;
+    Ok(build(alloc, &checked)?)
+}
+
+fn table_of(alloc: Global, text: &str) -> Result<String, Fail> {
+    let table = built(alloc, text)?;
     let copy = table.copy(alloc)?;
     let own = table_text(alloc, &copy)?;
     Ok(String::from_utf8(own)?)
@@ -188,5 +192,14 @@ fn tables_of_declarations(rt: HostRuntime) -> Result<(), Fail> {
         whole.push_str(wanted)?;
         assert_eq!(rt; table.as_str(), whole.as_str());
     }
+    Ok(())
+}
+
+#[test]
+fn an_operation_that_is_not_there(rt: HostRuntime) -> Result<(), Fail> {
+    let table = built(rt.alloc(), STORE)?;
+    assert!(rt; table.op(6).is_some());
+    assert!(rt; table.op(7).is_none());
+    assert!(rt; table.handle_uses(7).is_none());
     Ok(())
 }

@@ -2,7 +2,7 @@ use Rattle.std.proofs.Common.{◌≡◌, List, [], ap, ◌∙◌, false}
 use Rattle.idl_tree.specs.declared.leaf.Ident.{Ident}
 use Rattle.idl_outline.specs.declared.field.Place.TheVariants as places
 use Rattle.idl_outline.specs.Plain.{plain_attrs}
-use Rattle.marshal_table.specs.Declarators.{terms}
+use Rattle.table_scope.specs.Declarators.{terms}
 use Rattle.marshal_table.proofs.interface.typedef_terms.Goals as goal
 
 pub returns : goal.returns

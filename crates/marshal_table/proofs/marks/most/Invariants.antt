@@ -1,9 +1,0 @@
-use Rattle.std.proofs.Common.{◌≡◌, drop}
-use Rattle.idl_outline.specs.Plain.{plain_attrs}
-use Rattle.marshal_table.specs.Marks.{given}
-use Rattle.marshal_table.specs.Declarators.{most_in}
-use Rattle.marshal_table.proofs.marks.most.Given as goal
-
--- what is left of the attributes has the answer
-abbrev pub invariant-loop-attr : goal.invariant-loop-attr
-invariant-loop-attr l = given (most_in l.parameters l.names) (plain_attrs (drop l.attr-index l.attrs)) ≡ given (most_in l.parameters l.names) (plain_attrs l.attrs)

@@ -1,0 +1,152 @@
+-- The shape of what a declarator declares.
+use Rattle.std.specs.Prelude.{ℕ, zero, suc, ◌+◌, ◌-◌, ◌==◌, Bool, List, [], ◌∷◌, Option, Some, None, if◌then◌else◌, bytes_eq}
+use Rattle.idl_tree.specs.declared.leaf.Ident.{Ident}
+use Rattle.idl_tree.specs.declared.leaf.Num.{Num}
+use Rattle.idl_tree.specs.declared.leaf.Pk.{Pk}
+use Rattle.idl_tree.specs.declared.leaf.Pk.TheVariants as pks
+use Rattle.idl_tree.specs.declared.leaf.Dtor.{Dtor}
+use Rattle.idl_tree.specs.declared.leaf.SizeRef.{SizeRef}
+use Rattle.idl_tree.specs.declared.leaf.SizeRef.TheVariants as refs
+use Rattle.idl_tree.specs.declared.leaf.ArraySize.{ArraySize}
+use Rattle.idl_tree.specs.declared.leaf.ArraySize.TheVariants as sizes
+use Rattle.idl_outline.specs.declared.field.Extent.{Extent}
+use Rattle.idl_outline.specs.declared.field.Extent.TheVariants as extents
+use Rattle.idl_outline.specs.declared.field.Place.{Place}
+use Rattle.idl_outline.specs.Names.{class_at, or_class}
+use Rattle.idl_outline.specs.Plain.{PMark, is_size, is_max, is_length, is_switch, PAttrs}
+use Rattle.ndr_value.specs.declared.shape.ArrayKind.{ArrayKind}
+use Rattle.ndr_value.specs.declared.shape.ArrayKind.TheVariants.{Fixed, Varying, Conformant, ConformantVarying}
+use Rattle.ndr_value.specs.declared.shape.Count.{Count}
+use Rattle.ndr_value.specs.declared.shape.Count.TheVariants as counts
+use Rattle.ndr_value.specs.Forms.{Form, OfNamed, OfArray, OfText, OfRef, OfUnique, OfFull}
+use Rattle.table_scope.specs.declared.said.Terms.{Terms}
+use Rattle.table_scope.specs.Marks.{given, says, says_string, pointer_in}
+use Rattle.table_scope.specs.Known.{in_8, in_32, Named}
+
+-- ---- counts: they name a parameter, or a member of the same body, by its index
+
+abbrev pub index_of : List ℕ → List Ident → ℕ
+index_of name [] = 0
+index_of name (i ∷ is) = if bytes_eq i.text name then 0 else index_of name is + 1
+
+abbrev pub named_count : Bool → List Ident → ℕ → Bool → Ident → Count
+named_count parameters names plus star i =
+    if parameters then counts.Param (in_8 (index_of i.text names)) star plus else counts.Member (in_8 (index_of i.text names)) plus
+
+abbrev pub count : Bool → List Ident → ℕ → SizeRef → Count
+count parameters names plus (refs.Number n) = counts.Number (in_32 (n.value + plus))
+count parameters names plus (refs.Named star i) = named_count parameters names plus star i
+
+-- how many elements there may be: max_is names the greatest index, one less
+abbrev pub most_in : Bool → List Ident → PMark → Option Count
+most_in parameters names (is_size r) = Some (count parameters names 0 r)
+most_in parameters names (is_max r) = Some (count parameters names 1 r)
+most_in parameters names _ = None
+
+abbrev pub travel_in : Bool → List Ident → PMark → Option Count
+travel_in parameters names (is_length r) = Some (count parameters names 0 r)
+travel_in parameters names _ = None
+
+abbrev pub switch_in : Bool → List Ident → PMark → Option Count
+switch_in parameters names (is_switch star i) = Some (named_count parameters names 0 star i)
+switch_in parameters names _ = None
+
+-- what attributes say of the declarators behind them: parameters, or the members of one body, with the names of all of these. The
+-- outermost pointer of a parameter is ref, where no attribute gives a class; all other pointers have the class of the interface
+abbrev pub terms : Pk → Place → Bool → List Ident → PAttrs → Terms
+terms default place parameters names as' = record {
+  inner = default;
+  outer = or_class (given pointer_in as') (class_at default place);
+  element = or_class (given pointer_in as') default;
+  text = says says_string as';
+  most = given (most_in parameters names) as';
+  travel = given (travel_in parameters names) as';
+  switch = given (switch_in parameters names) as';
+}
+
+-- ---- pointers
+
+abbrev pub pointer : Pk → Form → Form
+pointer pks.Ref s = OfRef s
+pointer pks.Unique s = OfUnique s
+pointer pks.Ptr s = OfFull s
+
+-- so many pointers, one behind the other
+abbrev pub chain : Pk → ℕ → Form → Form
+chain class zero s = s
+chain class (suc n) s = pointer class (chain class n s)
+
+abbrev pub pointers : Pk → Pk → ℕ → Form → Form
+pointers inner outer n s = if n == 0 then s else pointer outer (chain inner (n - 1) s)
+
+-- ---- arrays and texts
+
+abbrev pub size_extent : Named Num → ArraySize → Extent
+size_extent constants sizes.Empty = extents.Open
+size_extent constants sizes.Star = extents.Open
+size_extent constants (sizes.Number n) = extents.Fixed (Some n)
+size_extent constants (sizes.Named i) = extents.Fixed (constants i.text)
+
+abbrev pub extent : Named Num → Option ArraySize → Extent
+extent constants None = extents.Single
+extent constants (Some size) = size_extent constants size
+
+abbrev pub bound : Option Num → ℕ
+bound None = 0
+bound (Some n) = in_32 n.value
+
+abbrev pub or_none : Option Count → Count
+or_none None = counts.Number 0
+or_none (Some c) = c
+
+abbrev pub open_kind : Count → Option Count → ArrayKind
+open_kind most None = Conformant most
+open_kind most (Some travel) = ConformantVarying most travel
+
+abbrev pub fixed_kind : ℕ → Option Count → ArrayKind
+fixed_kind n None = Fixed n
+fixed_kind n (Some travel) = Varying n travel
+
+abbrev pub array : Terms → Extent → Form → Form
+array t extents.Single s = s
+array t extents.Open s = OfArray (open_kind (or_none t.most) t.travel) s
+array t (extents.Fixed size) s = OfArray (fixed_kind (bound size) t.travel) s
+
+abbrev pub text : Extent → Form
+text (extents.Fixed size) = OfText (Some (bound size))
+text _ = OfText None
+
+abbrev pub outermost : Terms → Extent → Pk
+outermost t extents.Single = t.outer
+outermost t _ = t.element
+
+-- ---- what names a union's tag: the union stands behind pointers and arrays
+
+abbrev pub tied : Count → Form → Form
+tied c (OfNamed number switch) = OfNamed number (Some c)
+tied c (OfArray kind s) = OfArray kind (tied c s)
+tied c (OfRef s) = OfRef (tied c s)
+tied c (OfUnique s) = OfUnique (tied c s)
+tied c (OfFull s) = OfFull (tied c s)
+tied c s = s
+
+abbrev pub if_tied : Option Count → Form → Form
+if_tied None s = s
+if_tied (Some c) s = tied c s
+
+-- ---- a declarator
+
+-- without a pointer: with string, an array of characters is a text
+abbrev pub by_value : Terms → Extent → Form → Form
+by_value t e s = if t.text then text e else array t e s
+
+-- what pointers point to: with string, a text
+abbrev pub target : Terms → Form → Form
+target t s = if t.text then OfText None else s
+
+-- an array of pointers
+abbrev pub shaped : Terms → Extent → ℕ → Form → Form
+shaped t e n s = if n == 0 then by_value t e s else array t e (pointers t.inner (outermost t e) n (target t s))
+
+abbrev pub declared : Terms → Named Num → Form → Dtor → Form
+declared t constants s d = if_tied t.switch (shaped t (extent constants d.array) d.stars s)

@@ -1,0 +1,281 @@
+//! The shape of what a declarator declares.
+ghost use Rattle.std.specs.Prelude.{◌≡◌, ◌∷◌, [], map, not, IfOk};
+ghost use Rattle.ndr_value.specs.Forms.{form};
+ghost use Rattle.idl_outline.specs.Outline as outline;
+ghost use Rattle.idl_outline.specs.Names as names;
+ghost use Rattle.idl_outline.specs.Plain.{plain_attrs};
+ghost use Rattle.name_map.specs.Named.{at_name};
+ghost use Rattle.table_scope.specs.Declarators as spec;
+
+use crate::counts::kept_32;
+use crate::marks;
+use crate::said::Terms;
+use crate::scope::constant_named;
+use idl_outline::{Extent, Place, any_by_value};
+use idl_tree::{ArraySize, Attr, Dtor, Ident, Num, Pk};
+use name_map::Names;
+use ndr_value::{ArrayKind, Count, Shape, copy_shape};
+use rpc_base::NoMemory;
+use std::alloc::Global;
+
+/// Whether each declarator has a star.
+pub fn all_pointed(dtors: &[Dtor]) -> bool
+    ensures { result ≡ outline.all_pointed dtors.now }
+{
+    !any_by_value(dtors)
+}
+
+fn class_at(default: Pk, place: Place) -> Pk
+    ensures { result ≡ names.class_at default place }
+{
+    match place {
+        Place::Parameter => Pk::Ref,
+        Place::Typedef => default,
+        Place::Alone => default,
+        Place::Operation => default,
+        Place::Member => default,
+        Place::Arm => default,
+    }
+}
+
+fn or_class(class: Option<Pk>, other: Pk) -> Pk
+    ensures { result ≡ names.or_class class other }
+{
+    match class {
+        Some(class) => class,
+        None => other,
+    }
+}
+
+/// What attributes say of the declarators behind them. `parameters`: these are parameters, and not
+/// members of a body; `names` has the names of all of these.
+pub fn terms(attrs: &[Attr], default: Pk, place: Place, parameters: bool, names: &[Ident]) -> Terms
+    ensures { result ≡ spec.terms default place parameters names.now (plain_attrs attrs.now) }
+{
+    let class = marks::pointer(attrs);
+    let text = marks::says_string(attrs);
+    let most = marks::most(attrs, parameters, names);
+    let travel = marks::travel(attrs, parameters, names);
+    let switch = marks::switch(attrs, parameters, names);
+    Terms {
+        inner: default,
+        outer: or_class(class, class_at(default, place)),
+        element: or_class(class, default),
+        text,
+        most,
+        travel,
+        switch,
+    }
+}
+
+fn pointer(alloc: Global, class: Pk, shape: Shape) -> Result<Shape, NoMemory>
+    ensures { IfOk result (λ s. form s ≡ spec.pointer class (form shape)) }
+{
+    let target = Box::new(alloc, shape)?;
+    match class {
+        Pk::Ref => Ok(Shape::Ref(target)),
+        Pk::Unique => Ok(Shape::Unique(target)),
+        Pk::Ptr => Ok(Shape::Full(target)),
+    }
+}
+
+// So many pointers, one behind the other.
+#[tactic(auto, using(crate::proofs::Pointers::more))]
+fn chain(alloc: Global, class: Pk, stars: usize, shape: Shape) -> Result<Shape, NoMemory>
+    ensures { IfOk result (λ s. form s ≡ spec.chain class stars (form shape)) }
+{
+    let mut all = shape;
+    for made in 0..stars {
+        all = pointer(alloc, class, all)?;
+    }
+    Ok(all)
+}
+
+fn pointers(
+    alloc: Global,
+    inner: Pk,
+    outer: Pk,
+    stars: usize,
+    shape: Shape,
+) -> Result<Shape, NoMemory>
+    ensures { IfOk result (λ s. form s ≡ spec.pointers inner outer stars (form shape)) }
+{
+    if stars == 0 {
+        return Ok(shape);
+    }
+    let behind = chain(alloc, inner, stars - 1, shape)?;
+    pointer(alloc, outer, behind)
+}
+
+fn size_extent(constants: &Names<Num>, size: &ArraySize) -> Extent
+    ensures { result ≡ spec.size_extent (at_name constants.now) size.now }
+{
+    match size {
+        ArraySize::Empty => Extent::Open,
+        ArraySize::Star => Extent::Open,
+        ArraySize::Number(number) => Extent::Fixed(Some(*number)),
+        ArraySize::Named(name) => Extent::Fixed(constant_named(constants, name.text.as_slice())),
+    }
+}
+
+fn extent(constants: &Names<Num>, array: &Option<ArraySize>) -> Extent
+    ensures { result ≡ spec.extent (at_name constants.now) array.now }
+{
+    match array {
+        None => Extent::Single,
+        Some(size) => size_extent(constants, size),
+    }
+}
+
+fn bound(size: Option<Num>) -> u32
+    ensures { result ≡ spec.bound size }
+{
+    match size {
+        None => 0,
+        Some(number) => kept_32(number.value),
+    }
+}
+
+fn or_none(most: Option<Count>) -> Count
+    ensures { result ≡ spec.or_none most }
+{
+    match most {
+        None => Count::Number(0),
+        Some(count) => count,
+    }
+}
+
+fn open_kind(most: Count, travel: Option<Count>) -> ArrayKind
+    ensures { result ≡ spec.open_kind most travel }
+{
+    match travel {
+        None => ArrayKind::Conformant(most),
+        Some(travel) => ArrayKind::ConformantVarying(most, travel),
+    }
+}
+
+fn fixed_kind(size: u32, travel: Option<Count>) -> ArrayKind
+    ensures { result ≡ spec.fixed_kind size travel }
+{
+    match travel {
+        None => ArrayKind::Fixed(size),
+        Some(travel) => ArrayKind::Varying(size, travel),
+    }
+}
+
+fn array(alloc: Global, terms: &Terms, extent: Extent, shape: Shape) -> Result<Shape, NoMemory>
+    ensures { IfOk result (λ s. form s ≡ spec.array terms.now extent (form shape)) }
+{
+    match extent {
+        Extent::Single => Ok(shape),
+        Extent::Open => {
+            let kind = open_kind(or_none(terms.most), terms.travel);
+            Ok(Shape::Array(kind, Box::new(alloc, shape)?))
+        }
+        Extent::Fixed(size) => {
+            let kind = fixed_kind(bound(size), terms.travel);
+            Ok(Shape::Array(kind, Box::new(alloc, shape)?))
+        }
+    }
+}
+
+fn text(extent: Extent) -> Shape
+    ensures { form result ≡ spec.text extent }
+{
+    match extent {
+        Extent::Single => Shape::Text(None),
+        Extent::Open => Shape::Text(None),
+        Extent::Fixed(size) => Shape::Text(Some(bound(size))),
+    }
+}
+
+fn outermost(terms: &Terms, extent: Extent) -> Pk
+    ensures { result ≡ spec.outermost terms.now extent }
+{
+    match extent {
+        Extent::Single => terms.outer,
+        Extent::Open => terms.element,
+        Extent::Fixed(_) => terms.element,
+    }
+}
+
+// What pointers point to: a text, or the shape.
+fn target(alloc: Global, terms: &Terms, shape: &Shape) -> Result<Shape, NoMemory>
+    ensures { IfOk result (λ s. form s ≡ spec.target terms.now (form shape.now)) }
+{
+    if terms.text {
+        return Ok(Shape::Text(None));
+    }
+    copy_shape(alloc, shape)
+}
+
+fn by_value(alloc: Global, terms: &Terms, extent: Extent, shape: &Shape) -> Result<Shape, NoMemory>
+    ensures { IfOk result (λ s. form s ≡ spec.by_value terms.now extent (form shape.now)) }
+{
+    if terms.text {
+        return Ok(text(extent));
+    }
+    let own = copy_shape(alloc, shape)?;
+    array(alloc, terms, extent, own)
+}
+
+fn shaped(
+    alloc: Global,
+    terms: &Terms,
+    extent: Extent,
+    stars: usize,
+    shape: &Shape,
+) -> Result<Shape, NoMemory>
+    ensures { IfOk result (λ s. form s ≡ spec.shaped terms.now extent stars (form shape.now)) }
+{
+    if stars == 0 {
+        return by_value(alloc, terms, extent, shape);
+    }
+    let behind = target(alloc, terms, shape)?;
+    let pointed = pointers(alloc, terms.inner, outermost(terms, extent), stars, behind)?;
+    array(alloc, terms, extent, pointed)
+}
+
+#[cycle(tied)]
+fn tied(shape: &Shape, alloc: Global, count: Count) -> Result<Shape, NoMemory>
+    ensures { IfOk result (λ s. form s ≡ spec.tied count (form shape.now)) }
+{
+    match shape {
+        Shape::Named(number, _) => Ok(Shape::Named(*number, Some(count))),
+        Shape::Array(kind, inner) => Ok(Shape::Array(*kind, boxed(inner, alloc, count)?)),
+        Shape::Ref(inner) => Ok(Shape::Ref(boxed(inner, alloc, count)?)),
+        Shape::Unique(inner) => Ok(Shape::Unique(boxed(inner, alloc, count)?)),
+        Shape::Full(inner) => Ok(Shape::Full(boxed(inner, alloc, count)?)),
+        _ => copy_shape(alloc, shape),
+    }
+}
+
+#[cycle(tied)]
+fn boxed(shape: &Shape, alloc: Global, count: Count) -> Result<Box<Shape>, NoMemory>
+    ensures { IfOk result (λ s. form s.value ≡ spec.tied count (form shape.now)) }
+{
+    let inner = tied(shape, alloc, count)?;
+    Ok(Box::new(alloc, inner)?)
+}
+
+/// The shape of what a declarator behind a spec of that shape declares.
+///
+/// # Errors
+///
+/// `NoMemory` where there is no memory for it.
+pub fn declared(
+    alloc: Global,
+    terms: &Terms,
+    constants: &Names<Num>,
+    shape: &Shape,
+    dtor: &Dtor,
+) -> Result<Shape, NoMemory>
+    ensures { IfOk result (λ s. form s ≡ spec.declared terms.now (at_name constants.now) (form shape.now) dtor.now) }
+{
+    let extent = extent(constants, &dtor.array);
+    let shape = shaped(alloc, terms, extent, dtor.stars, shape)?;
+    match terms.switch {
+        None => Ok(shape),
+        Some(count) => tied(&shape, alloc, count),
+    }
+}

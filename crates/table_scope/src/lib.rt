@@ -1,0 +1,20 @@
+//! What names stand for at a place of an interface text, and the shapes of what declarators declare
+//! there (C706, chapters "Interface Definition Language" and "Transfer Syntax NDR").
+#![tactic(auto)]
+
+mod counts;
+mod declarators;
+mod known;
+mod marks;
+mod said;
+mod scope;
+
+pub use counts::kept_16;
+pub use declarators::{all_pointed, declared, terms};
+pub use known::{Known, Meaning, Sort, Tag};
+pub use marks::{is_serialised, says_handle, says_in, says_maybe, says_out};
+pub use said::Terms;
+pub use scope::{
+    add, begun, constant_named, ended, nothing, nothing_known, struct_shape, tag_shape, type_named,
+    union_shape, valued, with_constant, with_handle, with_names, with_type,
+};

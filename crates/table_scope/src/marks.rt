@@ -1,0 +1,257 @@
+//! What a list of attributes gives.
+ghost use Rattle.std.specs.Prelude.{◌≡◌, ◌+◌, min, length};
+ghost use Rattle.std.specs.List.{list_any};
+ghost use Rattle.idl_outline.specs.Plain.{plain_mark, plain_attrs};
+ghost use Rattle.table_scope.specs.Marks as spec;
+ghost use Rattle.table_scope.specs.Declarators.{most_in, travel_in, switch_in};
+
+use crate::counts::{count, named_count};
+use idl_tree::{Attr, AttrKind, Ident, Pk};
+use ndr_value::Count;
+
+fn is_in(kind: &AttrKind) -> bool
+    ensures { result ≡ spec.says_in (plain_mark kind.now) }
+{
+    matches!(kind, AttrKind::In)
+}
+
+fn is_out(kind: &AttrKind) -> bool
+    ensures { result ≡ spec.says_out (plain_mark kind.now) }
+{
+    matches!(kind, AttrKind::Out)
+}
+
+fn is_string(kind: &AttrKind) -> bool
+    ensures { result ≡ spec.says_string (plain_mark kind.now) }
+{
+    matches!(kind, AttrKind::Text)
+}
+
+fn is_maybe(kind: &AttrKind) -> bool
+    ensures { result ≡ spec.says_maybe (plain_mark kind.now) }
+{
+    matches!(kind, AttrKind::Maybe)
+}
+
+fn is_handle(kind: &AttrKind) -> bool
+    ensures { result ≡ spec.says_handle (plain_mark kind.now) }
+{
+    matches!(
+        kind,
+        AttrKind::Handle | AttrKind::HandleSerialize | AttrKind::HandleNoserialize
+    )
+}
+
+fn pointer_in(kind: &AttrKind) -> Option<Pk>
+    ensures { result ≡ spec.pointer_in (plain_mark kind.now) }
+{
+    match kind {
+        AttrKind::Pointer(class) => Some(*class),
+        AttrKind::In
+        | AttrKind::Out
+        | AttrKind::Text
+        | AttrKind::Idempotent
+        | AttrKind::Maybe
+        | AttrKind::Handle
+        | AttrKind::HandleSerialize
+        | AttrKind::HandleNoserialize
+        | AttrKind::SizeIs(_)
+        | AttrKind::MaxIs(_)
+        | AttrKind::LengthIs(_)
+        | AttrKind::SwitchIs { .. }
+        | AttrKind::SwitchType(_) => None,
+    }
+}
+
+fn most_of(kind: &AttrKind, parameters: bool, names: &[Ident]) -> Option<Count>
+    ensures { result ≡ most_in parameters names.now (plain_mark kind.now) }
+{
+    match kind {
+        AttrKind::SizeIs(size) => Some(count(parameters, names, 0, size)),
+        AttrKind::MaxIs(size) => Some(count(parameters, names, 1, size)),
+        AttrKind::In
+        | AttrKind::Out
+        | AttrKind::Pointer(_)
+        | AttrKind::Text
+        | AttrKind::Idempotent
+        | AttrKind::Maybe
+        | AttrKind::Handle
+        | AttrKind::HandleSerialize
+        | AttrKind::HandleNoserialize
+        | AttrKind::LengthIs(_)
+        | AttrKind::SwitchIs { .. }
+        | AttrKind::SwitchType(_) => None,
+    }
+}
+
+fn travel_of(kind: &AttrKind, parameters: bool, names: &[Ident]) -> Option<Count>
+    ensures { result ≡ travel_in parameters names.now (plain_mark kind.now) }
+{
+    match kind {
+        AttrKind::LengthIs(size) => Some(count(parameters, names, 0, size)),
+        AttrKind::In
+        | AttrKind::Out
+        | AttrKind::Pointer(_)
+        | AttrKind::Text
+        | AttrKind::Idempotent
+        | AttrKind::Maybe
+        | AttrKind::Handle
+        | AttrKind::HandleSerialize
+        | AttrKind::HandleNoserialize
+        | AttrKind::SizeIs(_)
+        | AttrKind::MaxIs(_)
+        | AttrKind::SwitchIs { .. }
+        | AttrKind::SwitchType(_) => None,
+    }
+}
+
+fn switch_of(kind: &AttrKind, parameters: bool, names: &[Ident]) -> Option<Count>
+    ensures { result ≡ switch_in parameters names.now (plain_mark kind.now) }
+{
+    match kind {
+        AttrKind::SwitchIs { star, name } => Some(named_count(parameters, names, 0, *star, name)),
+        AttrKind::In
+        | AttrKind::Out
+        | AttrKind::Pointer(_)
+        | AttrKind::Text
+        | AttrKind::Idempotent
+        | AttrKind::Maybe
+        | AttrKind::Handle
+        | AttrKind::HandleSerialize
+        | AttrKind::HandleNoserialize
+        | AttrKind::SizeIs(_)
+        | AttrKind::MaxIs(_)
+        | AttrKind::LengthIs(_)
+        | AttrKind::SwitchType(_) => None,
+    }
+}
+
+/// Whether `in` is said.
+pub fn says_in(attrs: &[Attr]) -> bool
+    ensures { result ≡ spec.says spec.says_in (plain_attrs attrs.now) }
+{
+    for attr in attrs {
+        if is_in(&attr.what) {
+            return true;
+        }
+    }
+    false
+}
+
+/// Whether `out` is said.
+pub fn says_out(attrs: &[Attr]) -> bool
+    ensures { result ≡ spec.says spec.says_out (plain_attrs attrs.now) }
+{
+    for attr in attrs {
+        if is_out(&attr.what) {
+            return true;
+        }
+    }
+    false
+}
+
+/// Whether `string` is said.
+pub fn says_string(attrs: &[Attr]) -> bool
+    ensures { result ≡ spec.says spec.says_string (plain_attrs attrs.now) }
+{
+    for attr in attrs {
+        if is_string(&attr.what) {
+            return true;
+        }
+    }
+    false
+}
+
+/// Whether `maybe` is said.
+pub fn says_maybe(attrs: &[Attr]) -> bool
+    ensures { result ≡ spec.says spec.says_maybe (plain_attrs attrs.now) }
+{
+    for attr in attrs {
+        if is_maybe(&attr.what) {
+            return true;
+        }
+    }
+    false
+}
+
+/// Whether a word for context handles is said.
+pub fn says_handle(attrs: &[Attr]) -> bool
+    ensures { result ≡ spec.says spec.says_handle (plain_attrs attrs.now) }
+{
+    for attr in attrs {
+        if is_handle(&attr.what) {
+            return true;
+        }
+    }
+    false
+}
+
+fn is_noserialize(attr: &Attr) -> bool
+    ensures { result ≡ spec.is_noserialize attr.now.what }
+{
+    matches!(attr.what, AttrKind::HandleNoserialize)
+}
+
+/// Whether calls with a handle of these attributes come one after another.
+pub fn is_serialised(attrs: &[Attr]) -> bool
+    ensures { result ≡ spec.is_serialised attrs.now }
+{
+    for attr in attrs {
+        if is_noserialize(attr) {
+            return false;
+        }
+    }
+    true
+}
+
+/// The class that the first pointer attribute gives.
+pub fn pointer(attrs: &[Attr]) -> Option<Pk>
+    ensures { result ≡ spec.given spec.pointer_in (plain_attrs attrs.now) }
+{
+    for attr in attrs {
+        let found = pointer_in(&attr.what);
+        if found.is_some() {
+            return found;
+        }
+    }
+    None
+}
+
+/// How many elements there may be.
+pub fn most(attrs: &[Attr], parameters: bool, names: &[Ident]) -> Option<Count>
+    ensures { result ≡ spec.given (most_in parameters names.now) (plain_attrs attrs.now) }
+{
+    for attr in attrs {
+        let found = most_of(&attr.what, parameters, names);
+        if found.is_some() {
+            return found;
+        }
+    }
+    None
+}
+
+/// How many elements travel.
+pub fn travel(attrs: &[Attr], parameters: bool, names: &[Ident]) -> Option<Count>
+    ensures { result ≡ spec.given (travel_in parameters names.now) (plain_attrs attrs.now) }
+{
+    for attr in attrs {
+        let found = travel_of(&attr.what, parameters, names);
+        if found.is_some() {
+            return found;
+        }
+    }
+    None
+}
+
+/// What selects a union's arm.
+pub fn switch(attrs: &[Attr], parameters: bool, names: &[Ident]) -> Option<Count>
+    ensures { result ≡ spec.given (switch_in parameters names.now) (plain_attrs attrs.now) }
+{
+    for attr in attrs {
+        let found = switch_of(&attr.what, parameters, names);
+        if found.is_some() {
+            return found;
+        }
+    }
+    None
+}

@@ -1,0 +1,290 @@
+//! What names stand for, and what declarations add.
+ghost use Rattle.std.specs.Prelude.{◌≡◌, ◌+◌, ◌∷◌, [], length, map, IfOk, OnOk, None, Some};
+ghost use Rattle.ndr_value.specs.Forms.{form, forms, arms_of, types_of, OfStruct, OfUnion};
+ghost use Rattle.name_map.specs.Named.{at_name};
+ghost use Rattle.table_scope.specs.Known as spec;
+ghost use Rattle.table_scope.specs.Known.{sense, scope, handle_sense};
+
+use crate::counts::kept_16;
+use crate::known::{Known, Meaning, Sort, Tag};
+use idl_tree::{Ident, Num};
+use name_map::{Names, named, put};
+use ndr_value::{Arms, Shape, Shapes, copy_shape};
+use rpc_base::NoMemory;
+use std::alloc::Global;
+
+/// A structure of these members.
+pub fn struct_shape(members: Shapes) -> Shape
+    ensures { form result ≡ OfStruct (forms members.items) }
+{
+    Shape::Struct(members)
+}
+
+/// A union of that tag and these arms.
+pub fn union_shape(tag: Box<Shape>, arms: Arms) -> Shape
+    ensures { form result ≡ OfUnion (form tag.value) (arms_of arms.items) }
+{
+    Shape::Union { tag, arms }
+}
+
+/// The shape of what has none.
+pub fn nothing(alloc: Global) -> Shape
+    ensures { form result ≡ spec.nothing }
+{
+    let members = Shapes::new(alloc);
+    struct_shape(members)
+}
+
+/// The sum.
+///
+/// # Errors
+///
+/// `NoMemory` where it passes the greatest number of a count in memory.
+pub fn add(a: usize, b: usize) -> Result<usize, NoMemory>
+    ensures { IfOk result (λ sum. sum ≡ a + b) }
+{
+    match a.checked_add(b) {
+        Some(sum) => Ok(sum),
+        None => Err(NoMemory),
+    }
+}
+
+// ---- what declarations add
+
+fn key_of(alloc: Global, name: &Ident) -> Result<Vec<u8>, NoMemory>
+    ensures { IfOk result (λ key. key.items ≡ name.now.text) }
+{
+    Ok(name.text.copy(alloc)?.into_vec())
+}
+
+/// The name of a type.
+///
+/// # Errors
+///
+/// `NoMemory` where there is no memory for it, as for each of these.
+pub fn with_type(
+    known: &mut Known,
+    alloc: Global,
+    name: &Ident,
+    meaning: Meaning,
+) -> Result<(), NoMemory>
+    ensures { OnOk result (scope known.new ≡ spec.with_type name.now (sense meaning) (scope known.old)) }
+{
+    let key = key_of(alloc, name)?;
+    put(&mut known.named, key, meaning)?;
+    Ok(())
+}
+
+// The next type of context handles.
+fn handle_meaning(kinds: usize, serialised: bool) -> Meaning
+    ensures { sense result ≡ handle_sense kinds serialised }
+{
+    let kind = kept_16(kinds as u64);
+    Meaning {
+        shape: Shape::Handle(kind),
+        sort: Sort::Handle { kind, serialised },
+    }
+}
+
+/// The name of a type of context handles.
+pub fn with_handle(
+    known: &mut Known,
+    alloc: Global,
+    name: &Ident,
+    serialised: bool,
+) -> Result<(), NoMemory>
+    ensures { OnOk result (scope known.new ≡ spec.with_handle name.now serialised (scope known.old)) }
+{
+    let kinds = add(known.kinds, 1)?;
+    let meaning = handle_meaning(known.kinds, serialised);
+    with_type(known, alloc, name, meaning)?;
+    known.kinds = kinds;
+    Ok(())
+}
+
+/// The name of a constant.
+pub fn with_constant(
+    known: &mut Known,
+    alloc: Global,
+    name: &Ident,
+    value: Num,
+) -> Result<(), NoMemory>
+    ensures { OnOk result (scope known.new ≡ spec.with_constant name.now value (scope known.old)) }
+{
+    let key = key_of(alloc, name)?;
+    put(&mut known.constants, key, value)?;
+    Ok(())
+}
+
+/// The names of an enumeration.
+pub fn with_names(known: &mut Known, alloc: Global, names: &[Ident]) -> Result<(), NoMemory>
+    ensures { OnOk result (scope known.new ≡ spec.with_names 0 names.now (scope known.old)) }
+{
+    let mut number = 0;
+    for name in names {
+        let value = Num {
+            at: name.at,
+            minus: false,
+            value: number,
+        };
+        with_constant(known, alloc, name, value)?;
+        number += 1;
+    }
+    Ok(())
+}
+
+// A structure's tag.
+fn with_tag(known: &mut Known, alloc: Global, name: &Ident, tag: Tag) -> Result<(), NoMemory>
+    ensures { OnOk result (scope known.new ≡ spec.with_tag name.now tag (scope known.old)) }
+{
+    let key = key_of(alloc, name)?;
+    put(&mut known.tags, key, tag)?;
+    Ok(())
+}
+
+// The number of the next type.
+fn next_number(known: &Known) -> usize
+    ensures { result ≡ length (scope known.now).types }
+{
+    known.types.len()
+}
+
+/// The tag of a structure whose body begins, with so many structures and unions within.
+pub fn begun(
+    known: &mut Known,
+    alloc: Global,
+    tag: &Option<Ident>,
+    within: usize,
+) -> Result<(), NoMemory>
+    ensures { OnOk result (scope known.new ≡ spec.begun tag.now within (scope known.old)) }
+{
+    match tag {
+        None => Ok(()),
+        Some(name) => {
+            let number = add(next_number(known), within)?;
+            let whole = false;
+            with_tag(known, alloc, name, Tag { whole, number })
+        }
+    }
+}
+
+// A type.
+fn with_entry(known: &mut Known, entry: Shape) -> Result<(), NoMemory>
+    ensures { OnOk result (scope known.new ≡ spec.with_entry (form entry) (scope known.old)) }
+{
+    known.types.push(entry)?;
+    Ok(())
+}
+
+/// A structure or union whose body has ended.
+pub fn ended(
+    known: &mut Known,
+    alloc: Global,
+    tag: &Option<Ident>,
+    entry: Shape,
+) -> Result<(), NoMemory>
+    ensures { OnOk result (scope known.new ≡ spec.ended tag.now (form entry) (scope known.old)) }
+{
+    let number = next_number(known);
+    with_entry(known, entry)?;
+    match tag {
+        None => Ok(()),
+        Some(name) => {
+            let whole = true;
+            with_tag(known, alloc, name, Tag { whole, number })
+        }
+    }
+}
+
+// ---- what names stand for
+
+/// The number that a name stands for.
+pub fn constant_named(constants: &Names<Num>, text: &[u8]) -> Option<Num>
+    ensures { result ≡ at_name constants.now text.now }
+{
+    match named(constants, text) {
+        None => None,
+        Some(number) => Some(*number),
+    }
+}
+
+fn tag_named(tags: &Names<Tag>, text: &[u8]) -> Option<Tag>
+    ensures { result ≡ at_name tags.now text.now }
+{
+    match named(tags, text) {
+        None => None,
+        Some(tag) => Some(*tag),
+    }
+}
+
+fn copy_meaning(alloc: Global, meaning: &Meaning) -> Result<Meaning, NoMemory>
+    ensures { IfOk result (λ copy. sense copy ≡ sense meaning.now) }
+{
+    let shape = copy_shape(alloc, &meaning.shape)?;
+    Ok(Meaning {
+        shape,
+        sort: meaning.sort,
+    })
+}
+
+/// What a value of that shape stands for.
+pub fn valued(shape: Shape) -> Meaning
+    ensures { sense result ≡ spec.valued (form shape) }
+{
+    Meaning {
+        shape,
+        sort: Sort::Value,
+    }
+}
+
+/// What the name of a type stands for.
+///
+/// # Errors
+///
+/// `NoMemory` where there is no memory for a copy of it.
+pub fn type_named(known: &Known, alloc: Global, name: &Ident) -> Result<Meaning, NoMemory>
+    ensures { IfOk result (λ m. sense m ≡ spec.type_named name.now.text (scope known.now).named) }
+{
+    match named(&known.named, name.text.as_slice()) {
+        None => Ok(valued(nothing(alloc))),
+        Some(meaning) => copy_meaning(alloc, meaning),
+    }
+}
+
+fn found_shape(alloc: Global, pointed: bool, found: Option<Tag>) -> Shape
+    ensures { form result ≡ spec.found_form pointed found }
+{
+    match found {
+        None => nothing(alloc),
+        Some(tag) => {
+            if tag.whole || pointed {
+                Shape::Named(tag.number, None)
+            } else {
+                nothing(alloc)
+            }
+        }
+    }
+}
+
+/// What a structure's tag stands for. `pointed`: it stands behind a pointer.
+pub fn tag_shape(known: &Known, alloc: Global, pointed: bool, tag: &Option<Ident>) -> Shape
+    ensures { form result ≡ spec.tag_form pointed tag.now (scope known.now).tags }
+{
+    match tag {
+        None => nothing(alloc),
+        Some(name) => found_shape(alloc, pointed, tag_named(&known.tags, name.text.as_slice())),
+    }
+}
+
+/// Nothing is known. It takes no memory.
+pub fn nothing_known(alloc: Global) -> Known
+    ensures { scope result ≡ spec.nothing_known }
+{
+    Known {
+        types: Vec::new(alloc),
+        kinds: 0,
+        named: Names::new(alloc),
+        constants: Names::new(alloc),
+        tags: Names::new(alloc),
+    }
+}

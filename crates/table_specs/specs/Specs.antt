@@ -1,0 +1,214 @@
+-- What specs stand for, and what they add to what is known. X_at gives what an X stands for at a place, and what is known behind it.
+use Rattle.std.specs.Prelude.{ℕ, ◌+◌, ◌^◌, ◌-◌, Bool, true, false, List, [], ◌∷◌, ◌++◌, length, map, min, Option, Some, None, if◌then◌else◌, ℤ, pos, neg_ℤ}
+use Rattle.std.specs.List.{flat_map, list_any}
+use Rattle.std.specs.Option.{option_or}
+use Rattle.idl_tree.specs.declared.leaf.Ident.{Ident}
+use Rattle.idl_tree.specs.declared.leaf.Num.{Num}
+use Rattle.idl_tree.specs.declared.leaf.Pk.{Pk}
+use Rattle.idl_tree.specs.declared.leaf.Base.{Base}
+use Rattle.idl_tree.specs.declared.leaf.Base.TheVariants as bases
+use Rattle.idl_tree.specs.declared.leaf.Dtor.{Dtor}
+use Rattle.idl_tree.specs.declared.spec.Label.{Label}
+use Rattle.idl_tree.specs.declared.spec.LabelKind.{LabelKind}
+use Rattle.idl_tree.specs.declared.spec.LabelKind.TheVariants as labels
+use Rattle.idl_outline.specs.declared.field.Place.TheVariants as places
+use Rattle.idl_outline.specs.Outline.{all_pointed}
+use Rattle.idl_outline.specs.Plain.{PSpec, spec, PKind, of_base, of_name, of_void, of_handle_t, of_error_status, of_tag, of_struct, of_union, of_enum, PSwitch, no_switch, switch, PMember, member, PMembers, no_member, then_member, PArm, arm, empty_arm, PArms, no_arm, then_arm, PMark, is_switch_type, PAttr, attr, PAttrs, no_attr, then_attr}
+use Rattle.ndr_value.specs.Forms.{Form, OfBool, OfByte, OfChar, OfInt, OfUint, OfEnum, OfNamed, OfStruct, OfUnion, Forms, no_form, then_form, Body, empty, holds, ArmForms}
+use Rattle.ndr_value.specs.Forms.{no_arm as no_arm_form, then_arm as then_arm_form}
+use Rattle.table_form.specs.Aligned.{octets_of}
+use Rattle.table_scope.specs.declared.known.Sort.TheVariants as sorts
+use Rattle.table_scope.specs.Known.{Named, Sense, Scope, in_16, nothing, valued, status_sense, shapeless, type_named, tag_form, with_names, begun, ended}
+use Rattle.table_scope.specs.Declarators.{terms, declared}
+
+-- ---- small parts
+
+abbrev pub base_form : Base → Form
+base_form bases.Boolean = OfBool
+base_form bases.Byte = OfByte
+base_form (bases.Char unsigned) = OfChar
+base_form (bases.Int unsigned size int_word) = if unsigned then OfUint (octets_of size) else OfInt (octets_of size)
+
+-- the forms of a list, as of a structure's members
+abbrev pub row : List Form → Forms
+row [] = no_form
+row (s ∷ ss) = then_form s (row ss)
+
+-- an arm's cases, whether it is the default, and what it holds
+abbrev pub Face : Type 0
+Face = List ℤ × Bool × Body
+
+abbrev pub arm_row : List Face → ArmForms
+arm_row [] = no_arm_form
+arm_row (a ∷ rest) = then_arm_form a.0 a.1 a.2 (arm_row rest)
+
+-- what an arm holds: an arm of several members is a structure of them
+abbrev pub held : List Form → Body
+held [] = empty
+held (s ∷ []) = holds s
+held (s ∷ t ∷ ss) = holds (OfStruct (row (s ∷ t ∷ ss)))
+
+abbrev pub or_nothing : Option Form → Form
+or_nothing None = nothing
+or_nothing (Some s) = s
+
+-- ---- labels
+
+-- a number as a table keeps it: a case of an interface that keeps the rules fits 64 bits, with its sign
+abbrev pub case_number : Num → ℤ
+case_number n = if n.minus then neg_ℤ (pos (min n.value (2 ^ 63))) else pos (min n.value (2 ^ 63 - 1))
+
+abbrev pub label_number : Named Num → LabelKind → Option Num
+label_number constants (labels.Number n) = Some n
+label_number constants (labels.Named i) = constants i.text
+label_number constants labels.Default = None
+
+abbrev pub if_case : Option Num → List ℤ
+if_case None = []
+if_case (Some n) = case_number n ∷ []
+
+abbrev pub cases : Named Num → List Label → List ℤ
+cases constants ls = flat_map (λ l. if_case (label_number constants l.what)) ls
+
+abbrev pub is_default : LabelKind → Bool
+is_default labels.Default = true
+is_default _ = false
+
+abbrev pub has_default : List Label → Bool
+has_default ls = list_any (λ l. is_default l.what) ls
+
+-- ---- the names of a body's members, and how many structures and unions stand within a spec
+
+abbrev pub dtor_names : List Dtor → List Ident
+dtor_names ds = map (λ d. d.name) ds
+
+abbrev pub names_of : PMember → List Ident
+names_of (member as' s ds) = dtor_names ds
+
+abbrev pub member_names : PMembers → List Ident
+member_names no_member = []
+member_names (then_member m ms) = names_of m ++ member_names ms
+
+abbrev pub arm_dtors : PArm → List Ident
+arm_dtors (arm ls m) = names_of m
+arm_dtors (empty_arm ls) = []
+
+abbrev pub arm_names : PArms → List Ident
+arm_names no_arm = []
+arm_names (then_arm a rest) = arm_dtors a ++ arm_names rest
+
+abbrev mutual
+  pub within : PSpec → ℕ
+  within (spec at k) = kind_within k
+
+  pub kind_within : PKind → ℕ
+  kind_within (of_struct tag ms) = members_within ms + 1
+  kind_within (of_union tag s arms) = switch_within s + arms_within arms + 1
+  kind_within _ = 0
+
+  pub switch_within : PSwitch → ℕ
+  switch_within no_switch = 0
+  switch_within (switch s i) = within s
+
+  pub member_within : PMember → ℕ
+  member_within (member as' s ds) = attrs_within as' + within s
+
+  pub members_within : PMembers → ℕ
+  members_within no_member = 0
+  members_within (then_member m ms) = member_within m + members_within ms
+
+  pub arm_within : PArm → ℕ
+  arm_within (arm ls m) = member_within m
+  arm_within (empty_arm ls) = 0
+
+  pub arms_within : PArms → ℕ
+  arms_within no_arm = 0
+  arms_within (then_arm a rest) = arm_within a + arms_within rest
+
+  pub mark_within : PMark → ℕ
+  mark_within (is_switch_type s) = within s
+  mark_within _ = 0
+
+  pub attr_within : PAttr → ℕ
+  attr_within (attr at m) = mark_within m
+
+  pub attrs_within : PAttrs → ℕ
+  attrs_within no_attr = 0
+  attrs_within (then_attr a rest) = attr_within a + attrs_within rest
+
+-- ---- structures and unions, from what stands within them
+
+-- the type whose body ends there
+abbrev pub numbered : Scope → Sense
+numbered p = valued (OfNamed (length p.types) None)
+
+abbrev pub struct_at : Option Ident → List Form × Scope → Sense × Scope
+struct_at tag inside = (numbered inside.1, ended tag (OfStruct (row inside.0)) inside.1)
+
+abbrev pub union_at : Form → List Face × Scope → Sense × Scope
+union_at tag inside = (numbered inside.1, ended None (OfUnion tag (arm_row inside.0)) inside.1)
+
+abbrev pub enum_sense : List Ident → Sense
+enum_sense names = valued (OfEnum (in_16 (length names)))
+
+abbrev pub enum_past : List Ident → Scope → Scope
+enum_past names p = with_names 0 names p
+
+-- ---- specs. default: the pointer class of the interface; pointed: each declarator of the spec has a star; given: the form of its
+-- switch_type
+
+abbrev mutual
+  pub spec_at : Pk → Bool → Option Form → PSpec → Scope → Sense × Scope
+  spec_at default pointed given (spec at k) p = kind_at default pointed given k p
+
+  pub kind_at : Pk → Bool → Option Form → PKind → Scope → Sense × Scope
+  kind_at default pointed given (of_base b) p = (valued (base_form b), p)
+  kind_at default pointed given (of_name i) p = (type_named i.text p.named, p)
+  kind_at default pointed given of_void p = (shapeless sorts.Void, p)
+  kind_at default pointed given of_handle_t p = (shapeless sorts.HandleT, p)
+  kind_at default pointed given of_error_status p = (status_sense, p)
+  kind_at default pointed given (of_tag tag) p = (valued (tag_form pointed tag p.tags), p)
+  kind_at default pointed given (of_struct tag ms) p = struct_at tag (members_at default (member_names ms) ms (begun tag (members_within ms) p))
+  kind_at default pointed given (of_union tag s arms) p =
+      union_at (switch_at default given s p).0 (arms_at default (arm_names arms) arms (switch_at default given s p).1)
+  kind_at default pointed given (of_enum tag names) p = (enum_sense names, enum_past names p)
+
+  -- a union's tag: that of its switch, or of the switch_type that is given
+  pub switch_at : Pk → Option Form → PSwitch → Scope → Form × Scope
+  switch_at default given no_switch p = (or_nothing given, p)
+  switch_at default given (switch s i) p = ((spec_at default false None s p).0.shape, (spec_at default false None s p).1)
+
+  -- the form of the first switch_type
+  pub mark_at : Pk → PMark → Scope → Option Form × Scope
+  mark_at default (is_switch_type s) p = (Some (spec_at default false None s p).0.shape, (spec_at default false None s p).1)
+  mark_at default _ p = (None, p)
+
+  pub attr_at : Pk → PAttr → Scope → Option Form × Scope
+  attr_at default (attr at m) p = mark_at default m p
+
+  pub attrs_at : Pk → PAttrs → Scope → Option Form × Scope
+  attrs_at default no_attr p = (None, p)
+  attrs_at default (then_attr a rest) p =
+      (option_or (attr_at default a p).0 (attrs_at default rest (attr_at default a p).1).0, (attrs_at default rest (attr_at default a p).1).1)
+
+  -- members of one body, with the names of all of them
+  pub member_at : Pk → List Ident → PMember → Scope → List Form × Scope
+  member_at default names (member as' s ds) p =
+      let marks : Option Form × Scope = attrs_at default as' p in
+      let behind : Sense × Scope = spec_at default (all_pointed ds) marks.0 s marks.1 in
+      (map (declared (terms default places.Member false names as') behind.1.constants behind.0.shape) ds, behind.1)
+
+  pub members_at : Pk → List Ident → PMembers → Scope → List Form × Scope
+  members_at default names no_member p = ([], p)
+  members_at default names (then_member m ms) p =
+      ((member_at default names m p).0 ++ (members_at default names ms (member_at default names m p).1).0, (members_at default names ms (member_at default names m p).1).1)
+
+  pub arm_at : Pk → List Ident → PArm → Scope → Face × Scope
+  arm_at default names (arm ls m) p =
+      ((cases p.constants ls, has_default ls, held (member_at default names m p).0), (member_at default names m p).1)
+  arm_at default names (empty_arm ls) p = ((cases p.constants ls, has_default ls, empty), p)
+
+  pub arms_at : Pk → List Ident → PArms → Scope → List Face × Scope
+  arms_at default names no_arm p = ([], p)
+  arms_at default names (then_arm a rest) p =
+      ((arm_at default names a p).0 ∷ (arms_at default names rest (arm_at default names a p).1).0, (arms_at default names rest (arm_at default names a p).1).1)

@@ -1,0 +1,96 @@
+//! The labels of a union's arms, and what the arms hold.
+ghost use Rattle.std.specs.Prelude.{◌≡◌, ◌≤◌, ◌<◌, ◌++◌, length, map, IfOk, OnOk};
+ghost use Rattle.std.specs.List.{list_any};
+ghost use Rattle.ndr_value.specs.Forms.{form, body, OfStruct};
+ghost use Rattle.name_map.specs.Named.{at_name};
+ghost use Rattle.table_specs.specs.Specs as spec;
+
+use idl_tree::{Label, LabelKind, Num};
+use name_map::Names;
+use ndr_value::{Cases, Shape, Shapes};
+use rpc_base::NoMemory;
+use std::alloc::Global;
+use table_scope::{constant_named, struct_shape};
+
+// The number, or the nearest of 64 bits with a sign.
+fn case_number(number: Num) -> i64
+    ensures { result ≡ spec.case_number number }
+{
+    if number.minus {
+        if number.value < 1 << 63 {
+            -(number.value as i64)
+        } else {
+            i64::MIN
+        }
+    } else if number.value < 1 << 63 {
+        number.value as i64
+    } else {
+        i64::MAX
+    }
+}
+
+fn label_number(constants: &Names<Num>, kind: &LabelKind) -> Option<Num>
+    ensures { result ≡ spec.label_number (at_name constants.now) kind.now }
+{
+    match kind {
+        LabelKind::Number(number) => Some(*number),
+        LabelKind::Named(name) => constant_named(constants, name.text.as_slice()),
+        LabelKind::Default => None,
+    }
+}
+
+fn add_case(all: &mut Cases, number: Option<Num>) -> Result<(), NoMemory>
+    ensures { OnOk result (all.new ≡ all.old ++ spec.if_case number) }
+{
+    match number {
+        None => Ok(()),
+        Some(number) => all.push(case_number(number)),
+    }
+}
+
+/// The numbers that select an arm.
+///
+/// # Errors
+///
+/// `NoMemory` where there is no memory for them.
+pub fn cases(alloc: Global, constants: &Names<Num>, labels: &[Label]) -> Result<Cases, NoMemory>
+    ensures { IfOk result (λ all. all ≡ spec.cases (at_name constants.now) labels.now) }
+{
+    let mut all = Cases::new(alloc);
+    for label in labels {
+        add_case(&mut all, label_number(constants, &label.what))?;
+    }
+    Ok(all)
+}
+
+fn is_default(kind: &LabelKind) -> bool
+    ensures { result ≡ spec.is_default kind.now }
+{
+    matches!(kind, LabelKind::Default)
+}
+
+/// Whether an arm is the default.
+pub fn has_default(labels: &[Label]) -> bool
+    ensures { result ≡ spec.has_default labels.now }
+{
+    labels.iter().any(|label| is_default(&label.what))
+}
+
+/// A structure of these members, with their forms as they stand.
+pub fn struct_entry(members: Shapes) -> Shape
+    ensures { form result ≡ OfStruct (spec.row (map form members.items)) }
+{
+    struct_shape(members)
+}
+
+/// What an arm of these members holds.
+#[tactic(auto, using(crate::proofs::Rows::helds))]
+pub fn held(members: Shapes) -> Option<Shape>
+    ensures { body result ≡ spec.held (map form members.items) }
+{
+    let mut members = members;
+    if members.len() <= 1 {
+        return members.pop();
+    }
+    Some(struct_entry(members))
+}
