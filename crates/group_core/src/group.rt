@@ -3,9 +3,10 @@ ghost use Rattle.std.specs.Prelude.{◌≡◌, [], reverse, IfOk};
 ghost use Rattle.handle_model.specs.History.{IsSound};
 
 use crate::counts::Counts;
+use crate::journal::Journal;
 use crate::log::Log;
 use call_table::CallTable;
-use handle_model::{Entry, Home};
+use handle_model::Home;
 use handle_table::HandleTable;
 use rpc_base::NoMemory;
 use std::alloc::Global;
@@ -58,10 +59,10 @@ impl Group {
     }
 
     /// The entries, oldest first: a legal journal, at whose end no Shut is due.
-    pub fn journal(&self) -> &[Entry]
-        ensures past { reverse result.now ≡ self.now.past }
+    pub fn journal(&self) -> &Journal
+        ensures past { reverse result.now.entries ≡ self.now.past }
         ensures sound { IsSound self.now }
     {
-        self.log.entries()
+        self.log.journal()
     }
 }

@@ -7,6 +7,7 @@ mod counts;
 mod end;
 mod group;
 mod join;
+mod journal;
 mod judge;
 mod log;
 mod over;
@@ -15,3 +16,4 @@ mod take;
 
 pub use answer::{AcceptRefusal, Cancelled, JoinRefusal, Orphaned, Rest, Stage, Taking};
 pub use group::Group;
+pub use journal::Journal;

@@ -5,17 +5,17 @@ ghost use Rattle.handle_model.specs.Journal.{takes, accepted};
 ghost use Rattle.group_core.specs.Stages.{is_asked};
 ghost use Rattle.group_core.specs.Told.{is_quiet};
 
+use crate::journal::Journal;
 use handle_model::{Asked, Entry};
 use rpc_base::NoMemory;
 use std::alloc::Global;
 use std::marker::Model;
 
-/// The entries, oldest first, and for how many more there is room. Beside them it keeps for each call,
-/// by its number from 1, whether it was cancelled after it was taken.
+/// A journal. Beside its entries it keeps for each call, by its number from 1, whether it was
+/// cancelled after it was taken.
 #[derive(Drop)]
 pub struct Log {
-    entries: Vec<Entry>,
-    spare: usize,
+    journal: Journal,
     told: Vec<bool>,
 }
 
@@ -26,9 +26,9 @@ impl Model for Log {
 
     ghost Value = { Logged };
 
-    ghost view = { λ l. record { entries = l.entries.items; spare = l.spare } };
+    ghost view = { λ l. l.journal };
 
-    ghost invariant = { λ l. (vec_len l.entries + l.spare ≤ vec_capacity l.entries) × (vec_len l.told + l.spare ≤ vec_capacity l.told) × IsTold l.entries.items l.told.items };
+    ghost invariant = { λ l. (vec_len l.told + l.journal.spare ≤ vec_capacity l.told) × IsTold l.journal.entries l.told.items };
 }
 
 impl Log {
@@ -37,8 +37,7 @@ impl Log {
         ensures { result ≡ record { entries = []; spare = 0 } }
     {
         Log {
-            entries: Vec::new(alloc),
-            spare: 0,
+            journal: Journal::new(alloc),
             told: Vec::new(alloc),
         }
     }
@@ -49,13 +48,11 @@ impl Log {
         ensures ok { OnOk result (self.new.spare ≡ self.old.spare + more) }
         ensures err { OnErr result (self.new.spare ≡ self.old.spare) }
     {
-        let Some(wanted) = self.spare.checked_add(more) else {
+        let Some(wanted) = self.journal.spare().checked_add(more) else {
             return Err(NoMemory);
         };
-        self.entries.reserve(wanted)?;
         self.told.reserve(wanted)?;
-        self.spare = wanted;
-        Ok(())
+        self.journal.reserve(more)
     }
 
     /// Adds an entry that neither accepts a call nor asks one to end, and gives up the room for so
@@ -66,8 +63,7 @@ impl Log {
         ensures entries { self.new.entries ≡ self.old.entries ++ entry ∷ [] }
         ensures spare { self.new.spare + freed + 1 ≡ self.old.spare }
     {
-        self.spare = self.spare - freed - 1;
-        self.entries.push_reserved(entry);
+        self.journal.add(entry, freed);
     }
 
     /// Adds the Accept of a call.
@@ -76,9 +72,8 @@ impl Log {
         ensures entries { self.new.entries ≡ self.old.entries ++ Entry.Accept call asked ∷ [] }
         ensures spare { self.new.spare + 1 ≡ self.old.spare }
     {
-        self.spare -= 1;
         self.told.push_reserved(false);
-        self.entries.push_reserved(Entry::Accept { call, asked });
+        self.journal.add(Entry::Accept { call, asked }, 0);
     }
 
     /// Adds the Cancel of a call that was taken: it is asked to end.
@@ -90,9 +85,8 @@ impl Log {
         ensures entries { self.new.entries ≡ self.old.entries ++ Entry.Cancel call ∷ [] }
         ensures spare { self.new.spare + 1 ≡ self.old.spare }
     {
-        self.spare -= 1;
         self.told[call as usize - 1] = true;
-        self.entries.push_reserved(Entry::Cancel { call });
+        self.journal.add(Entry::Cancel { call }, 0);
     }
 
     /// Whether a call was asked to end.
@@ -105,10 +99,10 @@ impl Log {
         }
     }
 
-    /// The entries, oldest first.
-    pub fn entries(&self) -> &[Entry]
-        ensures { result.now ≡ self.now.entries }
+    /// The journal.
+    pub fn journal(&self) -> &Journal
+        ensures { result.now ≡ self.now }
     {
-        self.entries.as_slice()
+        &self.journal
     }
 }

@@ -1,10 +1,15 @@
 //! What one call takes: it is accepted, taken and ended.
-ghost use Rattle.std.specs.Prelude.{◌≡◌, ◌≤◌, true, length, IfOk};
+ghost use Rattle.std.specs.Prelude.{◌≡◌, ◌+◌, ◌*◌, ◌≤◌, true, [], ◌∷◌, length, Ok, IfOk, OnOk, MatchResult};
+ghost use Rattle.std.specs.Option.{option_to_list};
 ghost use Rattle.handle_model.specs.Journal as spec;
+ghost use Rattle.handle_model.specs.declared.entry.Entry.TheVariants.{Join};
+ghost use Rattle.group_core.specs.Adds.{Adds};
+ghost use Rattle.group_core.specs.Calls.{Accepts};
+ghost use Rattle.group_rounds.specs.Rounds as rounds;
 
-use group_core::{Group, JoinRefusal, Rest, Stage, Taking};
-use handle_model::{Asked, DueItem, DueList, Home, Outcome, Rundown, Said, Slot};
-use handle_rules::{is_open, slots, suit};
+use group_core::{AcceptRefusal, Group, JoinRefusal, Rest, Stage, Taking};
+use handle_model::{Asked, DueItem, DueList, Home, Outcome, Outcomes, Rundown, Said, Slot};
+use handle_rules::{slots, suit};
 use rpc_base::{Items, NoMemory, Octets, Order};
 use std::alloc::Global;
 
@@ -16,9 +21,9 @@ pub enum Halt {
     /// The connection was not taken into the group.
     NoJoin(JoinRefusal),
     /// The call was not accepted.
-    NoAccept,
+    NoAccept(AcceptRefusal),
     /// The call was not taken.
-    NotTaken,
+    NotTaken(Taking),
     /// The call doesn't run, or the results don't suit its slots.
     Unfit,
     /// The group has ended.
@@ -26,6 +31,11 @@ pub enum Halt {
 }
 
 impl From<NoMemory> for Halt {
+    ghost use Rattle.std.specs.Prelude.{◌≡◌};
+    ghost use Rattle.group_rounds.specs.declared.rounds.Halt.TheVariants.{Memory};
+
+    ghost from_gives = { λ _ e. e ≡ Memory };
+
     fn from(_: NoMemory) -> Self {
         Halt::Memory
     }
@@ -33,22 +43,21 @@ impl From<NoMemory> for Halt {
 
 /// A group that its first connection has joined.
 pub fn begin(alloc: Global, home: Home) -> Result<Group, Halt>
-    ensures { IfOk result (λ group. spec.is_open group.past 1 ≡ true) }
+    ensures open { IfOk result (λ group. spec.is_open group.past 1 ≡ true) }
+    ensures whole { IfOk result (λ group. group ≡ record { home = home; past = Join 1 ∷ [] }) }
 {
     let mut group = Group::begin(alloc, home.boot, home.group)?;
     match group.join() {
         Ok(_) => {}
         Err(refusal) => return Err(Halt::NoJoin(refusal)),
     }
-    if !is_open(group.journal(), 1) {
-        return Err(Halt::Shut);
-    }
     Ok(group)
 }
 
 /// A request of connection 1 with up to one slot, and an empty stub.
 pub fn request(alloc: Global, slot: Option<Slot>) -> Result<Asked, NoMemory>
-    ensures { IfOk result (λ asked. (asked.conn ≡ 1) × (length asked.slots ≤ 4)) }
+    ensures few { IfOk result (λ asked. (asked.conn ≡ 1) × (length asked.slots ≤ 4)) }
+    ensures whole { IfOk result (λ asked. asked ≡ rounds.asked_of slot) }
 {
     let mut slots = Items::new(alloc);
     if let Some(slot) = slot {
@@ -68,23 +77,25 @@ pub fn request(alloc: Global, slot: Option<Slot>) -> Result<Asked, NoMemory>
 /// Accepts a call with up to one slot, and gives its number.
 pub fn accept(alloc: Global, group: &mut Group, slot: Option<Slot>) -> Result<u32, Halt>
     requires { spec.is_open group.old.past 1 ≡ true }
-    ensures { spec.is_open group.new.past 1 ≡ true }
+    ensures open { spec.is_open group.new.past 1 ≡ true }
+    ensures adds { MatchResult result (λ call. Accepts group.old (rounds.asked_of slot) (Ok call) group.new) (λ halt. rounds.Refuses group.old slot halt group.new) }
 {
     let asked = request(alloc, slot)?;
     match group.accept(asked) {
         Ok(call) => Ok(call),
-        Err(_) => Err(Halt::NoAccept),
+        Err((_, refusal)) => Err(Halt::NoAccept(refusal)),
     }
 }
 
 /// Takes a call.
 pub fn start(group: &mut Group, call: u32) -> Result<(), Halt>
     requires { spec.is_open group.old.past 1 ≡ true }
-    ensures { spec.is_open group.new.past 1 ≡ true }
+    ensures open { spec.is_open group.new.past 1 ≡ true }
+    ensures adds { MatchResult result (λ _. Adds group.old (rounds.take_of group.old call ∷ []) group.new) (λ halt. rounds.Stops group.old call halt group.new) }
 {
     match group.take(call) {
         Taking::Run(_, _) => Ok(()),
-        _ => Err(Halt::NotTaken),
+        taking => Err(Halt::NotTaken(taking)),
     }
 }
 
@@ -108,7 +119,29 @@ fn run_down(list: DueList) {
     list.finish();
 }
 
-/// Ends a running call with up to one result, and nothing said.
+/// Up to one result, in a list.
+fn listed(alloc: Global, outcome: Option<Outcome>) -> Result<Outcomes, NoMemory>
+    ensures { IfOk result (λ results. results ≡ option_to_list outcome) }
+{
+    let mut results = Items::new(alloc);
+    if let Some(outcome) = outcome {
+        results.push(outcome)?;
+    }
+    Ok(results)
+}
+
+/// Whether the call runs, and the results suit its slots.
+#[tactic(auto, using(call_table::proofs::Steps::waits_idle))]
+fn may_end(group: &Group, call: u32, results: &[Outcome]) -> bool
+    ensures { result ≡ rounds.may_end group.now.past call results.now }
+{
+    match group.stage(call) {
+        Stage::Running => suit(slots(group.journal().as_slice(), call), results),
+        Stage::Waiting | Stage::Over => false,
+    }
+}
+
+/// Ends a running call with up to one result, and an empty stub.
 pub fn end(
     alloc: Global,
     group: &mut Group,
@@ -116,17 +149,11 @@ pub fn end(
     outcome: Option<Outcome>,
 ) -> Result<(), Halt>
     requires { spec.is_open group.old.past 1 ≡ true }
-    ensures { spec.is_open group.new.past 1 ≡ true }
+    ensures open { spec.is_open group.new.past 1 ≡ true }
+    ensures adds { MatchResult result (λ _. Adds group.old (rounds.end_of call outcome ∷ []) group.new) (λ halt. rounds.Remains group.old call outcome halt group.new) }
 {
-    let mut results = Items::new(alloc);
-    if let Some(outcome) = outcome {
-        results.push(outcome)?;
-    }
-    match group.stage(call) {
-        Stage::Running => {}
-        _ => return Err(Halt::Unfit),
-    }
-    if !suit(slots(group.journal(), call), results.as_slice()) {
+    let results = listed(alloc, outcome)?;
+    if !may_end(group, call, results.as_slice()) {
         return Err(Halt::Unfit);
     }
     match group.end(call, results, Said::Out(Octets::new(alloc))) {
@@ -146,7 +173,8 @@ pub fn round(
     outcome: Option<Outcome>,
 ) -> Result<(), Halt>
     requires { spec.is_open group.old.past 1 ≡ true }
-    ensures { spec.is_open group.new.past 1 ≡ true }
+    ensures open { spec.is_open group.new.past 1 ≡ true }
+    ensures adds { OnOk result (rounds.Rounds group.old slot outcome group.new) }
 {
     let call = accept(alloc, group, slot)?;
     start(group, call)?;
@@ -156,7 +184,9 @@ pub fn round(
 /// As many calls as there are serials from the first to the last issue a handle each.
 pub fn issue(alloc: Global, group: &mut Group, count: u32) -> Result<(), Halt>
     requires { spec.is_open group.old.past 1 ≡ true }
-    ensures { spec.is_open group.new.past 1 ≡ true }
+    ensures open { spec.is_open group.new.past 1 ≡ true }
+    ensures entries { OnOk result (length group.new.past ≡ length group.old.past + 3 * count) }
+    ensures serials { OnOk result (spec.opened group.new.past ≡ spec.opened group.old.past + count) }
 {
     for before in 0..count {
         let serial = before.saturating_add(1);

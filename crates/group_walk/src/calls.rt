@@ -2,12 +2,22 @@
 ghost use Rattle.std.specs.Prelude.{◌≡◌, reverse};
 ghost use Rattle.std.specs.List.{list_any};
 ghost use Rattle.handle_model.specs.Journal as spec;
+ghost use Rattle.handle_model.specs.History.{IsSound};
 
 use crate::step::{Answer, Step};
-use group_core::{Group, Rest};
+use group_core::{AcceptRefusal, Group, Rest};
+use group_rounds::{Halt, issue};
 use handle_model::{Asked, DueItem, DueList, Entry, Outcomes, Rundown, Said};
 use handle_rules::{is_open, runs, slots, suit};
 use std::alloc::Global;
+
+/// The entries of a group, oldest first.
+pub fn entries_of(group: &Group) -> &[Entry]
+    ensures past { reverse result.now ≡ group.now.past }
+    ensures sound { IsSound group.now }
+{
+    group.journal().as_slice()
+}
 
 fn any_shuts(entries: &[Entry]) -> bool
     ensures { result ≡ list_any spec.is_shut entries.now }
@@ -71,7 +81,7 @@ fn went(alloc: Global, rest: Rest) -> Answer {
 }
 
 fn join(group: &mut Group) -> Answer {
-    if any_shut(group.journal()) {
+    if any_shut(entries_of(group)) {
         return Answer::Unfit;
     }
     match group.join() {
@@ -80,25 +90,49 @@ fn join(group: &mut Group) -> Answer {
     }
 }
 
-fn accept(group: &mut Group, asked: Asked) -> Answer {
-    if !is_open(group.journal(), asked.conn) || asked.slots.len() > 4 {
+/// The refusal, where what was asked came back as it was.
+fn refused(alloc: Global, before: &str, back: &Asked, refusal: AcceptRefusal) -> Answer {
+    match format!(in alloc; "{back:?}") {
+        Ok(text) if text.as_str() == before => Answer::NoAccept(refusal),
+        Ok(_) => Answer::Changed,
+        Err(_) => Answer::Memory,
+    }
+}
+
+fn accept(alloc: Global, group: &mut Group, asked: Asked) -> Answer {
+    if !is_open(entries_of(group), asked.conn) || asked.slots.len() > 4 {
         return Answer::Unfit;
     }
+    let Ok(before) = format!(in alloc; "{asked:?}") else {
+        return Answer::Memory;
+    };
     match group.accept(asked) {
         Ok(call) => Answer::Number(call),
-        Err((_, refusal)) => Answer::NoAccept(refusal),
+        Err((back, refusal)) => refused(alloc, before.as_str(), &back, refusal),
+    }
+}
+
+/// So many calls of the first connection issue a handle each.
+fn issued(alloc: Global, group: &mut Group, count: u32) -> Answer {
+    if !is_open(entries_of(group), 1) {
+        return Answer::Unfit;
+    }
+    match issue(alloc, group, count) {
+        Ok(()) => Answer::Stays,
+        Err(Halt::Memory) => Answer::Memory,
+        Err(_) => Answer::Unfit,
     }
 }
 
 fn end(alloc: Global, group: &mut Group, call: u32, results: Outcomes, said: Said) -> Answer {
-    if !runs(group.journal(), call) || !suit(slots(group.journal(), call), results.as_slice()) {
+    if !runs(entries_of(group), call) || !suit(slots(entries_of(group), call), results.as_slice()) {
         return Answer::Unfit;
     }
     went(alloc, group.end(call, results, said))
 }
 
 fn leave(alloc: Global, group: &mut Group, conn: u32) -> Answer {
-    if !is_open(group.journal(), conn) {
+    if !is_open(entries_of(group), conn) {
         return Answer::Unfit;
     }
     went(alloc, group.leave(conn))
@@ -108,7 +142,8 @@ fn leave(alloc: Global, group: &mut Group, conn: u32) -> Answer {
 pub fn play(alloc: Global, group: &mut Group, step: Step) -> Answer {
     match step {
         Step::Join => join(group),
-        Step::Accept(asked) => accept(group, asked),
+        Step::Issue(count) => issued(alloc, group, count),
+        Step::Accept(asked) => accept(alloc, group, asked),
         Step::Take(call) => Answer::Taking(group.take(call)),
         Step::Cancel(call) => Answer::Cancelled(group.cancel(call)),
         Step::Orphan(call) => Answer::Orphaned(group.orphan(call)),

@@ -5,7 +5,7 @@
 #[cfg(test)]
 mod calls;
 #[cfg(test)]
-mod many;
+mod journals;
 #[cfg(test)]
 mod plain;
 #[cfg(test)]

@@ -17,7 +17,7 @@ use rpc_base::NoMemory;
 use std::alloc::Global;
 
 /// An answer, and the entry that comes, if any. That a Shut follows is not said.
-#[derive(Debug, Drop)]
+#[derive(Drop)]
 pub struct Came {
     pub answer: Answer,
     pub entry: Option<Entry>,
@@ -196,6 +196,7 @@ pub fn expected(alloc: Global, home: Home, entries: &[Entry], step: Step) -> Res
 {
     match step {
         Step::Join => Ok(join(entries)),
+        Step::Issue(_) => Ok(nothing(Answer::Unfit)),
         Step::Accept(asked) => Ok(accept(home, entries, asked)),
         Step::Take(call) => take(alloc, home, entries, call),
         Step::Cancel(call) => Ok(cancel(entries, call)),

@@ -3,10 +3,11 @@ use group_core::{AcceptRefusal, Cancelled, JoinRefusal, Orphaned, Stage, Taking}
 use handle_model::{Asked, DueItem, Outcomes, Said};
 use std::fmt;
 
-/// A call on a group.
-#[derive(Debug, Drop)]
+/// A call on a group, or as many calls as handles are to be issued.
+#[derive(Drop)]
 pub enum Step {
     Join,
+    Issue(u32),
     Accept(Asked),
     Take(u32),
     Cancel(u32),
@@ -18,7 +19,7 @@ pub enum Step {
 }
 
 /// What a call came to.
-#[derive(Debug, Drop, PartialEq)]
+#[derive(Drop, PartialEq)]
 pub enum Answer {
     /// The number of a connection or a call.
     Number(u32),
@@ -34,6 +35,10 @@ pub enum Answer {
     Stage(Stage),
     /// The condition of the call doesn't hold, so it was not made.
     Unfit,
+    /// What was asked didn't come back as it was.
+    Changed,
+    /// The words name no call.
+    Unread,
     /// Want of memory.
     Memory,
 }
@@ -52,6 +57,8 @@ impl fmt::Display for Answer {
             Answer::Asked(asked) => write!(f, "{asked}"),
             Answer::Stage(stage) => write!(f, "{stage:?}"),
             Answer::Unfit => write!(f, "unfit"),
+            Answer::Changed => write!(f, "changed"),
+            Answer::Unread => write!(f, "unread"),
             Answer::Memory => write!(f, "out of memory"),
         }
     }

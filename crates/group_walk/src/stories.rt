@@ -1,11 +1,11 @@
 //! Groups by hand: the calls on each, with what each has to come to, and the journal that is then there.
-use crate::calls::play;
+use crate::calls::{entries_of, play};
 use crate::step::Answer;
-use crate::words::{HOME, read_step};
+use crate::words::{HOME, number, read_step};
 use group_core::Group;
 use handle_text::journal_text;
+use rpc_base::NoMemory;
 use std::alloc::Global;
-use std::test::Fail;
 
 /// A handle is issued, closed, and then named again.
 const OPENED_AND_CLOSED: &str = "\
@@ -560,56 +560,95 @@ leave 1
 shut 5:0:1,8:1:2
 ";
 
+/// 65,536 handles are live: a call that might issue another is refused, one that doesn't is not.
+const AS_MANY_HANDLES_AS_MAY_BE: &str = "\
+join -> 1
+issue 65536 -> stays
+accept 1 opens:0 -> Handles
+accept 1 - -> 65537
+";
+
 /// How often a call is made, and its words.
-fn repeated(words: &str) -> Result<(u32, &str), Fail> {
+fn repeated(words: &str) -> (u32, &str) {
     match words.split_once(" x ") {
-        Some((count, step)) => Ok((count.parse()?, step)),
-        None => Ok((1, words)),
+        Some((count, step)) => (number(count).unwrap_or(0), step),
+        None => (1, words),
     }
 }
 
-/// Makes the call of a line, and adds the line with what the call came to.
-fn tell(alloc: Global, group: &mut Group, line: &str, text: &mut String) -> Result<(), Fail> {
-    let words = match line.split_once(" -> ") {
+/// Makes the call that the words name.
+fn made(alloc: Global, group: &mut Group, words: &str) -> Answer {
+    match read_step(alloc, words) {
+        Some(step) => play(alloc, group, step),
+        None => Answer::Unread,
+    }
+}
+
+/// What the last of the calls of a line comes to.
+fn last(alloc: Global, group: &mut Group, words: &str) -> Answer {
+    let (count, step) = repeated(words);
+    let mut answer = Answer::Unread;
+    for _ in 0..count {
+        answer = made(alloc, group, step);
+    }
+    answer
+}
+
+/// The words of a line in front of the arrow.
+fn words_of(line: &str) -> &str {
+    match line.split_once(" -> ") {
         Some((words, _)) => words,
         None => line,
-    };
-    let (count, step) = repeated(words)?;
-    let mut answer = Answer::Unfit;
-    for _ in 0..count {
-        answer = play(alloc, group, read_step(alloc, step)?);
     }
-    text.push_str(words)?;
-    text.push_str(" -> ")?;
-    text.push_str(format!(in alloc; "{answer}")?.as_str())?;
-    text.push_str("\n")?;
+}
+
+/// Makes the calls of the lines, and adds each line with what the last call came to.
+fn tell(alloc: Global, group: &mut Group, lines: &str, text: &mut Vec<u8>) -> Result<(), NoMemory> {
+    for line in lines.lines() {
+        let words = words_of(line);
+        let answer = last(alloc, group, words);
+        let line = format!(in alloc; "{words} -> {answer}\n")?;
+        text.extend_from_slice(line.as_bytes())?;
+    }
     Ok(())
 }
 
 /// Adds an empty line and the journal.
-fn tell_journal(alloc: Global, group: &Group, text: &mut String) -> Result<(), Fail> {
-    let mut journal = Vec::new(alloc);
-    journal_text(alloc, HOME, group.journal(), &mut journal)?;
-    text.push_str("\n")?;
-    text.push_str(str::from_utf8(journal.as_slice())?)?;
-    Ok(())
+fn tell_journal(alloc: Global, group: &Group, text: &mut Vec<u8>) -> Result<(), NoMemory> {
+    text.push(b'\n')?;
+    journal_text(alloc, HOME, entries_of(group), text)
 }
 
 /// The story as it goes: its calls are made, in turn, and written down with what they come to.
-fn told(alloc: Global, story: &str) -> Result<String, Fail> {
+fn told(alloc: Global, story: &str) -> Result<Vec<u8>, NoMemory> {
     let mut group = Group::begin(alloc, HOME.boot, HOME.group)?;
-    let mut text = String::new(alloc);
-    let (calls, ends_with_journal) = match story.split_once("\n\n") {
-        Some((calls, _)) => (calls, true),
-        None => (story, false),
-    };
-    for line in calls.lines() {
-        tell(alloc, &mut group, line, &mut text)?;
-    }
-    if ends_with_journal {
-        tell_journal(alloc, &group, &mut text)?;
+    let mut text = Vec::new(alloc);
+    match story.split_once("\n\n") {
+        Some((calls, _)) => {
+            tell(alloc, &mut group, calls, &mut text)?;
+            tell_journal(alloc, &group, &mut text)?;
+        }
+        None => tell(alloc, &mut group, story, &mut text)?,
     }
     Ok(text)
+}
+
+/// Whether the story goes as written.
+fn goes_as_written(alloc: Global, story: &str) -> bool {
+    match told(alloc, story) {
+        Ok(text) => text.as_slice() == story.as_bytes(),
+        Err(_) => false,
+    }
+}
+
+/// The first story that goes otherwise.
+fn first_otherwise(alloc: Global) -> Option<&'static str> {
+    for story in STORIES {
+        if !goes_as_written(alloc, story) {
+            return Some(*story);
+        }
+    }
+    None
 }
 
 const STORIES: &[&str] = &[
@@ -633,13 +672,10 @@ const STORIES: &[&str] = &[
     CONNECTIONS_THAT_LEFT,
     ENDS_THAT_DO_NOT_FIT,
     SERIALS_GO_ON,
+    AS_MANY_HANDLES_AS_MAY_BE,
 ];
 
 #[test]
-fn each_story_goes_as_written(rt: HostRuntime) -> Result<(), Fail> {
-    let alloc = rt.alloc();
-    for story in STORIES {
-        assert_eq!(rt; told(alloc, story)?.as_str(), *story);
-    }
-    Ok(())
+fn each_story_goes_as_written(rt: HostRuntime) {
+    assert_eq!(rt; first_otherwise(rt.alloc()), None);
 }

@@ -1,27 +1,29 @@
 //! A fixed walk over all calls of a group: each answer and each entry is compared with what the plain
 //! rules say of the journal before it, and each journal is audited.
-use crate::calls::play;
+ghost use Rattle.std.specs.Prelude.{◌<◌, ◌^◌, reverse};
+ghost use Rattle.handle_model.specs.Journal as spec;
+
+use crate::calls::{entries_of, play};
 use crate::plain::{Came, expected, is_asked, stage};
 use crate::random::{Random, next_step};
-use crate::step::Answer;
+use crate::step::{Answer, Step};
 use group_core::Group;
 use handle_model::{Entry, Home};
 use handle_rules::{Verdict, accepted_count, audited, is_due};
 use handle_text::{entry_text, group_text, journal_text};
 use rpc_base::NoMemory;
 use std::alloc::Global;
-use std::test::Fail;
 
 /// Why a walk has ended.
-#[derive(Debug, Drop)]
+#[derive(Clone, Copy, Debug, PartialEq, Eq)]
 enum Trouble {
     Memory,
-    /// A call came to the first of these in place of the second.
-    Differs(Answer, Answer),
+    /// A call came to something else than was expected, where so many entries stood before.
+    Differs(usize),
     /// Where a call is, or whether it was asked to end, is told otherwise.
     Call(u32),
     /// The journal isn't legal and settled.
-    Illegal(Verdict),
+    Illegal,
     /// The text of the journal is not that of the entries that were expected.
     OtherText,
 }
@@ -30,6 +32,15 @@ impl From<NoMemory> for Trouble {
     fn from(_: NoMemory) -> Self {
         Trouble::Memory
     }
+}
+
+/// A group, and the text that its journal has to have.
+#[derive(Drop)]
+struct Walk {
+    random: Random,
+    id: u32,
+    group: Group,
+    text: Vec<u8>,
 }
 
 fn home(id: u32) -> Home {
@@ -49,12 +60,47 @@ fn shut_after(entries: &[Entry], at: usize) -> Option<&Entry> {
     }
 }
 
-/// What was expected, with the Shut that followed.
-fn with_shut(alloc: Global, came: Came, shut: Option<&Entry>) -> Result<Answer, NoMemory> {
+/// What is to be answered with a Shut, whose text is added.
+fn with_shut(alloc: Global, shut: &Entry, text: &mut Vec<u8>) -> Result<Answer, NoMemory> {
+    entry_text(alloc, shut, text)?;
     match shut {
-        Some(Entry::Shut { due }) => { Ok(Answer::Shut(Vec::from_slice(alloc, due.as_slice())?)) }
-        _ => Ok(came.answer),
+        Entry::Shut { due } => { Ok(Answer::Shut(Vec::from_slice(alloc, due.as_slice())?)) }
+        _ => Ok(Answer::Unread),
     }
+}
+
+/// What is to be answered where so many entries stood before. The text of those that have to come is
+/// added.
+fn wanted(
+    alloc: Global,
+    came: Came,
+    entries: &[Entry],
+    before: usize,
+    text: &mut Vec<u8>,
+) -> Result<Answer, NoMemory> {
+    let Some(entry) = &came.entry else {
+        return Ok(came.answer);
+    };
+    entry_text(alloc, entry, text)?;
+    match shut_after(entries, before) {
+        Some(shut) => with_shut(alloc, shut, text),
+        None => Ok(came.answer),
+    }
+}
+
+/// The next call, twice.
+fn next_two(
+    alloc: Global,
+    random: &mut Random,
+    home: Home,
+    entries: &[Entry],
+) -> Result<(Step, Step), NoMemory>
+    requires { spec.opened (reverse entries.now) < 2 ^ 32 }
+{
+    let mut again = *random;
+    let call = next_step(alloc, random, home, entries)?;
+    let same = next_step(alloc, &mut again, home, entries)?;
+    Ok((call, same))
 }
 
 /// Makes the next call, and adds the text of the entries that it has to bring.
@@ -62,36 +108,25 @@ fn with_shut(alloc: Global, came: Came, shut: Option<&Entry>) -> Result<Answer, 
 fn step(
     alloc: Global,
     random: &mut Random,
-    id: u32,
+    home: Home,
     group: &mut Group,
     text: &mut Vec<u8>,
 ) -> Result<(), Trouble> {
-    let home = home(id);
     let before = group.journal().len();
-    let mut again = *random;
-    let call = next_step(alloc, random, home, group.journal())?;
-    let same = next_step(alloc, &mut again, home, group.journal())?;
-    let came = expected(alloc, home, group.journal(), same)?;
+    let (call, same) = next_two(alloc, random, home, entries_of(group))?;
+    let came = expected(alloc, home, entries_of(group), same)?;
     let answer = play(alloc, group, call);
-    let mut shut = None;
-    if let Some(entry) = &came.entry {
-        entry_text(alloc, entry, text)?;
-        shut = shut_after(group.journal(), before);
-    }
-    if let Some(entry) = shut {
-        entry_text(alloc, entry, text)?;
-    }
-    let wanted = with_shut(alloc, came, shut)?;
+    let wanted = wanted(alloc, came, entries_of(group), before, text)?;
     if answer == wanted {
         Ok(())
     } else {
-        Err(Trouble::Differs(answer, wanted))
+        Err(Trouble::Differs(before))
     }
 }
 
 /// The first number that the group and the plain rules tell apart as a call's.
 fn told_apart(group: &Group) -> Option<u32> {
-    let entries = group.journal();
+    let entries = entries_of(group);
     let calls = u32::try_from(accepted_count(entries)).unwrap_or(0);
     for call in 0..calls.saturating_add(2) {
         if group.asked(call) != is_asked(entries, call)
@@ -103,58 +138,95 @@ fn told_apart(group: &Group) -> Option<u32> {
     None
 }
 
-/// Compares what a group says of each call, and its whole journal.
-fn audit(alloc: Global, home: Home, group: &Group, text: &[u8]) -> Result<(), Trouble> {
-    if let Some(call) = told_apart(group) {
-        return Err(Trouble::Call(call));
-    }
-    let entries = group.journal();
-    let verdict = audited(alloc, home, entries)?;
-    if verdict != Verdict::Legal(entries.len()) {
-        return Err(Trouble::Illegal(verdict));
-    }
+/// Whether the journal has that text.
+fn has_text(alloc: Global, home: Home, entries: &[Entry], text: &[u8]) -> Result<bool, NoMemory> {
     let mut journal = Vec::new(alloc);
     journal_text(alloc, home, entries, &mut journal)?;
-    if journal.as_slice() == text {
+    Ok(journal.as_slice() == text)
+}
+
+/// Compares what the group says of each call, and its whole journal.
+fn audit(alloc: Global, walk: &Walk) -> Result<(), Trouble> {
+    if let Some(call) = told_apart(&walk.group) {
+        return Err(Trouble::Call(call));
+    }
+    let home = home(walk.id);
+    let entries = entries_of(&walk.group);
+    if audited(alloc, home, entries)? != Verdict::Legal(entries.len()) {
+        return Err(Trouble::Illegal);
+    }
+    if has_text(alloc, home, entries, walk.text.as_slice())? {
         Ok(())
     } else {
         Err(Trouble::OtherText)
     }
 }
 
-/// A group, and the text of its journal.
-fn begin(alloc: Global, id: u32) -> Result<(Group, Vec<u8>), Trouble> {
+/// A walk that begins with the group of that id.
+fn begin(alloc: Global, random: Random, id: u32) -> Result<Walk, NoMemory> {
     let home = home(id);
-    let group = Group::begin(alloc, home.boot, id)?;
     let mut text = Vec::new(alloc);
     group_text(alloc, home, &mut text)?;
-    Ok((group, text))
+    let group = Group::begin(alloc, home.boot, id)?;
+    Ok(Walk {
+        random,
+        id,
+        group,
+        text,
+    })
 }
 
-/// So many calls from a seed: how many groups it took, since where one has ended, the next begins.
-fn walk(alloc: Global, seed: u64, calls: u32) -> Result<u32, Trouble> {
-    let mut random = Random::new(seed, seed % 2 == 0);
-    let mut id = 1;
-    let (mut group, mut text) = begin(alloc, id)?;
-    for _ in 0..calls {
-        step(alloc, &mut random, id, &mut group, &mut text)?;
-        let ended = group.journal().last().is_some_and(|entry| entry.is_shut());
-        if ended {
-            audit(alloc, home(id), &group, text.as_slice())?;
-            id = id.saturating_add(1);
-            (group, text) = begin(alloc, id)?;
-        }
+/// Whether the group has ended.
+fn has_ended(walk: &Walk) -> bool {
+    match entries_of(&walk.group).last() {
+        Some(entry) => entry.is_shut(),
+        None => false,
     }
-    audit(alloc, home(id), &group, text.as_slice())?;
-    Ok(id)
+}
+
+/// The group has ended, and the next one begins.
+fn renew(alloc: Global, walk: &mut Walk) -> Result<(), Trouble> {
+    audit(alloc, walk)?;
+    let next = begin(alloc, walk.random, walk.id.saturating_add(1))?;
+    *walk = next;
+    Ok(())
+}
+
+/// One call; where the group has ended with it, the next one begins.
+fn go(alloc: Global, walk: &mut Walk) -> Result<(), Trouble> {
+    let home = home(walk.id);
+    step(
+        alloc,
+        &mut walk.random,
+        home,
+        &mut walk.group,
+        &mut walk.text,
+    )?;
+    if has_ended(walk) {
+        renew(alloc, walk)
+    } else {
+        Ok(())
+    }
+}
+
+/// So many calls from a seed. Where a group has ended, the next one begins.
+fn walked(alloc: Global, seed: u64, calls: u32) -> Result<(), Trouble> {
+    let mut walk = begin(alloc, Random::new(seed, seed % 2 == 0), 1)?;
+    for _ in 0..calls {
+        go(alloc, &mut walk)?;
+    }
+    audit(alloc, &walk)
+}
+
+/// Eight walks, up to the first that has trouble.
+fn all_walked(alloc: Global) -> Result<(), Trouble> {
+    for seed in 1..9 {
+        walked(alloc, seed, 600)?;
+    }
+    Ok(())
 }
 
 #[test]
-fn each_call_goes_by_the_plain_rules(rt: HostRuntime) -> Result<(), Fail> {
-    let alloc = rt.alloc();
-    for seed in 1..9 {
-        let groups = walk(alloc, seed, 600)?;
-        assert!(rt; groups > 0);
-    }
-    Ok(())
+fn each_call_goes_by_the_plain_rules(rt: HostRuntime) {
+    assert_eq!(rt; all_walked(rt.alloc()), Ok(()));
 }
