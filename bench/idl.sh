@@ -65,8 +65,11 @@ doubled() { # SHAPE LEAST
         "$bench" "$shape" "$n" >"$work/line"
         to=$(date +%s%N)
         time=$(((to - from) / 1000))
-        awk -v s="$shape" -v n="$n" -v t="$time" -v b="${before:-$time}" \
-            '{ printf "%-12s %7d %9.3f s, %.2f times the one before: %s\n", s, n, t / 1e6, t / b, $0 }' "$work/line"
+        awk -v s="$shape" -v n="$n" -v t="$time" -v b="$before" '{
+            printf "%-12s %7d %9.3f s", s, n, t / 1e6
+            if (b != "") printf ", %.2f times the one before", t / b
+            printf ": %s\n", $0
+        }' "$work/line"
         before=$time
     done
 }
