@@ -3,6 +3,7 @@
 # each time to the one before, and a file of 64 MiB that is refused at its last line.
 set -eu
 top=$(cd "$(dirname "$0")/.." && pwd)
+source "$top/bench/timing.sh"
 work=$(mktemp -d)
 trap 'rm -rf "$work"' EXIT
 
@@ -20,32 +21,20 @@ script() { # ROUNDS
     printf 'lose 1\n'
 }
 
-seconds() { # FILE
-    local from to
-    from=$(date +%s%N)
-    "$top/dcerpc" replay "$1" >/dev/null 2>&1 || true
-    to=$(date +%s%N)
-    echo $(((to - from) / 1000)) # microseconds
-}
-
-"$top/dcerpc" >/dev/null || true # builds it
+build_dcerpc
+program=$top/crates/dcerpc/out/dcerpc
 before=
 for rounds in 250 500 1000 2000; do
     script "$rounds" >"$work/script"
-    time=$(seconds "$work/script")
-    if [ -n "$before" ]; then
-        awk -v n="$rounds" -v t="$time" -v b="$before" 'BEGIN { printf "%5d rounds %9.3f s, %.2f times the one before\n", n, t / 1e6, t / b }'
-    else
-        awk -v n="$rounds" -v t="$time" 'BEGIN { printf "%5d rounds %9.3f s\n", n, t / 1e6 }'
-    fi
+    time=$(least 0 "$program" replay "$work/script")
+    show "$rounds rounds" "$time" "$before"
     before=$time
 done
 
 {
     printf 'boot 0000000000000001\nopen 1\nsend 1 '
-    head -c 33554400 /dev/zero | tr '\0' '0'
-    head -c 33554400 /dev/zero | tr '\0' '0'
+    head -c 67108817 /dev/zero | tr '\0' '0'
 } | head -c 67108863 >"$work/long"
 echo >>"$work/long"
-time=$(seconds "$work/long")
-awk -v t="$time" 'BEGIN { printf "64 MiB refused in %.3f s\n", t / 1e6 }'
+time=$(least 2 "$program" replay "$work/long")
+show "64 MiB refused" "$time"
