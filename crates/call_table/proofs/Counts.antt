@@ -2,7 +2,7 @@
 use Rattle.std.proofs.Common.{◌≡◌, ℕ, ◌+◌, Bool, true, false, ◌||◌, not, ◌==◌, Option, Some, None, if◌then◌else◌, List, [], ◌∷◌, ◌++◌, length, reverse, refl, sym, ◌∙◌, ap, arith, inl, inr}
 use Rattle.std.specs.List.{list_any, filter, filter_map, cons_option}
 use Rattle.std.proofs.lemmas.Grind.{common_steps}
-use Rattle.std.proofs.lemmas.Bool.{eq-eqb}
+use Rattle.std.proofs.lemmas.Bool.{eq-eqb, cases_Bool, false_from_ne_true}
 use Rattle.std.proofs.lemmas.Bool.Decides.{eqb_tells}
 use Rattle.handle_model.specs.declared.entry.Home.{Home}
 use Rattle.handle_model.specs.declared.entry.Asked.{Asked}
@@ -13,9 +13,7 @@ use Rattle.handle_model.specs.Journal.{Legal, takes, asked, accepted, taken, slo
 use Rattle.handle_model.specs.Limits.{openings}
 use Rattle.handle_model.proofs.Held.{or_right, runs_among}
 use Rattle.handle_model.proofs.Reversed.{reverse-cons}
-use Rattle.handle_laws.proofs.Slots.{bool_cases}
-use Rattle.handle_laws.proofs.Live.{false_of}
-use Rattle.handle_laws.proofs.Running.{taken_within}
+use Rattle.journal_laws.proofs.Apart.{taken_within}
 use Rattle.call_table.specs.declared.row.Row.{Row}
 use Rattle.call_table.specs.Rows.{is_running, openings_of}
 use Rattle.call_table.specs.Shown.{row_as, row_in, rows_of}
@@ -53,7 +51,7 @@ total_filter : (f : ℕ → ℕ) (p : ℕ → Bool) (xs : List ℕ) → total f 
 total_filter f p [] = refl
 total_filter f p (x ∷ xs) =
     let more = total_filter f p xs in
-    elim (bool_cases (p x)) [ inl e ↦ rw e (omega arith) | inr e ↦ rw e (omega arith) ]
+    elim (cases_Bool (p x)) [ inl e ↦ rw e (omega arith) | inr e ↦ rw e (omega arith) ]
 
 -- one of the numbers apart
 split_off : (f : ℕ → ℕ) (q : ℕ → Bool) (m : ℕ) (xs : List ℕ) → has_number m xs ≡ false → total (λ k. when (m == k || q k) (f k)) xs ≡ total (λ k. when (q k) (f k)) xs
@@ -73,7 +71,7 @@ split_one f q m (x ∷ xs) w i n =
     elim (eqb_tells x m) [
       | inl e ↦
           let same = e.1 in
-          let gone : has_number m xs ≡ false = false_of (has_number m xs) (λ t. let low = falls_within xs m w.1 t in absurd (omega arith)) in
+          let gone : has_number m xs ≡ false = false_from_ne_true (has_number m xs) (λ t. let low = falls_within xs m w.1 t in absurd (omega arith)) in
           let here = eq-eqb m x (sym e.1) in
           let off : q x ≡ false = ap q e.1 ∙ n in
           let rest = split_off f q m xs gone in
@@ -92,7 +90,7 @@ waits_listed past k None e w = let f = rw e at (waits_asked past k w) in absurd 
 waits_listed past k (Some a) e w = asked_listed past k a e
 
 waits_untaken : (past : List Entry) (k : ℕ) → waits past k ≡ true → list_any (takes k) past ≡ false
-waits_untaken past k w = false_of (list_any (takes k) past) (λ t. let d = taken_decided past k t in grind (arith, common_steps))
+waits_untaken past k w = false_from_ne_true (list_any (takes k) past) (λ t. let d = taken_decided past k t in grind (arith, common_steps))
 
 -- a sum over the taken calls is one over the accepted ones
 total_taken : (home : Home) (past : List Entry) (f : ℕ → ℕ) → Legal home past → total f (taken past) ≡ total (λ k. when (list_any (takes k) past) (f k)) (accepted past)
@@ -105,15 +103,15 @@ total_taken home (Take m cookies ∷ past) f l =
 total_taken home (Accept k a ∷ past) f l =
     let top = l.0.fits.0 in
     let more = total_taken home past f l.1 in
-    let off : list_any (takes k) past ≡ false = false_of (list_any (takes k) past) (λ t. let low = taken_within home past k l.1 t in absurd (omega arith)) in
+    let off : list_any (takes k) past ≡ false = false_from_ne_true (list_any (takes k) past) (λ t. let low = taken_within home past k l.1 t in absurd (omega arith)) in
     more ∙ sym (rw off (omega arith))
 total_taken home (_ ∷ past) f l = total_taken home past f l.1
 
 running_when : (past : List Entry) (f : ℕ → ℕ) (k : ℕ) → when (list_any (takes k) past) (when (runs past k) (f k)) ≡ when (runs past k) (f k)
 running_when past f k =
-    elim (bool_cases (runs past k)) [
+    elim (cases_Bool (runs past k)) [
       | inl r ↦ let t = runs_taken past k r in rw (r, t) refl
-      | inr r ↦ rw r (elim (bool_cases (list_any (takes k) past)) [ inl t ↦ rw t refl | inr t ↦ rw t refl ])
+      | inr r ↦ rw r (elim (cases_Bool (list_any (takes k) past)) [ inl t ↦ rw t refl | inr t ↦ rw t refl ])
     ]
 
 total_running : (home : Home) (past : List Entry) (f : ℕ → ℕ) → Legal home past → total f (running past) ≡ total (λ k. when (runs past k) (f k)) (accepted past)
@@ -124,9 +122,9 @@ total_running home past f l =
 
 active_when : (past : List Entry) (f : ℕ → ℕ) (k : ℕ) → when (waits past k || runs past k) (f k) ≡ when (waits past k) (f k) + when (runs past k) (f k)
 active_when past f k =
-    elim (bool_cases (waits past k)) [
+    elim (cases_Bool (waits past k)) [
       | inl w ↦ let idle = waits_idle past k w in rw (w, idle) (omega arith)
-      | inr w ↦ elim (bool_cases (runs past k)) [ inl r ↦ rw (w, r) (omega arith) | inr r ↦ rw (w, r) (omega arith) ]
+      | inr w ↦ elim (cases_Bool (runs past k)) [ inl r ↦ rw (w, r) (omega arith) | inr r ↦ rw (w, r) (omega arith) ]
     ]
 
 -- a sum over the waiting and the running calls
@@ -157,8 +155,8 @@ rows_total g f past (x ∷ xs) e = weight_cons g (row_in past x) (filter_map (ro
 one_each : (home : Home) (past : List Entry) (k : ℕ) (o : Option Asked) → Legal home past → asked past k ≡ o → weight (λ r. 1) (row_as past k o) ≡ when (waits past k || runs past k) 1
 one_each home past k None l e =
     let w : waits past k ≡ false = rw e refl in
-    let r : runs past k ≡ false = false_of (runs past k) (λ r. let s = runs_asked home past k None l e r in cc) in rw (w, r) refl
-one_each home past k (Some a) l e = elim (bool_cases (waits past k || runs past k)) [ inl c ↦ rw c refl | inr c ↦ rw c refl ]
+    let r : runs past k ≡ false = false_from_ne_true (runs past k) (λ r. let s = runs_asked home past k None l e r in cc) in rw (w, r) refl
+one_each home past k (Some a) l e = elim (cases_Bool (waits past k || runs past k)) [ inl c ↦ rw c refl | inr c ↦ rw c refl ]
 
 length_total : (rows : List Row) → length rows ≡ row_total (λ r. 1) rows
 length_total [] = refl
@@ -178,8 +176,8 @@ count_shown home past l =
 opens_each : (home : Home) (past : List Entry) (k : ℕ) (o : Option Asked) → Legal home past → asked past k ≡ o → weight (λ (r : Row). length (filter opens r.slots)) (row_as past k o) ≡ when (waits past k || runs past k) (length (filter opens (slots past k)))
 opens_each home past k None l e =
     let w : waits past k ≡ false = rw e refl in
-    let r : runs past k ≡ false = false_of (runs past k) (λ r. let s = runs_asked home past k None l e r in cc) in rw (w, r) refl
-opens_each home past k (Some a) l e = elim (bool_cases (waits past k || runs past k)) [ inl c ↦ rw (c, e) refl | inr c ↦ rw c refl ]
+    let r : runs past k ≡ false = false_from_ne_true (runs past k) (λ r. let s = runs_asked home past k None l e r in cc) in rw (w, r) refl
+opens_each home past k (Some a) l e = elim (cases_Bool (waits past k || runs past k)) [ inl c ↦ rw (c, e) refl | inr c ↦ rw c refl ]
 
 openings_total : (past : List Entry) (ks : List ℕ) → openings past ks ≡ total (λ k. length (filter opens (slots past k))) ks
 openings_total past [] = refl
@@ -203,7 +201,7 @@ openings_shown home past l =
 runs_there : (rows : List Row) → list_any is_running rows ≡ true → (k : ℕ) × (list_any (is_of k is_running) rows ≡ true)
 runs_there [] h = absurd (cc)
 runs_there (r ∷ rows) h =
-    elim (bool_cases r.runs) [
+    elim (cases_Bool r.runs) [
       | inl e ↦ (r.call, let q = self r.call in rw (q, e) refl)
       | inr e ↦ let more = runs_there rows (rw e at h) in (more.0, or_right (is_of more.0 is_running r) (list_any (is_of more.0 is_running) rows) more.1)
     ]
@@ -211,15 +209,15 @@ runs_there (r ∷ rows) h =
 of_runs : (k : ℕ) (rows : List Row) → list_any (is_of k is_running) rows ≡ true → list_any is_running rows ≡ true
 of_runs k [] h = absurd (cc)
 of_runs k (r ∷ rows) h =
-    elim (bool_cases r.runs) [
+    elim (cases_Bool r.runs) [
       | inl e ↦ rw e refl
-      | inr e ↦ rw e (of_runs k rows (elim (bool_cases (r.call == k)) [ inl c ↦ rw (c, e) at h | inr c ↦ rw c at h ]))
+      | inr e ↦ rw e (of_runs k rows (elim (cases_Bool (r.call == k)) [ inl c ↦ rw (c, e) at h | inr c ↦ rw c at h ]))
     ]
 
 some_runs : (past : List Entry) (xs : List ℕ) → is_empty (filter (runs past) xs) ≡ false → (k : ℕ) × (runs past k ≡ true)
 some_runs past [] h = absurd (cc)
 some_runs past (x ∷ xs) h =
-    elim (bool_cases (runs past x)) [
+    elim (cases_Bool (runs past x)) [
       | inl e ↦ (x, e)
       | inr e ↦ some_runs past xs (rw e at h)
     ]
@@ -227,10 +225,10 @@ some_runs past (x ∷ xs) h =
 -- a call runs where a row does
 pub idle_shown : (home : Home) (past : List Entry) → Legal home past → list_any is_running (rows_of past) ≡ not (is_empty (running past))
 idle_shown home past l =
-    elim (bool_cases (is_empty (running past))) [
+    elim (cases_Bool (is_empty (running past))) [
       | inl e ↦
           let off : list_any is_running (rows_of past) ≡ false =
-          false_of (list_any is_running (rows_of past)) (λ h.
+          false_from_ne_true (list_any is_running (rows_of past)) (λ h.
           let w = runs_there (rows_of past) h in
           let r : runs past w.0 ≡ true = sym (runs_as_row home past w.0 (asked past w.0) l refl) ∙ (sym (any_rows past w.0 is_running) ∙ w.1) in
           let some = runs_among past w.0 r in cc) in rw (e, off) refl

@@ -1,13 +1,13 @@
 -- The rows follow the entries.
 use Rattle.std.proofs.Common.{◌≡◌, ℕ, ◌+◌, Bool, true, false, ◌&&◌, ◌||◌, not, List, ◌∷◌, length, inl, inr}
 use Rattle.std.specs.List.{list_any}
+use Rattle.std.proofs.lemmas.Bool.{cases_Bool}
 use Rattle.handle_model.specs.declared.entry.Home.{Home}
 use Rattle.handle_model.specs.declared.entry.Entry.{Entry}
 use Rattle.handle_model.specs.declared.entry.Entry.TheVariants.{Join, Accept, Take, Deny, Cancel, Orphan, End, Leave, Shut}
 use Rattle.handle_model.specs.Journal.{Legal, waits, runs, waiting, running, cancels, orphans, is_empty}
 use Rattle.handle_model.specs.Limits.{openings}
 use Rattle.handle_model.proofs.Held.{and_left, or_cases}
-use Rattle.handle_laws.proofs.Slots.{bool_cases}
 use Rattle.call_table.specs.Rows.{waits_at, runs_at, is_running, openings_of}
 use Rattle.call_table.specs.Shown.{rows_of}
 use Rattle.call_table.specs.Laws.{left_by, speaks_of_running}
@@ -29,12 +29,12 @@ follows home past (Accept k a) l = accept_rows home past k a l
 follows home past (Take k cookies) l = take_rows home past k cookies l.1 l.0.fits.0
 follows home past (Deny k j) l = deny_rows past k j l.0.fits.0
 follows home past (Cancel k) l =
-    elim (bool_cases (runs past k)) [
+    elim (cases_Bool (runs past k)) [
       | inl r ↦ rw r (flag_rows past k r)
       | inr r ↦ rw r (cancel_rows past k (waits_else past k (not (list_any (cancels k) past)) r l.0.fits))
     ]
 follows home past (Orphan k) l =
-    elim (bool_cases (runs past k)) [
+    elim (cases_Bool (runs past k)) [
       | inl r ↦ rw r (drop_rows past k r)
       | inr r ↦ rw r (orphan_rows past k (waits_else past k (not (list_any (orphans k) past)) r l.0.fits))
     ]

@@ -2,7 +2,7 @@
 use Rattle.std.proofs.Common.{◌≡◌, ℕ, ◌≤◌, ◌<◌, Bool, true, false, ◌&&◌, ◌||◌, not, ◌==◌, nat_lt, min, Option, Some, None, is_some, List, [], ◌∷◌, length, reverse, refl, sym, ◌∙◌, ap, subst, arith, inl, inr, ◌⊎◌}
 use Rattle.std.specs.List.{list_any, filter, filter_map, cons_option, find}
 use Rattle.std.specs.Option.{option_or}
-use Rattle.std.proofs.lemmas.Bool.{eq-eqb, ltb-true, ltb-false, lt-ltb}
+use Rattle.std.proofs.lemmas.Bool.{eq-eqb, ltb-true, ltb-false, lt-ltb, cases_Bool, false_from_ne_true}
 use Rattle.std.proofs.lemmas.Bool.Decides.{eqb_tells}
 use Rattle.handle_model.specs.declared.entry.Home.{Home}
 use Rattle.handle_model.specs.declared.entry.Slot.{Slot}
@@ -12,8 +12,6 @@ use Rattle.handle_model.specs.declared.entry.Entry.TheVariants.{Accept, Take}
 use Rattle.handle_model.specs.Journal.{Legal, takes, decides, asked, accepted, has_left, taken, slots, waits, runs, waiting, running, any_clash, conflict, least, lesser, running_blocker, waiting_blocker, blocker}
 use Rattle.handle_model.proofs.Held.{and_left, or_right, or_cases}
 use Rattle.handle_model.proofs.Reversed.{list_any-reverse}
-use Rattle.handle_laws.proofs.Slots.{bool_cases}
-use Rattle.handle_laws.proofs.Live.{false_of}
 use Rattle.call_table.specs.declared.row.Row.{Row}
 use Rattle.call_table.specs.Rows.{is_call, is_below, row_at, waits_at, runs_at, slots_in, slots_at, calls, over, blocks_running, blocks_waiting, least_running, least_waiting, blocker_of, conflict_of}
 use Rattle.call_table.specs.Shown.{row_as, row_in, rows_of}
@@ -44,11 +42,11 @@ is_of k p r = is_call k r && p r
 
 row_call : (past : List Entry) (k x : ℕ) (p : Row → Bool) (o : Option Asked) → (x == k) ≡ false → passes (is_of k p) (row_as past x o) ≡ false
 row_call past k x p None e = refl
-row_call past k x p (Some a) e = elim (bool_cases (waits past x || runs past x)) [ inl c ↦ rw (c, e) refl | inr c ↦ rw c refl ]
+row_call past k x p (Some a) e = elim (cases_Bool (waits past x || runs past x)) [ inl c ↦ rw (c, e) refl | inr c ↦ rw c refl ]
 
 row_self : (past : List Entry) (k : ℕ) (p : Row → Bool) (o : Option Asked) → passes (is_of k p) (row_as past k o) ≡ passes p (row_as past k o)
 row_self past k p None = refl
-row_self past k p (Some a) = let q = self k in elim (bool_cases (waits past k || runs past k)) [ inl c ↦ rw (c, q) refl | inr c ↦ rw c refl ]
+row_self past k p (Some a) = let q = self k in elim (cases_Bool (waits past k || runs past k)) [ inl c ↦ rw (c, q) refl | inr c ↦ rw c refl ]
 
 any_cons : (p : Row → Bool) (o : Option Row) (rows : List Row) → list_any p (cons_option o rows) ≡ (passes p o || list_any p rows)
 any_cons p None rows = refl
@@ -74,7 +72,7 @@ any_of past k p (x ∷ xs) =
 
 -- a row stands there where the call was accepted
 there_or_not : (past : List Entry) (k : ℕ) (p : Row → Bool) (o : Option Asked) → asked past k ≡ o → (list_any (is_number k) (reverse (accepted past)) && passes p (row_as past k o)) ≡ passes p (row_as past k o)
-there_or_not past k p None e = elim (bool_cases (list_any (is_number k) (reverse (accepted past)))) [ inl t ↦ rw t refl | inr f ↦ rw f refl ]
+there_or_not past k p None e = elim (cases_Bool (list_any (is_number k) (reverse (accepted past)))) [ inl t ↦ rw t refl | inr f ↦ rw f refl ]
 there_or_not past k p (Some a) e = rw (asked_there past k a e) refl
 
 pub any_rows : (past : List Entry) (k : ℕ) (p : Row → Bool) → list_any (is_of k p) (rows_of past) ≡ passes p (row_in past k)
@@ -84,13 +82,13 @@ any_rows past k p = any_of past k p (reverse (accepted past)) ∙ there_or_not p
 
 find_cons : (past : List Entry) (k x : ℕ) (o : Option Asked) (rows : List Row) → (x == k) ≡ false → find (is_call k) (cons_option (row_as past x o) rows) ≡ find (is_call k) rows
 find_cons past k x None rows e = refl
-find_cons past k x (Some a) rows e = elim (bool_cases (waits past x || runs past x)) [ inl c ↦ rw (c, e) refl | inr c ↦ rw c refl ]
+find_cons past k x (Some a) rows e = elim (cases_Bool (waits past x || runs past x)) [ inl c ↦ rw (c, e) refl | inr c ↦ rw c refl ]
 
 find_self : (past : List Entry) (k : ℕ) (o : Option Asked) (rows : List Row) → (find (is_call k) rows ≡ None) ⊎ (find (is_call k) rows ≡ row_as past k o) → find (is_call k) (cons_option (row_as past k o) rows) ≡ row_as past k o
 find_self past k None rows h = elim h [ inl e ↦ e | inr e ↦ e ]
 find_self past k (Some a) rows h =
     let q = self k in
-    elim (bool_cases (waits past k || runs past k)) [
+    elim (cases_Bool (waits past k || runs past k)) [
       | inl c ↦ rw (c, q) refl
       | inr c ↦ rw c (elim h [ inl e ↦ e | inr e ↦ e ∙ rw c refl ])
     ]
@@ -155,20 +153,20 @@ runs_asked home past k (Some a) l e r = refl
 waits_as_row : (past : List Entry) (k : ℕ) (o : Option Asked) → asked past k ≡ o → passes (λ (r : Row). not r.runs) (row_as past k o) ≡ waits past k
 waits_as_row past k None e = rw e refl
 waits_as_row past k (Some a) e =
-    elim (bool_cases (waits past k)) [
+    elim (cases_Bool (waits past k)) [
       | inl w ↦ let idle = waits_idle past k w in rw (w, idle) refl
-      | inr w ↦ elim (bool_cases (runs past k)) [ inl r ↦ rw (w, r) refl | inr r ↦ rw (w, r) refl ]
+      | inr w ↦ elim (cases_Bool (runs past k)) [ inl r ↦ rw (w, r) refl | inr r ↦ rw (w, r) refl ]
     ]
 
 pub waits_shown : (past : List Entry) (k : ℕ) → waits_at (rows_of past) k ≡ waits past k
 waits_shown past k = any_rows past k (λ (r : Row). not r.runs) ∙ waits_as_row past k (asked past k) refl
 
 pub runs_as_row : (home : Home) (past : List Entry) (k : ℕ) (o : Option Asked) → Legal home past → asked past k ≡ o → passes (λ (r : Row). r.runs) (row_as past k o) ≡ runs past k
-runs_as_row home past k None l e = sym (false_of (runs past k) (λ r. let s = runs_asked home past k None l e r in cc))
+runs_as_row home past k None l e = sym (false_from_ne_true (runs past k) (λ r. let s = runs_asked home past k None l e r in cc))
 runs_as_row home past k (Some a) l e =
-    elim (bool_cases (runs past k)) [
-      | inl r ↦ let w : waits past k ≡ false = false_of (waits past k) (λ w. let i = waits_idle past k w in cc) in rw (w, r) refl
-      | inr r ↦ elim (bool_cases (waits past k)) [ inl w ↦ rw (w, r) refl | inr w ↦ rw (w, r) refl ]
+    elim (cases_Bool (runs past k)) [
+      | inl r ↦ let w : waits past k ≡ false = false_from_ne_true (waits past k) (λ w. let i = waits_idle past k w in cc) in rw (w, r) refl
+      | inr r ↦ elim (cases_Bool (waits past k)) [ inl w ↦ rw (w, r) refl | inr w ↦ rw (w, r) refl ]
     ]
 
 pub runs_shown : (home : Home) (past : List Entry) (k : ℕ) → Legal home past → runs_at (rows_of past) k ≡ runs past k
@@ -199,7 +197,7 @@ below_rows past k (x ∷ xs) h =
   where
     below_one : {x : ℕ} (o : Option Asked) → x < k → passes (λ r. not (is_below k r)) (row_as past x o) ≡ false
     below_one {x} None lt = refl
-    below_one {x} (Some a) lt = let t = lt-ltb x k lt in elim (bool_cases (waits past x || runs past x)) [ inl c ↦ rw (c, t) refl | inr c ↦ rw c refl ]
+    below_one {x} (Some a) lt = let t = lt-ltb x k lt in elim (cases_Bool (waits past x || runs past x)) [ inl c ↦ rw (c, t) refl | inr c ↦ rw c refl ]
 
 pub over_shown : (home : Home) (past : List Entry) (k : ℕ) → Legal home past → length (accepted past) < k → over k (rows_of past) ≡ true
 over_shown home past k l lt =
@@ -243,7 +241,7 @@ there_step : (x m : ℕ) (xs : List ℕ) (o : Option ℕ) → ((p : ℕ) → o �
 there_step x m xs None ih g = let here : x ≡ m = cc in let q = eq-eqb x m here in rw q refl
 there_step x m xs (Some p) ih g =
     let here : min x p ≡ m = cc in
-    elim (bool_cases (nat_lt p x)) [
+    elim (cases_Bool (nat_lt p x)) [
       | inl lt ↦ let low = ltb-true p x lt in let same : p ≡ m = omega arith in or_right (x == m) (has_number m xs) (subst (λ n. has_number n xs ≡ true) same (ih p refl))
       | inr ge ↦ let high = ltb-false p x ge in let same : x ≡ m = omega arith in let q = eq-eqb x m same in rw q refl
     ]
@@ -273,11 +271,11 @@ number_filter p m (x ∷ xs) =
     elim (eqb_tells x m) [
       | inl e ↦
           let same : p x ≡ p m = ap p e.1 in
-          elim (bool_cases (p m)) [
+          elim (cases_Bool (p m)) [
             | inl t ↦ let u : p x ≡ true = same ∙ t in rw (u, e.0, t) refl
             | inr t ↦ let u : p x ≡ false = same ∙ t in rw (u, e.0, t) (number_filter p m xs ∙ rw t (and_off (has_number m xs)))
           ]
-      | inr e ↦ elim (bool_cases (p x)) [
+      | inr e ↦ elim (cases_Bool (p x)) [
         | inl t ↦ rw (t, e.0) (number_filter p m xs)
         | inr t ↦ rw (t, e.0) (number_filter p m xs)
       ]
@@ -290,7 +288,7 @@ number_filter p m (x ∷ xs) =
 number_calls : (p : Row → Bool) (m : ℕ) (rows : List Row) → has_number m (calls (filter p rows)) ≡ list_any (is_of m p) rows
 number_calls p m [] = refl
 number_calls p m (r ∷ rows) =
-    elim (bool_cases (p r)) [
+    elim (cases_Bool (p r)) [
       | inl t ↦ rw (t, number_calls p m rows) (and_on (r.call == m) (list_any (is_of m p) rows))
       | inr t ↦ rw (t, number_calls p m rows) (and_off (r.call == m) (list_any (is_of m p) rows))
     ]
@@ -314,18 +312,18 @@ clash_none (s ∷ ss) = clash_none ss
 
 -- a running call that blocks
 running_row : (home : Home) (past : List Entry) (ss : List Slot) (m : ℕ) (o : Option Asked) → Legal home past → asked past m ≡ o → passes (blocks_running ss) (row_as past m o) ≡ (runs past m && any_clash ss (slots past m))
-running_row home past ss m None l e = let idle : runs past m ≡ false = false_of (runs past m) (λ r. let s = runs_asked home past m None l e r in cc) in rw idle refl
+running_row home past ss m None l e = let idle : runs past m ≡ false = false_from_ne_true (runs past m) (λ r. let s = runs_asked home past m None l e r in cc) in rw idle refl
 running_row home past ss m (Some a) l e =
-    elim (bool_cases (runs past m)) [
-      | inl r ↦ let w : waits past m ≡ false = false_of (waits past m) (λ w. let i = waits_idle past m w in cc) in rw (w, r, e) refl
-      | inr r ↦ elim (bool_cases (waits past m)) [ inl w ↦ rw (w, r) refl | inr w ↦ rw (w, r) refl ]
+    elim (cases_Bool (runs past m)) [
+      | inl r ↦ let w : waits past m ≡ false = false_from_ne_true (waits past m) (λ w. let i = waits_idle past m w in cc) in rw (w, r, e) refl
+      | inr r ↦ elim (cases_Bool (waits past m)) [ inl w ↦ rw (w, r) refl | inr w ↦ rw (w, r) refl ]
     ]
 
 taken_runs : (past : List Entry) (m : ℕ) (b : Bool) → ((list_any (takes m) past && runs past m) && b) ≡ (runs past m && b)
 taken_runs past m b =
-    elim (bool_cases (runs past m)) [
+    elim (cases_Bool (runs past m)) [
       | inl r ↦ let t = runs_taken past m r in rw (r, t) refl
-      | inr r ↦ elim (bool_cases (list_any (takes m) past)) [ inl t ↦ rw (r, t) refl | inr t ↦ rw (r, t) refl ]
+      | inr r ↦ elim (cases_Bool (list_any (takes m) past)) [ inl t ↦ rw (r, t) refl | inr t ↦ rw (r, t) refl ]
     ]
 
 running_numbers : (home : Home) (past : List Entry) (k m : ℕ) → Legal home past → has_number m (calls (filter (blocks_running (slots past k)) (rows_of past))) ≡ has_number m (filter (conflict past k) (running past))
@@ -335,13 +333,13 @@ running_numbers home past k m l =
 waiting_row : (past : List Entry) (ss : List Slot) (k m : ℕ) (o : Option Asked) → asked past m ≡ o → passes (blocks_waiting ss k) (row_as past m o) ≡ (waits past m && (nat_lt m k && any_clash ss (slots past m)))
 waiting_row past ss k m None e = rw e refl
 waiting_row past ss k m (Some a) e =
-    elim (bool_cases (waits past m)) [
+    elim (cases_Bool (waits past m)) [
       | inl w ↦ let idle = waits_idle past m w in rw (w, idle, e) refl
-      | inr w ↦ elim (bool_cases (runs past m)) [ inl r ↦ rw (w, r) refl | inr r ↦ rw (w, r) refl ]
+      | inr w ↦ elim (cases_Bool (runs past m)) [ inl r ↦ rw (w, r) refl | inr r ↦ rw (w, r) refl ]
     ]
 
 waits_listed : (past : List Entry) (m : ℕ) (o : Option Asked) (b : Bool) → asked past m ≡ o → ((has_number m (accepted past) && waits past m) && b) ≡ (waits past m && b)
-waits_listed past m None b e = let idle : waits past m ≡ false = rw e refl in rw idle (elim (bool_cases (has_number m (accepted past))) [ inl t ↦ rw t refl | inr t ↦ rw t refl ])
+waits_listed past m None b e = let idle : waits past m ≡ false = rw e refl in rw idle (elim (cases_Bool (has_number m (accepted past))) [ inl t ↦ rw t refl | inr t ↦ rw t refl ])
 waits_listed past m (Some a) b e = let t = asked_listed past m a e in rw t refl
 
 waiting_numbers : (past : List Entry) (k m : ℕ) → has_number m (calls (filter (blocks_waiting (slots past k) k) (rows_of past))) ≡ has_number m (filter (λ n. nat_lt n k && conflict past k n) (waiting past))

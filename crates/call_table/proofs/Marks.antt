@@ -5,13 +5,12 @@ use Rattle.std.specs.declared.alloc.Global.{Global}
 use Rattle.std.specs.List.{list_any, filter, find, position, All}
 use Rattle.std.specs.Option.{option_map}
 use Rattle.std.proofs.lemmas.Grind.{common_steps, get_or_at_push, length_at_push}
-use Rattle.std.proofs.lemmas.Bool.{eq-eqb, eqb-true, ltb-true}
+use Rattle.std.proofs.lemmas.Bool.{eq-eqb, eqb-true, ltb-true, cases_Bool}
 use Rattle.std.proofs.lemmas.Bool.Decides.{eqb_tells}
 use Rattle.std.proofs.lemmas.List.Elements.{All-take}
 use Rattle.std.proofs.lemmas.List.Quantifiers.{position-Some}
 use Rattle.handle_model.specs.declared.entry.Slot.{Slot}
 use Rattle.handle_model.specs.Journal.{least, lesser}
-use Rattle.handle_laws.proofs.Slots.{bool_cases}
 use Rattle.call_table.specs.declared.row.Row.{Row}
 use Rattle.call_table.specs.Rows.{is_call, is_below, is_waiting, waits_at, runs_at, row_at, slots_in, slots_at, over, calls, taken, at_call, with_start, no_cookies}
 use Rattle.call_table.specs.Kept.{Rises, AllFew, IsRow, IsKept, blank}
@@ -53,7 +52,7 @@ least_low : (low : ℕ) (p : Row → Bool) (rows : List Row) (m : ℕ) → Rises
 least_low low p [] m r e = absurd (cc)
 least_low low p (x ∷ rows) m r e =
     let first = r.0 in
-    elim (bool_cases (p x)) [
+    elim (cases_Bool (p x)) [
       | inl t ↦ lesser_low low x.call m (least (calls (filter p rows))) r.0 (λ n f. least_low (x.call + 1) p rows n r.2 f) (rw t at e)
       | inr t ↦ let more = least_low (x.call + 1) p rows m r.2 (rw t at e) in omega arith
     ]
@@ -66,7 +65,7 @@ lesser_first x (Some n) h = let more = h n refl in let same : min x n ≡ x = om
 pub first_least : (low : ℕ) (p : Row → Bool) (rows : List Row) → Rises low rows → least (calls (filter p rows)) ≡ option_map (λ (r : Row). r.call) (find p rows)
 first_least low p [] r = refl
 first_least low p (x ∷ rows) r =
-    elim (bool_cases (p x)) [
+    elim (cases_Bool (p x)) [
       | inl t ↦ rw t (lesser_first x.call (least (calls (filter p rows))) (λ n f. least_low (x.call + 1) p rows n r.2 f))
       | inr t ↦ rw t (first_least (x.call + 1) p rows r.2)
     ]
@@ -129,10 +128,10 @@ pub record Marks (f : Row → Row) : Type 0 where
   pub slots : (r : Row) → (f r).slots ≡ r.slots
 
 call_kept : (k : ℕ) (f : Row → Row) (r : Row) → Marks f → (at_call k f r).call ≡ r.call
-call_kept k f r m = elim (bool_cases (is_call k r)) [ inl t ↦ rw t (m.call r) | inr t ↦ rw t refl ]
+call_kept k f r m = elim (cases_Bool (is_call k r)) [ inl t ↦ rw t (m.call r) | inr t ↦ rw t refl ]
 
 slots_kept : (k : ℕ) (f : Row → Row) (r : Row) → Marks f → (at_call k f r).slots ≡ r.slots
-slots_kept k f r m = elim (bool_cases (is_call k r)) [ inl t ↦ rw t (m.slots r) | inr t ↦ rw t refl ]
+slots_kept k f r m = elim (cases_Bool (is_call k r)) [ inl t ↦ rw t (m.slots r) | inr t ↦ rw t refl ]
 
 rises_marked : (k : ℕ) (f : Row → Row) (low : ℕ) (rows : List Row) → Marks f → Rises low rows → Rises low (map (at_call k f) rows)
 rises_marked k f low [] m r = tt
@@ -153,8 +152,8 @@ same_waits : (k : ℕ) (f : Row → Row) (rows : List Row) → ((r : Row) → (f
 same_waits k f [] m = refl
 same_waits k f (x ∷ rows) m =
     let more = same_waits k f rows m in
-    let e : (at_call k f x).runs ≡ x.runs = elim (bool_cases (is_call k x)) [ inl t ↦ rw t (m x) | inr t ↦ rw t refl ] in
-    elim (bool_cases x.runs) [
+    let e : (at_call k f x).runs ≡ x.runs = elim (cases_Bool (is_call k x)) [ inl t ↦ rw t (m x) | inr t ↦ rw t refl ] in
+    elim (cases_Bool x.runs) [
       | inl t ↦ let u : (at_call k f x).runs ≡ true = e ∙ t in rw (u, t) more
       | inr t ↦ let u : (at_call k f x).runs ≡ false = e ∙ t in rw (u, t) (omega arith)
     ]
@@ -164,20 +163,20 @@ fewer_waits : (k : ℕ) (rows : List Row) → length (filter is_waiting (with_st
 fewer_waits k [] = omega arith
 fewer_waits k (x ∷ rows) =
     let more = fewer_waits k rows in
-    elim (bool_cases (is_call k x)) [
-      | inl t ↦ elim (bool_cases x.runs) [ inl u ↦ rw (t, u) more | inr u ↦ rw (t, u) (omega arith) ]
-      | inr t ↦ elim (bool_cases x.runs) [ inl u ↦ rw (t, u) more | inr u ↦ rw (t, u) (omega arith) ]
+    elim (cases_Bool (is_call k x)) [
+      | inl t ↦ elim (cases_Bool x.runs) [ inl u ↦ rw (t, u) more | inr u ↦ rw (t, u) (omega arith) ]
+      | inr t ↦ elim (cases_Bool x.runs) [ inl u ↦ rw (t, u) more | inr u ↦ rw (t, u) (omega arith) ]
     ]
 
 one_waits : (k : ℕ) (rows : List Row) → waits_at rows k ≡ true → length (filter is_waiting (with_start k rows)) + 1 ≤ length (filter is_waiting rows)
 one_waits k [] h = absurd (cc)
 one_waits k (x ∷ rows) h =
-    elim (bool_cases (is_call k x)) [
-      | inl t ↦ elim (bool_cases x.runs) [
+    elim (cases_Bool (is_call k x)) [
+      | inl t ↦ elim (cases_Bool x.runs) [
         | inl u ↦ let more = one_waits k rows (rw (t, u) at h) in rw (t, u) more
         | inr u ↦ let less = fewer_waits k rows in rw (t, u) (omega arith)
       ]
-      | inr t ↦ let more = one_waits k rows (rw t at h) in elim (bool_cases x.runs) [ inl u ↦ rw (t, u) more | inr u ↦ rw (t, u) (omega arith) ]
+      | inr t ↦ let more = one_waits k rows (rw t at h) in elim (cases_Bool x.runs) [ inl u ↦ rw (t, u) more | inr u ↦ rw (t, u) (omega arith) ]
     ]
 
 -- FILTERS
@@ -191,22 +190,22 @@ rises_filter p low [] r = tt
 rises_filter p low (x ∷ rows) r =
     let rest = rises_filter p (x.call + 1) rows r.2 in
     let first = r.0 in
-    elim (bool_cases (p x)) [
+    elim (cases_Bool (p x)) [
       | inl t ↦ rw t (r.0, r.1, rest)
       | inr t ↦ rw t (rises_less low (x.call + 1) (filter p rows) (omega arith) rest)
     ]
 
 few_filter : (p : Row → Bool) (rows : List Row) → AllFew rows → AllFew (filter p rows)
 few_filter p [] w = tt
-few_filter p (x ∷ rows) w = elim (bool_cases (p x)) [ inl t ↦ rw t (w.0, few_filter p rows w.1) | inr t ↦ rw t (few_filter p rows w.1) ]
+few_filter p (x ∷ rows) w = elim (cases_Bool (p x)) [ inl t ↦ rw t (w.0, few_filter p rows w.1) | inr t ↦ rw t (few_filter p rows w.1) ]
 
 waits_filter : (p : Row → Bool) (rows : List Row) → length (filter is_waiting (filter p rows)) ≤ length (filter is_waiting rows)
 waits_filter p [] = omega arith
 waits_filter p (x ∷ rows) =
     let more = waits_filter p rows in
-    elim (bool_cases (p x)) [
-      | inl t ↦ elim (bool_cases x.runs) [ inl u ↦ rw (t, u) more | inr u ↦ rw (t, u) (omega arith) ]
-      | inr t ↦ elim (bool_cases x.runs) [ inl u ↦ rw (t, u) more | inr u ↦ rw (t, u) (omega arith) ]
+    elim (cases_Bool (p x)) [
+      | inl t ↦ elim (cases_Bool x.runs) [ inl u ↦ rw (t, u) more | inr u ↦ rw (t, u) (omega arith) ]
+      | inr t ↦ elim (cases_Bool x.runs) [ inl u ↦ rw (t, u) more | inr u ↦ rw (t, u) (omega arith) ]
     ]
 
 -- A NEW ROW
@@ -214,7 +213,7 @@ waits_filter p (x ∷ rows) =
 rises_push : (low : ℕ) (rows : List Row) (x : Row) → Rises low rows → over x.call rows ≡ true → low ≤ x.call → x.call < 2 ^ 32 → Rises low (rows ++ x ∷ [])
 rises_push low [] x r o le small = (le, small, tt)
 rises_push low (y ∷ rows) x r o le small =
-    elim (bool_cases (is_below x.call y)) [
+    elim (cases_Bool (is_below x.call y)) [
       | inl t ↦ let below = ltb-true y.call x.call t in (r.0, r.1, rises_push (y.call + 1) rows x r.2 (rw t at o) (omega arith) small)
       | inr t ↦ absurd (let f = rw t at o in cc)
     ]
@@ -224,8 +223,8 @@ few_push [] x w le = (le, tt)
 few_push (y ∷ rows) x w le = (w.0, few_push rows x w.1 le)
 
 waits_push : (rows : List Row) (x : Row) → length (filter is_waiting (rows ++ x ∷ [])) ≤ length (filter is_waiting rows) + 1
-waits_push [] x = elim (bool_cases x.runs) [ inl t ↦ rw t (omega arith) | inr t ↦ rw t (omega arith) ]
-waits_push (y ∷ rows) x = let more = waits_push rows x in elim (bool_cases y.runs) [ inl t ↦ rw t (omega arith) | inr t ↦ rw t (omega arith) ]
+waits_push [] x = elim (cases_Bool x.runs) [ inl t ↦ rw t (omega arith) | inr t ↦ rw t (omega arith) ]
+waits_push (y ∷ rows) x = let more = waits_push rows x in elim (cases_Bool y.runs) [ inl t ↦ rw t (omega arith) | inr t ↦ rw t (omega arith) ]
 
 -- THE INVARIANT
 

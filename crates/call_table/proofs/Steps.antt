@@ -3,7 +3,7 @@ use Rattle.std.proofs.Common.{◌≡◌, ℕ, ◌+◌, ◌≤◌, ◌<◌, Bool,
 use Rattle.std.specs.List.{list_any, filter, filter_map, cons_option}
 use Rattle.std.specs.Option.{option_map}
 use Rattle.std.proofs.lemmas.Grind.{common_steps}
-use Rattle.std.proofs.lemmas.Bool.{eq-eqb}
+use Rattle.std.proofs.lemmas.Bool.{eq-eqb, cases_Bool, false_from_ne_true}
 use Rattle.std.proofs.lemmas.Bool.Decides.{eqb_tells}
 use Rattle.handle_model.specs.declared.entry.Home.{Home}
 use Rattle.handle_model.specs.declared.entry.Asked.{Asked}
@@ -16,9 +16,7 @@ use Rattle.handle_model.specs.Journal.{Legal, joins, leaves, takes, ends, decide
 use Rattle.handle_model.proofs.Held.{and_left, and_right, or_right, or_cases}
 use Rattle.handle_model.proofs.Reversed.{reverse-cons, list_any-reverse}
 use Rattle.std.proofs.lemmas.List.Elements.{filter_map-append}
-use Rattle.handle_laws.proofs.Slots.{bool_cases}
-use Rattle.handle_laws.proofs.Live.{false_of}
-use Rattle.handle_laws.proofs.Running.{taken_within, asked_within}
+use Rattle.journal_laws.proofs.Apart.{taken_within, asked_within}
 use Rattle.call_table.specs.declared.row.Row.{Row}
 use Rattle.call_table.specs.Rows.{is_other, stays, taken, cancelled, orphaned, at_call, with_start, with_cancel, with_orphan, without, left}
 use Rattle.call_table.specs.Shown.{row_of, row_as, row_in, rows_of}
@@ -39,7 +37,7 @@ map_some f g h (x ∷ xs) e = rw (e x, map_some f g h xs e) (map_cons (h x) (fil
 
 keep_cons : (p : Row → Bool) (o : Option Row) (rows : List Row) → cons_option (keep p o) (filter p rows) ≡ filter p (cons_option o rows)
 keep_cons p None rows = refl
-keep_cons p (Some r) rows = elim (bool_cases (p r)) [ inl e ↦ rw e refl | inr e ↦ rw e refl ]
+keep_cons p (Some r) rows = elim (cases_Bool (p r)) [ inl e ↦ rw e refl | inr e ↦ rw e refl ]
 
 keep_some : (p : Row → Bool) (g h : ℕ → Option Row) (xs : List ℕ) → ((m : ℕ) → g m ≡ keep p (h m)) → filter_map g xs ≡ filter p (filter_map h xs)
 keep_some p g h [] e = refl
@@ -86,7 +84,7 @@ runs_taken past k r = and_left (list_any (takes k) past) (not (list_any (ends k)
 
 -- a call does not wait and run
 pub waits_idle : (past : List Entry) (k : ℕ) → waits past k ≡ true → runs past k ≡ false
-waits_idle past k w = false_of (runs past k) (λ r. let d = taken_decided past k (runs_taken past k r) in grind (arith, common_steps))
+waits_idle past k w = false_from_ne_true (runs past k) (λ r. let d = taken_decided past k (runs_taken past k r) in grind (arith, common_steps))
 
 -- an End comes after a Take
 pub ended_taken : (home : Home) (past : List Entry) (k : ℕ) → Legal home past → list_any (ends k) past ≡ true → list_any (takes k) past ≡ true
@@ -101,25 +99,25 @@ ended_taken home (_ ∷ past) k l h = ended_taken home past k l.1 h
 
 waits_unended : (home : Home) (past : List Entry) (k : ℕ) → Legal home past → waits past k ≡ true → list_any (ends k) past ≡ false
 waits_unended home past k l w =
-    false_of (list_any (ends k) past) (λ e. let d = taken_decided past k (ended_taken home past k l e) in grind (arith, common_steps))
+    false_from_ne_true (list_any (ends k) past) (λ e. let d = taken_decided past k (ended_taken home past k l e) in grind (arith, common_steps))
 
 -- ONE ROW, WHERE THE ENTRY SPEAKS OF ANOTHER CALL
 
 at_other : (f : Row → Row) (past : List Entry) (k m : ℕ) (o : Option Asked) → (m == k) ≡ false → option_map (at_call k f) (row_as past m o) ≡ row_as past m o
 at_other f past k m None e = refl
-at_other f past k m (Some a) e = elim (bool_cases (waits past m || runs past m)) [ inl c ↦ rw (c, e) refl | inr c ↦ rw c refl ]
+at_other f past k m (Some a) e = elim (cases_Bool (waits past m || runs past m)) [ inl c ↦ rw (c, e) refl | inr c ↦ rw c refl ]
 
 at_here : (f : Row → Row) (past : List Entry) (k : ℕ) (o : Option Asked) → option_map (at_call k f) (row_as past k o) ≡ option_map f (row_as past k o)
 at_here f past k None = refl
-at_here f past k (Some a) = let q = self k in elim (bool_cases (waits past k || runs past k)) [ inl c ↦ rw (c, q) refl | inr c ↦ rw c refl ]
+at_here f past k (Some a) = let q = self k in elim (cases_Bool (waits past k || runs past k)) [ inl c ↦ rw (c, q) refl | inr c ↦ rw c refl ]
 
 kept_other : (past : List Entry) (k m : ℕ) (o : Option Asked) → (m == k) ≡ false → keep (is_other k) (row_as past m o) ≡ row_as past m o
 kept_other past k m None e = refl
-kept_other past k m (Some a) e = elim (bool_cases (waits past m || runs past m)) [ inl c ↦ rw (c, e) refl | inr c ↦ rw c refl ]
+kept_other past k m (Some a) e = elim (cases_Bool (waits past m || runs past m)) [ inl c ↦ rw (c, e) refl | inr c ↦ rw c refl ]
 
 kept_here : (past : List Entry) (k : ℕ) (o : Option Asked) → keep (is_other k) (row_as past k o) ≡ None
 kept_here past k None = refl
-kept_here past k (Some a) = let q = self k in elim (bool_cases (waits past k || runs past k)) [ inl c ↦ rw (c, q) refl | inr c ↦ rw c refl ]
+kept_here past k (Some a) = let q = self k in elim (cases_Bool (waits past k || runs past k)) [ inl c ↦ rw (c, q) refl | inr c ↦ rw c refl ]
 
 take_other : (past : List Entry) (k m : ℕ) (cookies : List (Option ℕ)) (o : Option Asked) → asked past m ≡ o → (k == m) ≡ false → row_as (Take k cookies ∷ past) m o ≡ row_as past m o
 take_other past k m cookies None e d = refl
@@ -205,7 +203,7 @@ drop_here past k (Some a) r =
     new ∙ (ap (λ b. Some (made b)) seen ∙ sym (ap (option_map orphaned) old))
 
 runs_waits_not : (past : List Entry) (k : ℕ) → runs past k ≡ true → waits past k ≡ false
-runs_waits_not past k r = false_of (waits past k) (λ w. let i = waits_idle past k w in cc)
+runs_waits_not past k r = false_from_ne_true (waits past k) (λ w. let i = waits_idle past k w in cc)
 
 end_waits : (past : List Entry) (k m : ℕ) (results : List Outcome) (said : Said) (o : Option Asked) → asked past m ≡ o → waits (End k results said ∷ past) m ≡ waits past m
 end_waits past k m results said None e = rw e refl
@@ -286,11 +284,11 @@ fresh_row home past k a l =
     let q = self k in
     let top = l.0.fits.0 in
     let stands : is_open past a.conn ≡ true = l.0.fits.1 in
-    let undecided : list_any (decides k) past ≡ false = false_of (list_any (decides k) past) (λ d. let w = decided_within home past k l.1 d in absurd (omega arith)) in
-    let untaken : list_any (takes k) past ≡ false = false_of (list_any (takes k) past) (λ d. let t = taken_decided past k d in cc) in
-    let uncancelled : list_any (cancels k) past ≡ false = false_of (list_any (cancels k) past) (λ d. let t = cancels_decided past k d in cc) in
-    let unorphaned : list_any (orphans k) past ≡ false = false_of (list_any (orphans k) past) (λ d. let t = orphans_decided past k d in cc) in
-    let here : list_any (leaves a.conn) past ≡ false = false_of (list_any (leaves a.conn) past) (λ g. let n = and_right (list_any (joins a.conn) past) (not (list_any (leaves a.conn) past)) stands in let f = rw g at n in cc) in
+    let undecided : list_any (decides k) past ≡ false = false_from_ne_true (list_any (decides k) past) (λ d. let w = decided_within home past k l.1 d in absurd (omega arith)) in
+    let untaken : list_any (takes k) past ≡ false = false_from_ne_true (list_any (takes k) past) (λ d. let t = taken_decided past k d in cc) in
+    let uncancelled : list_any (cancels k) past ≡ false = false_from_ne_true (list_any (cancels k) past) (λ d. let t = cancels_decided past k d in cc) in
+    let unorphaned : list_any (orphans k) past ≡ false = false_from_ne_true (list_any (orphans k) past) (λ d. let t = orphans_decided past k d in cc) in
+    let here : list_any (leaves a.conn) past ≡ false = false_from_ne_true (list_any (leaves a.conn) past) (λ g. let n = and_right (list_any (joins a.conn) past) (not (list_any (leaves a.conn) past)) stands in let f = rw g at n in cc) in
     let e : asked (Accept k a ∷ past) k ≡ Some a = rw q refl in
     let w : waits (Accept k a ∷ past) k ≡ true = rw (e, here, undecided) refl in
     let made : Bool → Bool → Bool → Row = λ x y z. record { call = k; conn = a.conn; slots = a.slots; runs = x && not (list_any (ends k) past); cancelled = y; orphaned = z } in
@@ -422,8 +420,8 @@ leave_one past c m (Some a) e =
     let b = left_bools (waits past m) (runs past m) (a.conn == c) (waits_idle past m) in
     let now : (waits (Leave c ∷ past) m || runs past m) ≡ ((waits past m || runs past m) && not (not (runs past m) && (a.conn == c))) =
     ap (λ x. x || runs past m) (w ∙ ap (λ x. waits past m && not x) turn) ∙ b in
-    elim (bool_cases (waits past m || runs past m)) [
-      | inl t ↦ elim (bool_cases (stays c (row_of past m a))) [
+    elim (cases_Bool (waits past m || runs past m)) [
+      | inl t ↦ elim (cases_Bool (stays c (row_of past m a))) [
         | inl s ↦ let yes : (waits (Leave c ∷ past) m || runs past m) ≡ true = now ∙ rw (t, s) refl in rw (t, s) (row_there (Leave c ∷ past) m a yes)
         | inr s ↦ let no : (waits (Leave c ∷ past) m || runs past m) ≡ false = now ∙ rw (t, s) refl in rw (t, s) (rw no refl)
       ]

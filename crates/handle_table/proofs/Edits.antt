@@ -4,7 +4,7 @@ use Rattle.std.specs.List.{filter, find, list_any, insert, remove}
 use Rattle.std.proofs.lemmas.Grind.{common_steps}
 use Rattle.std.proofs.lemmas.List.{take-append-drop, map-append, take-set, drop-set}
 use Rattle.std.proofs.lemmas.List.Folds.{find-append, list_any-append}
-use Rattle.std.proofs.lemmas.Bool.{cases_lt, ltb-true, eq-eqb}
+use Rattle.std.proofs.lemmas.Bool.{cases_lt, ltb-true, eq-eqb, cases_Bool}
 use Rattle.std.proofs.lemmas.Bool.Decides.{nat_tests}
 use Rattle.handle_model.specs.declared.entry.Home.{Home}
 use Rattle.handle_model.specs.declared.entry.Slot.{Slot}
@@ -12,7 +12,6 @@ use Rattle.handle_model.specs.declared.entry.Slot.TheVariants.{Shares, Holds, Ch
 use Rattle.handle_model.specs.declared.entry.DueItem.{DueItem}
 use Rattle.handle_model.specs.Journal.{is_item_of}
 use Rattle.handle_model.proofs.Rest.{rest_more}
-use Rattle.handle_laws.proofs.Slots.{bool_cases}
 use Rattle.handle_table.specs.Handles.{has, item_at, is_wire, is_below, is_above, is_other, with_item, without, cookie_set, with_cookie}
 use Rattle.handle_table.specs.Uses.{item_named}
 use Rattle.handle_table.specs.Kept.{Rises}
@@ -144,7 +143,7 @@ rises_filter p low [] r = tt
 rises_filter p low (i ∷ items) r =
     let rest = rises_filter p (i.serial + 1) items r.2 in
     let first = r.0 in
-    elim (bool_cases (p i)) [
+    elim (cases_Bool (p i)) [
       | inl e ↦ rw e (r.0, r.1, rest)
       | inr e ↦ rw e (rises_more low (i.serial + 1) (filter p items) (omega arith) rest)
     ]
@@ -152,7 +151,7 @@ rises_filter p low (i ∷ items) r =
 rises_above : (h low : ℕ) (items : List DueItem) → Rises low items → Rises (h + 1) (filter (is_above h) items)
 rises_above h low [] r = tt
 rises_above h low (i ∷ items) r =
-    elim (bool_cases (is_above h i)) [
+    elim (cases_Bool (is_above h i)) [
       | inl e ↦ let above = ltb-true h i.serial e in rw e (omega arith, r.1, rises_filter (is_above h) (i.serial + 1) items r.2)
       | inr e ↦ rw e (rises_above h (i.serial + 1) items r.2)
     ]
@@ -174,7 +173,7 @@ pub rises_without : (h low : ℕ) (items : List DueItem) → Rises low items →
 rises_without h low items r = rises_filter (is_other h) low items r
 
 same_serial : (h c : ℕ) (i : DueItem) → (cookie_set h c i).serial ≡ i.serial
-same_serial h c i = elim (bool_cases (i.serial == h)) [ inl e ↦ rw e refl | inr e ↦ rw e refl ]
+same_serial h c i = elim (cases_Bool (i.serial == h)) [ inl e ↦ rw e refl | inr e ↦ rw e refl ]
 
 pub rises_cookie : (h c low : ℕ) (items : List DueItem) → Rises low items → Rises low (with_cookie h c items)
 rises_cookie h c low [] r = tt

@@ -3,7 +3,7 @@ use Rattle.std.proofs.Common.{◌≡◌, ℕ, ◌+◌, ◌≤◌, ◌<◌, Bool,
 use Rattle.std.specs.List.{filter, find}
 use Rattle.std.specs.Option.{option_or, option_map}
 use Rattle.std.proofs.lemmas.List.Folds.{find-append}
-use Rattle.std.proofs.lemmas.Bool.{cases_lt, eqb-true, eq-eqb}
+use Rattle.std.proofs.lemmas.Bool.{cases_lt, eqb-true, eq-eqb, cases_Bool}
 use Rattle.std.proofs.lemmas.Bool.Decides.{nat_tests, eqb_tells}
 use Rattle.handle_model.specs.declared.entry.Home.{Home}
 use Rattle.handle_model.specs.declared.entry.Slot.{Slot}
@@ -13,7 +13,6 @@ use Rattle.handle_model.specs.declared.entry.Outcome.TheVariants.{Keep, Close, I
 use Rattle.handle_model.specs.declared.entry.DueItem.{DueItem}
 use Rattle.handle_model.specs.Slots.{wire_of, kind_of, named, names}
 use Rattle.handle_model.specs.Journal.{is_item_of}
-use Rattle.handle_laws.proofs.Slots.{bool_cases}
 use Rattle.handle_table.specs.Handles.{item_at, is_wire, is_below, is_above, is_other, with_item, without, with_cookie}
 use Rattle.handle_table.specs.Uses.{item_named}
 use Rattle.handle_table.specs.Kept.{Rises}
@@ -25,7 +24,7 @@ use Rattle.handle_table.proofs.Wires.{wire_is, known}
 pub found_passes : {X : Type 0} (q : X → Bool) (xs : List X) (x : X) → find q xs ≡ Some x → q x ≡ true
 found_passes q [] x e = absurd (cc)
 found_passes q (y ∷ xs) x e =
-    elim (bool_cases (q y)) [
+    elim (cases_Bool (q y)) [
       | inl t ↦ let s : y ≡ x = let f = rw t at e in cc in subst (λ z. q z ≡ true) s t
       | inr f ↦ found_passes q xs x (rw f at e)
     ]
@@ -34,9 +33,9 @@ found_passes q (y ∷ xs) x e =
 pub find_kept : {X : Type 0} (p q : X → Bool) (xs : List X) → ((x : X) → q x ≡ true → p x ≡ true) → find q (filter p xs) ≡ find q xs
 find_kept p q [] h = refl
 find_kept p q (x ∷ xs) h =
-    elim (bool_cases (q x)) [
+    elim (cases_Bool (q x)) [
       | inl t ↦ let k = h x t in rw (k, t) refl
-      | inr f ↦ elim (bool_cases (p x)) [
+      | inr f ↦ elim (cases_Bool (p x)) [
         | inl k ↦ rw (k, f) (find_kept p q xs h)
         | inr k ↦ rw (k, f) (find_kept p q xs h)
       ]
@@ -46,9 +45,9 @@ find_kept p q (x ∷ xs) h =
 pub find_out : {X : Type 0} (p q : X → Bool) (xs : List X) → ((x : X) → q x ≡ true → p x ≡ false) → find q (filter p xs) ≡ None
 find_out p q [] h = refl
 find_out p q (x ∷ xs) h =
-    elim (bool_cases (q x)) [
+    elim (cases_Bool (q x)) [
       | inl t ↦ let k = h x t in rw k (find_out p q xs h)
-      | inr f ↦ elim (bool_cases (p x)) [
+      | inr f ↦ elim (cases_Bool (p x)) [
         | inl k ↦ rw (k, f) (find_out p q xs h)
         | inr k ↦ rw k (find_out p q xs h)
       ]
@@ -110,7 +109,7 @@ abbrev pub recook : ℕ → DueItem → DueItem
 recook c i = record { serial = i.serial; kind = i.kind; cookie = c }
 
 pub item_cookie : (g c : ℕ) (items : List DueItem) (h : ℕ) → item_at (with_cookie g c items) h ≡ (if g == h then option_map (recook c) (item_at items h) else item_at items h)
-item_cookie g c [] h = elim (bool_cases (g == h)) [ inl e ↦ rw e refl | inr e ↦ rw e refl ]
+item_cookie g c [] h = elim (cases_Bool (g == h)) [ inl e ↦ rw e refl | inr e ↦ rw e refl ]
 item_cookie g c (i ∷ items) h =
     let rest = item_cookie g c items h in
     elim (eqb_tells g h) [
@@ -124,7 +123,7 @@ item_cookie g c (i ∷ items) h =
         | inl f ↦
             let q : (i.serial == h) ≡ false = subst (λ n. (n == h) ≡ false) (sym f.1) e.0 in
             rw (f.0, q, e.0) (rw e.0 at rest)
-        | inr f ↦ elim (bool_cases (i.serial == h)) [
+        | inr f ↦ elim (cases_Bool (i.serial == h)) [
           | inl k ↦ rw (f.0, k, e.0) refl
           | inr k ↦ rw (f.0, k, e.0) (rw e.0 at rest)
         ]
@@ -169,12 +168,12 @@ effects home h (s ∷ ss) [] x = x
 
 keep_item : (home : Home) (s : Slot) (c : ℕ) (items : List DueItem) (h : ℕ) (o : Option DueItem) → item_named home items s ≡ o → item_at (kept c o items) h ≡ (if names (wire_of home h) s then option_map (recook c) (item_at items h) else item_at items h)
 keep_item home s c items h None e =
-    elim (bool_cases (names (wire_of home h) s)) [
+    elim (cases_Bool (names (wire_of home h) s)) [
       | inl n ↦ let none : item_at items h ≡ None = sym (named_at home items h s n) ∙ e in rw (n, none) refl
       | inr n ↦ rw n refl
     ]
 keep_item home s c items h (Some x) e =
-    elim (bool_cases (names (wire_of home h) s)) [
+    elim (cases_Bool (names (wire_of home h) s)) [
       | inl n ↦
           let here : item_at items h ≡ Some x = sym (named_at home items h s n) ∙ e in
           let q = found_passes (is_item_of h) items x here in
@@ -187,12 +186,12 @@ keep_item home s c items h (Some x) e =
 
 close_item : (home : Home) (s : Slot) (items : List DueItem) (h : ℕ) (o : Option DueItem) → item_named home items s ≡ o → item_at (closed o items) h ≡ (if names (wire_of home h) s then None else item_at items h)
 close_item home s items h None e =
-    elim (bool_cases (names (wire_of home h) s)) [
+    elim (cases_Bool (names (wire_of home h) s)) [
       | inl n ↦ let none : item_at items h ≡ None = sym (named_at home items h s n) ∙ e in rw (n, none) refl
       | inr n ↦ rw n refl
     ]
 close_item home s items h (Some x) e =
-    elim (bool_cases (names (wire_of home h) s)) [
+    elim (cases_Bool (names (wire_of home h) s)) [
       | inl n ↦
           let here : item_at items h ≡ Some x = sym (named_at home items h s n) ∙ e in
           let q = found_passes (is_item_of h) items x here in

@@ -5,7 +5,7 @@ use Rattle.std.specs.Option.{option_or}
 use Rattle.std.proofs.lemmas.List.{map-append}
 use Rattle.std.proofs.lemmas.List.Elements.{filter-append}
 use Rattle.std.proofs.lemmas.List.Folds.{find-append}
-use Rattle.std.proofs.lemmas.Bool.{cases_lt, eqb-true, eq-eqb}
+use Rattle.std.proofs.lemmas.Bool.{cases_lt, eqb-true, eq-eqb, cases_Bool, false_from_ne_true, or_parts}
 use Rattle.std.proofs.lemmas.Bool.Decides.{eqb_tells}
 use Rattle.handle_model.specs.declared.entry.Home.{Home}
 use Rattle.handle_model.specs.declared.entry.Slot.{Slot}
@@ -19,10 +19,9 @@ use Rattle.handle_model.specs.declared.entry.Entry.TheVariants.{End}
 use Rattle.handle_model.specs.Slots.{wire_of, kind_of, named, names}
 use Rattle.handle_model.specs.Journal.{Legal, is_item_of, is_live, is_issued, is_closed, kind, cookie, issuer_kind, first_given, issues, any_closes, runs_down, suit, suits, slots, runs, numbers, opened, due_item, due_items}
 use Rattle.handle_model.proofs.Held.{and_left, and_right, or_right, opened_small}
-use Rattle.handle_laws.specs.Laws.{AllUsable}
-use Rattle.handle_laws.proofs.Slots.{bool_cases}
-use Rattle.handle_laws.proofs.Live.{false_of, or_false, issued_by, opens_within, issued_once, named_live, no_kind, suit_opens}
-use Rattle.handle_laws.proofs.Fate.{usable_live, unclosed, kept_up, fate, FateAs}
+use Rattle.journal_laws.specs.Running.{AllUsable}
+use Rattle.journal_laws.proofs.LiveNames.{issued_by, opens_within, issued_once, named_live, no_kind, suit_opens}
+use Rattle.journal_laws.proofs.Fate.{usable_live, unclosed, kept_up, fate, FateAs}
 use Rattle.handle_table.specs.Handles.{item_at}
 use Rattle.handle_table.specs.Kept.{Rises}
 use Rattle.handle_table.specs.Uses.{item_named}
@@ -40,7 +39,7 @@ abbrev pub last_of : Home → List Entry → (ℕ → Bool) → ℕ → List Due
 last_of home past p m = if p m then due_item home past m ∷ [] else []
 
 one_last : (home : Home) (past : List Entry) (p : ℕ → Bool) (m : ℕ) → map (due_item home past) (filter p (m ∷ [])) ≡ last_of home past p m
-one_last home past p m = elim (bool_cases (p m)) [ inl e ↦ rw e refl | inr e ↦ rw e refl ]
+one_last home past p m = elim (cases_Bool (p m)) [ inl e ↦ rw e refl | inr e ↦ rw e refl ]
 
 listed_more : (home : Home) (past : List Entry) (p : ℕ → Bool) (n : ℕ) → listed home past p (suc n) ≡ listed home past p n ++ last_of home past p (suc n)
 listed_more home past p n =
@@ -48,7 +47,7 @@ listed_more home past p n =
 
 last_off : (home : Home) (past : List Entry) (p : ℕ → Bool) (h m : ℕ) → p h ≡ false → item_at (last_of home past p m) h ≡ None
 last_off home past p h m off =
-    elim (bool_cases (p m)) [
+    elim (cases_Bool (p m)) [
       | inl e ↦ elim (eqb_tells m h) [
         | inl f ↦ let same : p m ≡ p h = ap p f.1 in absurd (cc)
         | inr f ↦ rw (e, f.0) refl
@@ -58,7 +57,7 @@ last_off home past p h m off =
 
 last_other : (home : Home) (past : List Entry) (p : ℕ → Bool) (h m : ℕ) → m ≢ h → item_at (last_of home past p m) h ≡ None
 last_other home past p h m d =
-    elim (bool_cases (p m)) [
+    elim (cases_Bool (p m)) [
       | inl e ↦ elim (eqb_tells m h) [ inl f ↦ absurd (d f.1) | inr f ↦ rw (e, f.0) refl ]
       | inr e ↦ rw e refl
     ]
@@ -104,7 +103,7 @@ live_issued home past h v =
 
 pub due_item_at : (home : Home) (past : List Entry) (h : ℕ) → Legal home past → item_at (due_items home past) h ≡ live_item home past h
 due_item_at home past h l =
-    elim (bool_cases (is_live home past h)) [
+    elim (cases_Bool (is_live home past h)) [
       | inl v ↦
           let w = issued_by home past h l (live_issued home past h v) in
           let range = opens_within home past w.call h l w.opened_it in
@@ -144,7 +143,7 @@ listed_rises home past p zero = omega arith
 listed_rises home past p (suc n) =
     let before = listed_rises home past p n in
     let next : n + 1 ≡ suc n = add-one n in
-    subst (λ xs. RisesTo 0 (suc n + 1) xs) (sym (listed_more home past p n)) (elim (bool_cases (p (suc n))) [
+    subst (λ xs. RisesTo 0 (suc n + 1) xs) (sym (listed_more home past p n)) (elim (cases_Bool (p (suc n))) [
       | inl e ↦ rw e (to_append 0 (suc n) (listed home past p n) (due_item home past (suc n)) refl (subst (λ m. RisesTo 0 m (listed home past p n)) next before))
       | inr e ↦ rw (e, append_none (listed home past p n)) (to_more 0 (n + 1) (suc n + 1) (listed home past p n) (omega arith) before)
     ])
@@ -199,7 +198,7 @@ names_named home h (Opens k g) n = n
 pub none_names : (home : Home) (past : List Entry) (h : ℕ) (ss : List Slot) → AllUsable home past ss → is_live home past h ≡ false → NoneNames home h ss
 none_names home past h [] u v = tt
 none_names home past h (s ∷ ss) u v =
-    (false_of (names (wire_of home h) s) (λ n. let live = usable_live home past s h _ refl (u.0 (names_named home h s n)) n in cc), none_names home past h ss u.1 v)
+    (false_from_ne_true (names (wire_of home h) s) (λ n. let live = usable_live home past s h _ refl (u.0 (names_named home h s n)) n in cc), none_names home past h ss u.1 v)
 
 -- a handle that the results issue, and no slot names
 pub record Issued (home : Home) (h : ℕ) (ss : List Slot) (os : List Outcome) : Type 0 where
@@ -237,7 +236,7 @@ new_issued home h [] [] n u i = absurd (cc)
 new_issued home h [] (o ∷ os) n u i = absurd (cc)
 new_issued home h (s ∷ ss) [] n u i = absurd (cc)
 new_issued home h (s ∷ ss) (o ∷ os) n u i =
-    elim (bool_cases (issues h o)) [
+    elim (cases_Bool (issues h o)) [
       | inl e ↦ new_first home h s o ss os e
       | inr e ↦ new_later home h s o ss os e n.0 (new_issued home h ss os n.1 (and_right (suits s o) (suit ss os) u) (rw e at i))
     ]
@@ -252,19 +251,19 @@ none_closes home h (s ∷ ss) (_ ∷ os) n = none_closes home h ss os n.1
 pub none_stays : (home : Home) (h : ℕ) (ss : List Slot) (os : List Outcome) → list_any (issues h) os ≡ false → effects home h ss os None ≡ None
 none_stays home h [] os i = refl
 none_stays home h (s ∷ ss) [] i = refl
-none_stays home h (s ∷ ss) (Issue g c ∷ os) i = let w = or_false (g == h) (list_any (issues h) os) i in rw (w.0, none_stays home h ss os w.1) refl
-none_stays home h (s ∷ ss) (Keep c ∷ os) i = rw (none_stays home h ss os i) (elim (bool_cases (names (wire_of home h) s)) [ inl e ↦ rw e refl | inr e ↦ rw e refl ])
-none_stays home h (s ∷ ss) (Close ∷ os) i = rw (none_stays home h ss os i) (elim (bool_cases (names (wire_of home h) s)) [ inl e ↦ rw e refl | inr e ↦ rw e refl ])
+none_stays home h (s ∷ ss) (Issue g c ∷ os) i = let w = or_parts (g == h) (list_any (issues h) os) i in rw (w.0, none_stays home h ss os w.1) refl
+none_stays home h (s ∷ ss) (Keep c ∷ os) i = rw (none_stays home h ss os i) (elim (cases_Bool (names (wire_of home h) s)) [ inl e ↦ rw e refl | inr e ↦ rw e refl ])
+none_stays home h (s ∷ ss) (Close ∷ os) i = rw (none_stays home h ss os i) (elim (cases_Bool (names (wire_of home h) s)) [ inl e ↦ rw e refl | inr e ↦ rw e refl ])
 none_stays home h (s ∷ ss) (Nothing ∷ os) i = none_stays home h ss os i
 
 -- one that is closed
 pub closed_goes : (home : Home) (h : ℕ) (ss : List Slot) (os : List Outcome) (x : Option DueItem) → list_any (issues h) os ≡ false → any_closes (wire_of home h) ss os ≡ true → effects home h ss os x ≡ None
 closed_goes home h [] os x i c = absurd (cc)
 closed_goes home h (s ∷ ss) [] x i c = absurd (cc)
-closed_goes home h (s ∷ ss) (Issue g d ∷ os) x i c = let w = or_false (g == h) (list_any (issues h) os) i in rw (w.0, closed_goes home h ss os x w.1 c) refl
-closed_goes home h (s ∷ ss) (Keep d ∷ os) x i c = rw (closed_goes home h ss os x i c) (elim (bool_cases (names (wire_of home h) s)) [ inl e ↦ rw e refl | inr e ↦ rw e refl ])
+closed_goes home h (s ∷ ss) (Issue g d ∷ os) x i c = let w = or_parts (g == h) (list_any (issues h) os) i in rw (w.0, closed_goes home h ss os x w.1 c) refl
+closed_goes home h (s ∷ ss) (Keep d ∷ os) x i c = rw (closed_goes home h ss os x i c) (elim (cases_Bool (names (wire_of home h) s)) [ inl e ↦ rw e refl | inr e ↦ rw e refl ])
 closed_goes home h (s ∷ ss) (Close ∷ os) x i c =
-    elim (bool_cases (names (wire_of home h) s)) [
+    elim (cases_Bool (names (wire_of home h) s)) [
       | inl e ↦ rw e refl
       | inr e ↦ rw (e, closed_goes home h ss os x i (rw e at c)) refl
     ]
@@ -274,13 +273,13 @@ closed_goes home h (s ∷ ss) (Nothing ∷ os) x i c = closed_goes home h ss os 
 pub kept_item : (home : Home) (h : ℕ) (ss : List Slot) (os : List Outcome) (x : DueItem) → list_any (issues h) os ≡ false → any_closes (wire_of home h) ss os ≡ false → effects home h ss os (Some x) ≡ Some (record { serial = x.serial; kind = x.kind; cookie = unwrap_or (first_given home h ss os) x.cookie })
 kept_item home h [] os x i c = refl
 kept_item home h (s ∷ ss) [] x i c = refl
-kept_item home h (s ∷ ss) (Issue g d ∷ os) x i c = let w = or_false (g == h) (list_any (issues h) os) i in rw (w.0, kept_item home h ss os x w.1 c) refl
+kept_item home h (s ∷ ss) (Issue g d ∷ os) x i c = let w = or_parts (g == h) (list_any (issues h) os) i in rw (w.0, kept_item home h ss os x w.1 c) refl
 kept_item home h (s ∷ ss) (Keep d ∷ os) x i c =
-    elim (bool_cases (names (wire_of home h) s)) [
+    elim (cases_Bool (names (wire_of home h) s)) [
       | inl e ↦ rw (e, kept_item home h ss os x i c) refl
       | inr e ↦ rw (e, kept_item home h ss os x i c) refl
     ]
-kept_item home h (s ∷ ss) (Close ∷ os) x i c = let w = or_false (names (wire_of home h) s) (any_closes (wire_of home h) ss os) c in rw (w.0, kept_item home h ss os x i w.1) refl
+kept_item home h (s ∷ ss) (Close ∷ os) x i c = let w = or_parts (names (wire_of home h) s) (any_closes (wire_of home h) ss os) c in rw (w.0, kept_item home h ss os x i w.1) refl
 kept_item home h (s ∷ ss) (Nothing ∷ os) x i c = kept_item home h ss os x i c
 
 -- WHAT IS LIVE AFTERWARDS
@@ -308,8 +307,8 @@ old_item : (home : Home) (past : List Entry) (k h : ℕ) (os : List Outcome) (sa
 old_item home past k h os said i =
     let ss = slots past k in
     let after = live_after home past k h os said i in
-    elim (bool_cases (is_live home past h)) [
-      | inl v ↦ elim (bool_cases (any_closes (wire_of home h) ss os)) [
+    elim (cases_Bool (is_live home past h)) [
+      | inl v ↦ elim (cases_Bool (any_closes (wire_of home h) ss os)) [
         | inl c ↦
             let gone : is_live home (End k os said ∷ past) h ≡ false = after ∙ rw (v, c) refl in
             rw (v, gone) (closed_goes home h ss os (Some (due_item home past h)) i c)
@@ -339,7 +338,7 @@ new_item home past k h os said l r u i =
 
 ends_as : (home : Home) (past : List Entry) (k h : ℕ) (os : List Outcome) (said : Said) → Legal home past → runs past k ≡ true → suit (slots past k) os ≡ true → effects home h (slots past k) os (live_item home past h) ≡ live_item home (End k os said ∷ past) h
 ends_as home past k h os said l r u =
-    elim (bool_cases (list_any (issues h) os)) [
+    elim (cases_Bool (list_any (issues h) os)) [
       | inl i ↦ new_item home past k h os said l r u i
       | inr i ↦ old_item home past k h os said i
     ]

@@ -3,6 +3,7 @@ use Rattle.std.proofs.Common.{◌≡◌, ℕ, true, not, ◌==◌, ◌&&◌, ◌
 use Rattle.std.specs.List.{list_any}
 use Rattle.std.specs.Option.{option_or, option_map}
 use Rattle.std.proofs.lemmas.Bool.Decides.{eqb_tells}
+use Rattle.std.proofs.lemmas.Bool.{cases_Bool}
 use Rattle.rpc_base.specs.declared.identifiers.WireHandle.{WireHandle}
 use Rattle.handle_model.specs.declared.entry.Home.{Home}
 use Rattle.handle_model.specs.declared.entry.Slot.{Slot}
@@ -15,9 +16,8 @@ use Rattle.handle_model.specs.declared.entry.Entry.TheVariants.{End}
 use Rattle.handle_model.specs.Slots.{wire_of, kind_of, named, names}
 use Rattle.handle_model.specs.Journal.{Legal, is_live, is_issued, is_kind, is_usable, is_usable_as, is_at_fault, fault_from, fault_in, repeats, kind, cookie, issuer_kind, first_given, issues, gives, suit, suits, slots, serial_named, first_named, cookie_for, cookies_for, due_item, due_items}
 use Rattle.handle_model.proofs.Held.{and_left, and_right, or_cases}
-use Rattle.handle_laws.specs.Laws.{AllUsable}
-use Rattle.handle_laws.proofs.Slots.{bool_cases}
-use Rattle.handle_laws.proofs.Live.{serial_named_is, taken_all}
+use Rattle.journal_laws.specs.Running.{AllUsable}
+use Rattle.journal_laws.proofs.LiveNames.{serial_named_is, taken_all}
 use Rattle.handle_table.specs.Uses.{item_named, fits_kind, is_refused, refused_from, fault_at, cookie_at, cookies_at}
 use Rattle.handle_table.proofs.Items.{named_at, named_is}
 use Rattle.handle_table.proofs.Live.{live_item, live_issued, due_item_at}
@@ -37,7 +37,7 @@ issuer_some h [] [] u i = absurd (cc)
 issuer_some h [] (o ∷ os) u i = absurd (cc)
 issuer_some h (s ∷ ss) [] u i = absurd (cc)
 issuer_some h (s ∷ ss) (o ∷ os) u i =
-    elim (bool_cases (issues h o)) [
+    elim (cases_Bool (issues h o)) [
       | inl e ↦ rw e refl
       | inr e ↦ rw e (issuer_some h ss os (and_right (suits s o) (suit ss os) u) (rw e at i))
     ]
@@ -81,7 +81,7 @@ first_some home s [] h i n = absurd (cc)
 first_some home s (Issue g c ∷ os) h i n =
     elim (eqb_tells g h) [
       | inl e ↦ let m : names (wire_of home g) s ≡ true = subst (λ x. names (wire_of home x) s ≡ true) (sym e.1) n in rw m refl
-      | inr e ↦ elim (bool_cases (names (wire_of home g) s)) [
+      | inr e ↦ elim (cases_Bool (names (wire_of home g) s)) [
         | inl m ↦ rw m refl
         | inr m ↦ rw m (first_some home s os h (rw e.0 at i) n)
       ]
@@ -104,7 +104,7 @@ found_live : (home : Home) (past : List Entry) (s : Slot) (x : DueItem) → Lega
 found_live home past s x l e =
     let n = named_is home (due_items home past) s x e in
     let there : live_item home past x.serial ≡ Some x = sym (due_item_at home past x.serial l) ∙ (sym (named_at home (due_items home past) x.serial s n) ∙ e) in
-    elim (bool_cases (is_live home past x.serial)) [
+    elim (cases_Bool (is_live home past x.serial)) [
       | inl v ↦ v
       | inr v ↦ let none = rw v at there in absurd (cc)
     ]
@@ -125,7 +125,7 @@ fits_live home past s h (Some n) e i = refl
 usable_named : (home : Home) (past : List Entry) (s : Slot) (o : Option ℕ) → Legal home past → serial_named home past s ≡ o → fits_kind s (item_named home (due_items home past) s) ≡ is_usable_as home past (kind_of s) o
 usable_named home past s None l e = ap (fits_kind s) (none_found home past s (item_named home (due_items home past) s) l refl e)
 usable_named home past s (Some h) l e =
-    ap (fits_kind s) (named_item home past s h l e) ∙ elim (bool_cases (is_live home past h)) [
+    ap (fits_kind s) (named_item home past s h l e) ∙ elim (cases_Bool (is_live home past h)) [
       | inl v ↦ rw v (fits_live home past s h (kind past h) refl (kind_some home past h l (live_issued home past h v)))
       | inr v ↦ rw v refl
     ]

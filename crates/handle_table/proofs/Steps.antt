@@ -3,6 +3,7 @@ use Rattle.std.proofs.Common.{◌≡◌, ℕ, ◌+◌, ◌≤◌, Bool, true, fa
 use Rattle.std.specs.List.{filter, list_any, find}
 use Rattle.std.proofs.lemmas.List.{length-append}
 use Rattle.std.proofs.lemmas.Bool.Decides.{nat_tests}
+use Rattle.std.proofs.lemmas.Bool.{cases_Bool}
 use Rattle.handle_model.specs.declared.entry.Home.{Home}
 use Rattle.handle_model.specs.declared.entry.Slot.{Slot}
 use Rattle.handle_model.specs.declared.entry.Slot.TheVariants.{Shares, Holds, Changes, Opens}
@@ -16,7 +17,6 @@ use Rattle.handle_model.specs.declared.entry.Entry.TheVariants.{Join, Accept, Ta
 use Rattle.handle_model.specs.Slots.{kind_of, opens}
 use Rattle.handle_model.specs.Journal.{Legal, is_item_of, is_live, is_issued, is_closed, runs_down, suit, suits, slots, due_item, due_items}
 use Rattle.handle_model.proofs.Held.{and_right}
-use Rattle.handle_laws.proofs.Slots.{bool_cases}
 use Rattle.handle_table.specs.Handles.{is_below, is_above, is_other, with_item, cookie_set}
 use Rattle.handle_table.specs.Uses.{item_named}
 use Rattle.handle_table.specs.Ended.{issues_one, issued, kept, closed, settled, ended}
@@ -50,7 +50,7 @@ leave_due home past c l = same_due home past (Leave c ∷ past) l.1 l (λ h. ref
 found_any : (q : DueItem → Bool) (items : List DueItem) (x : DueItem) → find q items ≡ Some x → list_any q items ≡ true
 found_any q [] x e = absurd (cc)
 found_any q (i ∷ items) x e =
-    elim (bool_cases (q i)) [
+    elim (cases_Bool (q i)) [
       | inl t ↦ rw t refl
       | inr f ↦ rw f (found_any q items x (rw f at e))
     ]
@@ -88,7 +88,7 @@ with_within i items =
 
 filter_within : {X : Type 0} (p : X → Bool) (xs : List X) → length (filter p xs) ≤ length xs
 filter_within p [] = omega arith
-filter_within p (x ∷ xs) = let more = filter_within p xs in elim (bool_cases (p x)) [ inl e ↦ rw e (omega arith) | inr e ↦ rw e (omega arith) ]
+filter_within p (x ∷ xs) = let more = filter_within p xs in elim (cases_Bool (p x)) [ inl e ↦ rw e (omega arith) | inr e ↦ rw e (omega arith) ]
 
 map_within : {X : Type 0} (f : X → X) (xs : List X) → length (map f xs) ≤ length xs
 map_within f [] = omega arith

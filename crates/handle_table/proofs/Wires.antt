@@ -3,12 +3,12 @@ use Rattle.std.proofs.Common.{◌≡◌, ◌≢◌, ℕ, ◌+◌, ◌*◌, ◌%�
 use Rattle.std.proofs.lemmas.Nat.{mod-mul-add}
 use Rattle.std.proofs.lemmas.Grind.{common_steps}
 use Rattle.std.proofs.lemmas.Bool.Decides.{eqb_tells}
+use Rattle.std.proofs.lemmas.Bool.{false_from_ne_true}
 use Rattle.rpc_base.specs.declared.identifiers.WireHandle.{WireHandle}
 use Rattle.handle_model.specs.declared.entry.Home.{Home}
 use Rattle.handle_model.specs.declared.entry.DueItem.{DueItem}
 use Rattle.handle_model.specs.Slots.{wire_of, same_wire}
-use Rattle.handle_laws.proofs.Running.{same_wire_is, same_wire_from}
-use Rattle.handle_laws.proofs.Live.{false_of}
+use Rattle.journal_laws.proofs.Apart.{same_wire_is, same_wire_from}
 use Rattle.handle_table.specs.Handles.{item_at, item_of, is_wire}
 use Rattle.handle_table.specs.Kept.{Rises}
 
@@ -30,7 +30,7 @@ same_serial_wire home g h =
       | inl e ↦ let q = e.1 in rw e.0 (same_wire_from (wire_of home g) (wire_of home h) refl (omega arith))
       | inr e ↦
           let d = e.1 in
-          rw e.0 (false_of (same_wire (wire_of home g) (wire_of home h)) (λ s. let w = same_wire_is (wire_of home g) (wire_of home h) s in let id = w.1 in let same : h ≡ g = omega arith in d same))
+          rw e.0 (false_from_ne_true (same_wire (wire_of home g) (wire_of home h)) (λ s. let w = same_wire_is (wire_of home g) (wire_of home h) s in let id = w.1 in let same : h ≡ g = omega arith in d same))
     ]
 
 pub known : (home : Home) (items : List DueItem) (h : ℕ) → item_of home items (wire_of home h) ≡ item_at items h
@@ -41,7 +41,7 @@ pub not_known : (home : Home) (low : ℕ) (items : List DueItem) (wire : WireHan
 not_known home low [] wire h r e n = refl
 not_known home low (i ∷ items) wire h r e n =
     let here : is_wire home wire i ≡ false =
-    false_of (is_wire home wire i) (λ s.
+    false_from_ne_true (is_wire home wire i) (λ s.
     let same = wire_is wire (wire_of home i.serial) s in
     let serial : h ≡ i.serial = e ∙ (ap (λ (w : WireHandle). w.id % 2 ^ 32) same ∙ wire_serial home i.serial r.1) in
     n (same ∙ ap (wire_of home) (sym serial))) in

@@ -1,5 +1,0 @@
-pub mod Fate
-pub mod Least
-pub mod Live
-pub mod Running
-pub mod Slots

@@ -1,0 +1,9 @@
+pub mod Apart
+pub mod Fate
+pub mod Joins
+pub mod Least
+pub mod LiveNames
+pub mod Older
+pub mod Once
+pub mod OneSlot
+pub mod Stages

@@ -1,0 +1,6 @@
+pub mod Calls
+pub mod Connections
+pub mod Fates
+pub mod Moments
+pub mod Running
+pub mod Waiting

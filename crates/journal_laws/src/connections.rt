@@ -1,0 +1,22 @@
+//! In what order the entries of a connection stand.
+ghost use Rattle.journal_laws.specs.Connections.{LeavesAfterJoin, JoinsOnce, LeavesOnce, AcceptsOfOpen};
+
+/// A connection joins before it leaves.
+pub fn leaves_after_join()
+    ensures { LeavesAfterJoin }
+{}
+
+/// A connection joins once.
+pub fn joins_once()
+    ensures { JoinsOnce }
+{}
+
+/// A connection leaves once.
+pub fn leaves_once()
+    ensures { LeavesOnce }
+{}
+
+/// A call is accepted of a connection that is open.
+pub fn accepts_of_open()
+    ensures { AcceptsOfOpen }
+{}

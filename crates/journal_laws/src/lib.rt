@@ -1,0 +1,17 @@
+//! Laws of every legal journal, each the contract of a function that does nothing. Whoever shows
+//! that a journal is legal may rest on them.
+#![tactic(auto)]
+
+mod calls;
+mod connections;
+mod handles;
+mod moments;
+mod running;
+mod waiting;
+
+pub use calls::{ends_after_take, ends_once, takes_after_accept, takes_once};
+pub use connections::{accepts_of_open, joins_once, leaves_after_join, leaves_once};
+pub use handles::one_fate;
+pub use moments::shut_is_last;
+pub use running::{named_live, running_apart, taken_live};
+pub use waiting::least_goes_on;

@@ -1,0 +1,17 @@
+//! What holds while calls run.
+ghost use Rattle.journal_laws.specs.Running.{RunningApart, NamedLive, TakenLive};
+
+/// Two running calls don't conflict.
+pub fn running_apart()
+    ensures { RunningApart }
+{}
+
+/// Every handle that a running call names is live, with the slot's kind.
+pub fn named_live()
+    ensures { NamedLive }
+{}
+
+/// It was so when the call was taken.
+pub fn taken_live()
+    ensures { TakenLive }
+{}
