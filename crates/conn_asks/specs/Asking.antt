@@ -8,7 +8,7 @@ use Rattle.pdu_codec.specs.declared.pdu.Element.{Element}
 use Rattle.pdu_stream.specs.declared.joined.Joined.{Joined}
 use Rattle.pdu_stream.specs.declared.joined.JoinFault.{JoinFault}
 use Rattle.pdu_stream.specs.declared.joined.JoinFault.TheVariants.{Memory}
-use Rattle.pdu_stream.specs.Fragments.{Fragment, Joining, Adds}
+use Rattle.pdu_stream.specs.Fragments.{Fragment, Joining, AddsFragment}
 use Rattle.pdu_stream.specs.Runs.{Changes}
 use Rattle.conn_asks.specs.declared.events.Caller.{Caller}
 use Rattle.conn_asks.specs.declared.events.ConnFault.TheVariants.{Join, Unbound}
@@ -24,7 +24,7 @@ Follows P _ new = (after : Option Joined) × (new ≡ Ok after) × P after
 
 -- a fragment joins
 abbrev pub Joins : Option Joined → Fragment → Option Joined → Type 0
-Joins run f after = (answer : Option Joined) × Adds (Ok run) f (Ok answer) (Ok after)
+Joins run f after = (answer : Option Joined) × AddsFragment (Ok run) f (Ok answer) (Ok after)
 
 -- behind a fault of the fragments a further one is answered it again, also where it was want of memory
 abbrev pub AsksAgain : Caller → JoinFault → Result (Option Ask) NoMemory → Type 0

@@ -12,7 +12,7 @@ use Rattle.pdu_codec.proofs.SizeLaws.{pdu_writable}
 use Rattle.presentation.specs.declared.verdict.Accepted.{Accepted}
 use Rattle.presentation.specs.declared.verdict.Verdict.{Verdict}
 use Rattle.presentation.specs.declared.verdict.Verdict.TheVariants.{Accept, Reject}
-use Rattle.presentation.specs.Offers.{Served, verdict, result_of, after, contexts_after, results_after}
+use Rattle.presentation.specs.Offers.{ServedSyntaxes, verdict, result_of, after, contexts_after, results_after}
 use Rattle.conn_asks.specs.Asks.{offered_by}
 use Rattle.conn_asks.specs.Answers.{AreResults}
 use Rattle.conn_core.specs.Doing.{with_elements}
@@ -52,6 +52,6 @@ pub few_offered : (p : Pdu) (octets : List ℕ) → IsPdu p octets → length (o
 few_offered p octets is = few_in p.flags p.body (pdu_writable p octets is).body
 
 -- elements that aren't there change nothing
-pub nothing_offered : (s : Served) → s ≡ with_elements s []
+pub nothing_offered : (s : ServedSyntaxes) → s ≡ with_elements s []
 unfolding contexts_after
 nothing_offered s = refl

@@ -11,7 +11,7 @@ use Rattle.pdu_codec.specs.declared.pdu.RequestBody.{RequestBody}
 use Rattle.pdu_codec.specs.declared.pdu.Element.{Element}
 use Rattle.handle_model.proofs.Reversed.{reverse-cons}
 use Rattle.pdu_stream.specs.declared.joined.Joined.{Joined}
-use Rattle.pdu_stream.specs.Fragments.{Fragment, Joining, is_last, with_fragment, joined_of, is_in_order, Adds}
+use Rattle.pdu_stream.specs.Fragments.{Fragment, Joining, is_last, with_fragment, joined_of, is_in_order, AddsFragment}
 use Rattle.pdu_stream.specs.Runs.{IsJoining, Changes}
 use Rattle.pdu_stream.proofs.RunLaws.{runs_go_on}
 use Rattle.presentation.specs.declared.verdict.Accepted.{Accepted}
@@ -170,7 +170,7 @@ unfolding joined_of
 in_order_id None f h = refl
 in_order_id (Some j) f h = grind arith
 
-ends_run : (run : Option Joined) (f : Fragment) (answer after : Option Joined) → is_last f ≡ true → Adds (Ok run) f (Ok answer) (Ok after) → after ≡ None
+ends_run : (run : Option Joined) (f : Fragment) (answer after : Option Joined) → is_last f ≡ true → AddsFragment (Ok run) f (Ok answer) (Ok after) → after ≡ None
 ends_run run f None after last h = absurd (cc (last, h.1))
 ends_run run f (Some j) after last h = same_Ok after None h.3
 

@@ -8,7 +8,7 @@ use Rattle.pdu_stream.specs.declared.joined.Joined.{Joined}
 use Rattle.pdu_stream.specs.Fragments.{Joining}
 use Rattle.pdu_stream.specs.Runs.{Changes}
 use Rattle.presentation.specs.declared.verdict.Accepted.{Accepted}
-use Rattle.presentation.specs.Offers.{Served, contexts_after}
+use Rattle.presentation.specs.Offers.{ServedSyntaxes, contexts_after}
 use Rattle.conn_asks.specs.declared.events.Link.{Link}
 use Rattle.conn_asks.specs.declared.events.Act.{Act}
 use Rattle.conn_asks.specs.declared.events.Ask.{Ask}
@@ -55,10 +55,10 @@ does_at t m ask act w ids acc link h =
     let b : DoesWith m.ids (accepted m) t.link Nothing ask act w = subst (λ (x : List Accepted). DoesWith m.ids x t.link Nothing ask act w) acc a in
     subst (λ (x : Link). DoesWith m.ids (accepted m) x Nothing ask act w) link b
 
-offered_at : (t : Talk) (m : Moment) (es : List Element) (s : Served) → t.served.ids ≡ m.ids → t.served.accepted ≡ accepted m → s ≡ with_elements t.served es
+offered_at : (t : Talk) (m : Moment) (es : List Element) (s : ServedSyntaxes) → t.served.ids ≡ m.ids → t.served.accepted ≡ accepted m → s ≡ with_elements t.served es
     → s.accepted ≡ contexts_after m.ids (accepted m) es
 offered_at t m es s ids acc e =
-    ap (λ (x : Served). x.accepted) e
+    ap (λ (x : ServedSyntaxes). x.accepted) e
     ∙ (ap (λ (x : List SyntaxId). contexts_after x t.served.accepted es) ids ∙ ap (λ (x : List Accepted). contexts_after m.ids x es) acc)
 
 same_ask : (a : Ask) (other : Option Ask) → Recalls (Some a) other → other ≡ Some a

@@ -5,9 +5,9 @@ use Rattle.std.proofs.lemmas.List.{append-nil}
 use Rattle.pdu_codec.specs.declared.pdu.Pdu.{Pdu}
 use Rattle.pdu_codec.specs.declared.fault.PduFault.{PduFault}
 use Rattle.pdu_codec.specs.Pdus.{IsPdu, AreSpelled}
-use Rattle.pdu_stream.specs.Cuts.{Fed, IsNext, GivesNext}
+use Rattle.pdu_stream.specs.Cuts.{Fed, IsNext, GivesNext, LeavesUncut}
 use Rattle.pdu_stream.proofs.CutLaws.{spelled_append}
-use Rattle.conn_core.specs.Talks.{HasCause, Leaves}
+use Rattle.conn_core.specs.Talks.{HasCause}
 use Rattle.conn_core.specs.Left.{SkipsNext}
 use Rattle.conn_core.proofs.Causes.{next_shorter}
 
@@ -36,7 +36,7 @@ taken_more total old new more is skips x =
     let s = subst (λ (b : Bool). SkipsNext old (Ok b) new) is skips in
     (taken_next total old.rest new.rest s.0 x s.1, s.2, next_shorter old.rest new.rest s.0 s.1)
 
-pub taken_all : (total : List ℕ) (old new : Fed) (more : Bool) (count : ℕ) → more ≡ false → SkipsNext old (Ok more) new → Taken total old.rest → count ≡ length new.rest → Leaves total count
+pub taken_all : (total : List ℕ) (old new : Fed) (more : Bool) (count : ℕ) → more ≡ false → SkipsNext old (Ok more) new → Taken total old.rest → count ≡ length new.rest → LeavesUncut total count
 taken_all total old new more count is skips x counted =
     let s = subst (λ (b : Bool). SkipsNext old (Ok b) new) is skips in
     (record { pdus = x.1; rest = old.rest; fault = s.0 }, record { front = x.0; whole = x.3; pdus = x.2; remains = s.1 }, counted ∙ ap (λ (r : List ℕ). length r) s.2)

@@ -2,7 +2,7 @@
 use Rattle.std.specs.Prelude.{◌≡◌, Option, Some, None, Result, Ok, Err, List, ⊤}
 use Rattle.rpc_base.specs.declared.fault.NoMemory.{NoMemory}
 use Rattle.pdu_codec.specs.declared.pdu.Element.{Element}
-use Rattle.presentation.specs.Offers.{Served, contexts_after}
+use Rattle.presentation.specs.Offers.{ServedSyntaxes, contexts_after}
 use Rattle.conn_asks.specs.declared.events.Link.{Link}
 use Rattle.conn_asks.specs.declared.events.Ask.{Ask}
 use Rattle.pdu_codec.specs.Pdus.{pdu_octets}
@@ -18,14 +18,14 @@ use Rattle.conn_asks.specs.Moments.{DoesWith, IsIdle}
 use Rattle.conn_core.specs.Talks.{CanBind}
 
 -- the same interfaces, and the contexts accepted after some elements
-abbrev pub with_elements : Served → List Element → Served
+abbrev pub with_elements : ServedSyntaxes → List Element → ServedSyntaxes
 with_elements s elements = record { ids = s.ids; accepted = contexts_after s.ids s.accepted elements }
 
 -- the last answer
 abbrev pub IsClose : Caller → ConnFault → Act → Waits → Type 0
 IsClose c why act waits = (act ≡ Close (pdu_octets (closing c why)) why) × (waits ≡ Over)
 
-abbrev pub ActsWith : Served → Link → Ask → Result (Option (Act × Waits)) NoMemory → Served → Type 0
+abbrev pub ActsWith : ServedSyntaxes → Link → Ask → Result (Option (Act × Waits)) NoMemory → ServedSyntaxes → Type 0
 ActsWith old link ask (Ok (Some done)) new =
     DoesWith old.ids old.accepted link Nothing ask done.0 done.1 × (new ≡ with_elements old (elements_in ask))
 ActsWith old link ask (Ok None) new = IsIdle Nothing (Some ask) × (new ≡ old)

@@ -3,11 +3,10 @@ use Rattle.std.specs.Prelude.{◌≡◌, ℕ, ◌≤◌, Bool, Option, Some, Non
 use Rattle.pdu_codec.specs.declared.fault.PduFault.{PduFault}
 use Rattle.pdu_codec.specs.declared.fault.PduFault.TheVariants.{Memory}
 use Rattle.pdu_stream.specs.declared.joined.Joined.{Joined}
-use Rattle.pdu_stream.specs.declared.cut.Cut.{Cut}
-use Rattle.pdu_stream.specs.Cuts.{Fed, IsStop, IsCut}
+use Rattle.pdu_stream.specs.Cuts.{Fed, IsStop}
 use Rattle.pdu_stream.specs.Fragments.{Joining}
 use Rattle.pdu_stream.specs.Runs.{IsJoining}
-use Rattle.presentation.specs.Offers.{Served}
+use Rattle.presentation.specs.Offers.{ServedSyntaxes}
 use Rattle.conn_asks.specs.declared.events.Caller.{Caller}
 use Rattle.conn_asks.specs.declared.events.Link.{Link}
 use Rattle.conn_asks.specs.declared.events.Waits.{Waits}
@@ -22,7 +21,7 @@ pub record Talk : Type 0 where
   pub fed : Fed
   pub bound : Bool
   pub joining : Joining
-  pub served : Served
+  pub served : ServedSyntaxes
   pub waits : Waits
   pub link : Link
 
@@ -76,7 +75,3 @@ IsSound fed waits link = HasCause fed.fault fed.rest × IsWide link.max_xmit × 
 
 abbrev pub Leads : (Moment → Moment → Type 0) → Talk → Talk → Type 0
 Leads Step old new = (m : Moment) → IsAt old m → (n : Moment) × Step m n × IsAt new n
-
--- what cut leaves of the octets that came
-abbrev pub Leaves : List ℕ → ℕ → Type 0
-Leaves octets count = (cut : Cut) × IsCut octets cut × (count ≡ length cut.rest)

@@ -39,7 +39,8 @@ impl Model for Conn {
 }
 
 impl Conn {
-    ghost use Rattle.conn_core.specs.Talks.{IsAt, Leads, Leaves};
+    ghost use Rattle.conn_core.specs.Talks.{IsAt, Leads};
+    ghost use Rattle.pdu_stream.specs.Cuts.{LeavesUncut};
 
     /// A new connection to a server of these interfaces, which are numbered from 0.
     pub fn new(alloc: Global, ids: &[SyntaxId]) -> Result<Conn, NoMemory>
@@ -161,7 +162,7 @@ impl Conn {
 
     /// The number of octets that are left of all that came, once the whole PDUs at their front are taken.
     pub fn rest(self) -> Result<usize, NoMemory>
-        ensures { (m : AMoment) → IsAt self m → IfOk result (Leaves m.rest) }
+        ensures { (m : AMoment) → IsAt self m → IfOk result (LeavesUncut m.rest) }
     {
         left(self.feed)
     }

@@ -1,6 +1,7 @@
 //! What the cut of a stream leaves.
 ghost use Rattle.std.specs.Prelude.{IfOk};
-ghost use Rattle.conn_core.specs.Talks.{HasCause, Leaves};
+ghost use Rattle.pdu_stream.specs.Cuts.{LeavesUncut};
+ghost use Rattle.conn_core.specs.Talks.{HasCause};
 ghost use Rattle.conn_core.specs.Left.{SkipsNext};
 
 use pdu_codec::PduFault;
@@ -10,7 +11,7 @@ use rpc_base::NoMemory;
 /// How many octets stand behind the whole PDUs.
 pub(crate) fn left(feed: Feed) -> Result<usize, NoMemory>
     requires { HasCause feed.fault feed.rest }
-    ensures { IfOk result (Leaves feed.rest) }
+    ensures { IfOk result (LeavesUncut feed.rest) }
 {
     let mut feed = feed;
     loop {

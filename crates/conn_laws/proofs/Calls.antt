@@ -9,7 +9,7 @@ use Rattle.pdu_codec.specs.declared.pdu.RequestBody.{RequestBody}
 use Rattle.pdu_codec.specs.declared.pdu.BindBody.{BindBody}
 use Rattle.pdu_codec.specs.declared.pdu.AlterBody.{AlterBody}
 use Rattle.pdu_stream.specs.declared.joined.Joined.{Joined}
-use Rattle.pdu_stream.specs.Fragments.{Fragment, is_last, joined_of, with_fragment, IsTaken, Adds}
+use Rattle.pdu_stream.specs.Fragments.{Fragment, is_last, joined_of, with_fragment, IsTaken, AddsFragment}
 use Rattle.pdu_stream.specs.Runs.{fragment_with, fragment_of, fragments, is_co_cancel, is_orphaned, cancels, orphans, IsLater, joined_with, IsJoining, IsAlone, EndsOpen}
 use Rattle.pdu_stream.proofs.OpenRuns.{fragments_more, any_more}
 use Rattle.pdu_stream.proofs.RunLaws.{runs_join, whole_taken}
@@ -77,7 +77,7 @@ called_by bound run call p bodies.Shutdown j h = absurd (cc (h))
 call_whole : (past : List Pdu) (p : Pdu) (j : Joined) → Asks past p (Some (asks.Call j)) → (is_bound past ≡ true) × EndsWhole past p j
 call_whole past p j a =
     let c = called_by (is_bound past) a.run (called past) p p.body j a.asks in
-    let adds : Adds (Ok a.run) (fragment p c.part) (Ok (Some j)) (Ok None) = (c.taken, c.last, c.joins, refl) in
+    let adds : AddsFragment (Ok a.run) (fragment p c.part) (Ok (Some j)) (Ok None) = (c.taken, c.last, c.joins, refl) in
     (c.bound_is, (fragment p c.part, ap (fragment_with p) c.is, runs_join (reverse past) a.run None (fragment p c.part) j a.joining adds))
 
 -- a PDU with a fragment is a request

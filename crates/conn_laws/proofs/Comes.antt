@@ -4,10 +4,11 @@ use Rattle.std.proofs.lemmas.List.{append-nil}
 use Rattle.handle_model.proofs.Reversed.{reverse-cons}
 use Rattle.pdu_codec.specs.declared.pdu.Pdu.{Pdu}
 use Rattle.pdu_codec.specs.Pdus.{IsPdu, AreSpelled}
+use Rattle.pdu_stream.specs.Cuts.{LeavesUncut}
 use Rattle.pdu_stream.proofs.CutLaws.{spelled_append, cut_goes_on}
 use Rattle.conn_asks.specs.declared.events.Act.{Act}
 use Rattle.conn_asks.specs.Moments.{Moment, with_octets, Takes, SkipsAll, Acts, Goes}
-use Rattle.conn_laws.specs.Laws.{HasCome, Leaves}
+use Rattle.conn_laws.specs.Laws.{HasCome}
 
 pub comes_on : (stream piece : List ℕ) (m : Moment) → HasCome stream m → HasCome (stream ++ piece) (with_octets m piece)
 comes_on stream piece m h = record {
@@ -39,7 +40,7 @@ pub goes_on : (stream : List ℕ) (m n : Moment) (act : Option Act) → HasCome 
 goes_on stream m n None h g = skipped_on stream m g.0 n h g.1
 goes_on stream m n (Some act) h g = acted_on stream g.1 n act (skipped_on stream m g.0 g.1 h g.2) g.3
 
-pub leaves_all : (stream : List ℕ) (m : Moment) (count : ℕ) → HasCome stream m → Leaves m.rest count → Leaves stream count
+pub leaves_all : (stream : List ℕ) (m : Moment) (count : ℕ) → HasCome stream m → LeavesUncut m.rest count → LeavesUncut stream count
 leaves_all stream m count h l =
-    subst (λ (s : List ℕ). Leaves s count) (sym h.whole)
+    subst (λ (s : List ℕ). LeavesUncut s count) (sym h.whole)
     (record l.0 { pdus = reverse m.past ++ l.0.pdus }, cut_goes_on h.front m.rest (reverse m.past) l.0 h.spelled l.1, l.2)

@@ -1,8 +1,7 @@
 -- A connection's moments and the stream of its octets.
 use Rattle.std.specs.Prelude.{◌≡◌, ℕ, Option, Some, None, Ok, List, ◌++◌, length, reverse}
 use Rattle.pdu_codec.specs.Pdus.{IsPdu, AreSpelled}
-use Rattle.pdu_stream.specs.declared.cut.Cut.{Cut}
-use Rattle.pdu_stream.specs.Cuts.{IsCut}
+use Rattle.pdu_stream.specs.Cuts.{LeavesUncut}
 use Rattle.conn_asks.specs.declared.events.Act.{Act}
 use Rattle.conn_asks.specs.Moments.{Moment, with_octets, Goes}
 
@@ -12,10 +11,6 @@ pub record HasCome (stream : List ℕ) (m : Moment) : Type 0 where
   pub spelled : AreSpelled IsPdu (reverse m.past) front
   pub whole : stream ≡ front ++ m.rest
 
--- so many octets stand behind the whole PDUs
-abbrev pub Leaves : List ℕ → ℕ → Type 0
-Leaves octets count = (cut : Cut) × IsCut octets cut × (count ≡ length cut.rest)
-
 abbrev pub ComesOn : Type 0
 ComesOn = (stream piece : List ℕ) (m : Moment) → HasCome stream m → HasCome (stream ++ piece) (with_octets m piece)
 
@@ -23,7 +18,7 @@ abbrev pub GoesOnInTheStream : Type 0
 GoesOnInTheStream = (stream : List ℕ) (m n : Moment) (act : Option Act) → HasCome stream m → Goes m (Ok act) n → HasCome stream n
 
 abbrev pub LeavesOfAll : Type 0
-LeavesOfAll = (stream : List ℕ) (m : Moment) (count : ℕ) → HasCome stream m → Leaves m.rest count → Leaves stream count
+LeavesOfAll = (stream : List ℕ) (m : Moment) (count : ℕ) → HasCome stream m → LeavesUncut m.rest count → LeavesUncut stream count
 
 abbrev pub ActStays : Type 0
 ActStays =

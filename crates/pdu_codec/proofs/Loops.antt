@@ -3,7 +3,7 @@ use Rattle.std.proofs.Common.{◌≡◌, ℕ, suc, ◌-◌, ◌+◌, ◌≤◌, 
 use Rattle.std.proofs.lemmas.List.{append-nil}
 use Rattle.pdu_codec.specs.declared.fault.PduFault.{PduFault}
 use Rattle.pdu_codec.specs.declared.fault.PduFault.TheVariants as faults
-use Rattle.pdu_codec.specs.Reading.{◌>>=◌, Fails, items_at}
+use Rattle.pdu_codec.specs.Reading.{◌>>=◌, BodyFails, items_at}
 
 -- what was read before, and what is still read
 abbrev pub with_front : {A : Type 0} → List A → Option (List A × List ℕ) → Option (List A × List ℕ)
@@ -29,8 +29,8 @@ none_on read front count i octets total lt h so_far =
     let one : with_front front (items_at read (count - i) octets) ≡ None = rw (k, h) refl in
     sym so_far ∙ one
 
-pub ends : {A : Type 0} (fault : PduFault) (read : List ℕ → Option (A × List ℕ)) (front : List A) (count i : ℕ) (octets : List ℕ) (total : Option (List A × List ℕ)) → i < count → Fails fault (read octets)
-    → with_front front (items_at read (count - i) octets) ≡ total → Fails fault total
+pub ends : {A : Type 0} (fault : PduFault) (read : List ℕ → Option (A × List ℕ)) (front : List A) (count i : ℕ) (octets : List ℕ) (total : Option (List A × List ℕ)) → i < count → BodyFails fault (read octets)
+    → with_front front (items_at read (count - i) octets) ≡ total → BodyFails fault total
 ends faults.Version read front count i octets total lt h so_far = h
 ends faults.Kind read front count i octets total lt h so_far = h
 ends faults.Length read front count i octets total lt h so_far = h

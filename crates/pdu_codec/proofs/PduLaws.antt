@@ -13,7 +13,7 @@ use Rattle.pdu_codec.specs.declared.fault.PduFault.{PduFault}
 use Rattle.pdu_codec.specs.declared.fault.PduFault.TheVariants as faults
 use Rattle.pdu_codec.specs.Pdus.{kind_of, head_octets, head_of, IsPdu}
 use Rattle.pdu_codec.specs.Faults.{is_known, kind_at, flags_at, length_order, frag_length, PassesHead, IsHeadFault, head_at, Spells, IsFault}
-use Rattle.pdu_codec.specs.Reading.{Fails, body_at}
+use Rattle.pdu_codec.specs.Reading.{BodyFails, body_at}
 use Rattle.pdu_codec.proofs.HeadLaws.{Says, says, no_head_fault, stands}
 use Rattle.pdu_codec.proofs.KindLaws.{body_takes, body_again}
 use Rattle.pdu_codec.proofs.Early.{ends_early}
@@ -128,7 +128,7 @@ opened_early octets h o e =
     (o.long, h.order, o.passes, ends_early h.order (flags_at octets) (kind_at octets) (drop 16 octets) known (IsOctets-drop 16 octets o.fits) unread)
 
 -- a reader's fault, by cases
-pub fails_memory : (f : PduFault) (read : Option Body) → Fails f read → (read ≡ None → ⊥) → f ≡ faults.Memory
+pub fails_memory : (f : PduFault) (read : Option Body) → BodyFails f read → (read ≡ None → ⊥) → f ≡ faults.Memory
 fails_memory faults.Version read h k = absurd h
 fails_memory faults.Kind read h k = absurd h
 fails_memory faults.Length read h k = absurd h
@@ -137,7 +137,7 @@ fails_memory faults.Characters read h k = absurd h
 fails_memory faults.Body read h k = absurd (k h)
 fails_memory faults.Memory read h k = refl
 
-pub fails_fault : (octets : List ℕ) (f : PduFault) (read : Option Body) → Fails f read → (read ≡ None → IsFault octets faults.Body) → IsFault octets f
+pub fails_fault : (octets : List ℕ) (f : PduFault) (read : Option Body) → BodyFails f read → (read ≡ None → IsFault octets faults.Body) → IsFault octets f
 fails_fault octets faults.Version read h k = absurd h
 fails_fault octets faults.Kind read h k = absurd h
 fails_fault octets faults.Length read h k = absurd h

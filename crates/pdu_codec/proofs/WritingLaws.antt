@@ -8,9 +8,9 @@ use Rattle.rpc_base.specs.Fields.{number_octets, u16_octets}
 use Rattle.pdu_codec.specs.declared.pdu.Pdu.{Pdu}
 use Rattle.pdu_codec.specs.declared.pdu.Head.{Head}
 use Rattle.pdu_codec.specs.Pdus.{zeros_3, head_octets, head_of, body_octets, pdu_octets}
-use Rattle.pdu_codec.specs.Writing.{Keeps}
+use Rattle.pdu_codec.specs.Writing.{KeepsFront}
 
-pub keeps_then : (old more mid new : List ℕ) → mid ≡ old ++ more → Keeps mid new → Keeps old new
+pub keeps_then : (old more mid new : List ℕ) → mid ≡ old ++ more → KeepsFront mid new → KeepsFront old new
 keeps_then old more mid new mid_is kept =
     let within : length old ≤ length mid = omega (arith, ap length mid_is, length-append old more) in
     sym (take-take (length old) (length mid) new within) ∙ ap (take (length old)) (kept ∙ mid_is) ∙ take-append_seam old more

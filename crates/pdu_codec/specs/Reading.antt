@@ -27,19 +27,19 @@ abbrev pub ◌>>=◌ : {A B : Type 0} → Option A → (A → Option B) → Opti
 None >>= f = None
 
 -- A call failed where reading gives nothing, or for want of memory.
-abbrev pub Fails : {Y : Type 0} → PduFault → Option Y → Type 0
-Fails faults.Version read = ⊥
-Fails faults.Kind read = ⊥
-Fails faults.Length read = ⊥
-Fails faults.Auth read = ⊥
-Fails faults.Characters read = ⊥
-Fails faults.Body read = read ≡ None
-Fails faults.Memory read = ⊤
+abbrev pub BodyFails : {Y : Type 0} → PduFault → Option Y → Type 0
+BodyFails faults.Version read = ⊥
+BodyFails faults.Kind read = ⊥
+BodyFails faults.Length read = ⊥
+BodyFails faults.Auth read = ⊥
+BodyFails faults.Characters read = ⊥
+BodyFails faults.Body read = read ≡ None
+BodyFails faults.Memory read = ⊤
 
 -- What a call returned, seen by view, is what reading gives, unless memory ran out.
 abbrev pub Gives : {X Y : Type 0} → (X → Y) → Result X PduFault → Option Y → Type 0
 Gives view (Ok x) read = read ≡ Some (view x)
-Gives view (Err fault) read = Fails fault read
+Gives view (Err fault) read = BodyFails fault read
 
 -- a field of some octets, which a function reads
 abbrev pub field_at : {A : Type 0} → ℕ → (List ℕ → A) → List ℕ → Option (A × List ℕ)

@@ -2,5 +2,5 @@
 use Rattle.std.specs.Prelude.{◌≡◌, ℕ, List, length, take}
 
 -- The old octets stand in front of the new.
-abbrev pub Keeps : List ℕ → List ℕ → Type 0
-Keeps old new = take (length old) new ≡ old
+abbrev pub KeepsFront : List ℕ → List ℕ → Type 0
+KeepsFront old new = take (length old) new ≡ old

@@ -3,7 +3,7 @@ ghost use Rattle.std.specs.Prelude.{◌≡◌, ◌+◌, ◌<◌, ◌≤◌, ◌^
 ghost use Rattle.std.specs.List.{AllByRecursion, flat_map};
 ghost use Rattle.pdu_codec.specs.Pdus.{kind_of, drep_octet, zeros_3, head_octets, head_of, object_octets, request_octets, response_octets, fault_octets, maxima_octets, syntaxes_octets, element_octets, gap, result_octets, results_octets, version_octets, versions_octets, bind_nak_octets, written_bind, written_bind_ack, body_octets, pdu_octets, HasSpelling, IsWritable};
 ghost use Rattle.rpc_base.specs.Fields.{u16_octets};
-ghost use Rattle.pdu_codec.specs.Writing.{Keeps};
+ghost use Rattle.pdu_codec.specs.Writing.{KeepsFront};
 
 use crate::{
     BindNakBody, Body, ContextResult, Element, FaultBody, Pdu, RequestBody, ResponseBody, Version,
@@ -51,7 +51,7 @@ fn put(octets: &[u8], into: &mut Vec<u8>) -> Result<(), NoMemory>
 #[tactic(auto, unfolding(crate::specs::Pdus::head_octets))]
 fn put_head(pdu: &Pdu, size: u16, into: &mut Vec<u8>) -> Result<(), NoMemory>
     ensures ok { OnOk result (into.new.items ≡ into.old.items ++ head_octets pdu.now.minor zeros_3 (head_of pdu.now size)) }
-    ensures err { OnErr result (Keeps into.old.items into.new.items) }
+    ensures err { OnErr result (KeepsFront into.old.items into.new.items) }
 {
     put(
         &[
@@ -85,7 +85,7 @@ fn put_object(order: Order, object: &Option<Uuid>, into: &mut Vec<u8>) -> Result
 #[tactic(auto, unfolding(crate::specs::Pdus::request_octets))]
 fn put_request(order: Order, body: &RequestBody, into: &mut Vec<u8>) -> Result<(), NoMemory>
     ensures ok { OnOk result (into.new.items ≡ into.old.items ++ request_octets order body.now) }
-    ensures err { OnErr result (Keeps into.old.items into.new.items) }
+    ensures err { OnErr result (KeepsFront into.old.items into.new.items) }
 {
     put_u32(order, body.alloc_hint, into)?;
     put_u16(order, body.context, into)?;
@@ -98,7 +98,7 @@ fn put_request(order: Order, body: &RequestBody, into: &mut Vec<u8>) -> Result<(
 #[tactic(auto, unfolding(crate::specs::Pdus::response_octets))]
 fn put_response(order: Order, body: &ResponseBody, into: &mut Vec<u8>) -> Result<(), NoMemory>
     ensures ok { OnOk result (into.new.items ≡ into.old.items ++ response_octets order 0 body.now) }
-    ensures err { OnErr result (Keeps into.old.items into.new.items) }
+    ensures err { OnErr result (KeepsFront into.old.items into.new.items) }
 {
     put_u32(order, body.alloc_hint, into)?;
     put_u16(order, body.context, into)?;
@@ -110,7 +110,7 @@ fn put_response(order: Order, body: &ResponseBody, into: &mut Vec<u8>) -> Result
 #[tactic(auto, unfolding(crate::specs::Pdus::fault_octets))]
 fn put_fault(order: Order, body: &FaultBody, into: &mut Vec<u8>) -> Result<(), NoMemory>
     ensures ok { OnOk result (into.new.items ≡ into.old.items ++ fault_octets order 0 (0 ∷ zeros_3) body.now) }
-    ensures err { OnErr result (Keeps into.old.items into.new.items) }
+    ensures err { OnErr result (KeepsFront into.old.items into.new.items) }
 {
     put_u32(order, body.alloc_hint, into)?;
     put_u16(order, body.context, into)?;
@@ -129,7 +129,7 @@ fn put_maxima(
     into: &mut Vec<u8>,
 ) -> Result<(), NoMemory>
     ensures ok { OnOk result (into.new.items ≡ into.old.items ++ maxima_octets order max_xmit max_recv group []) }
-    ensures err { OnErr result (Keeps into.old.items into.new.items) }
+    ensures err { OnErr result (KeepsFront into.old.items into.new.items) }
 {
     put_u16(order, max_xmit, into)?;
     put_u16(order, max_recv, into)?;
@@ -139,7 +139,7 @@ fn put_maxima(
 
 fn put_syntaxes(order: Order, syntaxes: &[SyntaxId], into: &mut Vec<u8>) -> Result<(), NoMemory>
     ensures ok { OnOk result (into.new.items ≡ into.old.items ++ syntaxes_octets order syntaxes.now) }
-    ensures err { OnErr result (Keeps into.old.items into.new.items) }
+    ensures err { OnErr result (KeepsFront into.old.items into.new.items) }
 {
     for syntax in syntaxes {
         put_syntax(order, syntax, into)?;
@@ -151,7 +151,7 @@ fn put_syntaxes(order: Order, syntaxes: &[SyntaxId], into: &mut Vec<u8>) -> Resu
 fn put_element(order: Order, element: &Element, into: &mut Vec<u8>) -> Result<(), NoMemory>
     requires { length element.now.transfers < 256 }
     ensures ok { OnOk result (into.new.items ≡ into.old.items ++ element_octets order 0 element.now) }
-    ensures err { OnErr result (Keeps into.old.items into.new.items) }
+    ensures err { OnErr result (KeepsFront into.old.items into.new.items) }
 {
     put_u16(order, element.context, into)?;
     put(&[element.transfers.len() as u8, 0], into)?;
@@ -163,7 +163,7 @@ fn put_element(order: Order, element: &Element, into: &mut Vec<u8>) -> Result<()
 fn put_elements(order: Order, elements: &[Element], into: &mut Vec<u8>) -> Result<(), NoMemory>
     requires { AllByRecursion (λ e. length e.transfers < 256) elements.now }
     ensures ok { OnOk result (into.new.items ≡ into.old.items ++ flat_map (element_octets order 0) elements.now) }
-    ensures err { OnErr result (Keeps into.old.items into.new.items) }
+    ensures err { OnErr result (KeepsFront into.old.items into.new.items) }
 {
     for element in elements {
         put_element(order, element, into)?;
@@ -184,7 +184,7 @@ fn put_bind(
     requires few { length elements.now < 256 }
     requires each { AllByRecursion (λ e. length e.transfers < 256) elements.now }
     ensures ok { OnOk result (into.new.items ≡ into.old.items ++ written_bind order (record { max_xmit = max_xmit; max_recv = max_recv; group = group; elements = elements.now })) }
-    ensures err { OnErr result (Keeps into.old.items into.new.items) }
+    ensures err { OnErr result (KeepsFront into.old.items into.new.items) }
 {
     put_maxima(order, max_xmit, max_recv, group, into)?;
     put(&[elements.len() as u8, 0, 0, 0], into)?;
@@ -195,7 +195,7 @@ fn put_bind(
 #[tactic(auto, unfolding(crate::specs::Pdus::result_octets))]
 fn put_result(order: Order, answer: &ContextResult, into: &mut Vec<u8>) -> Result<(), NoMemory>
     ensures ok { OnOk result (into.new.items ≡ into.old.items ++ result_octets order answer.now) }
-    ensures err { OnErr result (Keeps into.old.items into.new.items) }
+    ensures err { OnErr result (KeepsFront into.old.items into.new.items) }
 {
     put_u16(order, answer.result, into)?;
     put_u16(order, answer.reason, into)?;
@@ -205,7 +205,7 @@ fn put_result(order: Order, answer: &ContextResult, into: &mut Vec<u8>) -> Resul
 
 fn put_results(order: Order, answers: &[ContextResult], into: &mut Vec<u8>) -> Result<(), NoMemory>
     ensures ok { OnOk result (into.new.items ≡ into.old.items ++ results_octets order answers.now) }
-    ensures err { OnErr result (Keeps into.old.items into.new.items) }
+    ensures err { OnErr result (KeepsFront into.old.items into.new.items) }
 {
     for answer in answers {
         put_result(order, answer, into)?;
@@ -240,7 +240,7 @@ fn put_bind_ack(
     requires short { length address.now < 2 ^ 16 }
     requires few { length results.now < 256 }
     ensures ok { OnOk result (into.new.items ≡ into.old.items ++ written_bind_ack order (record { max_xmit = max_xmit; max_recv = max_recv; group = group; address = address.now; results = results.now })) }
-    ensures err { OnErr result (Keeps into.old.items into.new.items) }
+    ensures err { OnErr result (KeepsFront into.old.items into.new.items) }
 {
     put_maxima(order, max_xmit, max_recv, group, into)?;
     put_u16(order, address.len() as u16, into)?;
@@ -253,7 +253,7 @@ fn put_bind_ack(
 
 fn put_version(version: &Version, into: &mut Vec<u8>) -> Result<(), NoMemory>
     ensures ok { OnOk result (into.new.items ≡ into.old.items ++ version_octets version.now) }
-    ensures err { OnErr result (Keeps into.old.items into.new.items) }
+    ensures err { OnErr result (KeepsFront into.old.items into.new.items) }
 {
     put(&[version.major, version.minor], into)?;
     Ok(())
@@ -261,7 +261,7 @@ fn put_version(version: &Version, into: &mut Vec<u8>) -> Result<(), NoMemory>
 
 fn put_versions(versions: &[Version], into: &mut Vec<u8>) -> Result<(), NoMemory>
     ensures ok { OnOk result (into.new.items ≡ into.old.items ++ versions_octets versions.now) }
-    ensures err { OnErr result (Keeps into.old.items into.new.items) }
+    ensures err { OnErr result (KeepsFront into.old.items into.new.items) }
 {
     for version in versions {
         put_version(version, into)?;
@@ -273,7 +273,7 @@ fn put_versions(versions: &[Version], into: &mut Vec<u8>) -> Result<(), NoMemory
 fn put_bind_nak(order: Order, body: &BindNakBody, into: &mut Vec<u8>) -> Result<(), NoMemory>
     requires { length body.now.versions < 256 }
     ensures ok { OnOk result (into.new.items ≡ into.old.items ++ bind_nak_octets order [] body.now) }
-    ensures err { OnErr result (Keeps into.old.items into.new.items) }
+    ensures err { OnErr result (KeepsFront into.old.items into.new.items) }
 {
     put_u16(order, body.reason, into)?;
     put(&[body.versions.len() as u8], into)?;
@@ -284,7 +284,7 @@ fn put_bind_nak(order: Order, body: &BindNakBody, into: &mut Vec<u8>) -> Result<
 fn put_body(pdu: &Pdu, into: &mut Vec<u8>) -> Result<(), NoMemory>
     requires { HasSpelling pdu.now.flags pdu.now.body }
     ensures ok { OnOk result (into.new.items ≡ into.old.items ++ body_octets pdu.now.order pdu.now.body) }
-    ensures err { OnErr result (Keeps into.old.items into.new.items) }
+    ensures err { OnErr result (KeepsFront into.old.items into.new.items) }
 {
     match &pdu.body {
         Body::Request(body) => put_request(pdu.order, body, into),
@@ -351,7 +351,7 @@ fn size_octets(order: Order, size: u16) -> [u8; 2]
 fn put_pdu(pdu: &Pdu, into: &mut Vec<u8>) -> Result<(), NoMemory>
     requires { IsWritable pdu.now }
     ensures ok { OnOk result (into.new.items ≡ into.old.items ++ pdu_octets pdu.now) }
-    ensures err { OnErr result (Keeps into.old.items into.new.items) }
+    ensures err { OnErr result (KeepsFront into.old.items into.new.items) }
 {
     let start = into.len();
     put_head(pdu, 0, into)?;

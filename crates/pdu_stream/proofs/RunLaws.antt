@@ -6,7 +6,7 @@ use Rattle.pdu_codec.specs.declared.pdu.Pdu.{Pdu}
 use Rattle.pdu_codec.specs.declared.pdu.Body.{Body}
 use Rattle.pdu_codec.specs.declared.pdu.Body.TheVariants as bodies
 use Rattle.pdu_stream.specs.declared.joined.Joined.{Joined}
-use Rattle.pdu_stream.specs.Fragments.{is_in_order, Fragment, is_first, is_last, joined_of, most_stub, with_fragment, IsTaken, Joining, Adds, Marks, Drops}
+use Rattle.pdu_stream.specs.Fragments.{is_in_order, Fragment, is_first, is_last, joined_of, most_stub, with_fragment, IsTaken, Joining, AddsFragment, Marks, Drops}
 use Rattle.pdu_stream.specs.Runs.{fragment_with, fragment_of, fragments, is_co_cancel, is_orphaned, cancels, orphans, IsLater, IsAlone, EndsOpen, joined_with, IsOpen, IsJoining, IsWhole, Changes}
 use Rattle.pdu_stream.proofs.Joins.{joined-call_id, joined-context, joined-op, joined-order, joined_last, joined_marked}
 use Rattle.pdu_stream.proofs.OpenRuns.{fragments_more, any_more, GoesOn, open_more, open_first, Reaches, at_once, later_on, reaches, one_open}
@@ -187,7 +187,7 @@ is_over pdus p f is last first behind o = reached (reaches pdus p first behind o
     reached (later_on rest e opened g) = true_false (is_last f) last (sym (or_false (is_last f)) ∙ sym (ap (list_any is_last) is) ∙ g.unended)
 
 request_on : (pdus : List Pdu) (p : Pdu) (run new answer : Option Joined) (f : Fragment) → fragment_of p ≡ f ∷ [] → ((id : ℕ) → cancels id p ≡ false) → ((id : ℕ) → orphans id p ≡ false) → IsJoining pdus run
-    → Adds (Ok run) f (Ok answer) (Ok new) → IsJoining (pdus ++ p ∷ []) new
+    → AddsFragment (Ok run) f (Ok answer) (Ok new) → IsJoining (pdus ++ p ∷ []) new
 request_on pdus p run new None f is unmarked wanted h a =
     subst (IsJoining (pdus ++ p ∷ [])) (sym (ok_same new (Some (with_fragment run f)) a.2)) (goes_on pdus p run f is unmarked wanted h a.0 a.1)
 request_on pdus p run new (Some j) f is unmarked wanted h a = subst (IsJoining (pdus ++ p ∷ [])) (sym (ok_same new None a.3)) (is_over pdus p f is a.1)
@@ -214,7 +214,7 @@ runs_go_on pdus p run new h c = changed pdus p p.body run new refl h c
 
 -- ---- a whole run
 
-pub runs_join : (pdus : List Pdu) (run new : Option Joined) (f : Fragment) (j : Joined) → IsJoining pdus run → Adds (Ok run) f (Ok (Some j)) (Ok new) → IsWhole pdus f j
+pub runs_join : (pdus : List Pdu) (run new : Option Joined) (f : Fragment) (j : Joined) → IsJoining pdus run → AddsFragment (Ok run) f (Ok (Some j)) (Ok new) → IsWhole pdus f j
 runs_join pdus None new f j h a = record {
   last = a.1;
   short = subst (λ (x : Joined). length x.stub ≤ most_stub) (sym a.2) a.0.2;
@@ -261,7 +261,7 @@ in_order first behind f l =
     (and_from (not (is_first f) && eqb f.call_id j.call_id) (eqb f.part.context j.context) (and_from (not (is_first f)) (eqb f.call_id j.call_id) inner id) context) op
 
 abbrev Given : Option Joined → Fragment → Joined → Type 0
-Given run f j = Adds (Ok run) f (Ok (Some j)) (Ok None)
+Given run f j = AddsFragment (Ok run) f (Ok (Some j)) (Ok None)
 
 alone_taken : (pdus : List Pdu) (run : Option Joined) (f : Fragment) (j : Joined) → IsJoining pdus run → is_last f ≡ true → length j.stub ≤ most_stub → IsAlone pdus f j → Given run f j
 alone_taken pdus run f j h last short k =

@@ -61,7 +61,7 @@ taken_all old mid new before after t gives =
       spelled = t.spelled;
       whole = t.whole ∙ ap (λ (x : Fed). t.front ++ x.rest) (sym same);
       added = t.added;
-      told = ap (λ (x : Fed). x.fault) same ∙ gives.0;
+      said_fault = ap (λ (x : Fed). x.fault) same ∙ gives.0;
       remains = subst (λ (x : Fed). Remains x.rest None) (sym same) gives.1;
     }
 
@@ -82,7 +82,7 @@ taken_fault old mid new before after f t gives known =
       spelled = t.spelled;
       whole = t.whole ∙ ap (λ (x : Fed). t.front ++ x.rest) (sym same);
       added = t.added;
-      told = ap (λ (x : Fed). x.fault) same;
+      said_fault = ap (λ (x : Fed). x.fault) same;
       remains = subst (λ (x : Fed). IsStop x.rest f) (sym same) (cause mid f t.fresh known gives.0);
     }
 
@@ -94,7 +94,7 @@ piece_stopped stream piece given old new f c e = record {
   front = c.front;
   spelled = c.spelled;
   whole = ap (λ (x : List ℕ). x ++ piece) c.whole ∙ append_assoc c.front old.rest piece ∙ ap (λ (x : Fed). c.front ++ x.rest) (sym e);
-  told = ap (λ (x : Fed). x.fault) e ∙ c.told;
+  said_fault = ap (λ (x : Fed). x.fault) e ∙ c.said_fault;
   remains = subst (λ (x : Fed). IsStop x.rest f) (sym e) (fault_stays old.rest piece f c.remains);
 }
 
@@ -105,7 +105,7 @@ piece_taken stream piece given after old mid new fault told c e t = record {
   spelled = subst (λ (x : List Pdu). AreSpelled IsPdu x (c.front ++ t.front)) (sym t.added) (spelled_append given t.pdus c.front t.front c.spelled t.spelled);
   whole = ap (λ (x : List ℕ). x ++ piece) c.whole ∙ append_assoc c.front old.rest piece ∙ ap (λ (x : Fed). c.front ++ x.rest) (sym e)
       ∙ ap (λ (x : List ℕ). c.front ++ x) t.whole ∙ sym (append_assoc c.front t.front new.rest);
-  told = t.told;
+  said_fault = t.said_fault;
   remains = t.remains;
 }
 

@@ -44,6 +44,10 @@ pub record IsCut (stream : List ℕ) (cut : Cut) : Type 0 where
   pub pdus : AreSpelled IsPdu cut.pdus front
   pub remains : Remains cut.rest cut.fault
 
+-- The cut leaves so many octets behind the whole PDUs.
+abbrev pub LeavesUncut : List ℕ → ℕ → Type 0
+LeavesUncut octets count = (cut : Cut) × IsCut octets cut × (count ≡ length cut.rest)
+
 -- ---- a stream that comes in pieces
 
 -- The octets that came and weren't given as PDUs, and the fault that was answered.
@@ -106,7 +110,7 @@ pub record TakesPdus (old : Fed) (before : List Pdu) (fault : Option PduFault) (
   pub spelled : AreSpelled IsPdu pdus front
   pub whole : old.rest ≡ front ++ new.rest
   pub added : after ≡ before ++ pdus
-  pub told : new.fault ≡ fault
+  pub said_fault : new.fault ≡ fault
   pub remains : Remains new.rest fault
 
 -- Of the stream so far, these PDUs were taken, and the rest is held, with or without a fault.
@@ -114,5 +118,5 @@ pub record IsCutSoFar (stream : List ℕ) (given : List Pdu) (fed : Fed) (fault 
   pub front : List ℕ
   pub spelled : AreSpelled IsPdu given front
   pub whole : stream ≡ front ++ fed.rest
-  pub told : fed.fault ≡ fault
+  pub said_fault : fed.fault ≡ fault
   pub remains : Remains fed.rest fault

@@ -101,11 +101,11 @@ abbrev pub Joining : Type 0
 Joining = Result (Option Joined) JoinFault
 
 -- A fragment comes: the request is whole at its last one. A fault is answered for good.
-abbrev pub Adds : Joining → Fragment → Result (Option Joined) JoinFault → Joining → Type 0
-Adds (Err fault) f result new = (result ≡ Err fault) × (new ≡ Err fault)
-Adds (Ok run) f (Ok None) new = IsTaken run f × (is_last f ≡ false) × (new ≡ Ok (Some (with_fragment run f)))
-Adds (Ok run) f (Ok (Some j)) new = IsTaken run f × (is_last f ≡ true) × (j ≡ with_fragment run f) × (new ≡ Ok None)
-Adds (Ok run) f (Err fault) new = IsJoinFault run f fault × (new ≡ Err fault)
+abbrev pub AddsFragment : Joining → Fragment → Result (Option Joined) JoinFault → Joining → Type 0
+AddsFragment (Err fault) f result new = (result ≡ Err fault) × (new ≡ Err fault)
+AddsFragment (Ok run) f (Ok None) new = IsTaken run f × (is_last f ≡ false) × (new ≡ Ok (Some (with_fragment run f)))
+AddsFragment (Ok run) f (Ok (Some j)) new = IsTaken run f × (is_last f ≡ true) × (j ≡ with_fragment run f) × (new ≡ Ok None)
+AddsFragment (Ok run) f (Err fault) new = IsJoinFault run f fault × (new ≡ Err fault)
 
 -- a request with that call id is being joined
 abbrev pub is_joining : Joining → ℕ → Bool

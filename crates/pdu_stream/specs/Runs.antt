@@ -5,7 +5,7 @@ use Rattle.pdu_codec.specs.declared.pdu.Pdu.{Pdu}
 use Rattle.pdu_codec.specs.declared.pdu.Body.{Body}
 use Rattle.pdu_codec.specs.declared.pdu.Body.TheVariants.{Request, Response, Fault, Bind, BindAck, BindNak, Alter, AlterResp, Shutdown, CoCancel, Orphaned}
 use Rattle.pdu_stream.specs.declared.joined.Joined.{Joined}
-use Rattle.pdu_stream.specs.Fragments.{Fragment, is_first, is_last, joined_of, most_stub, Adds, Marks, Drops}
+use Rattle.pdu_stream.specs.Fragments.{Fragment, is_first, is_last, joined_of, most_stub, AddsFragment, Marks, Drops}
 
 -- the fragment that a PDU with that body is, where it is a request
 abbrev pub fragment_with : Pdu → Body → List Fragment
@@ -95,7 +95,7 @@ pub record IsWhole (pdus : List Pdu) (f : Fragment) (j : Joined) : Type 0 where
 -- A request goes on with it, a co_cancel marks it, an orphaned drops it, and no other PDU changes it.
 abbrev pub Changes : Option Joined → Pdu → Body → Option Joined → Type 0
 Changes run p (Request part) new =
-    (answer : Option Joined) × Adds (Ok run) (record { order = p.order; flags = p.flags; call_id = p.call_id; part = part }) (Ok answer) (Ok new)
+    (answer : Option Joined) × AddsFragment (Ok run) (record { order = p.order; flags = p.flags; call_id = p.call_id; part = part }) (Ok answer) (Ok new)
 Changes run p (Response part) new = new ≡ run
 Changes run p (Fault part) new = new ≡ run
 Changes run p (Bind part) new = new ≡ run

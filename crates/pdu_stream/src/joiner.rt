@@ -1,6 +1,6 @@
 //! Requests that come in fragments.
 ghost use Rattle.std.specs.Prelude.{◌≡◌, Ok, Err, None};
-ghost use Rattle.pdu_stream.specs.Fragments.{is_joining, Adds, Marks, Drops};
+ghost use Rattle.pdu_stream.specs.Fragments.{is_joining, AddsFragment, Marks, Drops};
 
 use crate::fragment::{has_flag, with_fragment};
 use crate::{JoinFault, Joined};
@@ -44,7 +44,7 @@ impl Joiner {
         call_id: u32,
         part: RequestBody,
     ) -> Result<Option<Joined>, JoinFault>
-        ensures { Adds self.old (record { order = order; flags = flags; call_id = call_id; part = part }) result self.new }
+        ensures { AddsFragment self.old (record { order = order; flags = flags; call_id = call_id; part = part }) result self.new }
     {
         let run = match mem::replace(&mut self.state, Ok(None)) {
             Ok(run) => run,

@@ -8,7 +8,7 @@ ghost use Rattle.pdu_codec.specs.Pdus.{IsPdu, AreSpelled};
 ghost use Rattle.pdu_stream.specs.declared.cut.Cut.{Cut};
 ghost use Rattle.pdu_stream.specs.declared.joined.Joined.{Joined};
 ghost use Rattle.pdu_stream.specs.Cuts.{IsStop, IsCut, Fed, GivesNext, HasGiven, TellsNext, with_answer};
-ghost use Rattle.pdu_stream.specs.Fragments.{Fragment, stub_of, joined_of, Adds};
+ghost use Rattle.pdu_stream.specs.Fragments.{Fragment, stub_of, joined_of, AddsFragment};
 ghost use Rattle.pdu_stream.specs.Runs.{IsJoining, IsWhole, Changes};
 ghost use Rattle.pdu_stream.specs.Pieces.{ArePieces, piece_at, octets_at};
 
@@ -57,9 +57,9 @@ pub fn runs_go_on()
 /// taken: the stub is that of all fragments of the run, in order.
 pub fn runs_join()
     ensures joins { (pdus : List Pdu) (run new : Option Joined) (f : Fragment) (j : Joined)
-        → IsJoining pdus run → Adds (Ok run) f (Ok (Some j)) (Ok new) → IsWhole pdus f j }
+        → IsJoining pdus run → AddsFragment (Ok run) f (Ok (Some j)) (Ok new) → IsWhole pdus f j }
     ensures taken { (pdus : List Pdu) (run : Option Joined) (f : Fragment) (j : Joined)
-        → IsJoining pdus run → IsWhole pdus f j → Adds (Ok run) f (Ok (Some j)) (Ok None) }
+        → IsJoining pdus run → IsWhole pdus f j → AddsFragment (Ok run) f (Ok (Some j)) (Ok None) }
 {}
 
 /// The pieces of a stub cover it once, in order, and `piece` gives their places.

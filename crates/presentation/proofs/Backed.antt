@@ -11,7 +11,7 @@ use Rattle.presentation.specs.declared.verdict.Accepted.{Accepted}
 use Rattle.presentation.specs.Serving.{serving, has_ndr}
 use Rattle.presentation.specs.Offers.{after, contexts_after, interface_of, is_of}
 use Rattle.presentation.specs.Laws.{Asks}
-use Rattle.presentation.proofs.Offered.{Adds, one}
+use Rattle.presentation.proofs.Offered.{AddsContext, one}
 
 abbrev Backed : List SyntaxId → List Element → List Accepted → Type 0
 Backed ids all a = (c k : ℕ) → interface_of a c ≡ Some k → (e : Element) × Contains all e × Asks ids c k e
@@ -40,7 +40,7 @@ backed_new ids all a e j within serves ndr backed c k h =
     let x : List Accepted = record { context = e.context; interface = j } ∷ [] in
     backed_in ids all a e j within serves ndr backed c k (in_either (find (is_of c) a) (find (is_of c) x) k (rw (find-append (is_of c) a x) at h))
 
-backed_one : (ids : List SyntaxId) (all : List Element) (a : List Accepted) (e : Element) → Contains all e → (after ids a e ≡ a) ⊎ Adds ids a e → Backed ids all a
+backed_one : (ids : List SyntaxId) (all : List Element) (a : List Accepted) (e : Element) → Contains all e → (after ids a e ≡ a) ⊎ AddsContext ids a e → Backed ids all a
     → Backed ids all (after ids a e)
 backed_one ids all a e within (inl same) backed = rw same backed
 backed_one ids all a e within (inr adds) backed = rw adds.new (λ c k h. backed_new ids all a e adds.k within adds.serves adds.ndr backed c k h)

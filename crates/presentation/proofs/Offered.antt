@@ -17,7 +17,7 @@ use Rattle.presentation.specs.Serving.{serving, has_ndr}
 use Rattle.presentation.specs.Offers.{verdict, after, contexts_after, results_after, result_of, interface_of, is_of}
 
 -- A context is accepted that wasn't before.
-pub record Adds (ids : List SyntaxId) (a : List Accepted) (e : Element) : Type 0 where
+pub record AddsContext (ids : List SyntaxId) (a : List Accepted) (e : Element) : Type 0 where
   pub k : ℕ
   pub serves : serving ids e.syntax ≡ Some k
   pub ndr : has_ndr e.transfers ≡ true
@@ -32,7 +32,7 @@ known ids a e k j true b s' n' i' = rw (s', n', i', b, i') refl
 known ids a e k j false b s' n' i' = rw (s', n', i', b) refl
 
 one_of : (ids : List SyntaxId) (a : List Accepted) (e : Element) (s : Option ℕ) (n : Bool) (i : Option ℕ) (same room : Bool)
-    → serving ids e.syntax ≡ s → has_ndr e.transfers ≡ n → interface_of a e.context ≡ i → nat_lt (length a) 32 ≡ room → (after ids a e ≡ a) ⊎ Adds ids a e
+    → serving ids e.syntax ≡ s → has_ndr e.transfers ≡ n → interface_of a e.context ≡ i → nat_lt (length a) 32 ≡ room → (after ids a e ≡ a) ⊎ AddsContext ids a e
 unfolding verdict
 one_of ids a e None n i same room s' n' i' r' = inl (rw s' refl)
 one_of ids a e (Some k) false i same room s' n' i' r' = inl (rw (s', n') refl)
@@ -48,13 +48,13 @@ one_of ids a e (Some k) true None same true s' n' i' r' = inr (record {
 })
 
 -- an element changes nothing, or a context more is accepted
-pub one : (ids : List SyntaxId) (a : List Accepted) (e : Element) → (after ids a e ≡ a) ⊎ Adds ids a e
+pub one : (ids : List SyntaxId) (a : List Accepted) (e : Element) → (after ids a e ≡ a) ⊎ AddsContext ids a e
 one ids a e =
     one_of ids a e (serving ids e.syntax) (has_ndr e.transfers) (interface_of a e.context) true (nat_lt (length a) 32) refl refl refl refl
 
 -- ---- at most 32
 
-within : (ids : List SyntaxId) (a : List Accepted) (e : Element) → (after ids a e ≡ a) ⊎ Adds ids a e → length a ≤ 32 → length (after ids a e) ≤ 32
+within : (ids : List SyntaxId) (a : List Accepted) (e : Element) → (after ids a e ≡ a) ⊎ AddsContext ids a e → length a ≤ 32 → length (after ids a e) ≤ 32
 within ids a e (inl same) few = rw same few
 within ids a e (inr adds) few =
     rw adds.new (omega (arith, length-append a (record { context = e.context; interface = adds.k } ∷ []), adds.room))
@@ -80,7 +80,7 @@ found_or (Some x) p k h = h
 pub kept_with : (a more : List Accepted) (c k : ℕ) → interface_of a c ≡ Some k → interface_of (a ++ more) c ≡ Some k
 kept_with a more c k h = rw (find-append (is_of c) a more) (found_or (find (is_of c) a) (find (is_of c) more) k h)
 
-kept_one : (ids : List SyntaxId) (a : List Accepted) (e : Element) (c k : ℕ) → (after ids a e ≡ a) ⊎ Adds ids a e → interface_of a c ≡ Some k → interface_of (after ids a e) c ≡ Some k
+kept_one : (ids : List SyntaxId) (a : List Accepted) (e : Element) (c k : ℕ) → (after ids a e ≡ a) ⊎ AddsContext ids a e → interface_of a c ≡ Some k → interface_of (after ids a e) c ≡ Some k
 kept_one ids a e c k (inl same) h = rw same h
 kept_one ids a e c k (inr adds) h = rw adds.new (kept_with a (record { context = e.context; interface = adds.k } ∷ []) c k h)
 
@@ -91,7 +91,7 @@ kept ids a (e ∷ es) c k h = kept ids (after ids a e) es c k (kept_one ids a e 
 
 -- ---- the first ones stay in front
 
-front_one : (ids : List SyntaxId) (n : ℕ) (a : List Accepted) (e : Element) → n ≤ length a → (after ids a e ≡ a) ⊎ Adds ids a e
+front_one : (ids : List SyntaxId) (n : ℕ) (a : List Accepted) (e : Element) → n ≤ length a → (after ids a e ≡ a) ⊎ AddsContext ids a e
     → (n ≤ length (after ids a e)) × (take n (after ids a e) ≡ take n a)
 front_one ids n a e le (inl same) = rw same (le, refl)
 front_one ids n a e le (inr adds) =

@@ -14,7 +14,7 @@ use Rattle.presentation.specs.declared.verdict.Reason.TheVariants.{NotSpecified,
 use Rattle.presentation.specs.Serving.{ndr, no_syntax, serving, has_ndr}
 
 -- the interfaces that are served, and the contexts that are accepted, the first one first
-pub record Served : Type 0 where
+pub record ServedSyntaxes : Type 0 where
   pub ids : List SyntaxId
   pub accepted : List Accepted
 
@@ -28,15 +28,15 @@ interface_of accepted context = option_map (λ a. a.interface) (find (is_of cont
 -- WHAT AN ELEMENT IS ANSWERED
 
 -- a context for an interface, where its id is accepted for one already, or is new
-abbrev pub settled : List Accepted → ℕ → Option ℕ → Verdict
-settled accepted k (Some j) = if j == k then Accept k else Reject NotSpecified
-settled accepted k None = if nat_lt (length accepted) 32 then Accept k else Reject LocalLimit
+abbrev pub verdict_for : List Accepted → ℕ → Option ℕ → Verdict
+verdict_for accepted k (Some j) = if j == k then Accept k else Reject NotSpecified
+verdict_for accepted k None = if nat_lt (length accepted) 32 then Accept k else Reject LocalLimit
 
 -- an element whose abstract syntax is served by an interface, or by none
 abbrev pub judged : List Accepted → Element → Option ℕ → Verdict
 judged accepted e None = Reject AbstractSyntax
 judged accepted e (Some k) =
-    if has_ndr e.transfers then settled accepted k (interface_of accepted e.context) else Reject TransferSyntaxes
+    if has_ndr e.transfers then verdict_for accepted k (interface_of accepted e.context) else Reject TransferSyntaxes
 
 unfoldable pub verdict : List SyntaxId → List Accepted → Element → Verdict
 verdict ids accepted e = judged accepted e (serving ids e.syntax)

@@ -11,14 +11,14 @@ ndr = record { id = 0x8a ∷ 0x88 ∷ 0x5d ∷ 0x04 ∷ 0x1c ∷ 0xeb ∷ 0x11 �
 abbrev pub no_syntax : SyntaxId
 no_syntax = record { id = 0 ∷ 0 ∷ 0 ∷ 0 ∷ 0 ∷ 0 ∷ 0 ∷ 0 ∷ 0 ∷ 0 ∷ 0 ∷ 0 ∷ 0 ∷ 0 ∷ 0 ∷ 0 ∷ []; major = 0; minor = 0 }
 
--- An interface that is served fits one that is asked for: it has its UUID and its major version, and no lower
+-- An interface serves one that is asked for: it has its UUID and its major version, and no lower
 -- minor version.
-abbrev pub fits : SyntaxId → SyntaxId → Bool
-fits asked served = bytes_eq served.id asked.id && (served.major == asked.major && nat_le asked.minor served.minor)
+abbrev pub serves : SyntaxId → SyntaxId → Bool
+serves asked served = bytes_eq served.id asked.id && (served.major == asked.major && nat_le asked.minor served.minor)
 
--- the number of the interface that serves the syntax, the least of those that fit
+-- the number of the interface that serves the syntax, the least of those that do
 abbrev pub serving : List SyntaxId → SyntaxId → Option ℕ
-serving ids asked = position (fits asked) ids
+serving ids asked = position (serves asked) ids
 
 abbrev pub is_ndr : SyntaxId → Bool
 is_ndr s = bytes_eq s.id ndr.id && (s.major == ndr.major && s.minor == ndr.minor)

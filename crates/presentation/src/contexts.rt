@@ -20,9 +20,9 @@ pub struct Contexts {
 
 impl Model for Contexts {
     ghost use Rattle.std.specs.Prelude.{◌≤◌, ◌^◌, length};
-    ghost use Rattle.presentation.specs.Offers.{Served};
+    ghost use Rattle.presentation.specs.Offers.{ServedSyntaxes};
 
-    ghost Value = { Served };
+    ghost Value = { ServedSyntaxes };
 
     ghost view = { λ c. record { ids = c.ids.items; accepted = c.accepted.items } };
 

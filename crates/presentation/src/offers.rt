@@ -1,6 +1,6 @@
 //! What one offered context is answered.
 ghost use Rattle.std.specs.Prelude.{◌≡◌, ◌≤◌, ◌^◌, length};
-ghost use Rattle.presentation.specs.Serving as serves;
+ghost use Rattle.presentation.specs.Serving as spec_serving;
 ghost use Rattle.presentation.specs.Offers as spec;
 
 use crate::verdict::{Accepted, Reason, Verdict};
@@ -10,7 +10,7 @@ use uuid::Uuid;
 
 /// The transfer syntax NDR (C706, "Transfer Syntax NDR").
 pub fn ndr() -> SyntaxId
-    ensures { result ≡ serves.ndr }
+    ensures { result ≡ spec_serving.ndr }
 {
     SyntaxId {
         id: Uuid::from_bytes([
@@ -24,7 +24,7 @@ pub fn ndr() -> SyntaxId
 
 /// The syntax in the answer to a rejected context.
 fn no_syntax() -> SyntaxId
-    ensures { result ≡ serves.no_syntax }
+    ensures { result ≡ spec_serving.no_syntax }
 {
     SyntaxId {
         id: Uuid::from_bytes([0; 16]),
@@ -36,28 +36,28 @@ fn no_syntax() -> SyntaxId
 /// How many contexts a connection may have.
 const CONTEXTS: usize = 32;
 
-/// Whether a served interface fits one that is asked for.
-fn fits(asked: &SyntaxId, served: &SyntaxId) -> bool
-    ensures { result ≡ serves.fits asked.now served.now }
+/// Whether an interface serves one that is asked for.
+fn serves(asked: &SyntaxId, served: &SyntaxId) -> bool
+    ensures { result ≡ spec_serving.serves asked.now served.now }
 {
     served.id == asked.id && served.major == asked.major && asked.minor <= served.minor
 }
 
-/// The number of the interface that serves the syntax, the least of those that fit.
+/// The number of the interface that serves the syntax, the least of those that do.
 fn serving(ids: &[SyntaxId], asked: &SyntaxId) -> Option<usize>
-    ensures { result ≡ serves.serving ids.now asked.now }
+    ensures { result ≡ spec_serving.serving ids.now asked.now }
 {
-    ids.iter().position(|served| fits(asked, served))
+    ids.iter().position(|served| serves(asked, served))
 }
 
 fn is_ndr(syntax: &SyntaxId) -> bool
-    ensures { result ≡ serves.is_ndr syntax.now }
+    ensures { result ≡ spec_serving.is_ndr syntax.now }
 {
     *syntax == ndr()
 }
 
 fn has_ndr(transfers: &[SyntaxId]) -> bool
-    ensures { result ≡ serves.has_ndr transfers.now }
+    ensures { result ≡ spec_serving.has_ndr transfers.now }
 {
     transfers.iter().any(|syntax| is_ndr(syntax))
 }
@@ -73,7 +73,7 @@ pub fn interface_of(accepted: &[Accepted], context: u16) -> Option<u16>
 }
 
 fn settle(accepted: &[Accepted], interface: u16, before: Option<u16>) -> Verdict
-    ensures { result ≡ spec.settled accepted.now interface before }
+    ensures { result ≡ spec.verdict_for accepted.now interface before }
 {
     match before {
         Some(other) if other != interface => Verdict::Reject(Reason::NotSpecified),

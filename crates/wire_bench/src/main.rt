@@ -7,14 +7,14 @@
 
 ghost use Rattle.std.specs.Prelude.{◌<◌, ◌≤◌, IfOk, IfSome};
 
+mod echo_server;
 mod line;
 mod plan;
-mod served;
 
 use anyhow::{Context, Result};
+use echo_server::EchoServer;
 use line::Line;
 use plan::Plan;
-use served::Served;
 use std::alloc::Global;
 use std::env;
 use std::io::Print;
@@ -23,14 +23,14 @@ use std::rt::Env;
 /// What takes a stream.
 #[derive(Clone, Copy, Debug, PartialEq, Eq)]
 enum Taker {
-    Joined,
-    Served,
+    Joiner,
+    Server,
 }
 
 fn taker_of(word: &str) -> Option<Taker> {
     match word {
-        "joined" => Some(Taker::Joined),
-        "served" => Some(Taker::Served),
+        "joined" => Some(Taker::Joiner),
+        "served" => Some(Taker::Server),
         _ => None,
     }
 }
@@ -71,11 +71,11 @@ fn join(rt: &impl Print, alloc: Global, stream: &[u8], piece: usize) -> Result<(
 fn serve(rt: &impl Print, alloc: Global, stream: &[u8], piece: usize) -> Result<()>
     requires { 0 < piece }
 {
-    let mut served = Served::new(alloc)?;
-    served.come(stream, piece)?;
-    let calls = served.calls();
-    let octets = served.octets();
-    let answered = served.answered();
+    let mut server = EchoServer::new(alloc)?;
+    server.come(stream, piece)?;
+    let calls = server.calls();
+    let octets = server.octets();
+    let answered = server.answered();
     println!(rt; "calls {calls} octets {octets} answered {answered}")?;
     Ok(())
 }
@@ -88,7 +88,7 @@ fn main(rt: HostRuntime) -> Result<()> {
     };
     let stream = plan::stream(alloc, &plan)?;
     match taker {
-        Taker::Joined => join(&rt, alloc, stream.as_slice(), plan.piece),
-        Taker::Served => serve(&rt, alloc, stream.as_slice(), plan.piece),
+        Taker::Joiner => join(&rt, alloc, stream.as_slice(), plan.piece),
+        Taker::Server => serve(&rt, alloc, stream.as_slice(), plan.piece),
     }
 }

@@ -37,10 +37,10 @@ impl Plan {
 pub fn stream(alloc: Global, plan: &Plan) -> Result<Vec<u8>, NoMemory>
     requires { plan.now.part ≤ 65511 }
 {
-    let alone = fragment(alloc, FIRST_FRAG | LAST_FRAG, plan.part)?;
-    let first = fragment(alloc, FIRST_FRAG, plan.part)?;
-    let inner = fragment(alloc, 0, plan.part)?;
-    let last = fragment(alloc, LAST_FRAG, plan.part)?;
+    let alone = filled_fragment(alloc, FIRST_FRAG | LAST_FRAG, plan.part)?;
+    let first = filled_fragment(alloc, FIRST_FRAG, plan.part)?;
+    let inner = filled_fragment(alloc, 0, plan.part)?;
+    let last = filled_fragment(alloc, LAST_FRAG, plan.part)?;
     let mut octets = Vec::new(alloc);
     for _ in 0..plan.requests {
         for k in 0..plan.fragments {
@@ -57,7 +57,7 @@ pub fn stream(alloc: Global, plan: &Plan) -> Result<Vec<u8>, NoMemory>
 }
 
 /// A fragment of a request of call 1, little-endian, on context 0 for operation 0 and with a hint of 0.
-fn fragment(alloc: Global, flags: u8, part: u16) -> Result<Vec<u8>, NoMemory>
+fn filled_fragment(alloc: Global, flags: u8, part: u16) -> Result<Vec<u8>, NoMemory>
     requires { part ≤ 65511 }
     ensures { IfOk result (λ octets. length octets.items ≡ part + 24) }
 {

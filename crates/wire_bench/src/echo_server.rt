@@ -19,29 +19,29 @@ const BIND: [u8; 72] = [
 
 /// The connection, and counts of what was called and answered.
 #[derive(Drop)]
-pub struct Served {
+pub struct EchoServer {
     conn: Conn,
     calls: usize,
     octets: usize,
     answered: usize,
 }
 
-impl Served {
+impl EchoServer {
     /// A connection to a server of the probe, bound.
-    pub fn new(alloc: Global) -> Result<Served> {
+    pub fn new(alloc: Global) -> Result<EchoServer> {
         let probe = SyntaxId {
             id: Uuid::from_u128(0x5f0c_7a12_3b4d_4e6f_8a90_b1c2_d3e4_f506),
             major: 1,
             minor: 0,
         };
-        let mut served = Served {
+        let mut server = EchoServer {
             conn: Conn::new(alloc, &[probe])?,
             calls: 0,
             octets: 0,
             answered: 0,
         };
-        served.come(&BIND, 72)?;
-        Ok(served)
+        server.come(&BIND, 72)?;
+        Ok(server)
     }
 
     /// How many calls there were.
