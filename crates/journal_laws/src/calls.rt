@@ -1,5 +1,40 @@
 //! In what order the entries of a call stand.
-ghost use Rattle.journal_laws.specs.Calls.{TakesAfterAccept, TakesOnce, EndsAfterTake, EndsOnce};
+ghost use Rattle.journal_laws.specs.Calls.{AcceptsOnce, AsksAsAccepted, DecidesAfterAccept, DecidesBeforeLeave, DecidedOnce, CancelsOnce, OrphansOnce, TakesAfterAccept, TakesOnce, EndsAfterTake, EndsOnce};
+
+/// A call is accepted once.
+pub fn accepts_once()
+    ensures { AcceptsOnce }
+{}
+
+/// A call asks what its Accept says, whatever comes after.
+pub fn asks_as_accepted()
+    ensures { AsksAsAccepted }
+{}
+
+/// A call is accepted before it is taken, denied, cancelled or orphaned.
+pub fn decides_after_accept()
+    ensures { DecidesAfterAccept }
+{}
+
+/// A call that doesn't run is taken, denied, cancelled or orphaned before its connection leaves.
+pub fn decides_before_leave()
+    ensures { DecidesBeforeLeave }
+{}
+
+/// A call is taken once or denied once, and never both.
+pub fn decided_once()
+    ensures { DecidedOnce }
+{}
+
+/// A call is cancelled once.
+pub fn cancels_once()
+    ensures { CancelsOnce }
+{}
+
+/// A call is orphaned once.
+pub fn orphans_once()
+    ensures { OrphansOnce }
+{}
 
 /// A call is accepted before it is taken.
 pub fn takes_after_accept()

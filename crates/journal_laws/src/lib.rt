@@ -9,7 +9,10 @@ mod moments;
 mod running;
 mod waiting;
 
-pub use calls::{ends_after_take, ends_once, takes_after_accept, takes_once};
+pub use calls::{
+    accepts_once, asks_as_accepted, cancels_once, decided_once, decides_after_accept,
+    decides_before_leave, ends_after_take, ends_once, orphans_once, takes_after_accept, takes_once,
+};
 pub use connections::{accepts_of_open, joins_once, leaves_after_join, leaves_once};
 pub use handles::one_fate;
 pub use moments::shut_is_last;
