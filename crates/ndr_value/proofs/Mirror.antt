@@ -1,7 +1,7 @@
 -- The equations of forms and values, variant by variant.
-use Rattle.std.proofs.Common.{◌≡◌, ℕ, suc, ◌<◌, List, [], ◌∷◌, length, refl, ap, subst, sym, ◌∙◌, Vec, Global, Bool, Option, Some, None, true, arith, ℤ, drop, get_or}
+use Rattle.std.proofs.Common.{◌≡◌, ℕ, suc, ◌<◌, List, [], ◌∷◌, length, refl, ap, subst, sym, ◌∙◌, Vec, Global, Bool, Option, Some, None, true, false, arith, ℤ, drop, get_or}
 use Rattle.std.specs.Global.{Box}
-use Rattle.std.specs.Prelude.{◌==◌, ◌&&◌, map}
+use Rattle.std.specs.Prelude.{◌==◌, ◌&&◌, ◌||◌, map}
 use Rattle.std.specs.List.{list_any}
 use Rattle.std.specs.Ordering.{int_eq}
 use Rattle.std.proofs.lemmas.List.{length-map}
@@ -14,9 +14,9 @@ use Rattle.ndr_value.specs.declared.shape.Shape.TheVariants as shapes
 use Rattle.ndr_value.specs.declared.value.Value.{Value, Row_of-Value, end_of-Value, more_of-Value, items-the_row-Value, items_hidden-the_row-Value-0}
 use Rattle.ndr_value.specs.declared.value.Value.TheVariants as values
 use Rattle.ndr_value.specs.Forms.{Form, OfStruct, OfUnion, then_form, then_arm, empty, holds, form, forms, row_forms, row_arms, body, arms_of, face, Forms, Body, ArmForms, no_form, no_arm}
-use Rattle.ndr_value.specs.Values.{Val, VStruct, VArray, no_val, then_val, val, vals, row_vals, count_of}
+use Rattle.ndr_value.specs.Values.{Val, VStruct, VArray, no_val, then_val, val, vals, row_vals, count_of, bytes}
 use Rattle.ndr_value.specs.Fits.{arm_of, with_case}
-use Rattle.ndr_value.specs.Judged.{typed, each_typed, all_typed, plain, is_struct, holds_items, members, inner, is_empty, is_held, held}
+use Rattle.ndr_value.specs.Judged.{typed, each_typed, all_typed, plain, is_struct, holds_items, members, inner, is_empty, is_held, held, is_byte}
 
 row_is : (n : _) (row : Row_of-Shape n) → row_forms row ≡ forms (items-the_row-Shape n row)
 row_is n end_of-Shape = refl
@@ -68,6 +68,26 @@ pub count-vals : (vs : List Value) → count_of (vals vs) ≡ length vs
 count-vals [] = refl
 count-vals (v ∷ vs) = ap suc (count-vals vs)
 
+count-bytes : (ns : List ℕ) → count_of (bytes ns) ≡ length ns
+count-bytes [] = refl
+count-bytes (n ∷ ns) = ap suc (count-bytes ns)
+
+absorbed : (b z a : Bool) → a ≡ (z || b) → (b && a) ≡ b
+absorbed true true a e = e
+absorbed true false a e = e
+absorbed false z a e = refl
+
+suc_not_zero : (n : ℕ) → (suc n == 0) ≡ false
+suc_not_zero n = grind (arith, common_steps)
+
+-- octets are Bytes one and all
+bytes_typed : (types : List Form) (heap level : ℕ) (ns : List ℕ) (s : Form) → all_typed types heap level (bytes ns) s ≡ ((length ns == 0) || is_byte (plain types (length types) s))
+bytes_typed types heap level [] s = refl
+bytes_typed types heap level (n ∷ ns) s =
+    let b = is_byte (plain types (length types) s) in
+    let e : (suc (length ns) == 0) ≡ false = suc_not_zero (length ns) in
+    absorbed b (length ns == 0) (all_typed types heap level (bytes ns) s) (bytes_typed types heap level ns s) ∙ ap (λ z. z || b) (sym e)
+
 -- the forms of a list are those of its items, and so are the arms
 abbrev to_forms : List Form → Forms
 to_forms [] = no_form
@@ -112,6 +132,12 @@ module _ (types : List Shape) (heap level : ℕ) (x : Value) (s p : Form) (r : B
   array_arm v vs x_is vs_is r_is =
       subst (λ (y : Value). r ≡ typed (map form types) heap level (val y) s) (sym x_is)
       (subst (λ (y : Val). r ≡ typed (map form types) heap level y s) (sym (val_array v)) (rw (length-map, ← plain_is, ← vs_is, count-vals vs) r_is))
+
+  pub octets_arm : (octets : List ℕ) (n : ℕ) → x ≡ values.Octets octets → n ≡ length octets
+      → r ≡ (holds_items p n && ((n == 0) || is_byte (plain (map form types) (length types) (inner p)))) → r ≡ typed (map form types) heap level (val x) s
+  octets_arm octets n x_is n_is r_is =
+      subst (λ (y : Value). r ≡ typed (map form types) heap level (val y) s) (sym x_is)
+      (rw (count-bytes octets, bytes_typed (map form types) heap level octets (inner (plain (map form types) (length (map form types)) s)), length-map, ← plain_is, ← n_is) r_is)
 
   pub empty_arm : (tag passed : ℤ) (o : Option (Box Value)) → passed ≡ tag → x ≡ values.Union tag o → o ≡ None → r ≡ is_empty (arm_of p passed) → r ≡ typed (map form types) heap level (val x) s
   empty_arm tag passed o same x_is o_is r_is =

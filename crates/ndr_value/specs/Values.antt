@@ -28,6 +28,11 @@ mutual
     no_val : Vals
     then_val : Val → Vals → Vals
 
+-- octets, each a Byte
+abbrev pub bytes : List ℕ → Vals
+bytes [] = no_val
+bytes (n ∷ ns) = then_val (VByte n) (bytes ns)
+
 abbrev mutual
   pub val : Value → Val
   val (values.Bool b) = VBool b
@@ -39,6 +44,7 @@ abbrev mutual
   val (values.Struct' _ row) = VStruct (row_vals row)
   val (values.Union' tag arm) = in_union tag arm
   val (values.Array' _ row) = VArray (row_vals row)
+  val (values.Octets octets) = VArray (bytes octets)
   val (values.Text octets) = VText octets
   val (values.Ptr' held) = pointed held
   val (values.Full n) = VFull n

@@ -13,6 +13,3 @@ pub use parts::{selected_arm, tag_fits};
 pub use shape::{Arm, Arms, ArrayKind, Cases, Count, Shape, Shapes};
 pub use value::{Message, Value, Values, Wires};
 pub use well::well_typed;
-
-#[cfg(test)]
-mod tests;

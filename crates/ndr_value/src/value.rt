@@ -20,6 +20,8 @@ pub enum Value {
     Struct(Values),
     Union { tag: i64, arm: Option<Box<Value>> },
     Array(Values),
+    /// An array of `Byte` values by its octets: the same array as `Array` with those values.
+    Octets(Octets),
     Text(Octets),
     Ptr(Option<Box<Value>>),
     /// An index of the heap.

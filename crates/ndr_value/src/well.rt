@@ -1,10 +1,10 @@
 //! Which values are of a shape.
-ghost use Rattle.std.specs.Prelude.{◌≡◌, ◌<◌, ◌+◌, ◌&&◌, ◌↔◌, ℕ, map, nat_lt, length, IsTrue, true, false, MatchOption};
+ghost use Rattle.std.specs.Prelude.{◌≡◌, ◌<◌, ◌+◌, ◌==◌, ◌&&◌, ◌||◌, ◌↔◌, ℕ, map, nat_lt, length, IsTrue, true, false, MatchOption};
 ghost use Rattle.ndr_value.specs.Forms.{Form, Forms, form, forms, types_of};
 ghost use Rattle.ndr_value.specs.Values.{val, vals, count_of};
 ghost use Rattle.ndr_value.specs.Fits.{arm_of};
 ghost use Rattle.ndr_value.specs.Typed.{Typed};
-ghost use Rattle.ndr_value.specs.Judged.{typed, each_typed, all_typed, is_struct, is_unique, members, inner, is_empty, is_held, held, holds_items};
+ghost use Rattle.ndr_value.specs.Judged.{typed, each_typed, all_typed, is_struct, is_unique, members, inner, is_empty, is_held, held, holds_items, is_byte, plain};
 
 use crate::parts::{
     array_shape, holds_name, holds_signed, holds_unsigned, is_a_bool, is_a_byte, is_a_char,
@@ -41,6 +41,7 @@ fn is_typed(value: &Value, types: &[Shape], shape: &Shape, heap: usize, level: u
             Some(inner) => arm_typed(inner, types, shape, *tag, heap, level),
         },
         Value::Array(items) => array_typed(items, types, shape, heap, level),
+        Value::Octets(octets) => octets_typed(octets.len(), types, shape),
         Value::Text(octets) => text_fits(shape, octets.as_slice()),
         Value::Ptr(pointed) => match pointed {
             None => is_a_unique(shape),
@@ -110,6 +111,16 @@ fn array_typed(items: &[Value], types: &[Shape], shape: &Shape, heap: usize, lev
 {
     match array_shape(shape, items.len()) {
         Some(inner) => all_of(items, types, inner, heap, level),
+        None => false,
+    }
+}
+
+// Whether an array of the shape may have that many octets.
+fn octets_typed(count: usize, types: &[Shape], shape: &Shape) -> bool
+    ensures { result ≡ holds_items (form shape.now) count && ((count == 0) || is_byte (plain (map form types.now) (length types.now) (inner (form shape.now)))) }
+{
+    match array_shape(shape, count) {
+        Some(inner) => count == 0 || is_a_byte(plain_shape(types, inner, types.len())),
         None => false,
     }
 }

@@ -3,7 +3,7 @@ use mir.Val.{SFits}
 use Rattle.std.proofs.lemmas.Int.{to_z-of_z}
 use Rattle.std.proofs.lemmas.Grind.{common_steps}
 use Rattle.ndr_value.specs.Forms.{form}
-use Rattle.ndr_value.proofs.Mirror.{struct_arm, array_arm, empty_arm, union_arm, ended}
+use Rattle.ndr_value.proofs.Mirror.{struct_arm, array_arm, octets_arm, empty_arm, union_arm, ended}
 use Rattle.ndr_value.proofs.well.+typed.Goals as goal
 
 pub each_of-returns : goal.each_of-returns
@@ -30,3 +30,7 @@ is_typed-returns-in-Some t c =
 pub is_typed-returns-in-Array : goal.is_typed-returns-in-Array
 is_typed-returns-in-Array t c =
     array_arm c.args.types.now c.args.heap c.args.level _ (form c.args.shape.now) _ _ c.plain_shape-shape.ensures _ _ c.in-Array.is c.deref-in-Array.ensures.value c.array_typed.ensures
+
+pub is_typed-returns-in-Octets : goal.is_typed-returns-in-Octets
+is_typed-returns-in-Octets t c =
+    octets_arm c.args.types.now c.args.heap c.args.level _ (form c.args.shape.now) _ _ c.plain_shape-shape.ensures _ _ c.in-Octets.is c.len.ensures c.octets_typed.ensures

@@ -1,6 +1,6 @@
-//! Values and shapes of each kind.
+//! Values of shapes of each kind, and copies of shapes.
 
-use crate::{
+use ndr_value::{
     Arm, ArrayKind, Cases, Count, Shape, Shapes, Value, Values, copy_shape, copy_shapes,
     selected_arm, tag_fits, well_typed,
 };
@@ -64,6 +64,10 @@ fn bytes(alloc: Global, count: u8) -> Result<Value, NoMemory> {
         items.push(Value::Byte(octet))?;
     }
     Ok(Value::Array(items))
+}
+
+fn octets(alloc: Global, octets: &[u8]) -> Result<Value, NoMemory> {
+    Ok(Value::Octets(Octets::from_vec(octets.to_vec(alloc)?)))
 }
 
 fn array(alloc: Global, kind: ArrayKind) -> Result<Shape, NoMemory> {
@@ -146,12 +150,24 @@ fn texts_and_arrays(rt: HostRuntime) -> Result<(), NoMemory> {
             true,
         ),
         (Shape::Byte, bytes(alloc, 1)?, false),
+        (
+            array(alloc, ArrayKind::Fixed(3))?,
+            octets(alloc, b"abc")?,
+            true,
+        ),
+        (
+            array(alloc, ArrayKind::Fixed(2))?,
+            octets(alloc, b"abc")?,
+            false,
+        ),
+        (Shape::Text(None), octets(alloc, b"abc")?, false),
     ];
     for (shape, value, wanted) in table {
         assert_eq!(rt; well_typed(&types, &shape, &value, &heap), wanted);
     }
     let mixed = Shape::Array(ArrayKind::Fixed(2), Box::new(alloc, Shape::Char)?);
     assert!(rt; !well_typed(&types, &mixed, &bytes(alloc, 2)?, &heap));
+    assert!(rt; !well_typed(&types, &mixed, &octets(alloc, b"ab")?, &heap));
     Ok(())
 }
 

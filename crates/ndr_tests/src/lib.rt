@@ -1,0 +1,5 @@
+//! Tests of the crates of NDR.
+#![tactic(auto)]
+
+#[cfg(test)]
+mod values;
