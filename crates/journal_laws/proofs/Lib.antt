@@ -1,4 +1,5 @@
 pub mod Accepted
+pub mod Agreement
 pub mod Apart
 pub mod Fate
 pub mod Joins
@@ -7,4 +8,5 @@ pub mod LiveNames
 pub mod Older
 pub mod Once
 pub mod OneSlot
+pub mod ReplyStays
 pub mod Stages

@@ -117,6 +117,36 @@ decided_asked home past (Orphan m) k l f d =
     subst (λ n. is_some (asked past n) ≡ true) same (active_asked home past m (not (list_any (orphans m) past)) l f)
 decided_asked home past _ k l f d = absurd (cc)
 
+-- what something is entered of was accepted
+pub decided_some : (home : Home) (past : List Entry) (k : ℕ) → Legal home past → list_any (decides k) past ≡ true → is_some (asked past k) ≡ true
+decided_some home [] k l d = absurd (cc)
+decided_some home (Accept m a ∷ past) k l d =
+    elim (cases_Bool (m == k)) [
+      | inl e ↦ rw e refl
+      | inr e ↦ rw e (decided_some home past k l.1 d)
+    ]
+decided_some home (Take m cookies ∷ past) k l d =
+    elim (or_cases (m == k) (list_any (decides k) past) d) [
+      | inl e ↦ decided_asked home past (Take m cookies) k l.1 l.0.fits e
+      | inr r ↦ decided_some home past k l.1 r
+    ]
+decided_some home (Deny m j ∷ past) k l d =
+    elim (or_cases (m == k) (list_any (decides k) past) d) [
+      | inl e ↦ decided_asked home past (Deny m j) k l.1 l.0.fits e
+      | inr r ↦ decided_some home past k l.1 r
+    ]
+decided_some home (Cancel m ∷ past) k l d =
+    elim (or_cases (m == k) (list_any (decides k) past) d) [
+      | inl e ↦ decided_asked home past (Cancel m) k l.1 l.0.fits e
+      | inr r ↦ decided_some home past k l.1 r
+    ]
+decided_some home (Orphan m ∷ past) k l d =
+    elim (or_cases (m == k) (list_any (decides k) past) d) [
+      | inl e ↦ decided_asked home past (Orphan m) k l.1 l.0.fits e
+      | inr r ↦ decided_some home past k l.1 r
+    ]
+decided_some home (_ ∷ past) k l d = decided_some home past k l.1 d
+
 pub decides_after_accept : (home : Home) (newer older : List Entry) (e : Entry) (k : ℕ) → Legal home (newer ++ e ∷ older) → decides k e ≡ true → is_some (asked older k) ≡ true
 decides_after_accept home newer older e k l d =
     let here = older_legal home newer (e ∷ older) l in decided_asked home older e k here.1 here.0.fits d

@@ -2,5 +2,6 @@ pub mod Calls
 pub mod Connections
 pub mod Fates
 pub mod Moments
+pub mod Replies
 pub mod Running
 pub mod Waiting

@@ -6,6 +6,7 @@ mod calls;
 mod connections;
 mod handles;
 mod moments;
+mod replies;
 mod running;
 mod waiting;
 
@@ -15,6 +16,9 @@ pub use calls::{
 };
 pub use connections::{accepts_of_open, joins_once, leaves_after_join, leaves_once};
 pub use handles::one_fate;
-pub use moments::shut_is_last;
+pub use moments::{common_past_agrees, kind_stays, moments_in_order, older_is_legal, shut_is_last};
+pub use replies::{
+    cancel_replies, deny_replies, end_replies, leave_replies, orphan_replies, reply_stays,
+};
 pub use running::{named_live, running_apart, taken_live};
 pub use waiting::least_goes_on;
