@@ -10,3 +10,4 @@ pub mod Once
 pub mod OneSlot
 pub mod ReplyStays
 pub mod Stages
+pub mod Usable

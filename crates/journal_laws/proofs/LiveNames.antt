@@ -147,7 +147,7 @@ first_issue home s g os h true n e f =
     (subst (λ (x : ℕ). names (wire_of home x) s ≡ true) same n, let q = eq-eqb g h same in grind (arith, common_steps))
 first_issue home s g os h false n e f = let w = f e in (w.0, or_right (g == h) (list_any (issues h) os) w.1)
 
-first_named_is : (home : Home) (s : Slot) (os : List Outcome) (h : ℕ) → first_named home s os ≡ Some h → (names (wire_of home h) s ≡ true) × (list_any (issues h) os ≡ true)
+pub first_named_is : (home : Home) (s : Slot) (os : List Outcome) (h : ℕ) → first_named home s os ≡ Some h → (names (wire_of home h) s ≡ true) × (list_any (issues h) os ≡ true)
 first_named_is home s [] h e = absurd (cc)
 first_named_is home s (Issue g c ∷ os) h e =
     first_issue home s g os h (names (wire_of home g) s) refl e (first_named_is home s os h)

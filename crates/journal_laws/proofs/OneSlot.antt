@@ -65,7 +65,7 @@ pub record Changer (w : WireHandle) (s : Slot) : Type 0 where
   pub names_it : names w s ≡ true
   pub alone : is_exclusive s ≡ true
 
-wire_is : (a b : WireHandle) → same_wire a b ≡ true → a ≡ b
+pub wire_is : (a b : WireHandle) → same_wire a b ≡ true → a ≡ b
 wire_is a b h =
     let e = same_wire_is a b h in
     let made : ℕ → ℕ → WireHandle = λ x y. record { attributes = x; id = y } in

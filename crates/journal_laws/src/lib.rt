@@ -6,6 +6,7 @@ mod calls;
 mod connections;
 mod handles;
 mod moments;
+mod refused;
 mod replies;
 mod running;
 mod waiting;
@@ -17,6 +18,9 @@ pub use calls::{
 pub use connections::{accepts_of_open, joins_once, leaves_after_join, leaves_once};
 pub use handles::one_fate;
 pub use moments::{common_past_agrees, kind_stays, moments_in_order, older_is_legal, shut_is_last};
+pub use refused::{
+    fault_refuses, foreign_at_fault, null_at_fault, twice_at_fault, usable_names_live,
+};
 pub use replies::{
     cancel_replies, deny_replies, end_replies, leave_replies, orphan_replies, reply_stays,
 };
