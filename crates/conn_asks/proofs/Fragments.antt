@@ -5,7 +5,7 @@ use Rattle.pdu_codec.specs.declared.pdu.ResponseBody.{ResponseBody}
 use Rattle.pdu_codec.specs.Pdus.{drep_octet, head_octets, response_octets, pdu_octets}
 use Rattle.pdu_codec.proofs.SizeLaws.{length-response}
 use Rattle.conn_asks.specs.declared.events.Caller.{Caller}
-use Rattle.conn_asks.specs.Answers.{flags_of, fragment}
+use Rattle.conn_asks.specs.Answers.{flags_of, response_fragment}
 
 -- parts put one after the other behind some octets, or put together first
 together : (old front size zeros id hint context reserved piece : List ℕ)
@@ -23,7 +23,7 @@ body_of c piece later = record { alloc_hint = length piece + later; context = c.
 pub fragment_octets : (c : Caller) (first : Bool) (piece : List ℕ) (later : ℕ) (old : List ℕ)
     → (old ++ front c first later ++ u16_octets c.order (24 + length piece) ++ u16_octets c.order 0 ++ u32_octets c.order c.call_id
     ++ u32_octets c.order (length piece + later) ++ u16_octets c.order c.context ++ (0 ∷ 0 ∷ []) ++ piece)
-    ≡ old ++ pdu_octets (fragment c first piece later)
+    ≡ old ++ pdu_octets (response_fragment c first piece later)
 unfolding pdu_octets head_octets response_octets
 fragment_octets c first piece later old =
     let body = response_octets c.order 0 (body_of c piece later) in

@@ -15,7 +15,7 @@ use Rattle.pdu_stream.specs.Pieces.{piece_size, ArePieces}
 use Rattle.handle_model.specs.declared.entry.Said.{Said}
 use Rattle.handle_model.specs.declared.entry.Said.TheVariants.{Out, Fault}
 use Rattle.conn_asks.specs.declared.events.Caller.{Caller}
-use Rattle.conn_asks.specs.declared.events.Link.{Link}
+use Rattle.conn_asks.specs.declared.events.Agreement.{Agreement}
 use Rattle.conn_asks.specs.declared.events.ConnFault.{ConnFault}
 use Rattle.conn_asks.specs.declared.events.ConnFault.TheVariants.{Nak}
 
@@ -26,23 +26,23 @@ answer c flags body = record { minor = 0; flags = flags; order = c.order; call_i
 
 -- What a bind_ack says, where the client sends fragments of max_xmit octets and takes those of max_recv: at most 4,280
 -- octets either way, no more than the client takes or sends, though the server takes 1,432 at least.
-abbrev pub link_at : ℕ → ℕ → ℕ → Link
-link_at max_xmit max_recv group = record { max_xmit = min 4280 max_recv; max_recv = max 1432 (min 4280 max_xmit); group = group }
+abbrev pub agreement_at : ℕ → ℕ → ℕ → Agreement
+agreement_at max_xmit max_recv group = record { max_xmit = min 4280 max_recv; max_recv = max 1432 (min 4280 max_xmit); group = group }
 
-abbrev pub link_of : BindBody → ℕ → Link
-link_of b group = link_at b.max_xmit b.max_recv group
+abbrev pub agreement_of : BindBody → ℕ → Agreement
+agreement_of b group = agreement_at b.max_xmit b.max_recv group
 
--- the link of a bind_ack that is ready but for its group
-abbrev pub link_with : BindAckBody → ℕ → Link
-link_with ack group = record { max_xmit = ack.max_xmit; max_recv = ack.max_recv; group = group }
+-- the agreement of a bind_ack that is ready but for its group
+abbrev pub agreement_with : BindAckBody → ℕ → Agreement
+agreement_with ack group = record { max_xmit = ack.max_xmit; max_recv = ack.max_recv; group = group }
 
 -- no more results than a PDU's count tells, each with a transfer syntax of 20 octets
 abbrev pub AreResults : List ContextResult → Type 0
 AreResults results = (length results < 256) × AllByRecursion (λ r. FitsSyntax r.transfer) results
 
-abbrev pub bind_ack : Caller → Link → List ContextResult → Pdu
-bind_ack c link results =
-    answer c 0x03 (bodies.BindAck (record { max_xmit = link.max_xmit; max_recv = link.max_recv; group = link.group; address = []; results = results }))
+abbrev pub bind_ack : Caller → Agreement → List ContextResult → Pdu
+bind_ack c agreement results =
+    answer c 0x03 (bodies.BindAck (record { max_xmit = agreement.max_xmit; max_recv = agreement.max_recv; group = agreement.group; address = []; results = results }))
 
 -- the body of a bind_ack
 abbrev pub ack_in : Body → Option BindAckBody
@@ -50,9 +50,9 @@ ack_in (bodies.BindAck ack) = Some ack
 ack_in _ = None
 
 -- the sizes and the group are those of the bind_ack
-abbrev pub alter_resp : Caller → Link → List ContextResult → Pdu
-alter_resp c link results =
-    answer c 0x03 (bodies.AlterResp (record { max_xmit = link.max_xmit; max_recv = link.max_recv; group = link.group; address = []; results = results }))
+abbrev pub alter_resp : Caller → Agreement → List ContextResult → Pdu
+alter_resp c agreement results =
+    answer c 0x03 (bodies.AlterResp (record { max_xmit = agreement.max_xmit; max_recv = agreement.max_recv; group = agreement.group; address = []; results = results }))
 
 -- a refusal, with the version of the protocol that the server knows, 5.0
 abbrev pub bind_nak : Caller → ℕ → Pdu
@@ -91,8 +91,8 @@ flags_of false false = 0x00
 
 -- A fragment of a response: its piece of the stub, and how many octets of the stub later fragments have. The last one
 -- has nothing behind it. The hint is the number of octets in it and in later ones.
-abbrev pub fragment : Caller → Bool → List ℕ → ℕ → Pdu
-fragment c first piece later =
+abbrev pub response_fragment : Caller → Bool → List ℕ → ℕ → Pdu
+response_fragment c first piece later =
     answer c (flags_of first (later == 0)) (bodies.Response (record { alloc_hint = length piece + later; context = c.context; cancel_count = 0; stub = piece }))
 
 -- how many octets some pieces have
@@ -103,7 +103,7 @@ octets_in (piece ∷ later) = length piece + octets_in later
 -- the octets of a response whose stub comes in these pieces
 unfoldable pub response_octets : Caller → Bool → List (List ℕ) → List ℕ
 response_octets c first [] = []
-response_octets c first (piece ∷ later) = pdu_octets (fragment c first piece (octets_in later)) ++ response_octets c false later
+response_octets c first (piece ∷ later) = pdu_octets (response_fragment c first piece (octets_in later)) ++ response_octets c false later
 
 -- The octets are a response with the stub, in fragments of at most so many octets, 24 of them in front of the stub.
 abbrev pub IsResponse : Caller → ℕ → List ℕ → List ℕ → Type 0

@@ -51,12 +51,12 @@ unfoldable pub offered : List Pdu → List Element
 offered [] = []
 offered (p ∷ past) = offered past ++ offered_by p.body
 
-abbrev pub fragment : Pdu → RequestBody → Fragment
-fragment p r = record { order = p.order; flags = p.flags; call_id = p.call_id; part = r }
+abbrev pub request_fragment : Pdu → RequestBody → Fragment
+request_fragment p r = record { order = p.order; flags = p.flags; call_id = p.call_id; part = r }
 
 -- the call id of a whole request, where behind it nothing is asked but a cancel or an orphaning
 abbrev pub called_behind : Option ℕ → Pdu → Body → Option ℕ
-called_behind called p (bodies.Request r) = if is_last (fragment p r) then Some p.call_id else called
+called_behind called p (bodies.Request r) = if is_last (request_fragment p r) then Some p.call_id else called
 called_behind called p bodies.CoCancel = called
 called_behind called p bodies.Orphaned = called
 called_behind called p _ = None
@@ -83,15 +83,15 @@ of_alter true c b = Alter c b
 of_alter false c b = Broken c Unbound
 
 -- A fragment asks nothing before the last one, which asks a call; or it breaks the run.
-abbrev pub JoinsTo : Option Joined → Fragment → Option Ask → Type 0
-JoinsTo run f None = IsTaken run f × (is_last f ≡ false)
-JoinsTo run f (Some (Call j)) = IsTaken run f × (is_last f ≡ true) × (j ≡ with_fragment run f)
-JoinsTo run f (Some (Broken c (Join fault))) =
+abbrev pub JoinsToAsk : Option Joined → Fragment → Option Ask → Type 0
+JoinsToAsk run f None = IsTaken run f × (is_last f ≡ false)
+JoinsToAsk run f (Some (Call j)) = IsTaken run f × (is_last f ≡ true) × (j ≡ with_fragment run f)
+JoinsToAsk run f (Some (Broken c (Join fault))) =
     (c ≡ caller_of_fragment f) × (fault ≢ Memory) × IsJoinFault run f fault
-JoinsTo run f _ = ⊥
+JoinsToAsk run f _ = ⊥
 
 abbrev pub OfRequest : Bool → Option Joined → Fragment → Option Ask → Type 0
-OfRequest true run f ask = JoinsTo run f ask
+OfRequest true run f ask = JoinsToAsk run f ask
 OfRequest false run f ask = ask ≡ Some (Broken (caller_of_fragment f) Unbound)
 
 -- the call asked before has that id
@@ -104,7 +104,7 @@ is_called id (Some other) = other == id
 abbrev pub AsksWith : Bool → Option Joined → Option ℕ → Pdu → Body → Option Ask → Type 0
 AsksWith bound run call p (bodies.Bind b) ask = ask ≡ Some (of_bind bound (caller p 0) b)
 AsksWith bound run call p (bodies.Alter b) ask = ask ≡ Some (of_alter bound (caller p 0) b)
-AsksWith bound run call p (bodies.Request r) ask = OfRequest bound run (fragment p r) ask
+AsksWith bound run call p (bodies.Request r) ask = OfRequest bound run (request_fragment p r) ask
 AsksWith bound run call p bodies.CoCancel ask = ask ≡ (if is_called p.call_id call then Some (Cancel p.call_id) else None)
 AsksWith bound run call p bodies.Orphaned ask = ask ≡ (if is_called p.call_id call then Some (Orphan p.call_id) else None)
 AsksWith bound run call p _ ask = ask ≡ Some (Broken (caller p 0) Direction)
@@ -140,15 +140,15 @@ broken_end octets (Some fault) = Broken (caller_at octets) (broken_by octets fau
 
 -- A PDU asks nothing, or breaks the protocol, and nothing follows; or else what it asks is followed by what later ones
 -- ask.
-abbrev pub Leads : Option Ask → (List Ask → Type 0) → List Ask → Type 0
-Leads None Later asks = Later asks
-Leads (Some (Broken c f)) Later asks = asks ≡ Broken c f ∷ []
-Leads (Some ask) Later asks = (later : List Ask) × (asks ≡ ask ∷ later) × Later later
+abbrev pub AsksFirst : Option Ask → (List Ask → Type 0) → List Ask → Type 0
+AsksFirst None Later asks = Later asks
+AsksFirst (Some (Broken c f)) Later asks = asks ≡ Broken c f ∷ []
+AsksFirst (Some ask) Later asks = (later : List Ask) × (asks ≡ ask ∷ later) × Later later
 
 -- What PDUs ask behind others, and then what follows them.
 abbrev pub AreAsks : List Pdu → List Pdu → List Ask → List Ask → Type 0
 AreAsks past [] end asks = asks ≡ end
-AreAsks past (p ∷ more) end asks = (ask : Option Ask) × Asks past p ask × Leads ask (AreAsks (p ∷ past) more end) asks
+AreAsks past (p ∷ more) end asks = (ask : Option Ask) × Asks past p ask × AsksFirst ask (AreAsks (p ∷ past) more end) asks
 
 -- What the octets of a connection ask, up to and with the first fault.
 pub record AreAsksOf (stream : List ℕ) (asks : List Ask) : Type 0 where

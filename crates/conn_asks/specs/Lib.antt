@@ -1,4 +1,4 @@
 pub mod Asks
 pub mod Asking
 pub mod Answers
-pub mod Moments
+pub mod States

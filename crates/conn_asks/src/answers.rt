@@ -3,7 +3,7 @@ ghost use Rattle.std.specs.Prelude.{◌≡◌, ◌≤◌, ◌<◌, ◌^◌, [], 
 ghost use Rattle.pdu_codec.specs.Pdus.{pdu_octets, IsWritable};
 ghost use Rattle.conn_asks.specs.Answers as spec;
 
-use crate::{Caller, ConnFault, Link};
+use crate::{Agreement, Caller, ConnFault};
 use pdu_codec::{
     AlterRespBody, BindAckBody, BindNakBody, Body, FaultBody, Pdu, Results, Version, Versions,
     write_pdu,
@@ -34,11 +34,11 @@ pub(crate) fn written(alloc: Global, pdu: &Pdu) -> Result<Octets, NoMemory>
     Ok(Octets::from_vec(octets))
 }
 
-/// What a bind_ack says, but for the group, where the bind says these sizes.
-pub fn link(max_xmit: u16, max_recv: u16) -> Link
-    ensures { result ≡ spec.link_at max_xmit max_recv 0 }
+/// What a bind_ack agrees on, but for the group, where the bind says these sizes.
+pub fn agreement(max_xmit: u16, max_recv: u16) -> Agreement
+    ensures { result ≡ spec.agreement_at max_xmit max_recv 0 }
 {
-    Link {
+    Agreement {
         max_xmit: max_recv.min(4280),
         max_recv: max_xmit.min(4280).max(1432),
         group: 0,
@@ -49,16 +49,16 @@ pub fn link(max_xmit: u16, max_recv: u16) -> Link
 pub fn alter_resp(
     alloc: Global,
     caller: Caller,
-    link: Link,
+    agreement: Agreement,
     results: Results,
 ) -> Result<Octets, NoMemory>
     requires { spec.AreResults results }
-    ensures { IfOk result (λ octets. octets ≡ pdu_octets (spec.alter_resp caller link results)) }
+    ensures { IfOk result (λ octets. octets ≡ pdu_octets (spec.alter_resp caller agreement results)) }
 {
     let body = AlterRespBody {
-        max_xmit: link.max_xmit,
-        max_recv: link.max_recv,
-        group: link.group,
+        max_xmit: agreement.max_xmit,
+        max_recv: agreement.max_recv,
+        group: agreement.group,
         address: Octets::new(alloc),
         results,
     };
@@ -125,7 +125,7 @@ pub fn bind_ack(
 ) -> Result<Octets, (BindAckBody, NoMemory)>
     requires address { ack.address ≡ [] }
     requires results { spec.AreResults ack.results }
-    ensures { MatchResult result (λ octets. octets ≡ pdu_octets (spec.bind_ack caller (spec.link_with ack group) ack.results)) (λ back. back.0 ≡ ack) }
+    ensures { MatchResult result (λ octets. octets ≡ pdu_octets (spec.bind_ack caller (spec.agreement_with ack group) ack.results)) (λ back. back.0 ≡ ack) }
 {
     let before = ack.group;
     let body = BindAckBody { group, ..ack };

@@ -15,9 +15,9 @@ pub struct Caller {
     pub context: u16,
 }
 
-/// What a bind_ack says of a connection.
+/// What a bind_ack agrees on: the sizes of fragments, and the group.
 #[derive(Clone, Copy, Debug, PartialEq, Eq)]
-pub struct Link {
+pub struct Agreement {
     /// The largest fragment, in octets, that the server sends.
     pub max_xmit: u16,
     /// The largest fragment, in octets, that the server takes.
@@ -81,7 +81,7 @@ pub enum Ask {
     Broken(Caller, ConnFault),
 }
 
-/// What a connection does, or leaves to those above it.
+/// What a connection does, or leaves to the server.
 #[derive(Debug, Drop)]
 pub enum Act {
     /// These octets are an answer.

@@ -7,9 +7,9 @@ mod asking;
 mod events;
 mod replies;
 
-pub use answers::{alter_resp, bind_ack, bind_nak, closing, fault, link, refusal};
+pub use answers::{agreement, alter_resp, bind_ack, bind_nak, closing, fault, refusal};
 pub use asking::{ask, broken};
-pub use events::{Act, Ask, Caller, ConnFault, Link, Waits};
+pub use events::{Act, Agreement, Ask, Caller, ConnFault, Waits};
 pub use replies::reply;
 
 #[cfg(test)]

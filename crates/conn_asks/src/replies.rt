@@ -48,7 +48,7 @@ fn put_fragment(
 ) -> Result<(), NoMemory>
     requires short { length piece.now < 4280 }
     requires hint { length piece.now + later ≤ 2 ^ 24 }
-    ensures { OnOk result (into.new.items ≡ into.old.items ++ pdu_octets (spec.fragment caller first piece.now later)) }
+    ensures { OnOk result (into.new.items ≡ into.old.items ++ pdu_octets (spec.response_fragment caller first piece.now later)) }
 {
     let order = caller.order;
     let flags = flags(first, later == 0);

@@ -87,12 +87,12 @@ fn ack(alloc: Global) -> Result<Octets, NoMemory> {
 #[test]
 fn binds_are_answered(rt: HostRuntime) -> Result<(), NoMemory> {
     assert!(rt; ack(rt.alloc())?.as_slice() == BIND_ACK.as_slice());
-    let link = Link {
+    let agreement = Agreement {
         max_xmit: 1432,
         max_recv: 1432,
         group: 1,
     };
-    let resp = alter_resp(rt.alloc(), CALLER, link, accepted(rt.alloc())?)?;
+    let resp = alter_resp(rt.alloc(), CALLER, agreement, accepted(rt.alloc())?)?;
     let mut wanted = BIND_ACK;
     wanted[2] = 15;
     assert!(rt; resp.as_slice() == wanted.as_slice());
@@ -110,7 +110,7 @@ fn sizes_are_agreed_on(rt: HostRuntime) {
         (4279, 1433, 1433, 4279),
     ];
     for (sent, taken, max_xmit, max_recv) in table {
-        let said = link(sent, taken);
+        let said = agreement(sent, taken);
         assert!(rt; (said.max_xmit, said.max_recv) == (max_xmit, max_recv));
     }
 }

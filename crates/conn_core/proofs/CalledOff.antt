@@ -20,8 +20,8 @@ use Rattle.conn_asks.specs.declared.events.Ask.TheVariants as asks
 use Rattle.conn_asks.specs.declared.events.Waits.{Waits}
 use Rattle.conn_asks.specs.declared.events.Waits.TheVariants.{Call}
 use Rattle.conn_asks.specs.Asks.{is_bind, is_bound, called, called_behind, is_called, offered_by, AsksWith}
-use Rattle.conn_asks.specs.Moments.{Moment, accepted, MayCome, is_calling_off, IsCalling, Takes, Does, IsStuck}
-use Rattle.conn_core.specs.Talks.{Talk, Keeps, Knows, IsAt}
+use Rattle.conn_asks.specs.States.{ConnState, accepted, MayCome, is_calling_off, IsCalling, TakesPdu, Does, IsStuck}
+use Rattle.conn_core.specs.Fields.{ConnFields, KeepsState, Knows, IsAt}
 use Rattle.conn_core.specs.Steps.{StepsFrom, calls_off, act_with, behind}
 use Rattle.conn_core.specs.declared.next.Step.TheVariants.{Stuck, Skipped, Acted}
 use Rattle.conn_core.proofs.Turns.{same_keeps}
@@ -58,20 +58,20 @@ off_next rest others p next =
 
 -- ---- while a call is unanswered
 
-call_at : (t : Talk) (m : Moment) (c : Caller) (maybe : Bool) → IsAt t m → t.waits ≡ Call c maybe → m.waits ≡ Call c maybe
+call_at : (t : ConnFields) (m : ConnState) (c : Caller) (maybe : Bool) → IsAt t m → t.waits ≡ Call c maybe → m.waits ≡ Call c maybe
 call_at t m c maybe at is = sym at.waits ∙ is
 
-pub knows_at : (t : Talk) (m : Moment) (c : Caller) (maybe : Bool) → IsAt t m → t.waits ≡ Call c maybe → Knows (Call c maybe) t m
+pub knows_at : (t : ConnFields) (m : ConnState) (c : Caller) (maybe : Bool) → IsAt t m → t.waits ≡ Call c maybe → Knows (Call c maybe) t m
 knows_at t m c maybe at is = subst (λ (x : Waits). Knows x t m) (call_at t m c maybe at is) at.knows
 
 -- it may be that nothing is to be done
-pub stuck_at : (t u : Talk) (m : Moment) (c : Caller) (maybe : Bool) → IsAt t m → t.waits ≡ Call c maybe → u.fed.rest ≡ t.fed.rest → u.served ≡ t.served → u.waits ≡ t.waits → u.link ≡ t.link
+pub stuck_at : (t u : ConnFields) (m : ConnState) (c : Caller) (maybe : Bool) → IsAt t m → t.waits ≡ Call c maybe → u.fed.rest ≡ t.fed.rest → u.served ≡ t.served → u.waits ≡ t.waits → u.agreement ≡ t.agreement
     → u.bound ≡ t.bound → u.joining ≡ t.joining → ((p : Pdu) (others : List ℕ) → IsNext t.fed.rest p others → is_calling_off p.body ≡ false) → StepsFrom m (Ok Stuck) u
-stuck_at t u m c maybe at is rest served waits link bound joining none =
+stuck_at t u m c maybe at is rest served waits agreement bound joining none =
     let w = call_at t m c maybe at is in
     let k = knows_at t m c maybe at is in
     let knows : Knows (Call c maybe) u m = (same_keeps t u m m bound joining served refl refl k.0, joining ∙ k.1, k.2) in (
-      record { ids = rw served at.ids; rest = rest ∙ at.rest; waits = waits ∙ at.waits; link = link ∙ at.link; knows = subst (λ (x : Waits). Knows x u m) (sym w) knows },
+      record { ids = rw served at.ids; rest = rest ∙ at.rest; waits = waits ∙ at.waits; agreement = agreement ∙ at.agreement; knows = subst (λ (x : Waits). Knows x u m) (sym w) knows },
       subst (λ (x : Waits). IsStuck x m.rest) (sym w) (λ p others next. none p others (subst (λ (x : List ℕ). IsNext x p others) (sym at.rest) next)),
     )
 
@@ -100,12 +100,12 @@ quiet_off p bodies.CoCancel h = record { bind = refl; offers = refl; changes = (
 quiet_off p bodies.Orphaned h = record { bind = refl; offers = refl; changes = (false, (refl, refl)); calls = λ call. refl }
 
 -- with the id of the call it asks that this is called off, and else nothing
-record OffAct (m : Moment) (run : Option Joined) (p : Pdu) (body : Body) : Type 0 where
+record OffAct (m : ConnState) (run : Option Joined) (p : Pdu) (body : Body) : Type 0 where
   ask : Ask
   asks : AsksWith (is_bound m.past) run (called m.past) p body (Some ask)
   does : Does m ask (act_with p.call_id body) m.waits
 
-off_act : (m : Moment) (run : Option Joined) (p : Pdu) (body : Body) → is_calling_off body ≡ true → is_called p.call_id (called m.past) ≡ true → IsCalling m.waits → OffAct m run p body
+off_act : (m : ConnState) (run : Option Joined) (p : Pdu) (body : Body) → is_calling_off body ≡ true → is_called p.call_id (called m.past) ≡ true → IsCalling m.waits → OffAct m run p body
 off_act m run p (bodies.Request b) h is calling = absurd (cc (h))
 off_act m run p (bodies.Response b) h is calling = absurd (cc (h))
 off_act m run p (bodies.Fault b) h is calling = absurd (cc (h))
@@ -118,7 +118,7 @@ off_act m run p bodies.Shutdown h is calling = absurd (cc (h))
 off_act m run p bodies.CoCancel h is calling = record { ask = asks.Cancel p.call_id; asks = rw is refl; does = (calling, refl, refl) }
 off_act m run p bodies.Orphaned h is calling = record { ask = asks.Orphan p.call_id; asks = rw is refl; does = (calling, refl, refl) }
 
-off_idle : (m : Moment) (run : Option Joined) (p : Pdu) (body : Body) → is_calling_off body ≡ true → is_called p.call_id (called m.past) ≡ false
+off_idle : (m : ConnState) (run : Option Joined) (p : Pdu) (body : Body) → is_calling_off body ≡ true → is_called p.call_id (called m.past) ≡ false
     → AsksWith (is_bound m.past) run (called m.past) p body None
 off_idle m run p (bodies.Request b) h is = absurd (cc (h))
 off_idle m run p (bodies.Response b) h is = absurd (cc (h))
@@ -136,7 +136,7 @@ no_run : (a : Option Joined) (j : Joining) → j ≡ fine a → j ≡ fine None 
 no_run a j h k = same_Ok a None (sym h ∙ k)
 
 -- what is known behind it
-known_off : (t u : Talk) (m n : Moment) (c : Caller) (maybe : Bool) (p : Pdu) → Knows (Call c maybe) t m → is_calling_off p.body ≡ true → u.bound ≡ t.bound → u.joining ≡ t.joining → u.served ≡ t.served
+known_off : (t u : ConnFields) (m n : ConnState) (c : Caller) (maybe : Bool) (p : Pdu) → Knows (Call c maybe) t m → is_calling_off p.body ≡ true → u.bound ≡ t.bound → u.joining ≡ t.joining → u.served ≡ t.served
     → n.past ≡ p ∷ m.past → n.ids ≡ m.ids → Knows (Call c maybe) u n
 unfolding called contexts_after
 known_off t u m n c maybe p k off bound joining served past ids =
@@ -145,40 +145,40 @@ known_off t u m n c maybe p k off bound joining served past ids =
     let changes : Changes k.0.run p p.body None = subst (λ (r : Option Joined). Changes r p p.body None) (sym none) q.changes in
     let bound' : u.bound ≡ (is_bind p.body || t.bound) = rw q.bind bound in
     let same : u.served.accepted ≡ contexts_after m.ids (accepted m) (offered_by p.body) = rw (q.offers, served) k.0.accepted in
-    let keeps : Keeps u (behind m p m.waits) = keeps_more t u m p m.waits None k.0 bound' (joining ∙ k.1) changes same in
+    let keeps : KeepsState u (behind m p m.waits) = keeps_more t u m p m.waits None k.0 bound' (joining ∙ k.1) changes same in
     (same_keeps u u (behind m p m.waits) n refl refl refl past ids keeps, joining ∙ k.1, ap called past ∙ (q.calls (called m.past) ∙ k.2))
 
-takes_off : (t : Talk) (m : Moment) (c : Caller) (maybe : Bool) (p : Pdu) (others : List ℕ) → IsAt t m → m.waits ≡ Call c maybe → IsNext t.fed.rest p others → is_calling_off p.body ≡ true
-    → Takes m p (record m { past = p ∷ m.past; rest = others })
+takes_off : (t : ConnFields) (m : ConnState) (c : Caller) (maybe : Bool) (p : Pdu) (others : List ℕ) → IsAt t m → m.waits ≡ Call c maybe → IsNext t.fed.rest p others → is_calling_off p.body ≡ true
+    → TakesPdu m p (record m { past = p ∷ m.past; rest = others })
 takes_off t m c maybe p others at w next off = record {
   may = subst (λ (x : Waits). MayCome x p.body) (sym w) off;
   next = subst (λ (x : List ℕ). IsNext x p others) at.rest next;
   past = refl;
   ids = refl;
-  link = refl;
+  agreement = refl;
 }
 
-pub heard : (t u : Talk) (m : Moment) (c : Caller) (maybe : Bool) (p : Pdu) (b : Bool) → IsAt t m → t.waits ≡ Call c maybe → IsNext t.fed.rest p u.fed.rest → is_calling_off p.body ≡ true
-    → u.served ≡ t.served → u.waits ≡ t.waits → u.link ≡ t.link → u.bound ≡ t.bound → u.joining ≡ t.joining → nat_eq c.call_id p.call_id ≡ b → StepsFrom m (Ok (if b then Acted (act_with p.call_id p.body) else Skipped)) u
-heard t u m c maybe p true at is next off served waits link bound joining same =
+pub heard : (t u : ConnFields) (m : ConnState) (c : Caller) (maybe : Bool) (p : Pdu) (b : Bool) → IsAt t m → t.waits ≡ Call c maybe → IsNext t.fed.rest p u.fed.rest → is_calling_off p.body ≡ true
+    → u.served ≡ t.served → u.waits ≡ t.waits → u.agreement ≡ t.agreement → u.bound ≡ t.bound → u.joining ≡ t.joining → nat_eq c.call_id p.call_id ≡ b → StepsFrom m (Ok (if b then Acted (act_with p.call_id p.body) else Skipped)) u
+heard t u m c maybe p true at is next off served waits agreement bound joining same =
     let w = call_at t m c maybe at is in
     let k = knows_at t m c maybe at is in
-    let n : Moment = record m { past = p ∷ m.past; rest = u.fed.rest } in
+    let n : ConnState = record m { past = p ∷ m.past; rest = u.fed.rest } in
     let called_is : is_called p.call_id (called m.past) ≡ true = rw k.2 same in
     let act = off_act m k.0.run p p.body off called_is (c, maybe, w) in
     let knows : Knows (Call c maybe) u n = known_off t u m n c maybe p k off bound joining served refl refl in (
       n,
       inl (p, record { takes = takes_off t m c maybe p u.fed.rest at w next off; ask = act.ask; asks = record { run = k.0.run; joining = k.0.runs; asks = act.asks }; does = act.does }),
-      record { ids = rw served at.ids; rest = refl; waits = waits ∙ at.waits; link = link ∙ at.link; knows = subst (λ (x : Waits). Knows x u n) (sym w) knows },
+      record { ids = rw served at.ids; rest = refl; waits = waits ∙ at.waits; agreement = agreement ∙ at.agreement; knows = subst (λ (x : Waits). Knows x u n) (sym w) knows },
     )
-heard t u m c maybe p false at is next off served waits link bound joining other =
+heard t u m c maybe p false at is next off served waits agreement bound joining other =
     let w = call_at t m c maybe at is in
     let k = knows_at t m c maybe at is in
-    let n : Moment = record m { past = p ∷ m.past; rest = u.fed.rest } in
+    let n : ConnState = record m { past = p ∷ m.past; rest = u.fed.rest } in
     let called_is : is_called p.call_id (called m.past) ≡ false = rw k.2 other in
     let knows : Knows (Call c maybe) u n = known_off t u m n c maybe p k off bound joining served refl refl in (
       p,
       n,
       record { takes = takes_off t m c maybe p u.fed.rest at w next off; ask = None; asks = record { run = k.0.run; joining = k.0.runs; asks = off_idle m k.0.run p p.body off called_is }; idle = tt; waits = refl },
-      record { ids = rw served at.ids; rest = refl; waits = waits ∙ at.waits; link = link ∙ at.link; knows = subst (λ (x : Waits). Knows x u n) (sym w) knows },
+      record { ids = rw served at.ids; rest = refl; waits = waits ∙ at.waits; agreement = agreement ∙ at.agreement; knows = subst (λ (x : Waits). Knows x u n) (sym w) knows },
     )

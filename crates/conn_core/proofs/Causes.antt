@@ -9,7 +9,7 @@ use Rattle.pdu_codec.proofs.PduLaws.{pdu_long}
 use Rattle.pdu_stream.specs.Cuts.{Fed, IsNext, IsStop, IsCause, IsPartial}
 use Rattle.pdu_stream.proofs.CutLaws.{fault_stays, not_remains, stops_by, StopsBy}
 use Rattle.pdu_stream.proofs.CutLaws.StopsBy.{by_head, by_body}
-use Rattle.conn_core.specs.Talks.{HasCause}
+use Rattle.conn_core.specs.Fields.{HasCause}
 
 stays : (rest more : List ℕ) (f : PduFault) → IsStop rest f ⊎ (f ≡ faults.Memory) → IsStop (rest ++ more) f ⊎ (f ≡ faults.Memory)
 stays rest more f (inl stop) = inl (fault_stays rest more f stop)

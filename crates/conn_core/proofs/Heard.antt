@@ -25,10 +25,10 @@ use Rattle.conn_asks.specs.declared.events.Ask.{Ask}
 use Rattle.conn_asks.specs.declared.events.Ask.TheVariants.{Bind, Alter, Call, Cancel, Orphan, Broken}
 use Rattle.conn_asks.specs.declared.events.Waits.{Waits}
 use Rattle.conn_asks.specs.declared.events.Waits.TheVariants as waits
-use Rattle.conn_asks.specs.Asks.{is_bind, offered, offered_by, called, called_behind, fragment, of_bind, of_alter, JoinsTo, OfRequest, AsksWith, is_called, caller}
+use Rattle.conn_asks.specs.Asks.{is_bind, offered, offered_by, called, called_behind, request_fragment, of_bind, of_alter, JoinsToAsk, OfRequest, AsksWith, is_called, caller}
 use Rattle.conn_asks.specs.Asking.{Follows, elements_in}
-use Rattle.conn_asks.specs.Moments.{Moment, accepted, Calls, DoesWith, IsIdle, IsCalling, caller_of}
-use Rattle.conn_core.specs.Talks.{Talk, Keeps, Knows}
+use Rattle.conn_asks.specs.States.{ConnState, accepted, ActsOnCall, DoesWith, IsIdle, IsCalling, caller_of}
+use Rattle.conn_core.specs.Fields.{ConnFields, KeepsState, Knows}
 use Rattle.conn_core.specs.Steps.{behind}
 
 -- ---- WHAT A PDU ASKS, whichever call was asked last
@@ -86,7 +86,7 @@ offers_of_alter : (bound : Bool) (c : Caller) (b : AlterBody) → Offers (of_alt
 offers_of_alter true c b = refl
 offers_of_alter false c b = tt
 
-offers_joined : (run : Option Joined) (f : Fragment) (r : RequestBody) (ask : Ask) → JoinsTo run f (Some ask) → Offers ask (bodies.Request r)
+offers_joined : (run : Option Joined) (f : Fragment) (r : RequestBody) (ask : Ask) → JoinsToAsk run f (Some ask) → Offers ask (bodies.Request r)
 offers_joined run f r (Bind c b) h = absurd h
 offers_joined run f r (Alter c b) h = absurd h
 offers_joined run f r (Call j) h = refl
@@ -102,7 +102,7 @@ broken_offers : (c : Caller) (x : ConnFault) (body : Body) (ask : Ask) → Some 
 broken_offers c x body ask h = subst (λ (y : Ask). Offers y body) (sym (same_Some ask (Broken c x) h)) tt
 
 pub offers : (bound : Bool) (run : Option Joined) (p : Pdu) (body : Body) (ask : Ask) → AsksWith bound run None p body (Some ask) → Offers ask body
-offers bound run p (bodies.Request r) ask h = offers_request bound run (fragment p r) r ask h
+offers bound run p (bodies.Request r) ask h = offers_request bound run (request_fragment p r) r ask h
 offers bound run p (bodies.Response r) ask h = broken_offers (caller p 0) conn.Direction (bodies.Response r) ask h
 offers bound run p (bodies.Fault r) ask h = broken_offers (caller p 0) conn.Direction (bodies.Fault r) ask h
 offers bound run p (bodies.Bind b) ask h = subst (λ (x : Ask). Offers x (bodies.Bind b)) (sym (same_Some ask _ h)) (offers_of_bind bound (caller p 0) b)
@@ -181,7 +181,7 @@ called_last p call false h = absurd (cc (h))
 pub calls : (bound : Bool) (run : Option Joined) (call : Option ℕ) (p : Pdu) (body : Body) (j : Joined) (after : Option Joined) → AsksWith bound run None p body (Some (Call j))
     → Changes run p body after → (after ≡ None) × (called_behind call p body ≡ Some j.call_id)
 calls true run call p (bodies.Request r) j after h change =
-    let f = fragment p r in
+    let f = request_fragment p r in
     let id : j.call_id ≡ p.call_id = ap (λ (x : Joined). x.call_id) h.2 ∙ in_order_id run f h.0.0 in
     (ends_run run f change.0 after h.1 change.1, called_last p call (is_last f) h.1 ∙ ap (λ (n : ℕ). Some n) (sym id))
 calls false run call p (bodies.Request r) j after h change = absurd (call_broken j _ _ (same_Some _ _ h))
@@ -198,12 +198,12 @@ calls bound run call p bodies.Orphaned j after h change = absurd (none-some (Cal
 
 -- ---- WHAT IS KNOWN BEHIND A PDU
 
-more_accepted : (m : Moment) (p : Pdu) (w : Waits) → accepted (behind m p w) ≡ contexts_after m.ids (accepted m) (offered_by p.body)
+more_accepted : (m : ConnState) (p : Pdu) (w : Waits) → accepted (behind m p w) ≡ contexts_after m.ids (accepted m) (offered_by p.body)
 unfolding offered
 more_accepted m p w = split m.ids [] (offered m.past) (offered_by p.body)
 
-pub keeps_more : (t u : Talk) (m : Moment) (p : Pdu) (w : Waits) (after : Option Joined) → (k : Keeps t m) → u.bound ≡ (is_bind p.body || t.bound) → u.joining ≡ Ok after
-    → Changes k.run p p.body after → u.served.accepted ≡ contexts_after m.ids (accepted m) (offered_by p.body) → Keeps u (behind m p w)
+pub keeps_more : (t u : ConnFields) (m : ConnState) (p : Pdu) (w : Waits) (after : Option Joined) → (k : KeepsState t m) → u.bound ≡ (is_bind p.body || t.bound) → u.joining ≡ Ok after
+    → Changes k.run p p.body after → u.served.accepted ≡ contexts_after m.ids (accepted m) (offered_by p.body) → KeepsState u (behind m p w)
 keeps_more t u m p w after k bound joining changes offered = record {
   bound = bound ∙ ap (λ (b : Bool). is_bind p.body || b) k.bound;
   run = after;
@@ -213,21 +213,21 @@ keeps_more t u m p w after k bound joining changes offered = record {
 }
 
 -- what is known follows from what is waited for
-as_known : (w v : Waits) (u : Talk) (n : Moment) → w ≡ v → Knows v u n → Knows w u n
+as_known : (w v : Waits) (u : ConnFields) (n : ConnState) → w ≡ v → Knows v u n → Knows w u n
 as_known w v u n e k = subst (λ (x : Waits). Knows x u n) (sym e) k
 
-known_call : (i : Option ℕ) (j : Joined) (act : Act) (w : Waits) (u : Talk) (n : Moment) → Calls i j act w → Keeps u n → u.joining ≡ Ok None → called n.past ≡ Some j.call_id → Knows w u n
+known_call : (i : Option ℕ) (j : Joined) (act : Act) (w : Waits) (u : ConnFields) (n : ConnState) → ActsOnCall i j act w → KeepsState u n → u.joining ≡ Ok None → called n.past ≡ Some j.call_id → Knows w u n
 known_call (Some k) j act w u n calls keeps none id = as_known w (waits.Call (caller_of j) j.maybe) u n calls.1 (keeps, none, id)
 known_call None j act w u n calls keeps none id = as_known w waits.Nothing u n calls.1 keeps
 
 not_calling : IsCalling waits.Nothing → ⊥
 not_calling (c, maybe, e) = absurd (cc (e))
 
-from_offer : (m : Moment) (es os : List Element) (a : List Accepted) → os ≡ es → a ≡ contexts_after m.ids (accepted m) es → a ≡ contexts_after m.ids (accepted m) os
+from_offer : (m : ConnState) (es os : List Element) (a : List Accepted) → os ≡ es → a ≡ contexts_after m.ids (accepted m) es → a ≡ contexts_after m.ids (accepted m) os
 from_offer m es os a same e = e ∙ ap (λ (xs : List Element). contexts_after m.ids (accepted m) xs) (sym same)
 
-pub knows_more : (t u : Talk) (m : Moment) (p : Pdu) (ask : Ask) (act : Act) (w : Waits) → (k : Keeps t m) → u.bound ≡ (is_bind p.body || t.bound)
-    → AsksWith t.bound k.run None p p.body (Some ask) → Follows (Changes k.run p p.body) (Some ask) u.joining → DoesWith m.ids (accepted m) m.link waits.Nothing ask act w
+pub knows_more : (t u : ConnFields) (m : ConnState) (p : Pdu) (ask : Ask) (act : Act) (w : Waits) → (k : KeepsState t m) → u.bound ≡ (is_bind p.body || t.bound)
+    → AsksWith t.bound k.run None p p.body (Some ask) → Follows (Changes k.run p p.body) (Some ask) u.joining → DoesWith m.ids (accepted m) m.agreement waits.Nothing ask act w
     → u.served.accepted ≡ contexts_after m.ids (accepted m) (elements_in ask) → Knows w u (behind m p w)
 unfolding called
 knows_more t u m p (Bind c b) act w k bound asks follows does offered =

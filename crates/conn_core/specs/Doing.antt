@@ -3,7 +3,7 @@ use Rattle.std.specs.Prelude.{◌≡◌, Option, Some, None, Result, Ok, Err, Li
 use Rattle.rpc_base.specs.declared.fault.NoMemory.{NoMemory}
 use Rattle.pdu_codec.specs.declared.pdu.Element.{Element}
 use Rattle.presentation.specs.Offers.{ServedSyntaxes, contexts_after}
-use Rattle.conn_asks.specs.declared.events.Link.{Link}
+use Rattle.conn_asks.specs.declared.events.Agreement.{Agreement}
 use Rattle.conn_asks.specs.declared.events.Ask.{Ask}
 use Rattle.pdu_codec.specs.Pdus.{pdu_octets}
 use Rattle.conn_asks.specs.declared.events.Caller.{Caller}
@@ -14,8 +14,8 @@ use Rattle.conn_asks.specs.declared.events.Waits.{Waits}
 use Rattle.conn_asks.specs.declared.events.Waits.TheVariants.{Nothing, Over}
 use Rattle.conn_asks.specs.Answers.{closing}
 use Rattle.conn_asks.specs.Asking.{elements_in}
-use Rattle.conn_asks.specs.Moments.{DoesWith, IsIdle}
-use Rattle.conn_core.specs.Talks.{CanBind}
+use Rattle.conn_asks.specs.States.{DoesWith, IsIdle}
+use Rattle.conn_core.specs.Fields.{CanBind}
 
 -- the same interfaces, and the contexts accepted after some elements
 abbrev pub with_elements : ServedSyntaxes → List Element → ServedSyntaxes
@@ -25,11 +25,11 @@ with_elements s elements = record { ids = s.ids; accepted = contexts_after s.ids
 abbrev pub IsClose : Caller → ConnFault → Act → Waits → Type 0
 IsClose c why act waits = (act ≡ Close (pdu_octets (closing c why)) why) × (waits ≡ Over)
 
-abbrev pub ActsWith : ServedSyntaxes → Link → Ask → Result (Option (Act × Waits)) NoMemory → ServedSyntaxes → Type 0
-ActsWith old link ask (Ok (Some done)) new =
-    DoesWith old.ids old.accepted link Nothing ask done.0 done.1 × (new ≡ with_elements old (elements_in ask))
-ActsWith old link ask (Ok None) new = IsIdle Nothing (Some ask) × (new ≡ old)
-ActsWith old link ask (Err _) new = new.ids ≡ old.ids
+abbrev pub ActsWith : ServedSyntaxes → Agreement → Ask → Result (Option (Act × Waits)) NoMemory → ServedSyntaxes → Type 0
+ActsWith old agreement ask (Ok (Some done)) new =
+    DoesWith old.ids old.accepted agreement Nothing ask done.0 done.1 × (new ≡ with_elements old (elements_in ask))
+ActsWith old agreement ask (Ok None) new = IsIdle Nothing (Some ask) × (new ≡ old)
+ActsWith old agreement ask (Err _) new = new.ids ≡ old.ids
 
 -- what is waited for then can be answered
 abbrev pub CanWait : Result (Option (Act × Waits)) NoMemory → Type 0

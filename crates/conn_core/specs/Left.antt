@@ -4,7 +4,7 @@ use Rattle.rpc_base.specs.declared.fault.NoMemory.{NoMemory}
 use Rattle.pdu_codec.specs.declared.pdu.Pdu.{Pdu}
 use Rattle.pdu_codec.specs.declared.fault.PduFault.{PduFault}
 use Rattle.pdu_stream.specs.Cuts.{Fed, IsNext, Remains}
-use Rattle.conn_core.specs.Talks.{HasCause}
+use Rattle.conn_core.specs.Fields.{HasCause}
 
 -- a PDU was taken off, or there is none
 abbrev pub SkipsNext : Fed → Result Bool NoMemory → Fed → Type 0

@@ -15,61 +15,61 @@ use Rattle.conn_asks.specs.declared.events.Waits.{Waits}
 use Rattle.conn_asks.specs.declared.events.Waits.TheVariants.{Nothing, Over}
 use Rattle.conn_asks.specs.Asks.{Asks, caller_at, broken_by}
 use Rattle.conn_asks.specs.Answers.{closing}
-use Rattle.conn_asks.specs.Moments.{Moment, Does, IsIdle, Skips, Acts, SkipsAll, IsStuck, MayFail}
+use Rattle.conn_asks.specs.States.{ConnState, Does, IsIdle, Skips, Acts, SkipsAll, IsStuck, MayFail}
 use Rattle.conn_core.specs.declared.next.Step.{Step}
 use Rattle.conn_core.specs.declared.next.Step.TheVariants.{Stuck, Skipped, Acted}
-use Rattle.conn_core.specs.Talks.{Talk, Keeps, Knows, IsAt}
+use Rattle.conn_core.specs.Fields.{ConnFields, KeepsState, Knows, IsAt}
 
 -- PDUs were taken, and these are as they were.
-pub record Passes (old new : Talk) : Type 0 where
+pub record Passes (old new : ConnFields) : Type 0 where
   pub pdus : List Pdu
   pub front : List ℕ
   pub spelled : AreSpelled IsPdu pdus front
   pub rest : old.fed.rest ≡ front ++ new.fed.rest
   pub ids : new.served.ids ≡ old.served.ids
-  pub link : new.link ≡ old.link
+  pub agreement : new.agreement ≡ old.agreement
 
 -- a skipped PDU had octets
 abbrev pub Shortens : Result Step NoMemory → ℕ → ℕ → Type 0
 Shortens (Ok Skipped) old new = new < old
 Shortens _ old new = ⊤
 
--- a step from a moment
-abbrev pub StepsFrom : Moment → Result Step NoMemory → Talk → Type 0
+-- a step from a state
+abbrev pub StepsFrom : ConnState → Result Step NoMemory → ConnFields → Type 0
 StepsFrom m (Ok Stuck) new = IsAt new m × IsStuck m.waits m.rest
-StepsFrom m (Ok Skipped) new = (p : Pdu) × (n : Moment) × Skips m p n × IsAt new n
-StepsFrom m (Ok (Acted act)) new = (n : Moment) × Acts m act n × IsAt new n
+StepsFrom m (Ok Skipped) new = (p : Pdu) × (n : ConnState) × Skips m p n × IsAt new n
+StepsFrom m (Ok (Acted act)) new = (n : ConnState) × Acts m act n × IsAt new n
 StepsFrom m (Err _) new = MayFail m.waits
 
 -- the steps up to the next act
-abbrev pub GoesFrom : Moment → Result (Option Act) NoMemory → Talk → Type 0
-GoesFrom m (Ok None) new = (skipped : List Pdu) × (n : Moment) × SkipsAll m skipped n × IsStuck n.waits n.rest × IsAt new n
-GoesFrom m (Ok (Some act)) new = (skipped : List Pdu) × (between n : Moment) × SkipsAll m skipped between × Acts between act n × IsAt new n
+abbrev pub GoesFrom : ConnState → Result (Option Act) NoMemory → ConnFields → Type 0
+GoesFrom m (Ok None) new = (skipped : List Pdu) × (n : ConnState) × SkipsAll m skipped n × IsStuck n.waits n.rest × IsAt new n
+GoesFrom m (Ok (Some act)) new = (skipped : List Pdu) × (between n : ConnState) × SkipsAll m skipped between × Acts between act n × IsAt new n
 GoesFrom m (Err _) new = MayFail m.waits
 
 -- ---- a PDU while nothing is waited for
 
 -- A connection that waits for nothing, whatever it has still to read.
-pub record IsFree (t : Talk) (m : Moment) : Type 0 where
+pub record IsFree (t : ConnFields) (m : ConnState) : Type 0 where
   pub ids : t.served.ids ≡ m.ids
   pub waits : t.waits ≡ Nothing
   pub free : m.waits ≡ Nothing
-  pub link : t.link ≡ m.link
-  pub keeps : Keeps t m
+  pub agreement : t.agreement ≡ m.agreement
+  pub keeps : KeepsState t m
 
--- the moment behind a PDU
-abbrev pub behind : Moment → Pdu → Waits → Moment
+-- the state behind a PDU
+abbrev pub behind : ConnState → Pdu → Waits → ConnState
 behind m p waits = record m { past = p ∷ m.past; waits = waits }
 
--- the PDU was heard behind the moment
-abbrev pub HearsAt : Moment → Pdu → Result Step NoMemory → Talk → Type 0
+-- the PDU was heard behind the state
+abbrev pub HearsAt : ConnState → Pdu → Result Step NoMemory → ConnFields → Type 0
 HearsAt m p (Ok Stuck) new = ⊥
-HearsAt m p (Ok Skipped) new = (ask : Option Ask) × Asks m.past p ask × IsIdle Nothing ask × (new.waits ≡ Nothing) × Keeps new (behind m p Nothing)
+HearsAt m p (Ok Skipped) new = (ask : Option Ask) × Asks m.past p ask × IsIdle Nothing ask × (new.waits ≡ Nothing) × KeepsState new (behind m p Nothing)
 HearsAt m p (Ok (Acted act)) new = (ask : Ask) × Asks m.past p (Some ask) × Does m ask act new.waits × Knows new.waits new (behind m p new.waits)
 HearsAt m p (Err _) new = ⊤
 
 -- the connection is closed at a fault of the octets
-abbrev pub Stops : List ℕ → PduFault → Result Step NoMemory → Talk → Talk → Type 0
+abbrev pub Stops : List ℕ → PduFault → Result Step NoMemory → ConnFields → ConnFields → Type 0
 Stops rest fault (Ok (Acted act)) old new =
     IsStop rest fault × (act ≡ Close (pdu_octets (closing (caller_at rest) (broken_by rest fault))) (broken_by rest fault))
     × (new ≡ record old { waits = Over })

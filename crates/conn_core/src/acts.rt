@@ -1,13 +1,15 @@
 //! What is done at what a PDU asks.
 ghost use Rattle.std.specs.Prelude.{◌≡◌, ◌<◌, ◌≤◌, length, IfOk};
 ghost use Rattle.presentation.specs.Offers.{interface_of};
-ghost use Rattle.conn_asks.specs.Moments.{Calls};
+ghost use Rattle.conn_asks.specs.States.{ActsOnCall};
 ghost use Rattle.conn_asks.specs.declared.events.Ask.TheVariants as asks;
 ghost use Rattle.conn_asks.specs.Asking.{IsAnswerable};
 ghost use Rattle.conn_core.specs.Doing.{IsClose, ActsWith, CanWait};
-ghost use Rattle.conn_core.specs.Talks.{CanBind};
+ghost use Rattle.conn_core.specs.Fields.{CanBind};
 
-use conn_asks::{Act, Ask, Caller, ConnFault, Link, Waits, alter_resp, closing, link, refusal};
+use conn_asks::{
+    Act, Agreement, Ask, Caller, ConnFault, Waits, agreement, alter_resp, closing, refusal,
+};
 use pdu_codec::{AlterBody, BindAckBody, BindBody};
 use pdu_stream::Joined;
 use presentation::Contexts;
@@ -21,21 +23,21 @@ pub(crate) type Done = (Act, Waits);
 fn bind(
     alloc: Global,
     contexts: &mut Contexts,
-    link_now: Link,
+    agreement_now: Agreement,
     caller: Caller,
     body: BindBody,
 ) -> Result<Option<Done>, NoMemory>
     requires few { length body.elements < 256 }
     requires wide { 1432 ≤ body.max_recv }
-    ensures acts { ActsWith contexts.old link_now (asks.Bind caller body) result contexts.new }
+    ensures acts { ActsWith contexts.old agreement_now (asks.Bind caller body) result contexts.new }
     ensures can { CanWait result }
 {
     let results = contexts.offer(&body.elements)?;
-    let link = link(body.max_xmit, body.max_recv);
+    let agreement = agreement(body.max_xmit, body.max_recv);
     let ack = BindAckBody {
-        max_xmit: link.max_xmit,
-        max_recv: link.max_recv,
-        group: link.group,
+        max_xmit: agreement.max_xmit,
+        max_recv: agreement.max_recv,
+        group: agreement.group,
         address: Octets::new(alloc),
         results,
     };
@@ -45,21 +47,21 @@ fn bind(
 fn alter(
     alloc: Global,
     contexts: &mut Contexts,
-    link: Link,
+    agreement: Agreement,
     caller: Caller,
     body: AlterBody,
 ) -> Result<Option<Done>, NoMemory>
     requires { length body.elements < 256 }
-    ensures acts { ActsWith contexts.old link (asks.Alter caller body) result contexts.new }
+    ensures acts { ActsWith contexts.old agreement (asks.Alter caller body) result contexts.new }
     ensures can { CanWait result }
 {
     let results = contexts.offer(&body.elements)?;
-    let octets = alter_resp(alloc, caller, link, results)?;
+    let octets = alter_resp(alloc, caller, agreement, results)?;
     Ok(Some((Act::Answer(octets), Waits::Nothing)))
 }
 
 fn call(alloc: Global, contexts: &Contexts, joined: Joined) -> Result<Done, NoMemory>
-    ensures calls { IfOk result (λ done. Calls (interface_of contexts.now.accepted joined.context) joined done.0 done.1) }
+    ensures calls { IfOk result (λ done. ActsOnCall (interface_of contexts.now.accepted joined.context) joined done.0 done.1) }
     ensures can { IfOk result (λ done. CanBind done.1) }
 {
     let caller = Caller {
@@ -88,16 +90,16 @@ pub(crate) fn close(alloc: Global, caller: Caller, why: ConnFault) -> Result<Don
 pub(crate) fn act(
     alloc: Global,
     contexts: &mut Contexts,
-    link: Link,
+    agreement: Agreement,
     ask: Ask,
 ) -> Result<Option<Done>, NoMemory>
     requires { IsAnswerable ask }
-    ensures acts { ActsWith contexts.old link ask result contexts.new }
+    ensures acts { ActsWith contexts.old agreement ask result contexts.new }
     ensures can { CanWait result }
 {
     match ask {
-        Ask::Bind(caller, body) => bind(alloc, contexts, link, caller, body),
-        Ask::Alter(caller, body) => alter(alloc, contexts, link, caller, body),
+        Ask::Bind(caller, body) => bind(alloc, contexts, agreement, caller, body),
+        Ask::Alter(caller, body) => alter(alloc, contexts, agreement, caller, body),
         Ask::Call(joined) => Ok(Some(call(alloc, contexts, joined)?)),
         Ask::Broken(caller, why) => Ok(Some(close(alloc, caller, why)?)),
         Ask::Cancel(_) | Ask::Orphan(_) => Ok(None),

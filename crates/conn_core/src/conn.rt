@@ -2,10 +2,10 @@
 ghost use Rattle.std.specs.Prelude.{◌≡◌, ◌≤◌, ◌^◌, ◌↔◌, length, IsTrue, IfOk, OnOk, OnErr};
 ghost use Rattle.std.specs.Option.{option_copied};
 ghost use Rattle.conn_asks.specs.Answers.{FitsStub};
-ghost use Rattle.conn_asks.specs.Moments.{Moment as AMoment, at_start, with_octets, Goes, IsGrouping, Bound, Refused, IsCalling, Replied};
+ghost use Rattle.conn_asks.specs.States.{ConnState as AState, at_start, with_octets, Goes, IsGrouping, Bound, Refused, IsCalling, Replied};
 
 use crate::left::left;
-use conn_asks::{Act, Link, Waits, bind_ack, bind_nak, reply};
+use conn_asks::{Act, Agreement, Waits, bind_ack, bind_nak, reply};
 use handle_model::Said;
 use pdu_stream::{Feed, Joiner};
 use presentation::Contexts;
@@ -15,8 +15,8 @@ use std::marker::Model;
 use std::mem;
 
 /// A connection of a server (C706, "Connection-oriented RPC protocol machines"), as far as it depends on its
-/// octets alone: what comes, in any pieces, and what is answered. Contracts see what it keeps, and say at
-/// which moment of its history it is.
+/// octets alone: what comes, in any pieces, and what is answered. Contracts see what it keeps, and say in
+/// which state of its history it is.
 #[derive(Drop)]
 pub struct Conn {
     pub(crate) feed: Feed,
@@ -24,22 +24,22 @@ pub struct Conn {
     pub(crate) joiner: Joiner,
     pub(crate) contexts: Contexts,
     pub(crate) waits: Waits,
-    pub(crate) link: Link,
+    pub(crate) agreement: Agreement,
     pub(crate) alloc: Global,
 }
 
 impl Model for Conn {
-    ghost use Rattle.conn_core.specs.Talks.{Talk, IsSound};
+    ghost use Rattle.conn_core.specs.Fields.{ConnFields, IsSound};
 
-    ghost Value = { Talk };
+    ghost Value = { ConnFields };
 
-    ghost view = { λ c. record { fed = c.feed; bound = c.bound; joining = c.joiner; served = c.contexts; waits = c.waits; link = c.link } };
+    ghost view = { λ c. record { fed = c.feed; bound = c.bound; joining = c.joiner; served = c.contexts; waits = c.waits; agreement = c.agreement } };
 
-    ghost invariant = { λ c. IsSound c.feed c.waits c.link };
+    ghost invariant = { λ c. IsSound c.feed c.waits c.agreement };
 }
 
 impl Conn {
-    ghost use Rattle.conn_core.specs.Talks.{IsAt, Leads};
+    ghost use Rattle.conn_core.specs.Fields.{IsAt, Leads};
     ghost use Rattle.pdu_stream.specs.Cuts.{LeavesUncut};
 
     /// A new connection to a server of these interfaces, which are numbered from 0.
@@ -53,7 +53,7 @@ impl Conn {
             joiner: Joiner::new(),
             contexts: Contexts::new(alloc, ids)?,
             waits: Waits::Nothing,
-            link: Link {
+            agreement: Agreement {
                 max_xmit: 1432,
                 max_recv: 1432,
                 group: 0,
@@ -109,14 +109,14 @@ impl Conn {
             Waits::Group(caller, ack) => (caller, ack),
             _ => unreachable!(),
         };
-        let link = Link {
+        let agreement = Agreement {
             max_xmit: ack.max_xmit,
             max_recv: ack.max_recv,
             group,
         };
         match bind_ack(self.alloc, caller, ack, group) {
             Ok(octets) => {
-                self.link = link;
+                self.agreement = agreement;
                 self.waits = Waits::Nothing;
                 Ok(octets)
             }
@@ -154,7 +154,7 @@ impl Conn {
             Waits::Call(caller, maybe) => (*caller, *maybe),
             _ => unreachable!(),
         };
-        let most = self.link.max_xmit;
+        let most = self.agreement.max_xmit;
         let octets = reply(self.alloc, caller, most, maybe, executed, said)?;
         self.waits = Waits::Nothing;
         Ok(octets)
@@ -162,7 +162,7 @@ impl Conn {
 
     /// The number of octets that are left of all that came, once the whole PDUs at their front are taken.
     pub fn rest(self) -> Result<usize, NoMemory>
-        ensures { (m : AMoment) → IsAt self m → IfOk result (LeavesUncut m.rest) }
+        ensures { (m : AState) → IsAt self m → IfOk result (LeavesUncut m.rest) }
     {
         left(self.feed)
     }

@@ -1,7 +1,7 @@
 //! What the cut of a stream leaves.
 ghost use Rattle.std.specs.Prelude.{IfOk};
 ghost use Rattle.pdu_stream.specs.Cuts.{LeavesUncut};
-ghost use Rattle.conn_core.specs.Talks.{HasCause};
+ghost use Rattle.conn_core.specs.Fields.{HasCause};
 ghost use Rattle.conn_core.specs.Left.{SkipsNext};
 
 use pdu_codec::PduFault;

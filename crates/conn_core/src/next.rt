@@ -2,7 +2,7 @@
 ghost use Rattle.std.specs.Prelude.{◌≡◌, ◌<◌, ◌||◌, length};
 ghost use Rattle.pdu_stream.specs.Cuts.{IsStop};
 ghost use Rattle.conn_asks.specs.Asks.{is_bind, offered_by};
-ghost use Rattle.conn_asks.specs.Moments.{Moment as AMoment};
+ghost use Rattle.conn_asks.specs.States.{ConnState as AState};
 ghost use Rattle.conn_asks.specs.declared.events.Waits.TheVariants.{Nothing};
 
 use crate::Conn;
@@ -24,12 +24,12 @@ pub enum Step {
 
 impl Conn {
     ghost use Rattle.conn_core.specs.Steps.{Passes, Shortens, StepsFrom, GoesFrom, IsFree, HearsAt, Stops};
-    ghost use Rattle.conn_core.specs.Talks.{IsAt};
+    ghost use Rattle.conn_core.specs.Fields.{IsAt};
 
     /// The steps up to the next act.
     pub(crate) fn go(&mut self) -> Result<Option<Act>, NoMemory>
         ensures passes { Passes self.old self.new }
-        ensures goes { (m : AMoment) → IsAt self.old m → GoesFrom m result self.new }
+        ensures goes { (m : AState) → IsAt self.old m → GoesFrom m result self.new }
     {
         loop {
             match self.step()? {
@@ -43,7 +43,7 @@ impl Conn {
     fn step(&mut self) -> Result<Step, NoMemory>
         ensures passes { Passes self.old self.new }
         ensures shorter { Shortens result (length self.old.fed.rest) (length self.new.fed.rest) }
-        ensures steps { (m : AMoment) → IsAt self.old m → StepsFrom m result self.new }
+        ensures steps { (m : AState) → IsAt self.old m → StepsFrom m result self.new }
     {
         match &self.waits {
             Waits::Nothing => self.step_free(),
@@ -61,7 +61,7 @@ impl Conn {
         requires { self.old.waits ≡ Nothing }
         ensures passes { Passes self.old self.new }
         ensures shorter { Shortens result (length self.old.fed.rest) (length self.new.fed.rest) }
-        ensures steps { (m : AMoment) → IsAt self.old m → StepsFrom m result self.new }
+        ensures steps { (m : AState) → IsAt self.old m → StepsFrom m result self.new }
     {
         match self.feed.next() {
             Ok(Some(pdu)) => self.hear(pdu),
@@ -76,8 +76,8 @@ impl Conn {
         requires { length (offered_by pdu.body) < 256 }
         ensures fed { self.new.fed ≡ self.old.fed }
         ensures ids { self.new.served.ids ≡ self.old.served.ids }
-        ensures link { self.new.link ≡ self.old.link }
-        ensures heard { (m : AMoment) → IsFree self.old m → HearsAt m pdu result self.new }
+        ensures agreement { self.new.agreement ≡ self.old.agreement }
+        ensures heard { (m : AState) → IsFree self.old m → HearsAt m pdu result self.new }
     {
         let bound = self.bound;
         self.bound = is_bound(bound, &pdu);
@@ -85,7 +85,7 @@ impl Conn {
             Some(asked) => asked,
             None => return Ok(Step::Skipped),
         };
-        match act(self.alloc, &mut self.contexts, self.link, asked)? {
+        match act(self.alloc, &mut self.contexts, self.agreement, asked)? {
             Some((act, waits)) => {
                 self.waits = waits;
                 Ok(Step::Acted(act))

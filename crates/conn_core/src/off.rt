@@ -1,6 +1,6 @@
 //! What may come while a call is unanswered: that it is called off.
 ghost use Rattle.std.specs.Prelude.{◌≡◌, length, ℕ};
-ghost use Rattle.conn_asks.specs.Moments.{Moment as AMoment};
+ghost use Rattle.conn_asks.specs.States.{ConnState as AState};
 ghost use Rattle.conn_core.specs.Steps as spec;
 
 use crate::Conn;
@@ -11,14 +11,14 @@ use rpc_base::NoMemory;
 
 impl Conn {
     ghost use Rattle.conn_core.specs.Steps.{Passes, Shortens, StepsFrom};
-    ghost use Rattle.conn_core.specs.Talks.{IsAt, IsCallOf};
+    ghost use Rattle.conn_core.specs.Fields.{IsAt, IsCallOf};
 
     /// The next PDU while the call of that id is unanswered.
     pub(crate) fn step_off(&mut self, call_id: u32) -> Result<Step, NoMemory>
         requires { IsCallOf call_id self.old.waits }
         ensures passes { Passes self.old self.new }
         ensures shorter { Shortens result (length self.old.fed.rest) (length self.new.fed.rest) }
-        ensures steps { (m : AMoment) → IsAt self.old m → StepsFrom m result self.new }
+        ensures steps { (m : AState) → IsAt self.old m → StepsFrom m result self.new }
     {
         if !calls_off(self.feed.held()) {
             return Ok(Step::Stuck);

@@ -24,7 +24,7 @@ use Rattle.conn_asks.specs.declared.events.ConnFault.{ConnFault}
 use Rattle.conn_asks.specs.declared.events.ConnFault.TheVariants as conn
 use Rattle.conn_asks.specs.declared.events.Ask.{Ask}
 use Rattle.conn_asks.specs.declared.events.Ask.TheVariants as asks
-use Rattle.conn_asks.specs.Asks.{fragment, caller, caller_of_fragment, of_bind, of_alter, is_bound, called, AsksWith, Asks, broken_end, Leads, AreAsks, AreAsksOf}
+use Rattle.conn_asks.specs.Asks.{request_fragment, caller, caller_of_fragment, of_bind, of_alter, is_bound, called, AsksWith, Asks, broken_end, AsksFirst, AreAsks, AreAsksOf}
 use Rattle.conn_laws.proofs.OneAsk.{one_ask}
 
 -- ---- one list
@@ -32,7 +32,7 @@ use Rattle.conn_laws.proofs.OneAsk.{one_ask}
 abbrev ask_first : Ask → List Ask → List Ask
 ask_first ask later = ask ∷ later
 
-leads_alike : (ask : Option Ask) (P : List Ask → Type 0) (a b : List Ask) → ((x y : List Ask) → P x → P y → x ≡ y) → Leads ask P a → Leads ask P b → a ≡ b
+leads_alike : (ask : Option Ask) (P : List Ask → Type 0) (a b : List Ask) → ((x y : List Ask) → P x → P y → x ≡ y) → AsksFirst ask P a → AsksFirst ask P b → a ≡ b
 leads_alike None P a b one h k = one a b h k
 leads_alike (Some (asks.Broken c f)) P a b one h k = h ∙ sym k
 leads_alike (Some (asks.Bind c body)) P a b one h k = h.1 ∙ ap (ask_first (asks.Bind c body)) (one h.0 k.0 h.2 k.2) ∙ sym k.1
@@ -45,7 +45,7 @@ asks_alike : (past pdus : List Pdu) (end a b : List Ask) → AreAsks past pdus e
 asks_alike past [] end a b h k = h ∙ sym k
 asks_alike past (p ∷ more) end a b h k =
     let same = one_ask past p h.0 k.0 h.1 k.1 in
-    leads_alike k.0 (AreAsks (p ∷ past) more end) a b (asks_alike (p ∷ past) more end) (subst (λ (x : Option Ask). Leads x (AreAsks (p ∷ past) more end) a) same h.2) k.2
+    leads_alike k.0 (AreAsks (p ∷ past) more end) a b (asks_alike (p ∷ past) more end) (subst (λ (x : Option Ask). AsksFirst x (AreAsks (p ∷ past) more end) a) same h.2) k.2
 
 pub one_asking : (octets : List ℕ) (a b : List Ask) → AreAsksOf octets a → AreAsksOf octets b → a ≡ b
 one_asking octets a b h k =
@@ -73,47 +73,47 @@ pub record Found (bound : Bool) (run : Option Joined) (call : Option ℕ) (p : P
 abbrev FoundFor : Bool → Option Joined → Option ℕ → Pdu → RequestBody → Type 0
 FoundFor bound run call p r = Found bound run call p (bodies.Request r)
 
-faulty : (run : Option Joined) (call : Option ℕ) (p : Pdu) (r : RequestBody) (fault : JoinFault) → fault ≢ Memory → IsJoinFault run (fragment p r) fault → FoundFor true run call p r
+faulty : (run : Option Joined) (call : Option ℕ) (p : Pdu) (r : RequestBody) (fault : JoinFault) → fault ≢ Memory → IsJoinFault run (request_fragment p r) fault → FoundFor true run call p r
 faulty run call p r fault known wrong = record {
-  ask = Some (asks.Broken (caller_of_fragment (fragment p r)) (conn.Join fault));
+  ask = Some (asks.Broken (caller_of_fragment (request_fragment p r)) (conn.Join fault));
   asked = (refl, known, wrong);
-  next = inl (caller_of_fragment (fragment p r), conn.Join fault, refl);
+  next = inl (caller_of_fragment (request_fragment p r), conn.Join fault, refl);
 }
 
-taken : (run : Option Joined) (call : Option ℕ) (p : Pdu) (r : RequestBody) (last : Bool) → is_last (fragment p r) ≡ last → IsTaken run (fragment p r) → FoundFor true run call p r
+taken : (run : Option Joined) (call : Option ℕ) (p : Pdu) (r : RequestBody) (last : Bool) → is_last (request_fragment p r) ≡ last → IsTaken run (request_fragment p r) → FoundFor true run call p r
 taken run call p r false e t = record {
   ask = None;
   asked = (t, e);
-  next = inr (Some (with_fragment run (fragment p r)), (None, (t, e, refl)));
+  next = inr (Some (with_fragment run (request_fragment p r)), (None, (t, e, refl)));
 }
 taken run call p r true e t = record {
-  ask = Some (asks.Call (with_fragment run (fragment p r)));
+  ask = Some (asks.Call (with_fragment run (request_fragment p r)));
   asked = (t, e, refl);
-  next = inr (None, (Some (with_fragment run (fragment p r)), (t, e, refl, refl)));
+  next = inr (None, (Some (with_fragment run (request_fragment p r)), (t, e, refl, refl)));
 }
 
-short : (run : Option Joined) (call : Option ℕ) (p : Pdu) (r : RequestBody) → is_in_order run (fragment p r) ≡ true → HasOrder run (fragment p r) → FoundFor true run call p r
-short run call p r e o = elim (cases_lt most_stub (length (with_fragment run (fragment p r)).stub)) [
+short : (run : Option Joined) (call : Option ℕ) (p : Pdu) (r : RequestBody) → is_in_order run (request_fragment p r) ≡ true → HasOrder run (request_fragment p r) → FoundFor true run call p r
+short run call p r e o = elim (cases_lt most_stub (length (with_fragment run (request_fragment p r)).stub)) [
   | inl long ↦ faulty run call p r TooLong (λ x. absurd (cc (x))) (e, o, long)
-  | inr le ↦ taken run call p r (is_last (fragment p r)) refl (e, o, le)
+  | inr le ↦ taken run call p r (is_last (request_fragment p r)) refl (e, o, le)
 ]
 
-ordered : (run : Option Joined) (call : Option ℕ) (p : Pdu) (r : RequestBody) → is_in_order run (fragment p r) ≡ true → FoundFor true run call p r
-ordered run call p r e = elim (order_of_run run (fragment p r)) [
+ordered : (run : Option Joined) (call : Option ℕ) (p : Pdu) (r : RequestBody) → is_in_order run (request_fragment p r) ≡ true → FoundFor true run call p r
+ordered run call p r e = elim (order_of_run run (request_fragment p r)) [
   | inl same ↦ short run call p r e same
   | inr other ↦ faulty run call p r FragDrep (λ x. absurd (cc (x))) (e, other)
 ]
 
-placed : (run : Option Joined) (call : Option ℕ) (p : Pdu) (r : RequestBody) (order : Bool) → is_in_order run (fragment p r) ≡ order → FoundFor true run call p r
+placed : (run : Option Joined) (call : Option ℕ) (p : Pdu) (r : RequestBody) (order : Bool) → is_in_order run (request_fragment p r) ≡ order → FoundFor true run call p r
 placed run call p r true e = ordered run call p r e
 placed run call p r false e = faulty run call p r FragOrder (λ x. absurd (cc (x))) e
 
 requested : (bound : Bool) (run : Option Joined) (call : Option ℕ) (p : Pdu) (r : RequestBody) → FoundFor bound run call p r
-requested true run call p r = placed run call p r (is_in_order run (fragment p r)) refl
+requested true run call p r = placed run call p r (is_in_order run (request_fragment p r)) refl
 requested false run call p r = record {
-  ask = Some (asks.Broken (caller_of_fragment (fragment p r)) conn.Unbound);
+  ask = Some (asks.Broken (caller_of_fragment (request_fragment p r)) conn.Unbound);
   asked = refl;
-  next = inl (caller_of_fragment (fragment p r), conn.Unbound, refl);
+  next = inl (caller_of_fragment (request_fragment p r), conn.Unbound, refl);
 }
 
 -- ---- a cancel or an orphaning of what is being joined
@@ -149,7 +149,7 @@ found bound run call p bodies.Shutdown = record { ask = Some (asks.Broken (calle
 
 -- ---- there is a list
 
-leads_found : (ask : Option Ask) (P : List Ask → Type 0) → (asked : List Ask) × P asked → (asked : List Ask) × Leads ask P asked
+leads_found : (ask : Option Ask) (P : List Ask → Type 0) → (asked : List Ask) × P asked → (asked : List Ask) × AsksFirst ask P asked
 leads_found None P h = h
 leads_found (Some (asks.Broken c f)) P h = (asks.Broken c f ∷ [], refl)
 leads_found (Some (asks.Bind c b)) P h = (asks.Bind c b ∷ h.0, (h.0, refl, h.1))
@@ -165,8 +165,8 @@ asked_by (p ∷ more) past run end joining =
     let here_asks : Asks past p here.ask = record { run = run; joining = joining; asks = here.asked } in
     elim here.next [
       | inl wrong ↦
-          let last : Leads here.ask (AreAsks (p ∷ past) more end) (asks.Broken wrong.0 wrong.1 ∷ []) =
-          subst (λ (x : Option Ask). Leads x (AreAsks (p ∷ past) more end) (asks.Broken wrong.0 wrong.1 ∷ [])) (sym wrong.2) refl in
+          let last : AsksFirst here.ask (AreAsks (p ∷ past) more end) (asks.Broken wrong.0 wrong.1 ∷ []) =
+          subst (λ (x : Option Ask). AsksFirst x (AreAsks (p ∷ past) more end) (asks.Broken wrong.0 wrong.1 ∷ [])) (sym wrong.2) refl in
           (asks.Broken wrong.0 wrong.1 ∷ [], (here.ask, here_asks, last))
       | inr next ↦
           let joins : IsJoining (reverse (p ∷ past)) next.0 =

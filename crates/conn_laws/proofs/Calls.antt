@@ -17,7 +17,7 @@ use Rattle.conn_asks.specs.declared.events.Caller.{Caller}
 use Rattle.conn_asks.specs.declared.events.Ask.{Ask}
 use Rattle.conn_asks.specs.declared.events.Ask.TheVariants as asks
 use Rattle.conn_asks.specs.declared.events.ConnFault.TheVariants as conn
-use Rattle.conn_asks.specs.Asks.{is_bound, fragment, called, caller, of_bind, of_alter, is_called, OfRequest, AsksWith, Asks}
+use Rattle.conn_asks.specs.Asks.{is_bound, request_fragment, called, caller, of_bind, of_alter, is_called, OfRequest, AsksWith, Asks}
 use Rattle.conn_laws.specs.WholeRuns.{EndsWhole, EndsRun}
 
 -- ---- what isn't a call
@@ -49,11 +49,11 @@ record Called (bound : Bool) (run : Option Joined) (p : Pdu) (body : Body) (j : 
   part : RequestBody
   is : body ≡ bodies.Request part
   bound_is : bound ≡ true
-  taken : IsTaken run (fragment p part)
-  last : is_last (fragment p part) ≡ true
-  joins : j ≡ with_fragment run (fragment p part)
+  taken : IsTaken run (request_fragment p part)
+  last : is_last (request_fragment p part) ≡ true
+  joins : j ≡ with_fragment run (request_fragment p part)
 
-of_request : (bound : Bool) (run : Option Joined) (p : Pdu) (r : RequestBody) (j : Joined) → OfRequest bound run (fragment p r) (Some (asks.Call j)) → Called bound run p (bodies.Request r) j
+of_request : (bound : Bool) (run : Option Joined) (p : Pdu) (r : RequestBody) (j : Joined) → OfRequest bound run (request_fragment p r) (Some (asks.Call j)) → Called bound run p (bodies.Request r) j
 of_request true run p r j h = record { part = r; is = refl; bound_is = refl; taken = h.0; last = h.1; joins = h.2 }
 of_request false run p r j h = absurd (cc (h))
 
@@ -77,20 +77,20 @@ called_by bound run call p bodies.Shutdown j h = absurd (cc (h))
 call_whole : (past : List Pdu) (p : Pdu) (j : Joined) → Asks past p (Some (asks.Call j)) → (is_bound past ≡ true) × EndsWhole past p j
 call_whole past p j a =
     let c = called_by (is_bound past) a.run (called past) p p.body j a.asks in
-    let adds : AddsFragment (Ok a.run) (fragment p c.part) (Ok (Some j)) (Ok None) = (c.taken, c.last, c.joins, refl) in
-    (c.bound_is, (fragment p c.part, ap (fragment_with p) c.is, runs_join (reverse past) a.run None (fragment p c.part) j a.joining adds))
+    let adds : AddsFragment (Ok a.run) (request_fragment p c.part) (Ok (Some j)) (Ok None) = (c.taken, c.last, c.joins, refl) in
+    (c.bound_is, (request_fragment p c.part, ap (fragment_with p) c.is, runs_join (reverse past) a.run None (request_fragment p c.part) j a.joining adds))
 
 -- a PDU with a fragment is a request
 record Request (p : Pdu) (body : Body) (f : Fragment) : Type 0 where
   part : RequestBody
   is : body ≡ bodies.Request part
-  f_is : f ≡ fragment p part
+  f_is : f ≡ request_fragment p part
 
 one_fragment : (a b : Fragment) → a ∷ [] ≡ b ∷ [] → b ≡ a
 one_fragment a b e = cc
 
 request : (p : Pdu) (body : Body) (f : Fragment) → fragment_with p body ≡ f ∷ [] → Request p body f
-request p (bodies.Request r) f e = record { part = r; is = refl; f_is = one_fragment (fragment p r) f e }
+request p (bodies.Request r) f e = record { part = r; is = refl; f_is = one_fragment (request_fragment p r) f e }
 request p (bodies.Response r) f e = absurd (cc (e))
 request p (bodies.Fault r) f e = absurd (cc (e))
 request p (bodies.Bind r) f e = absurd (cc (e))
@@ -111,7 +111,7 @@ whole_asked past p j (bound, (f, is, w)) =
     let run = joining_of (reverse past) f j w.joins in
     let adds = whole_taken (reverse past) run.0 f j run.1 w in
     let r = request p p.body f is in
-    let same : f ≡ fragment p r.part = r.f_is in
+    let same : f ≡ request_fragment p r.part = r.f_is in
     let asked : OfRequest true run.0 f (Some (asks.Call j)) = (adds.0, adds.1, adds.2) in
     let here : AsksWith true run.0 (called past) p (bodies.Request r.part) (Some (asks.Call j)) =
     subst (λ (g : Fragment). OfRequest true run.0 g (Some (asks.Call j))) same asked in

@@ -1,4 +1,4 @@
--- What is asked from a moment on.
+-- What is asked from a state on.
 use Rattle.std.proofs.Common.{◌≡◌, ℕ, Bool, true, false, List, [], ◌∷◌, ◌++◌, Option, Some, None, refl, sym, ap, subst, ◌∙◌, append_assoc}
 use Rattle.std.specs.Prelude.{if◌then◌else◌}
 use Rattle.rpc_base.specs.declared.identifiers.SyntaxId.{SyntaxId}
@@ -23,9 +23,9 @@ use Rattle.conn_asks.specs.declared.events.Ask.{Ask}
 use Rattle.conn_asks.specs.declared.events.Ask.TheVariants as asks
 use Rattle.conn_asks.specs.declared.events.ConnFault.{ConnFault}
 use Rattle.conn_asks.specs.declared.events.ConnFault.TheVariants as conn
-use Rattle.conn_asks.specs.Asks.{offered_by, offered, caller, fragment, of_bind, of_alter, is_called, OfRequest, AsksWith, Asks, is_bound, called, broken_end, Leads, AreAsks}
+use Rattle.conn_asks.specs.Asks.{offered_by, offered, caller, request_fragment, of_bind, of_alter, is_called, OfRequest, AsksWith, Asks, is_bound, called, broken_end, AsksFirst, AreAsks}
 use Rattle.conn_asks.specs.Asking.{elements_in}
-use Rattle.conn_asks.specs.Moments.{Moment, accepted, Takes}
+use Rattle.conn_asks.specs.States.{ConnState, accepted, TakesPdu}
 use Rattle.conn_laws.proofs.OneAsk.{JoinsBy, joins_by}
 use Rattle.conn_laws.proofs.OneAsk.JoinsBy.{goes_on, whole, breaks}
 
@@ -58,13 +58,13 @@ alter_by : (bound : Bool) (c : Caller) (b : AlterBody) (ask : Option Ask) → as
 alter_by true c b ask e = offers (ap elements_of (sym e))
 alter_by false c b ask e = broken c conn.Unbound e
 
-join_by : (run : Option Joined) (p : Pdu) (r : RequestBody) (ask : Option Ask) → JoinsBy run (fragment p r) ask → Offers (bodies.Request r) ask
+join_by : (run : Option Joined) (p : Pdu) (r : RequestBody) (ask : Option Ask) → JoinsBy run (request_fragment p r) ask → Offers (bodies.Request r) ask
 join_by run p r ask (goes_on e t last) = offers (ap elements_of (sym e))
 join_by run p r ask (whole j e t last is) = offers (ap elements_of (sym e))
 join_by run p r ask (breaks c fault e c_is known wrong) = broken c (conn.Join fault) e
 
-request_by : (bound : Bool) (run : Option Joined) (p : Pdu) (r : RequestBody) (ask : Option Ask) → OfRequest bound run (fragment p r) ask → Offers (bodies.Request r) ask
-request_by true run p r ask h = join_by run p r ask (joins_by run (fragment p r) ask h)
+request_by : (bound : Bool) (run : Option Joined) (p : Pdu) (r : RequestBody) (ask : Option Ask) → OfRequest bound run (request_fragment p r) ask → Offers (bodies.Request r) ask
+request_by true run p r ask h = join_by run p r ask (joins_by run (request_fragment p r) ask h)
 request_by false run p r ask h = broken _ conn.Unbound h
 
 offers_by : (bound : Bool) (run : Option Joined) (call : Option ℕ) (p : Pdu) (body : Body) (ask : Option Ask) → AsksWith bound run call p body ask → Offers body ask
@@ -90,7 +90,7 @@ more_offered : (ids : List SyntaxId) (past : List Pdu) (p : Pdu) → contexts id
 unfolding offered
 more_offered ids past p = split ids [] (offered past) (offered_by p.body)
 
-pub accepted_on : (m n : Moment) (p : Pdu) → Takes m p n → accepted n ≡ contexts_after m.ids (accepted m) (offered_by p.body)
+pub accepted_on : (m n : ConnState) (p : Pdu) → TakesPdu m p n → accepted n ≡ contexts_after m.ids (accepted m) (offered_by p.body)
 accepted_on m n p t = (λ i. contexts (t.ids i) (offered (t.past i))) ∙ more_offered m.ids m.past p
 
 pub none_offered : (ids : List SyntaxId) (a : List Accepted) → contexts_after ids a [] ≡ a
@@ -128,14 +128,14 @@ peel_by s others front p (q ∷ qs) rest fault next e spelled remains =
 pub peel : (s others : List ℕ) (p : Pdu) (cut : Cut) → IsNext s p others → IsCut s cut → Peeled others p cut
 peel s others p cut next c = peel_by s others c.front p cut.pdus cut.rest cut.fault next c.whole c.pdus c.remains
 
--- ---- what is asked from a moment on
+-- ---- what is asked from a state on
 
-pub record Left (m : Moment) (asked : List Ask) : Type 0 where
+pub record Left (m : ConnState) (asked : List Ask) : Type 0 where
   pub cut : Cut
   pub is_cut : IsCut m.rest cut
   pub asks : AreAsks m.past cut.pdus (broken_end cut.rest cut.fault) asked
 
-pub leads_map : (ask : Option Ask) (P Q : List Ask → Type 0) (asked : List Ask) → ((xs : List Ask) → P xs → Q xs) → Leads ask P asked → Leads ask Q asked
+pub leads_map : (ask : Option Ask) (P Q : List Ask → Type 0) (asked : List Ask) → ((xs : List Ask) → P xs → Q xs) → AsksFirst ask P asked → AsksFirst ask Q asked
 leads_map None P Q asked f h = f asked h
 leads_map (Some (asks.Broken c g)) P Q asked f h = h
 leads_map (Some (asks.Bind c b)) P Q asked f h = (h.0, h.1, f h.0 h.2)
@@ -144,7 +144,7 @@ leads_map (Some (asks.Call j)) P Q asked f h = (h.0, h.1, f h.0 h.2)
 leads_map (Some (asks.Cancel id)) P Q asked f h = (h.0, h.1, f h.0 h.2)
 leads_map (Some (asks.Orphan id)) P Q asked f h = (h.0, h.1, f h.0 h.2)
 
-pub left_takes : (m n : Moment) (p : Pdu) (asked : List Ask) → Left m asked → Takes m p n → (ask : Option Ask) × Asks m.past p ask × Leads ask (Left n) asked
+pub left_takes : (m n : ConnState) (p : Pdu) (asked : List Ask) → Left m asked → TakesPdu m p n → (ask : Option Ask) × Asks m.past p ask × AsksFirst ask (Left n) asked
 left_takes m n p asked l t =
     let c = peel m.rest n.rest p l.cut t.next l.is_cut in
     let end = broken_end l.cut.rest l.cut.fault in

@@ -2,7 +2,7 @@ pub mod Comes
 pub mod More
 pub mod OneAsk
 pub mod OneAct
-pub mod Told
+pub mod Decided
 pub mod Early
 pub mod Passing
 pub mod Late

@@ -10,25 +10,25 @@ use Rattle.conn_asks.specs.declared.events.Act.{Act}
 use Rattle.conn_asks.specs.declared.events.Act.TheVariants as acts
 use Rattle.conn_asks.specs.Asks.{caller_at, broken_by}
 use Rattle.conn_asks.specs.Answers.{closing}
-use Rattle.conn_asks.specs.Moments.{Moment, with_octets, Takes, SkipsAll, Acts, Goes}
+use Rattle.conn_asks.specs.States.{ConnState, with_octets, TakesPdu, SkipsAll, Acts, Goes}
 
-pub takes_more : (m n : Moment) (p : Pdu) (more : List ℕ) → Takes m p n → Takes (with_octets m more) p (with_octets n more)
+pub takes_more : (m n : ConnState) (p : Pdu) (more : List ℕ) → TakesPdu m p n → TakesPdu (with_octets m more) p (with_octets n more)
 takes_more m n p more t = record {
   may = t.may;
   next = (t.next.0, t.next.1, ap (λ (x : List ℕ). x ++ more) t.next.2 ∙ append_assoc t.next.0 n.rest more);
   past = t.past;
   ids = t.ids;
-  link = t.link;
+  agreement = t.agreement;
 }
 
-pub skips_more : (m : Moment) (ps : List Pdu) (n : Moment) (more : List ℕ) → SkipsAll m ps n → SkipsAll (with_octets m more) ps (with_octets n more)
-skips_more m [] n more e = ap (λ (x : Moment). with_octets x more) e
+pub skips_more : (m : ConnState) (ps : List Pdu) (n : ConnState) (more : List ℕ) → SkipsAll m ps n → SkipsAll (with_octets m more) ps (with_octets n more)
+skips_more m [] n more e = ap (λ (x : ConnState). with_octets x more) e
 skips_more m (p ∷ ps) n more all =
     let s = all.1 in
     (with_octets all.0 more, record { takes = takes_more m all.0 p more s.takes; ask = s.ask; asks = s.asks; idle = s.idle; waits = s.waits }, skips_more all.0 ps n more all.2)
 
-pub skips_append : (m : Moment) (ps qs : List Pdu) (n k : Moment) → SkipsAll m ps n → SkipsAll n qs k → SkipsAll m (ps ++ qs) k
-skips_append m [] qs n k e all = subst (λ (x : Moment). SkipsAll x qs k) e all
+pub skips_append : (m : ConnState) (ps qs : List Pdu) (n k : ConnState) → SkipsAll m ps n → SkipsAll n qs k → SkipsAll m (ps ++ qs) k
+skips_append m [] qs n k e all = subst (λ (x : ConnState). SkipsAll x qs k) e all
 skips_append m (p ∷ ps) qs n k all later = (all.0, all.1, skips_append all.0 ps qs n k all.2 later)
 
 -- ---- a fault's header
@@ -55,7 +55,7 @@ close_more : (rest more : List ℕ) (f : PduFault) → 16 ≤ length rest
     ≡ acts.Close (pdu_octets (closing (caller_at (rest ++ more)) (broken_by (rest ++ more) f))) (broken_by (rest ++ more) f)
 close_more rest more f long = rw (caller_more rest more long, broken_more rest more f long) refl
 
-pub acts_more : (m n : Moment) (act : Act) (more : List ℕ) → Acts m act n → Acts (with_octets m more) act (with_octets n more)
+pub acts_more : (m n : ConnState) (act : Act) (more : List ℕ) → Acts m act n → Acts (with_octets m more) act (with_octets n more)
 acts_more m n act more (inl a) =
     let s = a.1 in
     inl (a.0, record { takes = takes_more m n a.0 more s.takes; ask = s.ask; asks = s.asks; does = s.does })
@@ -68,14 +68,14 @@ acts_more m n act more (inr a) =
         free = s.free;
         stops = fault_stays m.rest more a.0 s.stops;
         act_is = s.act_is ∙ close_more m.rest more a.0 long;
-        after = ap (λ (x : Moment). with_octets x more) s.after;
+        after = ap (λ (x : ConnState). with_octets x more) s.after;
       },
     )
 
-pub act_stays : (m n : Moment) (act : Act) (more : List ℕ) → Goes m (Ok (Some act)) n → Goes (with_octets m more) (Ok (Some act)) (with_octets n more)
+pub act_stays : (m n : ConnState) (act : Act) (more : List ℕ) → Goes m (Ok (Some act)) n → Goes (with_octets m more) (Ok (Some act)) (with_octets n more)
 act_stays m n act more g = (g.0, with_octets g.1 more, skips_more m g.0 g.1 more g.2, acts_more g.1 n act more g.3)
 
-pub skipped_before : (m n k : Moment) (act : Option Act) (more : List ℕ) → Goes m (Ok None) n → Goes (with_octets n more) (Ok act) k → Goes (with_octets m more) (Ok act) k
+pub skipped_before : (m n k : ConnState) (act : Option Act) (more : List ℕ) → Goes m (Ok None) n → Goes (with_octets n more) (Ok act) k → Goes (with_octets m more) (Ok act) k
 skipped_before m n k None more g h =
     (g.0 ++ h.0, skips_append (with_octets m more) g.0 h.0 (with_octets n more) k (skips_more m g.0 n more g.1) h.1, h.2)
 skipped_before m n k (Some act) more g h =

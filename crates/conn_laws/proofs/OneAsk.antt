@@ -12,14 +12,14 @@ use Rattle.pdu_stream.proofs.RunLaws.{one_joining}
 use Rattle.presentation.specs.declared.verdict.Accepted.{Accepted}
 use Rattle.presentation.specs.Offers.{interface_of}
 use Rattle.conn_asks.specs.declared.events.Caller.{Caller}
-use Rattle.conn_asks.specs.declared.events.Link.{Link}
+use Rattle.conn_asks.specs.declared.events.Agreement.{Agreement}
 use Rattle.conn_asks.specs.declared.events.Ask.{Ask}
 use Rattle.conn_asks.specs.declared.events.Ask.TheVariants as asks
 use Rattle.conn_asks.specs.declared.events.Act.{Act}
 use Rattle.conn_asks.specs.declared.events.Waits.{Waits}
 use Rattle.conn_asks.specs.declared.events.ConnFault.TheVariants as conn
-use Rattle.conn_asks.specs.Asks.{Asks, AsksWith, OfRequest, JoinsTo, fragment, caller_of_fragment, is_bound, called}
-use Rattle.conn_asks.specs.Moments.{Calls, DoesWith}
+use Rattle.conn_asks.specs.Asks.{Asks, AsksWith, OfRequest, JoinsToAsk, request_fragment, caller_of_fragment, is_bound, called}
+use Rattle.conn_asks.specs.States.{ActsOnCall, DoesWith}
 
 pub true_false : (b : Bool) → b ≡ true → b ≡ false → ⊥
 true_false b t f = absurd (cc (t, f))
@@ -56,7 +56,7 @@ pub data JoinsBy (run : Option Joined) (f : Fragment) (ask : Option Ask) : Type 
   whole : (j : Joined) → ask ≡ Some (asks.Call j) → IsTaken run f → is_last f ≡ true → j ≡ with_fragment run f → JoinsBy run f ask
   breaks : (c : Caller) (fault : JoinFault) → ask ≡ Some (asks.Broken c (conn.Join fault)) → c ≡ caller_of_fragment f → fault ≢ Memory → IsJoinFault run f fault → JoinsBy run f ask
 
-pub joins_by : (run : Option Joined) (f : Fragment) (ask : Option Ask) → JoinsTo run f ask → JoinsBy run f ask
+pub joins_by : (run : Option Joined) (f : Fragment) (ask : Option Ask) → JoinsToAsk run f ask → JoinsBy run f ask
 joins_by run f None h = goes_on refl h.0 h.1
 joins_by run f (Some (asks.Call j)) h = whole j refl h.0 h.1 h.2
 joins_by run f (Some (asks.Broken c (conn.Join fault))) h = breaks c fault refl h.0 h.1 h.2
@@ -97,7 +97,7 @@ one_of_request true run f a b h k = one_join run f a b (joins_by run f a h) (joi
 one_of_request false run f a b h k = h ∙ sym k
 
 asks_same : (bound : Bool) (run : Option Joined) (call : Option ℕ) (p : Pdu) (body : Body) (a b : Option Ask) → AsksWith bound run call p body a → AsksWith bound run call p body b → a ≡ b
-asks_same bound run call p (bodies.Request r) a b h k = one_of_request bound run (fragment p r) a b h k
+asks_same bound run call p (bodies.Request r) a b h k = one_of_request bound run (request_fragment p r) a b h k
 asks_same bound run call p (bodies.Response r) a b h k = h ∙ sym k
 asks_same bound run call p (bodies.Fault r) a b h k = h ∙ sym k
 asks_same bound run call p (bodies.Bind r) a b h k = h ∙ sym k
@@ -116,15 +116,15 @@ one_ask past p a b h k =
 
 -- ---- one thing is done at what is asked
 
-one_call : (number : Option ℕ) (j : Joined) (act act' : Act) (w w' : Waits) → Calls number j act w → Calls number j act' w' → (act ≡ act') × (w ≡ w')
+one_call : (number : Option ℕ) (j : Joined) (act act' : Act) (w w' : Waits) → ActsOnCall number j act w → ActsOnCall number j act' w' → (act ≡ act') × (w ≡ w')
 one_call (Some k) j act act' w w' h l = (h.0 ∙ sym l.0, h.1 ∙ sym l.1)
 one_call None j act act' w w' h l = (h.0 ∙ sym l.0, h.1 ∙ sym l.1)
 
-pub one_does : (ids : List SyntaxId) (a : List Accepted) (link : Link) (old : Waits) (ask : Ask) (act act' : Act) (w w' : Waits)
-    → DoesWith ids a link old ask act w → DoesWith ids a link old ask act' w' → (act ≡ act') × (w ≡ w')
-one_does ids a link old (asks.Bind c b) act act' w w' h k = (h.0 ∙ sym k.0, h.1 ∙ sym k.1)
-one_does ids a link old (asks.Alter c b) act act' w w' h k = (h.0 ∙ sym k.0, h.1 ∙ sym k.1)
-one_does ids a link old (asks.Call j) act act' w w' h k = one_call (interface_of a j.context) j act act' w w' h k
-one_does ids a link old (asks.Cancel id) act act' w w' h k = (h.1 ∙ sym k.1, h.2 ∙ sym k.2)
-one_does ids a link old (asks.Orphan id) act act' w w' h k = (h.1 ∙ sym k.1, h.2 ∙ sym k.2)
-one_does ids a link old (asks.Broken c f) act act' w w' h k = (h.0 ∙ sym k.0, h.1 ∙ sym k.1)
+pub one_does : (ids : List SyntaxId) (a : List Accepted) (agreement : Agreement) (old : Waits) (ask : Ask) (act act' : Act) (w w' : Waits)
+    → DoesWith ids a agreement old ask act w → DoesWith ids a agreement old ask act' w' → (act ≡ act') × (w ≡ w')
+one_does ids a agreement old (asks.Bind c b) act act' w w' h k = (h.0 ∙ sym k.0, h.1 ∙ sym k.1)
+one_does ids a agreement old (asks.Alter c b) act act' w w' h k = (h.0 ∙ sym k.0, h.1 ∙ sym k.1)
+one_does ids a agreement old (asks.Call j) act act' w w' h k = one_call (interface_of a j.context) j act act' w w' h k
+one_does ids a agreement old (asks.Cancel id) act act' w w' h k = (h.1 ∙ sym k.1, h.2 ∙ sym k.2)
+one_does ids a agreement old (asks.Orphan id) act act' w w' h k = (h.1 ∙ sym k.1, h.2 ∙ sym k.2)
+one_does ids a agreement old (asks.Broken c f) act act' w w' h k = (h.0 ∙ sym k.0, h.1 ∙ sym k.1)

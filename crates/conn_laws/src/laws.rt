@@ -14,7 +14,7 @@ pub fn goes_on_in_the_stream()
     ensures { GoesOnInTheStream }
 {}
 
-/// What the octets behind a moment leave uncut is what all octets that came leave.
+/// What the octets behind a state leave uncut is what all octets that came leave.
 pub fn leaves_of_all()
     ensures { LeavesOfAll }
 {}
@@ -29,7 +29,7 @@ pub fn skipped_before()
     ensures { SkippedBefore }
 {}
 
-/// A moment has one next act, or none, and one moment behind it, unless memory runs out.
+/// A state has one next act, or none, and one state behind it, unless memory runs out.
 pub fn one_act()
     ensures { OneAct }
 {}
@@ -39,30 +39,30 @@ pub fn all_has_come()
     ensures { AllHasCome }
 {}
 
-/// Each moment of a connection to which octets came has a next act, or none.
+/// Each state of a connection to which octets came has a next act, or none.
 pub fn each_goes()
     ensures { EachGoes }
 {}
 
-/// Each moment of a connection to which octets came is at rest behind some further acts, with no further
-/// octets and no word of those above.
+/// Each state of a connection to which octets came is at rest behind some further acts, with no further
+/// octets and no decision of the server.
 pub fn each_rests()
     ensures { EachRests }
 {}
 
-/// What those above say at a moment is answered by one list of octets, and leads to one moment.
+/// What the server decides in a state is answered by one list of octets, and leads to one state.
 pub fn one_answer()
     ensures { OneAnswer }
 {}
 
-/// Octets that come in other pieces give the same acts and answers, in the same order, where each word of
-/// those above comes behind as many of them; and the same moment, once nothing more is to be done.
+/// Octets that come in other pieces give the same acts and answers, in the same order, where each decision of
+/// the server comes behind as many of them; and the same state, once nothing more is to be done.
 pub fn same_acts()
     ensures { SameActs }
 {}
 
 /// Octets that come in other pieces give the same answers, and the same acts but for cancels and orphanings,
-/// in the same order, and end at the same moment, whenever those above say the same. Only which cancels and
+/// in the same order, and end at the same state, whenever the server decides the same. Only which cancels and
 /// orphanings find their call unanswered depends on when it is answered.
 pub fn same_answers()
     ensures { SameAnswers }

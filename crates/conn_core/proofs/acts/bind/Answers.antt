@@ -6,5 +6,5 @@ pub returns-clause-can : goal.returns-clause-can
 returns-clause-can c = (
   c.new.ensures,
   rw c.in_ok-results.ensures.results (results_fit _ _ _ c.requires.few),
-  rw c.link-link.ensures (omega (arith, c.requires.wide), omega (arith, c.requires.wide)),
+  rw c.agreement-agreement.ensures (omega (arith, c.requires.wide), omega (arith, c.requires.wide)),
 )

@@ -1,5 +1,5 @@
 use Rattle.std.proofs.Common.{length}
-use Rattle.conn_core.specs.Talks.{HasCause}
+use Rattle.conn_core.specs.Fields.{HasCause}
 use Rattle.conn_core.proofs.Leaving.{Taken}
 use Rattle.conn_core.proofs.left.left.Given as goal
 

@@ -1,4 +1,4 @@
-use Rattle.conn_laws.proofs.Told.{one_answer}
+use Rattle.conn_laws.proofs.Decided.{one_answer}
 use Rattle.conn_laws.proofs.laws.one_answer.Goals as goal
 
 pub returns : goal.returns

@@ -1,4 +1,4 @@
--- A connection from one moment to another: which PDUs it takes, and what it does at what they ask.
+-- The states of a connection: which PDUs it takes, and what it does at what they ask.
 use Rattle.std.specs.Prelude.{◌≡◌, ℕ, Bool, true, false, Option, Some, None, Result, Ok, Err, List, [], ◌∷◌, ◌++◌, reverse, ◌⊎◌, ⊤}
 use Rattle.rpc_base.specs.declared.fault.NoMemory.{NoMemory}
 use Rattle.rpc_base.specs.declared.identifiers.SyntaxId.{SyntaxId}
@@ -15,7 +15,7 @@ use Rattle.presentation.specs.declared.verdict.Accepted.{Accepted}
 use Rattle.presentation.specs.Offers.{contexts, results_after, interface_of}
 use Rattle.handle_model.specs.declared.entry.Said.{Said}
 use Rattle.conn_asks.specs.declared.events.Caller.{Caller}
-use Rattle.conn_asks.specs.declared.events.Link.{Link}
+use Rattle.conn_asks.specs.declared.events.Agreement.{Agreement}
 use Rattle.conn_asks.specs.declared.events.Ask.{Ask}
 use Rattle.conn_asks.specs.declared.events.Ask.TheVariants as asks
 use Rattle.conn_asks.specs.declared.events.Act.{Act}
@@ -23,67 +23,67 @@ use Rattle.conn_asks.specs.declared.events.Act.TheVariants as acts
 use Rattle.conn_asks.specs.declared.events.Waits.{Waits}
 use Rattle.conn_asks.specs.declared.events.Waits.TheVariants.{Nothing, Group, Call, Over, Failed}
 use Rattle.conn_asks.specs.Asks.{Asks, offered, caller_at, broken_by}
-use Rattle.conn_asks.specs.Answers.{link_of, link_with, bind_ack, alter_resp, bind_nak, closing, refusal, Replies}
+use Rattle.conn_asks.specs.Answers.{agreement_of, agreement_with, bind_ack, alter_resp, bind_nak, closing, refusal, Replies}
 
--- A moment of a connection: the interfaces that are served; the PDUs that it took, the newest first; the octets that
+-- A state of a connection: the interfaces that are served; the PDUs that it took, the newest first; the octets that
 -- came behind them; what it waits for; and what its bind_ack said, once there was one.
-pub record Moment : Type 0 where
+pub record ConnState : Type 0 where
   pub ids : List SyntaxId
   pub past : List Pdu
   pub rest : List ℕ
   pub waits : Waits
-  pub link : Link
+  pub agreement : Agreement
 
--- a link before there is a bind_ack
-abbrev pub no_link : Link
-no_link = record { max_xmit = 1432; max_recv = 1432; group = 0 }
+-- what is agreed before there is a bind_ack
+abbrev pub no_agreement : Agreement
+no_agreement = record { max_xmit = 1432; max_recv = 1432; group = 0 }
 
 -- nothing came
-abbrev pub at_start : List SyntaxId → Moment
-at_start ids = record { ids = ids; past = []; rest = []; waits = Nothing; link = no_link }
+abbrev pub at_start : List SyntaxId → ConnState
+at_start ids = record { ids = ids; past = []; rest = []; waits = Nothing; agreement = no_agreement }
 
 -- further octets came
-abbrev pub with_octets : Moment → List ℕ → Moment
+abbrev pub with_octets : ConnState → List ℕ → ConnState
 with_octets m piece = record m { rest = m.rest ++ piece }
 
 -- the presentation contexts that are accepted
-abbrev pub accepted : Moment → List Accepted
+abbrev pub accepted : ConnState → List Accepted
 accepted m = contexts m.ids (offered m.past)
 
 -- WHAT IS DONE AT AN ASK
 
 -- a bind_ack, ready but for the group
-abbrev pub ready_ack : Link → List ContextResult → BindAckBody
-ready_ack link results =
-    record { max_xmit = link.max_xmit; max_recv = link.max_recv; group = link.group; address = []; results = results }
+abbrev pub ready_ack : Agreement → List ContextResult → BindAckBody
+ready_ack agreement results =
+    record { max_xmit = agreement.max_xmit; max_recv = agreement.max_recv; group = agreement.group; address = []; results = results }
 
 abbrev pub caller_of : Joined → Caller
 caller_of j = record { order = j.order; call_id = j.call_id; context = j.context }
 
--- a call of an interface is left to those above; one whose context isn't accepted is refused
-abbrev pub Calls : Option ℕ → Joined → Act → Waits → Type 0
-Calls (Some k) j act waits = (act ≡ acts.Call j k) × (waits ≡ Call (caller_of j) j.maybe)
-Calls None j act waits = (act ≡ acts.Answer (refusal (caller_of j) j.maybe)) × (waits ≡ Nothing)
+-- a call of an interface is left to the server; one whose context isn't accepted is refused
+abbrev pub ActsOnCall : Option ℕ → Joined → Act → Waits → Type 0
+ActsOnCall (Some k) j act waits = (act ≡ acts.Call j k) × (waits ≡ Call (caller_of j) j.maybe)
+ActsOnCall None j act waits = (act ≡ acts.Answer (refusal (caller_of j) j.maybe)) × (waits ≡ Nothing)
 
 -- a call is unanswered
 abbrev pub IsCalling : Waits → Type 0
 IsCalling waits = (c : Caller) × (maybe : Bool) × (waits ≡ Call c maybe)
 
 -- What is done at an ask where these interfaces are served and these contexts accepted, and what is waited for then.
-abbrev pub DoesWith : List SyntaxId → List Accepted → Link → Waits → Ask → Act → Waits → Type 0
-DoesWith ids a link old (asks.Bind c b) act waits =
-    (act ≡ acts.Group b.group) × (waits ≡ Group c (ready_ack (link_of b 0) (results_after ids a b.elements)))
-DoesWith ids a link old (asks.Alter c b) act waits =
-    (act ≡ acts.Answer (pdu_octets (alter_resp c link (results_after ids a b.elements)))) × (waits ≡ Nothing)
-DoesWith ids a link old (asks.Call j) act waits = Calls (interface_of a j.context) j act waits
-DoesWith ids a link old (asks.Cancel id) act waits = IsCalling old × (act ≡ acts.Cancel id) × (waits ≡ old)
-DoesWith ids a link old (asks.Orphan id) act waits = IsCalling old × (act ≡ acts.Orphan id) × (waits ≡ old)
-DoesWith ids a link old (asks.Broken c f) act waits = (act ≡ acts.Close (pdu_octets (closing c f)) f) × (waits ≡ Over)
+abbrev pub DoesWith : List SyntaxId → List Accepted → Agreement → Waits → Ask → Act → Waits → Type 0
+DoesWith ids a agreement old (asks.Bind c b) act waits =
+    (act ≡ acts.Group b.group) × (waits ≡ Group c (ready_ack (agreement_of b 0) (results_after ids a b.elements)))
+DoesWith ids a agreement old (asks.Alter c b) act waits =
+    (act ≡ acts.Answer (pdu_octets (alter_resp c agreement (results_after ids a b.elements)))) × (waits ≡ Nothing)
+DoesWith ids a agreement old (asks.Call j) act waits = ActsOnCall (interface_of a j.context) j act waits
+DoesWith ids a agreement old (asks.Cancel id) act waits = IsCalling old × (act ≡ acts.Cancel id) × (waits ≡ old)
+DoesWith ids a agreement old (asks.Orphan id) act waits = IsCalling old × (act ≡ acts.Orphan id) × (waits ≡ old)
+DoesWith ids a agreement old (asks.Broken c f) act waits = (act ≡ acts.Close (pdu_octets (closing c f)) f) × (waits ≡ Over)
 
-abbrev pub Does : Moment → Ask → Act → Waits → Type 0
-Does m ask act waits = DoesWith m.ids (accepted m) m.link m.waits ask act waits
+abbrev pub Does : ConnState → Ask → Act → Waits → Type 0
+Does m ask act waits = DoesWith m.ids (accepted m) m.agreement m.waits ask act waits
 
--- FROM ONE MOMENT TO ANOTHER
+-- FROM ONE STATE TO ANOTHER
 
 abbrev pub is_calling_off : Body → Bool
 is_calling_off bodies.CoCancel = true
@@ -97,12 +97,12 @@ MayCome (Call c maybe) body = is_calling_off body ≡ true
 MayCome _ body = ⊥
 
 -- The next PDU is taken.
-pub record Takes (m : Moment) (p : Pdu) (n : Moment) : Type 0 where
+pub record TakesPdu (m : ConnState) (p : Pdu) (n : ConnState) : Type 0 where
   pub may : MayCome m.waits p.body
   pub next : IsNext m.rest p n.rest
   pub past : n.past ≡ p ∷ m.past
   pub ids : n.ids ≡ m.ids
-  pub link : n.link ≡ m.link
+  pub agreement : n.agreement ≡ m.agreement
 
 -- A PDU asks nothing, or it calls off a call that isn't unanswered.
 abbrev pub IsIdle : Waits → Option Ask → Type 0
@@ -112,33 +112,33 @@ IsIdle Nothing (Some (asks.Orphan id)) = ⊤
 IsIdle _ _ = ⊥
 
 -- the PDU is taken, and nothing is done
-pub record Skips (m : Moment) (p : Pdu) (n : Moment) : Type 0 where
-  pub takes : Takes m p n
+pub record Skips (m : ConnState) (p : Pdu) (n : ConnState) : Type 0 where
+  pub takes : TakesPdu m p n
   pub ask : Option Ask
   pub asks : Asks m.past p ask
   pub idle : IsIdle m.waits ask
   pub waits : n.waits ≡ m.waits
 
 -- the same for one PDU after the other
-abbrev pub SkipsAll : Moment → List Pdu → Moment → Type 0
+abbrev pub SkipsAll : ConnState → List Pdu → ConnState → Type 0
 SkipsAll m [] n = n ≡ m
-SkipsAll m (p ∷ more) n = (between : Moment) × Skips m p between × SkipsAll between more n
+SkipsAll m (p ∷ more) n = (between : ConnState) × Skips m p between × SkipsAll between more n
 
 -- the PDU is taken, and what it asks is done
-pub record ActsAt (m : Moment) (p : Pdu) (act : Act) (n : Moment) : Type 0 where
-  pub takes : Takes m p n
+pub record ActsAt (m : ConnState) (p : Pdu) (act : Act) (n : ConnState) : Type 0 where
+  pub takes : TakesPdu m p n
   pub ask : Ask
   pub asks : Asks m.past p (Some ask)
   pub does : Does m ask act n.waits
 
 -- the octets that come next are no PDU
-pub record StopsAt (m : Moment) (fault : PduFault) (act : Act) (n : Moment) : Type 0 where
+pub record StopsAt (m : ConnState) (fault : PduFault) (act : Act) (n : ConnState) : Type 0 where
   pub free : m.waits ≡ Nothing
   pub stops : IsStop m.rest fault
   pub act_is : act ≡ acts.Close (pdu_octets (closing (caller_at m.rest) (broken_by m.rest fault))) (broken_by m.rest fault)
   pub after : n ≡ record m { waits = Over }
 
-abbrev pub Acts : Moment → Act → Moment → Type 0
+abbrev pub Acts : ConnState → Act → ConnState → Type 0
 Acts m act n = ((p : Pdu) × ActsAt m p act n) ⊎ ((fault : PduFault) × StopsAt m fault act n)
 
 -- Nothing may be done: what comes next has to wait, or isn't whole.
@@ -156,7 +156,7 @@ MayFail Over = ⊥
 MayFail _ = ⊤
 
 -- memory ran out, behind some further PDUs
-pub record Fails (m n : Moment) : Type 0 where
+pub record RunsShort (m n : ConnState) : Type 0 where
   pub may : MayFail m.waits
   pub pdus : List Pdu
   pub front : List ℕ
@@ -164,16 +164,16 @@ pub record Fails (m n : Moment) : Type 0 where
   pub rest : m.rest ≡ front ++ n.rest
   pub past : n.past ≡ reverse pdus ++ m.past
   pub ids : n.ids ≡ m.ids
-  pub link : n.link ≡ m.link
+  pub agreement : n.agreement ≡ m.agreement
   pub waits : n.waits ≡ Failed
 
 -- The next act, behind PDUs at which nothing is done.
-abbrev pub Goes : Moment → Result (Option Act) NoMemory → Moment → Type 0
-Goes m (Ok (Some act)) n = (skipped : List Pdu) × (between : Moment) × SkipsAll m skipped between × Acts between act n
+abbrev pub Goes : ConnState → Result (Option Act) NoMemory → ConnState → Type 0
+Goes m (Ok (Some act)) n = (skipped : List Pdu) × (between : ConnState) × SkipsAll m skipped between × Acts between act n
 Goes m (Ok None) n = (skipped : List Pdu) × SkipsAll m skipped n × IsStuck n.waits n.rest
-Goes m (Err _) n = Fails m n
+Goes m (Err _) n = RunsShort m n
 
--- WHAT IS ANSWERED FROM ABOVE
+-- THE SERVER'S DECISIONS
 
 -- a group is waited for
 abbrev pub IsGrouping : Waits → Type 0
@@ -181,32 +181,32 @@ IsGrouping (Group c ack) = ⊤
 IsGrouping _ = ⊥
 
 -- The bind is answered by a bind_ack with the group's id, and PDUs are taken again.
-abbrev pub BoundAt : Waits → Moment → ℕ → List ℕ → Moment → Type 0
+abbrev pub BoundAt : Waits → ConnState → ℕ → List ℕ → ConnState → Type 0
 BoundAt (Group c ack) m group octets n =
-    (octets ≡ pdu_octets (bind_ack c (link_with ack group) ack.results)) × (n ≡ record m { waits = Nothing; link = link_with ack group })
+    (octets ≡ pdu_octets (bind_ack c (agreement_with ack group) ack.results)) × (n ≡ record m { waits = Nothing; agreement = agreement_with ack group })
 BoundAt _ m group octets n = ⊥
 
 -- The bind is refused for a reason, and the connection is closed.
-abbrev pub RefusedAt : Waits → Moment → ℕ → List ℕ → Moment → Type 0
+abbrev pub RefusedAt : Waits → ConnState → ℕ → List ℕ → ConnState → Type 0
 RefusedAt (Group c ack) m reason octets n = (octets ≡ pdu_octets (bind_nak c reason)) × (n ≡ record m { waits = Over })
 RefusedAt _ m reason octets n = ⊥
 
 -- The call is answered, and PDUs are taken again.
-abbrev pub RepliedAt : Waits → Moment → Option Said → Bool → List ℕ → Moment → Type 0
+abbrev pub RepliedAt : Waits → ConnState → Option Said → Bool → List ℕ → ConnState → Type 0
 RepliedAt (Call c maybe) m said executed octets n =
-    Replies c m.link.max_xmit maybe executed said octets × (n ≡ record m { waits = Nothing })
+    Replies c m.agreement.max_xmit maybe executed said octets × (n ≡ record m { waits = Nothing })
 RepliedAt _ m said executed octets n = ⊥
 
 -- The same, where want of memory changes nothing.
-abbrev pub Answered : (List ℕ → Type 0) → Moment → Result (List ℕ) NoMemory → Moment → Type 0
+abbrev pub Answered : (List ℕ → Type 0) → ConnState → Result (List ℕ) NoMemory → ConnState → Type 0
 Answered P m (Ok octets) n = P octets
 Answered P m (Err _) n = n ≡ m
 
-abbrev pub Bound : Moment → ℕ → Result (List ℕ) NoMemory → Moment → Type 0
+abbrev pub Bound : ConnState → ℕ → Result (List ℕ) NoMemory → ConnState → Type 0
 Bound m group result n = Answered (λ octets. BoundAt m.waits m group octets n) m result n
 
-abbrev pub Refused : Moment → ℕ → Result (List ℕ) NoMemory → Moment → Type 0
+abbrev pub Refused : ConnState → ℕ → Result (List ℕ) NoMemory → ConnState → Type 0
 Refused m reason result n = Answered (λ octets. RefusedAt m.waits m reason octets n) m result n
 
-abbrev pub Replied : Moment → Option Said → Bool → Result (List ℕ) NoMemory → Moment → Type 0
+abbrev pub Replied : ConnState → Option Said → Bool → Result (List ℕ) NoMemory → ConnState → Type 0
 Replied m said executed result n = Answered (λ octets. RepliedAt m.waits m said executed octets n) m result n
