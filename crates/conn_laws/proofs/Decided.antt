@@ -12,8 +12,8 @@ use Rattle.conn_asks.specs.declared.events.Waits.{Waits}
 use Rattle.conn_asks.specs.declared.events.Waits.TheVariants.{Nothing, Group, Call, Over, Failed}
 use Rattle.conn_asks.specs.Answers.{Replies, response_octets}
 use Rattle.conn_asks.specs.States.{ConnState, with_octets, MayCome, TakesPdu, IsIdle, Skips, SkipsAll, BoundAt, RefusedAt, RepliedAt}
-use Rattle.conn_laws.specs.Histories.{Decision, AnswersDecision}
-use Rattle.conn_laws.specs.Histories.Decision.{ToGroup, RefuseGroup, Reply}
+use Rattle.conn_histories.specs.Histories.{Decision, AnswersDecision}
+use Rattle.conn_histories.specs.Histories.Decision.{ToGroup, RefuseGroup, Reply}
 
 -- ---- where something may be said
 

@@ -7,8 +7,9 @@ use Rattle.conn_asks.specs.declared.events.Waits.{Waits}
 use Rattle.conn_asks.specs.declared.events.Waits.TheVariants.{Nothing, Over}
 use Rattle.conn_asks.specs.Asks.{AreAsksOf}
 use Rattle.conn_asks.specs.States.{ConnState, at_start, with_octets, IsStuck}
-use Rattle.conn_laws.specs.Histories.{Event, Lives, IsAtRest, stream, seen}
-use Rattle.conn_laws.specs.Played.{Negotiated, negotiated_at_start, Plays, EndsRefused, Done}
+use Rattle.conn_histories.specs.Histories.{Event, Lives, IsAtRest, stream, seen}
+use Rattle.conn_histories.specs.Plays.{Negotiated, negotiated_at_start, Plays, EndsRefused}
+use Rattle.conn_laws.specs.Played.{Done}
 use Rattle.conn_laws.proofs.Early.{early}
 use Rattle.conn_laws.proofs.Left.{Left, none_at_start}
 use Rattle.conn_laws.proofs.Walks.{known, Rest, walk, left_at}

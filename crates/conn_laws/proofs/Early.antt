@@ -3,8 +3,8 @@ use Rattle.std.proofs.Common.{◌≡◌, ℕ, List, [], ◌∷◌, ◌++◌, Opt
 use Rattle.pdu_codec.specs.declared.pdu.Pdu.{Pdu}
 use Rattle.conn_asks.specs.declared.events.Act.{Act}
 use Rattle.conn_asks.specs.States.{ConnState, with_octets, SkipsAll, Goes}
-use Rattle.conn_laws.specs.Histories.{Decision, Event, AnswersDecision, Lives, IsAtRest, stream, seen, turns}
-use Rattle.conn_laws.specs.Histories.Event.{Came, Paused, Did, Decided}
+use Rattle.conn_histories.specs.Histories.{Decision, Event, AnswersDecision, Lives, IsAtRest, stream, seen, turns}
+use Rattle.conn_histories.specs.Histories.Event.{Came, Paused, Did, Decided}
 use Rattle.conn_laws.proofs.More.{skips_more, skips_append, act_stays}
 use Rattle.conn_laws.proofs.OneAct.{one_act}
 use Rattle.conn_laws.proofs.Decided.{one_answer, answers_more, moved}

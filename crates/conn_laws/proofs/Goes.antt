@@ -31,9 +31,9 @@ use Rattle.conn_asks.specs.Asks.{Asks, is_bound, called}
 use Rattle.conn_asks.specs.Answers.{refusal}
 use Rattle.conn_asks.specs.States.{ConnState, at_start, accepted, caller_of, ActsOnCall, DoesWith, is_calling_off, MayCome, TakesPdu, IsIdle, Skips, SkipsAll, ActsAt, StopsAt, Acts, IsStuck, Goes}
 use Rattle.conn_laws.specs.Laws.{HasCome}
-use Rattle.conn_laws.specs.Histories.{Decision, Event, AnswersDecision, Lives, stream}
-use Rattle.conn_laws.specs.Histories.Decision.{ToGroup, RefuseGroup, Reply}
-use Rattle.conn_laws.specs.Histories.Event.{Came, Paused, Did, Decided}
+use Rattle.conn_histories.specs.Histories.{Decision, Event, AnswersDecision, Lives, stream}
+use Rattle.conn_histories.specs.Histories.Decision.{ToGroup, RefuseGroup, Reply}
+use Rattle.conn_histories.specs.Histories.Event.{Came, Paused, Did, Decided}
 use Rattle.conn_laws.proofs.OneAsk.{one_ask}
 use Rattle.conn_laws.proofs.Decided.{AnswersAt, at_waits}
 use Rattle.conn_laws.proofs.Passing.{IsOff, idle_off, off_asked}

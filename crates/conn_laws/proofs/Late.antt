@@ -4,8 +4,8 @@ use Rattle.pdu_codec.specs.declared.pdu.Pdu.{Pdu}
 use Rattle.conn_asks.specs.declared.events.Act.{Act}
 use Rattle.conn_asks.specs.declared.events.Act.TheVariants as acts
 use Rattle.conn_asks.specs.States.{ConnState, with_octets, Acts, Goes}
-use Rattle.conn_laws.specs.Histories.{Decision, Event, AnswersDecision, Lives, IsAtRest, stream, decisions, with_act, lasting}
-use Rattle.conn_laws.specs.Histories.Event.{Came, Paused, Did, Decided}
+use Rattle.conn_histories.specs.Histories.{Decision, Event, AnswersDecision, Lives, IsAtRest, stream, decisions, with_act, lasting}
+use Rattle.conn_histories.specs.Histories.Event.{Came, Paused, Did, Decided}
 use Rattle.conn_laws.proofs.More.{skips_more, act_stays}
 use Rattle.conn_laws.proofs.Decided.{one_answer, answers_more}
 use Rattle.conn_laws.proofs.Early.{no_octets, octets_append}

@@ -17,8 +17,8 @@ use Rattle.conn_asks.specs.declared.events.Waits.{Waits}
 use Rattle.conn_asks.specs.declared.events.Waits.TheVariants.{Nothing, Group, Call, Over, Failed}
 use Rattle.conn_asks.specs.Asks.{Asks, AsksWith, is_called, is_bound, called}
 use Rattle.conn_asks.specs.States.{ConnState, accepted, ActsOnCall, IsCalling, DoesWith, is_calling_off, MayCome, TakesPdu, IsIdle, SkipsAll, ActsAt, Acts, IsStuck}
-use Rattle.conn_laws.specs.Histories.{Decision, AnswersDecision}
-use Rattle.conn_laws.specs.Histories.Decision.{Reply}
+use Rattle.conn_histories.specs.Histories.{Decision, AnswersDecision}
+use Rattle.conn_histories.specs.Histories.Decision.{Reply}
 use Rattle.conn_laws.proofs.OneAsk.{true_false, one_ask}
 use Rattle.conn_laws.proofs.OneAct.{one_taken, taken_alike, taken_sound, stuck_takes, ActsOrRests, one_end}
 use Rattle.conn_laws.proofs.Decided.{Asked, asked, at_waits, free, free_reply, takes_free, no_take}

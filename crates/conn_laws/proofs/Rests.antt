@@ -9,8 +9,9 @@ use Rattle.conn_asks.specs.declared.events.Act.{Act}
 use Rattle.conn_asks.specs.declared.events.Waits.{Waits}
 use Rattle.conn_asks.specs.declared.events.Waits.TheVariants.{Over}
 use Rattle.conn_asks.specs.States.{ConnState, at_start, TakesPdu, SkipsAll, Acts, IsStuck, Goes}
-use Rattle.conn_laws.specs.Histories.{Event, Lives, IsAtRest, stream, Rests}
-use Rattle.conn_laws.specs.Histories.Event.{Paused, Did}
+use Rattle.conn_histories.specs.Histories.{Event, Lives, IsAtRest, stream}
+use Rattle.conn_laws.specs.Histories.{Rests}
+use Rattle.conn_histories.specs.Histories.Event.{Paused, Did}
 use Rattle.conn_laws.proofs.Goes.{Sound, sound_goes, next_of, octets_left, sound_all}
 
 takes_less : (m n : ConnState) (p : Pdu) → TakesPdu m p n → length n.rest < length m.rest

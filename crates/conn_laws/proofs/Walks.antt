@@ -18,10 +18,10 @@ use Rattle.conn_asks.specs.declared.events.Waits.TheVariants.{Nothing, Group, Ca
 use Rattle.conn_asks.specs.Asks.{Asks, caller_at, broken_by, broken_end, AsksFirst, AreAsks}
 use Rattle.conn_asks.specs.States.{ConnState, accepted, DoesWith, is_calling_off, MayCome, TakesPdu, IsIdle, Skips, SkipsAll, ActsAt, StopsAt, Acts, IsStuck, Goes}
 use Rattle.conn_asks.specs.States as states
-use Rattle.conn_laws.specs.Histories.{Decision, Event, AnswersDecision}
-use Rattle.conn_laws.specs.Histories.Decision.{ToGroup, RefuseGroup, Reply}
-use Rattle.conn_laws.specs.Histories.Event.{Came, Paused, Did, Decided}
-use Rattle.conn_laws.specs.Played.{Negotiated, offering, Binds, Runs, PlaysCall, Plays, EndsRefused}
+use Rattle.conn_histories.specs.Histories.{Decision, Event, AnswersDecision}
+use Rattle.conn_histories.specs.Histories.Decision.{ToGroup, RefuseGroup, Reply}
+use Rattle.conn_histories.specs.Histories.Event.{Came, Paused, Did, Decided}
+use Rattle.conn_histories.specs.Plays.{Negotiated, offering, Binds, Runs, PlaysCall, Plays, EndsRefused}
 use Rattle.conn_laws.proofs.OneAsk.{one_ask}
 use Rattle.conn_laws.proofs.Decided.{AnswersAt, at_waits, skips_keep}
 use Rattle.conn_laws.proofs.Early.{Acted}
