@@ -19,6 +19,10 @@ use Rattle.conn_asks.specs.declared.events.Agreement.{Agreement}
 use Rattle.conn_asks.specs.declared.events.ConnFault.{ConnFault}
 use Rattle.conn_asks.specs.declared.events.ConnFault.TheVariants.{Nak}
 
+-- FIRST_FRAG and LAST_FRAG, of a PDU that is no fragment
+abbrev pub alone : ℕ
+alone = 0x03
+
 abbrev pub answer : Caller → ℕ → Body → Pdu
 answer c flags body = record { minor = 0; flags = flags; order = c.order; call_id = c.call_id; body = body }
 
@@ -40,9 +44,9 @@ agreement_with ack group = record { max_xmit = ack.max_xmit; max_recv = ack.max_
 abbrev pub AreResults : List ContextResult → Type 0
 AreResults results = (length results < 256) × AllByRecursion (λ r. FitsSyntax r.transfer) results
 
-abbrev pub bind_ack : Caller → Agreement → List ContextResult → Pdu
-bind_ack c agreement results =
-    answer c 0x03 (bodies.BindAck (record { max_xmit = agreement.max_xmit; max_recv = agreement.max_recv; group = agreement.group; address = []; results = results }))
+abbrev pub bind_ack : Caller → ℕ → Agreement → List ContextResult → Pdu
+bind_ack c flags agreement results =
+    answer c flags (bodies.BindAck (record { max_xmit = agreement.max_xmit; max_recv = agreement.max_recv; group = agreement.group; address = []; results = results }))
 
 -- the body of a bind_ack
 abbrev pub ack_in : Body → Option BindAckBody
@@ -52,11 +56,11 @@ ack_in _ = None
 -- the sizes and the group are those of the bind_ack
 abbrev pub alter_resp : Caller → Agreement → List ContextResult → Pdu
 alter_resp c agreement results =
-    answer c 0x03 (bodies.AlterResp (record { max_xmit = agreement.max_xmit; max_recv = agreement.max_recv; group = agreement.group; address = []; results = results }))
+    answer c alone (bodies.AlterResp (record { max_xmit = agreement.max_xmit; max_recv = agreement.max_recv; group = agreement.group; address = []; results = results }))
 
 -- a refusal, with the version of the protocol that the server knows, 5.0
 abbrev pub bind_nak : Caller → ℕ → Pdu
-bind_nak c reason = answer c 0x03 (bodies.BindNak (record { reason = reason; versions = record { major = 5; minor = 0 } ∷ [] }))
+bind_nak c reason = answer c alone (bodies.BindNak (record { reason = reason; versions = record { major = 5; minor = 0 } ∷ [] }))
 
 -- ---- faults
 

@@ -58,12 +58,12 @@ Finds bound (Err fault) called p result new = AsksStill bound fault called p p.b
 
 -- the elements that an ask offers
 abbrev pub elements_in : Ask → List Element
-elements_in (Bind c b) = b.elements
+elements_in (Bind c flags b) = b.elements
 elements_in (Alter c b) = b.elements
 elements_in _ = []
 
 -- What is asked can be answered: as many elements as a PDU's count tells, and fragments that are long enough.
 abbrev pub IsAnswerable : Ask → Type 0
-IsAnswerable (Bind c b) = (length b.elements < 256) × (1432 ≤ b.max_recv)
+IsAnswerable (Bind c flags b) = (length b.elements < 256) × (1432 ≤ b.max_recv)
 IsAnswerable (Alter c b) = length b.elements < 256
 IsAnswerable _ = ⊤

@@ -74,9 +74,9 @@ abbrev pub caller_of_fragment : Fragment → Caller
 caller_of_fragment f = record { order = f.order; call_id = f.call_id; context = f.part.context }
 
 -- a bind, given whether one came before
-abbrev pub of_bind : Bool → Caller → BindBody → Ask
-of_bind true c b = Broken c Rebound
-of_bind false c b = if nat_lt b.max_recv 1432 then Broken c (Nak 0) else Bind c b
+abbrev pub of_bind : Bool → Caller → ℕ → BindBody → Ask
+of_bind true c flags b = Broken c Rebound
+of_bind false c flags b = if nat_lt b.max_recv 1432 then Broken c (Nak 0) else Bind c flags b
 
 abbrev pub of_alter : Bool → Caller → AlterBody → Ask
 of_alter true c b = Alter c b
@@ -102,7 +102,7 @@ is_called id (Some other) = other == id
 -- What a PDU asks, given whether a bind came, the request that is being joined, and the call that was asked last. The
 -- other PDUs are not for a server.
 abbrev pub AsksWith : Bool → Option Joined → Option ℕ → Pdu → Body → Option Ask → Type 0
-AsksWith bound run call p (bodies.Bind b) ask = ask ≡ Some (of_bind bound (caller p 0) b)
+AsksWith bound run call p (bodies.Bind b) ask = ask ≡ Some (of_bind bound (caller p 0) p.flags b)
 AsksWith bound run call p (bodies.Alter b) ask = ask ≡ Some (of_alter bound (caller p 0) b)
 AsksWith bound run call p (bodies.Request r) ask = OfRequest bound run (request_fragment p r) ask
 AsksWith bound run call p bodies.CoCancel ask = ask ≡ (if is_called p.call_id call then Some (Cancel p.call_id) else None)

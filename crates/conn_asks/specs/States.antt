@@ -1,5 +1,5 @@
 -- The states of a connection: which PDUs it takes, and what it does at what they ask.
-use Rattle.std.specs.Prelude.{◌≡◌, ℕ, Bool, true, false, Option, Some, None, Result, Ok, Err, List, [], ◌∷◌, ◌++◌, reverse, ◌⊎◌, ⊤}
+use Rattle.std.specs.Prelude.{◌≡◌, ℕ, ◌≤◌, ◌==◌, ◌||◌, Bool, true, false, Option, Some, None, Result, Ok, Err, List, [], ◌∷◌, ◌++◌, length, reverse, ◌⊎◌, ⊤}
 use Rattle.rpc_base.specs.declared.fault.NoMemory.{NoMemory}
 use Rattle.rpc_base.specs.declared.identifiers.SyntaxId.{SyntaxId}
 use Rattle.pdu_codec.specs.declared.pdu.Pdu.{Pdu}
@@ -9,6 +9,7 @@ use Rattle.pdu_codec.specs.declared.pdu.BindAckBody.{BindAckBody}
 use Rattle.pdu_codec.specs.declared.pdu.ContextResult.{ContextResult}
 use Rattle.pdu_codec.specs.declared.fault.PduFault.{PduFault}
 use Rattle.pdu_codec.specs.Pdus.{IsPdu, AreSpelled, pdu_octets}
+use Rattle.pdu_codec.specs.Faults.{kind_at}
 use Rattle.pdu_stream.specs.declared.joined.Joined.{Joined}
 use Rattle.pdu_stream.specs.Cuts.{IsNext, IsStop, IsPartial}
 use Rattle.presentation.specs.declared.verdict.Accepted.{Accepted}
@@ -23,7 +24,7 @@ use Rattle.conn_asks.specs.declared.events.Act.TheVariants as acts
 use Rattle.conn_asks.specs.declared.events.Waits.{Waits}
 use Rattle.conn_asks.specs.declared.events.Waits.TheVariants.{Nothing, Group, Call, Over, Failed}
 use Rattle.conn_asks.specs.Asks.{Asks, offered, caller_at, broken_by}
-use Rattle.conn_asks.specs.Answers.{agreement_of, agreement_with, bind_ack, alter_resp, bind_nak, closing, refusal, Replies}
+use Rattle.conn_asks.specs.Answers.{alone, agreement_of, agreement_with, bind_ack, alter_resp, bind_nak, closing, refusal, Replies}
 
 -- A state of a connection: the interfaces that are served; the PDUs that it took, the newest first; the octets that
 -- came behind them; what it waits for; and what its bind_ack said, once there was one.
@@ -69,9 +70,14 @@ ActsOnCall None j act waits = (act ≡ acts.Answer (refusal (caller_of j) j.mayb
 abbrev pub IsCalling : Waits → Type 0
 IsCalling waits = (c : Caller) × (maybe : Bool) × (waits ≡ Call c maybe)
 
+-- a group is waited for
+abbrev pub IsGrouping : Waits → Type 0
+IsGrouping (Group c ack) = ⊤
+IsGrouping _ = ⊥
+
 -- What is done at an ask where these interfaces are served and these contexts accepted, and what is waited for then.
 abbrev pub DoesWith : List SyntaxId → List Accepted → Agreement → Waits → Ask → Act → Waits → Type 0
-DoesWith ids a agreement old (asks.Bind c b) act waits =
+DoesWith ids a agreement old (asks.Bind c flags b) act waits =
     (act ≡ acts.Group b.group) × (waits ≡ Group c (ready_ack (agreement_of b 0) (results_after ids a b.elements)))
 DoesWith ids a agreement old (asks.Alter c b) act waits =
     (act ≡ acts.Answer (pdu_octets (alter_resp c agreement (results_after ids a b.elements)))) × (waits ≡ Nothing)
@@ -89,6 +95,10 @@ abbrev pub is_calling_off : Body → Bool
 is_calling_off bodies.CoCancel = true
 is_calling_off bodies.Orphaned = true
 is_calling_off _ = false
+
+-- the PTYPE of a co_cancel or an orphaned
+abbrev pub calls_off_by : ℕ → Bool
+calls_off_by kind = kind == 18 || kind == 19
 
 -- Each PDU may be taken where nothing is waited for, and a co_cancel or an orphaned while a call is unanswered.
 abbrev pub MayCome : Waits → Body → Type 0
@@ -173,17 +183,28 @@ Goes m (Ok (Some act)) n = (skipped : List Pdu) × (between : ConnState) × Skip
 Goes m (Ok None) n = (skipped : List Pdu) × SkipsAll m skipped n × IsStuck n.waits n.rest
 Goes m (Err _) n = RunsShort m n
 
--- THE SERVER'S DECISIONS
+-- what is waited for behind an act
+abbrev pub WaitsBehind : Act → Waits → Type 0
+WaitsBehind (acts.Answer octets) waits = waits ≡ Nothing
+WaitsBehind (acts.Group id) waits = IsGrouping waits
+WaitsBehind (acts.Call j number) waits = IsCalling waits
+WaitsBehind (acts.Cancel id) waits = IsCalling waits
+WaitsBehind (acts.Orphan id) waits = IsCalling waits
+WaitsBehind (acts.Close octets why) waits = waits ≡ Over
 
--- a group is waited for
-abbrev pub IsGrouping : Waits → Type 0
-IsGrouping (Group c ack) = ⊤
-IsGrouping _ = ⊥
+-- What stands in front has to wait, until the group or the call is answered: each PDU for a group, and for a call one
+-- whose header isn't that of a co_cancel or an orphaned.
+abbrev pub MustWait : Waits → List ℕ → Type 0
+MustWait (Group c ack) rest = ⊤
+MustWait (Call c maybe) rest = (16 ≤ length rest) × (calls_off_by (kind_at rest) ≡ false)
+MustWait _ rest = ⊥
+
+-- THE SERVER'S DECISIONS
 
 -- The bind is answered by a bind_ack with the group's id, and PDUs are taken again.
 abbrev pub BoundAt : Waits → ConnState → ℕ → List ℕ → ConnState → Type 0
 BoundAt (Group c ack) m group octets n =
-    (octets ≡ pdu_octets (bind_ack c (agreement_with ack group) ack.results)) × (n ≡ record m { waits = Nothing; agreement = agreement_with ack group })
+    (octets ≡ pdu_octets (bind_ack c alone (agreement_with ack group) ack.results)) × (n ≡ record m { waits = Nothing; agreement = agreement_with ack group })
 BoundAt _ m group octets n = ⊥
 
 -- The bind is refused for a reason, and the connection is closed.

@@ -6,10 +6,13 @@ ghost use Rattle.conn_asks.specs.Answers as spec;
 use crate::{Agreement, Caller, ConnFault};
 use pdu_codec::{
     AlterRespBody, BindAckBody, BindNakBody, Body, FaultBody, Pdu, Results, Version, Versions,
-    write_pdu,
+    flags, write_pdu,
 };
 use rpc_base::{Items, NoMemory, Octets, Status};
 use std::alloc::Global;
+
+/// The flags of a PDU that is no fragment.
+pub const ALONE: u8 = flags::FIRST_FRAG | flags::LAST_FRAG;
 
 /// A PDU to the caller.
 pub(crate) fn answer(caller: Caller, flags: u8, body: Body) -> Pdu
@@ -62,7 +65,7 @@ pub fn alter_resp(
         address: Octets::new(alloc),
         results,
     };
-    written(alloc, &answer(caller, 0x03, Body::AlterResp(body)))
+    written(alloc, &answer(caller, ALONE, Body::AlterResp(body)))
 }
 
 /// The octets of a bind_nak.
@@ -72,7 +75,7 @@ pub fn bind_nak(alloc: Global, caller: Caller, reason: u16) -> Result<Octets, No
     let mut versions = Items::new(alloc);
     versions.push(Version { major: 5, minor: 0 })?;
     let body = BindNakBody { reason, versions };
-    written(alloc, &answer(caller, 0x03, Body::BindNak(body)))
+    written(alloc, &answer(caller, ALONE, Body::BindNak(body)))
 }
 
 /// The octets of a fault, of a call that was executed or of one that wasn't.
@@ -116,20 +119,21 @@ pub fn refusal(alloc: Global, caller: Caller, maybe: bool) -> Result<Octets, NoM
     }
 }
 
-/// The octets of a bind_ack for the group, and the body; where there is no memory it is as before.
+/// The octets of a bind_ack for the group, with these flags; where there is no memory the body is as before.
 pub fn bind_ack(
     alloc: Global,
     caller: Caller,
+    flags: u8,
     ack: BindAckBody,
     group: u32,
 ) -> Result<Octets, (BindAckBody, NoMemory)>
     requires address { ack.address ≡ [] }
     requires results { spec.AreResults ack.results }
-    ensures { MatchResult result (λ octets. octets ≡ pdu_octets (spec.bind_ack caller (spec.agreement_with ack group) ack.results)) (λ back. back.0 ≡ ack) }
+    ensures { MatchResult result (λ octets. octets ≡ pdu_octets (spec.bind_ack caller flags (spec.agreement_with ack group) ack.results)) (λ back. back.0 ≡ ack) }
 {
     let before = ack.group;
     let body = BindAckBody { group, ..ack };
-    let pdu = answer(caller, 0x03, Body::BindAck(body));
+    let pdu = answer(caller, flags, Body::BindAck(body));
     match written(alloc, &pdu) {
         Ok(octets) => Ok(octets),
         Err(fault) => Err((given_back(pdu, before), fault)),

@@ -12,8 +12,8 @@ use rpc_base::{NoMemory, Order, get_u32};
 /// The least that a client has to take in one fragment, in octets.
 const LEAST_RECV: u16 = 1432;
 
-fn of_bind(bound: bool, caller: Caller, body: BindBody) -> Ask
-    ensures ask { result ≡ spec.of_bind bound caller body }
+fn of_bind(bound: bool, caller: Caller, flags: u8, body: BindBody) -> Ask
+    ensures ask { result ≡ spec.of_bind bound caller flags body }
     ensures few { length body.elements < 256 → IsAnswerable result }
 {
     if bound {
@@ -21,7 +21,7 @@ fn of_bind(bound: bool, caller: Caller, body: BindBody) -> Ask
     } else if body.max_recv < LEAST_RECV {
         Ask::Broken(caller, ConnFault::Nak(0))
     } else {
-        Ask::Bind(caller, body)
+        Ask::Bind(caller, flags, body)
     }
 }
 
@@ -91,7 +91,7 @@ pub fn ask(
         context: 0,
     };
     match body {
-        Body::Bind(body) => Ok(Some(of_bind(bound, caller, body))),
+        Body::Bind(body) => Ok(Some(of_bind(bound, caller, flags, body))),
         Body::Alter(body) => Ok(Some(of_alter(bound, caller, body))),
         Body::Request(part) => {
             let caller = Caller {

@@ -67,8 +67,8 @@ pub enum Waits {
 /// What PDUs ask, in their order.
 #[derive(Debug, Drop)]
 pub enum Ask {
-    /// The connection is to be bound.
-    Bind(Caller, BindBody),
+    /// The connection is to be bound, by a bind with these flags.
+    Bind(Caller, u8, BindBody),
     /// Further presentation contexts are offered.
     Alter(Caller, AlterBody),
     /// A whole request is to be answered.

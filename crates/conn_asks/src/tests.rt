@@ -78,7 +78,7 @@ fn ack(alloc: Global) -> Result<Octets, NoMemory> {
         address: Octets::new(alloc),
         results: accepted(alloc)?,
     };
-    match bind_ack(alloc, CALLER, ack, 1) {
+    match bind_ack(alloc, CALLER, ALONE, ack, 1) {
         Ok(octets) => Ok(octets),
         Err((_, fault)) => Err(fault),
     }

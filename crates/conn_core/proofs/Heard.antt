@@ -74,20 +74,20 @@ abbrev pub Offers : Ask → Body → Type 0
 Offers (Broken c f) body = ⊤
 Offers ask body = offered_by body ≡ elements_in ask
 
-offers_bind : (c : Caller) (b : BindBody) (q : Bool) → Offers (if q then Broken c (conn.Nak 0) else Bind c b) (bodies.Bind b)
+offers_bind : (c : Caller) (flags : ℕ) (b : BindBody) (q : Bool) → Offers (if q then Broken c (conn.Nak 0) else Bind c flags b) (bodies.Bind b)
 offers_bind c b true = tt
 offers_bind c b false = refl
 
-offers_of_bind : (bound : Bool) (c : Caller) (b : BindBody) → Offers (of_bind bound c b) (bodies.Bind b)
-offers_of_bind true c b = tt
-offers_of_bind false c b = offers_bind c b (nat_lt b.max_recv 1432)
+offers_of_bind : (bound : Bool) (c : Caller) (flags : ℕ) (b : BindBody) → Offers (of_bind bound c flags b) (bodies.Bind b)
+offers_of_bind true c flags b = tt
+offers_of_bind false c flags b = offers_bind c flags b (nat_lt b.max_recv 1432)
 
 offers_of_alter : (bound : Bool) (c : Caller) (b : AlterBody) → Offers (of_alter bound c b) (bodies.Alter b)
 offers_of_alter true c b = refl
 offers_of_alter false c b = tt
 
 offers_joined : (run : Option Joined) (f : Fragment) (r : RequestBody) (ask : Ask) → JoinsToAsk run f (Some ask) → Offers ask (bodies.Request r)
-offers_joined run f r (Bind c b) h = absurd h
+offers_joined run f r (Bind c flags b) h = absurd h
 offers_joined run f r (Alter c b) h = absurd h
 offers_joined run f r (Call j) h = refl
 offers_joined run f r (Cancel id) h = absurd h
@@ -105,7 +105,7 @@ pub offers : (bound : Bool) (run : Option Joined) (p : Pdu) (body : Body) (ask :
 offers bound run p (bodies.Request r) ask h = offers_request bound run (request_fragment p r) r ask h
 offers bound run p (bodies.Response r) ask h = broken_offers (caller p 0) conn.Direction (bodies.Response r) ask h
 offers bound run p (bodies.Fault r) ask h = broken_offers (caller p 0) conn.Direction (bodies.Fault r) ask h
-offers bound run p (bodies.Bind b) ask h = subst (λ (x : Ask). Offers x (bodies.Bind b)) (sym (same_Some ask _ h)) (offers_of_bind bound (caller p 0) b)
+offers bound run p (bodies.Bind b) ask h = subst (λ (x : Ask). Offers x (bodies.Bind b)) (sym (same_Some ask _ h)) (offers_of_bind bound (caller p 0) p.flags b)
 offers bound run p (bodies.BindAck r) ask h = broken_offers (caller p 0) conn.Direction (bodies.BindAck r) ask h
 offers bound run p (bodies.BindNak r) ask h = broken_offers (caller p 0) conn.Direction (bodies.BindNak r) ask h
 offers bound run p (bodies.Alter b) ask h = subst (λ (x : Ask). Offers x (bodies.Alter b)) (sym (same_Some ask _ h)) (offers_of_alter bound (caller p 0) b)
@@ -131,7 +131,7 @@ offers_none bound run p bodies.Orphaned h = refl
 -- ---- A WHOLE REQUEST
 
 abbrev pub is_call : Ask → Bool
-is_call (Bind c b) = false
+is_call (Bind c flags b) = false
 is_call (Alter c b) = false
 is_call (Call j) = true
 is_call (Cancel id) = false
@@ -144,13 +144,13 @@ no_call j ask not e = absurd (cc (ap is_call e, not))
 call_broken : (j : Joined) (c : Caller) (x : ConnFault) → Call j ≡ Broken c x → ⊥
 call_broken j c x e = no_call j (Broken c x) refl e
 
-bind_no_call : (bound q : Bool) (c : Caller) (b : BindBody) → nat_lt b.max_recv 1432 ≡ q → is_call (of_bind bound c b) ≡ false
+bind_no_call : (bound q : Bool) (c : Caller) (flags : ℕ) (b : BindBody) → nat_lt b.max_recv 1432 ≡ q → is_call (of_bind bound c flags b) ≡ false
 bind_no_call true q c b e = refl
 bind_no_call false true c b e = rw e refl
 bind_no_call false false c b e = rw e refl
 
-call_bind : (bound : Bool) (c : Caller) (b : BindBody) (j : Joined) → Call j ≡ of_bind bound c b → ⊥
-call_bind bound c b j e = no_call j (of_bind bound c b) (bind_no_call bound (nat_lt b.max_recv 1432) c b refl) e
+call_bind : (bound : Bool) (c : Caller) (flags : ℕ) (b : BindBody) (j : Joined) → Call j ≡ of_bind bound c flags b → ⊥
+call_bind bound c flags b j e = no_call j (of_bind bound c flags b) (bind_no_call bound (nat_lt b.max_recv 1432) c flags b refl) e
 
 alter_no_call : (bound : Bool) (c : Caller) (b : AlterBody) → is_call (of_alter bound c b) ≡ false
 alter_no_call true c b = refl
@@ -187,7 +187,7 @@ calls true run call p (bodies.Request r) j after h change =
 calls false run call p (bodies.Request r) j after h change = absurd (call_broken j _ _ (same_Some _ _ h))
 calls bound run call p (bodies.Response r) j after h change = absurd (call_broken j _ _ (same_Some _ _ h))
 calls bound run call p (bodies.Fault r) j after h change = absurd (call_broken j _ _ (same_Some _ _ h))
-calls bound run call p (bodies.Bind b) j after h change = absurd (call_bind bound (caller p 0) b j (same_Some _ _ h))
+calls bound run call p (bodies.Bind b) j after h change = absurd (call_bind bound (caller p 0) p.flags b j (same_Some _ _ h))
 calls bound run call p (bodies.BindAck r) j after h change = absurd (call_broken j _ _ (same_Some _ _ h))
 calls bound run call p (bodies.BindNak r) j after h change = absurd (call_broken j _ _ (same_Some _ _ h))
 calls bound run call p (bodies.Alter b) j after h change = absurd (call_alter bound (caller p 0) b j (same_Some _ _ h))
@@ -230,8 +230,8 @@ pub knows_more : (t u : ConnFields) (m : ConnState) (p : Pdu) (ask : Ask) (act :
     → AsksWith t.bound k.run None p p.body (Some ask) → Follows (Changes k.run p p.body) (Some ask) u.joining → DoesWith m.ids (accepted m) m.agreement waits.Nothing ask act w
     → u.served.accepted ≡ contexts_after m.ids (accepted m) (elements_in ask) → Knows w u (behind m p w)
 unfolding called
-knows_more t u m p (Bind c b) act w k bound asks follows does offered =
-    let o = from_offer m b.elements (offered_by p.body) u.served.accepted (offers t.bound k.run p p.body (Bind c b) asks) offered in
+knows_more t u m p (Bind c flags b) act w k bound asks follows does offered =
+    let o = from_offer m b.elements (offered_by p.body) u.served.accepted (offers t.bound k.run p p.body (Bind c flags b) asks) offered in
     as_known w _ u (behind m p w) does.1 (keeps_more t u m p w follows.0 k bound follows.1 follows.2 o)
 knows_more t u m p (Alter c b) act w k bound asks follows does offered =
     let o = from_offer m b.elements (offered_by p.body) u.served.accepted (offers t.bound k.run p p.body (Alter c b) asks) offered in

@@ -81,7 +81,7 @@ heard_act t u m p ask act w free finds bound done waits =
 idle_known : (t u : ConnFields) (m : ConnState) (p : Pdu) (ask : Ask) → (k : KeepsState t m) → IsIdle Nothing (Some ask) → u.bound ≡ (is_bind p.body || t.bound)
     → AsksWith t.bound k.run None p p.body (Some ask) → Follows (Changes k.run p p.body) (Some ask) u.joining → u.served ≡ t.served → KeepsState u (behind m p Nothing)
 unfolding contexts_after
-idle_known t u m p (Bind c b) k idle bound asks follows served = absurd idle
+idle_known t u m p (Bind c flags b) k idle bound asks follows served = absurd idle
 idle_known t u m p (Alter c b) k idle bound asks follows served = absurd idle
 idle_known t u m p (Call j) k idle bound asks follows served = absurd idle
 idle_known t u m p (Cancel id) k idle bound asks follows served =

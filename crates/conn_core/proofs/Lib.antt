@@ -5,4 +5,5 @@ pub mod Heard
 pub mod Hearing
 pub mod Passing
 pub mod CalledOff
+pub mod Waiting
 pub mod Leaving

@@ -1,5 +1,5 @@
 -- One PDU of a connection.
-use Rattle.std.specs.Prelude.{◌≡◌, ℕ, ◌<◌, nat_le, Bool, ◌==◌, ◌&&◌, ◌||◌, Option, Some, None, if◌then◌else◌, Result, Ok, Err, List, ◌∷◌, ◌++◌, length, ⊤}
+use Rattle.std.specs.Prelude.{◌≡◌, ℕ, ◌<◌, nat_le, Bool, ◌==◌, ◌&&◌, not, Option, Some, None, if◌then◌else◌, Result, Ok, Err, List, ◌∷◌, ◌++◌, length, ⊤}
 use Rattle.rpc_base.specs.declared.fault.NoMemory.{NoMemory}
 use Rattle.pdu_codec.specs.declared.pdu.Pdu.{Pdu}
 use Rattle.pdu_codec.specs.declared.pdu.Body.{Body}
@@ -15,7 +15,7 @@ use Rattle.conn_asks.specs.declared.events.Waits.{Waits}
 use Rattle.conn_asks.specs.declared.events.Waits.TheVariants.{Nothing, Over}
 use Rattle.conn_asks.specs.Asks.{Asks, caller_at, broken_by}
 use Rattle.conn_asks.specs.Answers.{closing}
-use Rattle.conn_asks.specs.States.{ConnState, Does, IsIdle, Skips, Acts, SkipsAll, IsStuck, MayFail}
+use Rattle.conn_asks.specs.States.{ConnState, Does, IsIdle, Skips, Acts, SkipsAll, IsStuck, MayFail, calls_off_by, WaitsBehind}
 use Rattle.conn_core.specs.declared.next.Step.{Step}
 use Rattle.conn_core.specs.declared.next.Step.TheVariants.{Stuck, Skipped, Acted}
 use Rattle.conn_core.specs.Fields.{ConnFields, KeepsState, Knows, IsAt}
@@ -33,6 +33,11 @@ pub record Passes (old new : ConnFields) : Type 0 where
 abbrev pub Shortens : Result Step NoMemory → ℕ → ℕ → Type 0
 Shortens (Ok Skipped) old new = new < old
 Shortens _ old new = ⊤
+
+-- what is waited for behind a step at which something was done
+abbrev pub WaitsAfter : Result Step NoMemory → Waits → Type 0
+WaitsAfter (Ok (Acted act)) waits = WaitsBehind act waits
+WaitsAfter _ waits = ⊤
 
 -- a step from a state
 abbrev pub StepsFrom : ConnState → Result Step NoMemory → ConnFields → Type 0
@@ -80,7 +85,11 @@ Stops rest fault (Err _) old new = new ≡ old
 
 -- a header stands in front, with the PTYPE of a co_cancel or an orphaned
 abbrev pub calls_off : List ℕ → Bool
-calls_off octets = nat_le 16 (length octets) && (kind_at octets == 18 || kind_at octets == 19)
+calls_off octets = nat_le 16 (length octets) && calls_off_by (kind_at octets)
+
+-- a header stands in front, with another PTYPE
+abbrev pub holds_up : List ℕ → Bool
+holds_up octets = nat_le 16 (length octets) && not (calls_off_by (kind_at octets))
 
 abbrev pub act_with : ℕ → Body → Act
 act_with id bodies.CoCancel = Cancel id

@@ -1,5 +1,5 @@
 //! What is done at what a PDU asks.
-ghost use Rattle.std.specs.Prelude.{◌≡◌, ◌<◌, ◌≤◌, length, IfOk};
+ghost use Rattle.std.specs.Prelude.{◌≡◌, ℕ, ◌<◌, ◌≤◌, length, IfOk};
 ghost use Rattle.presentation.specs.Offers.{interface_of};
 ghost use Rattle.conn_asks.specs.States.{ActsOnCall};
 ghost use Rattle.conn_asks.specs.declared.events.Ask.TheVariants as asks;
@@ -29,7 +29,7 @@ fn bind(
 ) -> Result<Option<Done>, NoMemory>
     requires few { length body.elements < 256 }
     requires wide { 1432 ≤ body.max_recv }
-    ensures acts { ActsWith contexts.old agreement_now (asks.Bind caller body) result contexts.new }
+    ensures acts { (flags : ℕ) → ActsWith contexts.old agreement_now (asks.Bind caller flags body) result contexts.new }
     ensures can { CanWait result }
 {
     let results = contexts.offer(&body.elements)?;
@@ -98,7 +98,7 @@ pub(crate) fn act(
     ensures can { CanWait result }
 {
     match ask {
-        Ask::Bind(caller, body) => bind(alloc, contexts, agreement, caller, body),
+        Ask::Bind(caller, _, body) => bind(alloc, contexts, agreement, caller, body),
         Ask::Alter(caller, body) => alter(alloc, contexts, agreement, caller, body),
         Ask::Call(joined) => Ok(Some(call(alloc, contexts, joined)?)),
         Ask::Broken(caller, why) => Ok(Some(close(alloc, caller, why)?)),

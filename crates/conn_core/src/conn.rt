@@ -1,11 +1,13 @@
 //! A connection.
-ghost use Rattle.std.specs.Prelude.{◌≡◌, ◌≤◌, ◌^◌, ◌↔◌, length, IsTrue, IfOk, OnOk, OnErr};
+ghost use Rattle.std.specs.Prelude.{◌≡◌, ℕ, ◌≤◌, ◌^◌, ◌↔◌, List, ◌++◌, length, IsTrue, IfOk, IfSome, OnOk, OnErr};
+ghost use Rattle.std.specs.Bool.{OnTrue};
 ghost use Rattle.std.specs.Option.{option_copied};
 ghost use Rattle.conn_asks.specs.Answers.{FitsStub};
-ghost use Rattle.conn_asks.specs.States.{ConnState as AState, at_start, with_octets, Goes, IsGrouping, Bound, Refused, IsCalling, Replied};
+ghost use Rattle.conn_asks.specs.States.{ConnState as AState, at_start, with_octets, Goes, IsStuck, WaitsBehind, MustWait, IsGrouping, Bound, Refused, IsCalling, Replied};
 
 use crate::left::left;
-use conn_asks::{Act, Agreement, Waits, bind_ack, bind_nak, reply};
+use crate::off::holds_up;
+use conn_asks::{ALONE, Act, Agreement, Waits, bind_ack, bind_nak, reply};
 use handle_model::Said;
 use pdu_stream::{Feed, Joiner};
 use presentation::Contexts;
@@ -74,7 +76,8 @@ impl Conn {
     /// waited for every PDU does, and while a call is unanswered every one but a co_cancel or an orphaned.
     /// After a `Close`, and after `nak`, it is `None` for good; after `NoMemory` it is that for good.
     pub fn next(&mut self) -> Result<Option<Act>, NoMemory>
-        ensures { Leads (λ m n. Goes m result n) self.old self.new }
+        ensures goes { Leads (λ m n. Goes m result n) self.old self.new }
+        ensures waits { IfOk result (λ done. IfSome done (λ act. WaitsBehind act self.new.waits)) }
     {
         match self.go() {
             Ok(act) => Ok(act),
@@ -99,6 +102,19 @@ impl Conn {
         matches!(self.waits, Waits::Call(..))
     }
 
+    /// Whether what stands in front has to wait until the group or the call is answered, whatever comes behind
+    /// it: a server may stop taking octets until then.
+    pub fn must_wait(&self) -> bool
+        ensures front { IsTrue result ↔ MustWait self.now.waits self.now.fed.rest }
+        ensures stuck { OnTrue result ((more : List ℕ) → IsStuck self.now.waits (self.now.fed.rest ++ more)) }
+    {
+        match &self.waits {
+            Waits::Group(..) => true,
+            Waits::Call(..) => holds_up(self.feed.held()),
+            Waits::Nothing | Waits::Over | Waits::Failed => false,
+        }
+    }
+
     /// Joins the connection to the group: the octets of its bind_ack. PDUs may then come again. At `NoMemory`
     /// nothing changes.
     pub fn bound(&mut self, group: u32) -> Result<Octets, NoMemory>
@@ -114,7 +130,7 @@ impl Conn {
             max_recv: ack.max_recv,
             group,
         };
-        match bind_ack(self.alloc, caller, ack, group) {
+        match bind_ack(self.alloc, caller, ALONE, ack, group) {
             Ok(octets) => {
                 self.agreement = agreement;
                 self.waits = Waits::Nothing;

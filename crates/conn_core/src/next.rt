@@ -1,8 +1,8 @@
 //! The next act of a connection.
-ghost use Rattle.std.specs.Prelude.{◌≡◌, ◌<◌, ◌||◌, length};
+ghost use Rattle.std.specs.Prelude.{◌≡◌, ◌<◌, ◌||◌, length, IfOk, IfSome};
 ghost use Rattle.pdu_stream.specs.Cuts.{IsStop};
 ghost use Rattle.conn_asks.specs.Asks.{is_bind, offered_by};
-ghost use Rattle.conn_asks.specs.States.{ConnState as AState};
+ghost use Rattle.conn_asks.specs.States.{ConnState as AState, WaitsBehind};
 ghost use Rattle.conn_asks.specs.declared.events.Waits.TheVariants.{Nothing};
 
 use crate::Conn;
@@ -23,12 +23,13 @@ pub enum Step {
 }
 
 impl Conn {
-    ghost use Rattle.conn_core.specs.Steps.{Passes, Shortens, StepsFrom, GoesFrom, IsFree, HearsAt, Stops};
+    ghost use Rattle.conn_core.specs.Steps.{Passes, Shortens, WaitsAfter, StepsFrom, GoesFrom, IsFree, HearsAt, Stops};
     ghost use Rattle.conn_core.specs.Fields.{IsAt};
 
     /// The steps up to the next act.
     pub(crate) fn go(&mut self) -> Result<Option<Act>, NoMemory>
         ensures passes { Passes self.old self.new }
+        ensures waits { IfOk result (λ done. IfSome done (λ act. WaitsBehind act self.new.waits)) }
         ensures goes { (m : AState) → IsAt self.old m → GoesFrom m result self.new }
     {
         loop {
@@ -43,6 +44,7 @@ impl Conn {
     fn step(&mut self) -> Result<Step, NoMemory>
         ensures passes { Passes self.old self.new }
         ensures shorter { Shortens result (length self.old.fed.rest) (length self.new.fed.rest) }
+        ensures waits { WaitsAfter result self.new.waits }
         ensures steps { (m : AState) → IsAt self.old m → StepsFrom m result self.new }
     {
         match &self.waits {
@@ -61,6 +63,7 @@ impl Conn {
         requires { self.old.waits ≡ Nothing }
         ensures passes { Passes self.old self.new }
         ensures shorter { Shortens result (length self.old.fed.rest) (length self.new.fed.rest) }
+        ensures waits { WaitsAfter result self.new.waits }
         ensures steps { (m : AState) → IsAt self.old m → StepsFrom m result self.new }
     {
         match self.feed.next() {
@@ -77,6 +80,7 @@ impl Conn {
         ensures fed { self.new.fed ≡ self.old.fed }
         ensures ids { self.new.served.ids ≡ self.old.served.ids }
         ensures agreement { self.new.agreement ≡ self.old.agreement }
+        ensures waits { WaitsAfter result self.new.waits }
         ensures heard { (m : AState) → IsFree self.old m → HearsAt m pdu result self.new }
     {
         let bound = self.bound;

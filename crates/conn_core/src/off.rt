@@ -10,7 +10,7 @@ use pdu_codec::{Body, Pdu, PduFault};
 use rpc_base::NoMemory;
 
 impl Conn {
-    ghost use Rattle.conn_core.specs.Steps.{Passes, Shortens, StepsFrom};
+    ghost use Rattle.conn_core.specs.Steps.{Passes, Shortens, WaitsAfter, StepsFrom};
     ghost use Rattle.conn_core.specs.Fields.{IsAt, IsCallOf};
 
     /// The next PDU while the call of that id is unanswered.
@@ -18,6 +18,7 @@ impl Conn {
         requires { IsCallOf call_id self.old.waits }
         ensures passes { Passes self.old self.new }
         ensures shorter { Shortens result (length self.old.fed.rest) (length self.new.fed.rest) }
+        ensures waits { WaitsAfter result self.new.waits }
         ensures steps { (m : AState) → IsAt self.old m → StepsFrom m result self.new }
     {
         if !calls_off(self.feed.held()) {
@@ -38,6 +39,13 @@ fn calls_off(octets: &[u8]) -> bool
     ensures { result ≡ spec.calls_off octets.now }
 {
     octets.len() >= 16 && (octets[2] == 18 || octets[2] == 19)
+}
+
+/// Whether a header stands in front that has another PTYPE.
+pub(crate) fn holds_up(octets: &[u8]) -> bool
+    ensures { result ≡ spec.holds_up octets.now }
+{
+    octets.len() >= 16 && !(octets[2] == 18 || octets[2] == 19)
 }
 
 /// What becomes of a co_cancel or an orphaned while the call of that id is unanswered.

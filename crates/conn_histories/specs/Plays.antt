@@ -14,7 +14,7 @@ use Rattle.conn_asks.specs.declared.events.Ask.{Ask}
 use Rattle.conn_asks.specs.declared.events.Ask.TheVariants as asks
 use Rattle.conn_asks.specs.declared.events.Act.TheVariants as acts
 use Rattle.conn_asks.specs.declared.events.Waits.TheVariants.{Nothing, Over}
-use Rattle.conn_asks.specs.Answers.{agreement_of, agreement_with, bind_ack, alter_resp, bind_nak, closing, refusal, Replies}
+use Rattle.conn_asks.specs.Answers.{alone, agreement_of, agreement_with, bind_ack, alter_resp, bind_nak, closing, refusal, Replies}
 use Rattle.conn_asks.specs.States.{ConnState, no_agreement, at_start, ready_ack, caller_of}
 use Rattle.conn_histories.specs.Histories.{Event}
 use Rattle.conn_histories.specs.Histories.Event.{Did, Decided}
@@ -45,7 +45,7 @@ results k elements = results_after k.ids k.accepted elements
 abbrev pub Binds : Caller → BindAckBody → (Agreement → List Event → Type 0) → List Ask → List Event → Type 0
 Binds c ack Then more [] = more ≡ []
 Binds c ack Then more (Decided (ToGroup group) octets ∷ later) =
-    (octets ≡ pdu_octets (bind_ack c (agreement_with ack group) ack.results)) × Then (agreement_with ack group) later
+    (octets ≡ pdu_octets (bind_ack c alone (agreement_with ack group) ack.results)) × Then (agreement_with ack group) later
 Binds c ack Then more (Decided (RefuseGroup reason) octets ∷ later) =
     (octets ≡ pdu_octets (bind_nak c reason)) × (later ≡ []) × (more ≡ [])
 Binds c ack Then more _ = ⊥
@@ -88,7 +88,7 @@ PlaysCall None j most Then more all =
 -- Nothing else is done or answered. At a cancel or an orphaning whose call has ended nothing is.
 abbrev pub Plays : Negotiated → List Ask → List Event → Type 0
 Plays k [] all = all ≡ []
-Plays k (asks.Bind c b ∷ more) all =
+Plays k (asks.Bind c flags b ∷ more) all =
     (later : List Event) × (all ≡ Did (acts.Group b.group) ∷ later)
     × Binds c (ready_ack (agreement_of b 0) (results k b.elements)) (λ agreement rest. Plays (record (offering k b.elements) { agreement = agreement }) more rest) more later
 Plays k (asks.Alter c b ∷ more) all =

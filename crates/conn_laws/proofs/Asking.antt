@@ -35,7 +35,7 @@ ask_first ask later = ask ∷ later
 leads_alike : (ask : Option Ask) (P : List Ask → Type 0) (a b : List Ask) → ((x y : List Ask) → P x → P y → x ≡ y) → AsksFirst ask P a → AsksFirst ask P b → a ≡ b
 leads_alike None P a b one h k = one a b h k
 leads_alike (Some (asks.Broken c f)) P a b one h k = h ∙ sym k
-leads_alike (Some (asks.Bind c body)) P a b one h k = h.1 ∙ ap (ask_first (asks.Bind c body)) (one h.0 k.0 h.2 k.2) ∙ sym k.1
+leads_alike (Some (asks.Bind c flags body)) P a b one h k = h.1 ∙ ap (ask_first (asks.Bind c flags body)) (one h.0 k.0 h.2 k.2) ∙ sym k.1
 leads_alike (Some (asks.Alter c body)) P a b one h k = h.1 ∙ ap (ask_first (asks.Alter c body)) (one h.0 k.0 h.2 k.2) ∙ sym k.1
 leads_alike (Some (asks.Call j)) P a b one h k = h.1 ∙ ap (ask_first (asks.Call j)) (one h.0 k.0 h.2 k.2) ∙ sym k.1
 leads_alike (Some (asks.Cancel id)) P a b one h k = h.1 ∙ ap (ask_first (asks.Cancel id)) (one h.0 k.0 h.2 k.2) ∙ sym k.1
@@ -136,7 +136,7 @@ drops (Some j) id = dropped j id (eqb j.call_id id) refl
 
 pub found : (bound : Bool) (run : Option Joined) (call : Option ℕ) (p : Pdu) (body : Body) → Found bound run call p body
 found bound run call p (bodies.Request r) = requested bound run call p r
-found bound run call p (bodies.Bind b) = record { ask = Some (of_bind bound (caller p 0) b); asked = refl; next = inr (run, refl) }
+found bound run call p (bodies.Bind b) = record { ask = Some (of_bind bound (caller p 0) p.flags b); asked = refl; next = inr (run, refl) }
 found bound run call p (bodies.Alter b) = record { ask = Some (of_alter bound (caller p 0) b); asked = refl; next = inr (run, refl) }
 found bound run call p bodies.CoCancel = let m = marks run p.call_id in record { ask = _; asked = refl; next = inr (m.0, (m.1, m.2)) }
 found bound run call p bodies.Orphaned = let m = drops run p.call_id in record { ask = _; asked = refl; next = inr (m.0, (m.1, m.2)) }
@@ -152,7 +152,7 @@ found bound run call p bodies.Shutdown = record { ask = Some (asks.Broken (calle
 leads_found : (ask : Option Ask) (P : List Ask → Type 0) → (asked : List Ask) × P asked → (asked : List Ask) × AsksFirst ask P asked
 leads_found None P h = h
 leads_found (Some (asks.Broken c f)) P h = (asks.Broken c f ∷ [], refl)
-leads_found (Some (asks.Bind c b)) P h = (asks.Bind c b ∷ h.0, (h.0, refl, h.1))
+leads_found (Some (asks.Bind c flags b)) P h = (asks.Bind c flags b ∷ h.0, (h.0, refl, h.1))
 leads_found (Some (asks.Alter c b)) P h = (asks.Alter c b ∷ h.0, (h.0, refl, h.1))
 leads_found (Some (asks.Call j)) P h = (asks.Call j ∷ h.0, (h.0, refl, h.1))
 leads_found (Some (asks.Cancel id)) P h = (asks.Cancel id ∷ h.0, (h.0, refl, h.1))

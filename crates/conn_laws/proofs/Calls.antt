@@ -36,10 +36,10 @@ if_some : (t : Bool) (a b : Ask) → some_ask (if t then a else b) ≡ (if t the
 if_some true a b = refl
 if_some false a b = refl
 
-no_bind : (bound : Bool) (c : Caller) (b : BindBody) (j : Joined) → call_of j ≡ Some (of_bind bound c b) → ⊥
-no_bind true c b j h = absurd (cc (h))
-no_bind false c b j h =
-    if_no_call _ j (Some (asks.Broken c (conn.Nak 0))) (Some (asks.Bind c b)) (λ e. absurd (cc (e))) (λ e. absurd (cc (e))) (h ∙ if_some _ (asks.Broken c (conn.Nak 0)) (asks.Bind c b))
+no_bind : (bound : Bool) (c : Caller) (flags : ℕ) (b : BindBody) (j : Joined) → call_of j ≡ Some (of_bind bound c flags b) → ⊥
+no_bind true c flags b j h = absurd (cc (h))
+no_bind false c flags b j h =
+    if_no_call _ j (Some (asks.Broken c (conn.Nak 0))) (Some (asks.Bind c flags b)) (λ e. absurd (cc (e))) (λ e. absurd (cc (e))) (h ∙ if_some _ (asks.Broken c (conn.Nak 0)) (asks.Bind c flags b))
 
 no_alter : (bound : Bool) (c : Caller) (b : AlterBody) (j : Joined) → call_of j ≡ Some (of_alter bound c b) → ⊥
 no_alter true c b j h = absurd (cc (h))
@@ -59,7 +59,7 @@ of_request false run p r j h = absurd (cc (h))
 
 called_by : (bound : Bool) (run : Option Joined) (call : Option ℕ) (p : Pdu) (body : Body) (j : Joined) → AsksWith bound run call p body (Some (asks.Call j)) → Called bound run p body j
 called_by bound run call p (bodies.Request r) j h = of_request bound run p r j h
-called_by bound run call p (bodies.Bind b) j h = absurd (no_bind bound (caller p 0) b j h)
+called_by bound run call p (bodies.Bind b) j h = absurd (no_bind bound (caller p 0) p.flags b j h)
 called_by bound run call p (bodies.Alter b) j h = absurd (no_alter bound (caller p 0) b j h)
 called_by bound run call p bodies.CoCancel j h =
     absurd (if_no_call (is_called p.call_id call) j (Some (asks.Cancel p.call_id)) None (λ e. absurd (cc (e))) (λ e. absurd (cc (e))) h)

@@ -91,7 +91,7 @@ calls_live (Some k) j act w d e = absurd (cc (d.1, e))
 calls_live None j act w d e = absurd (cc (d.1, e))
 
 does_live : (ids : List SyntaxId) (a : List Accepted) (agreement : Agreement) (old : Waits) (ask : Ask) (act : Act) (w : Waits) → (old ≡ Failed → ⊥) → DoesWith ids a agreement old ask act w → w ≡ Failed → ⊥
-does_live ids a agreement old (asks.Bind c b) act w fine d e = absurd (cc (d.1, e))
+does_live ids a agreement old (asks.Bind c flags b) act w fine d e = absurd (cc (d.1, e))
 does_live ids a agreement old (asks.Alter c b) act w fine d e = absurd (cc (d.1, e))
 does_live ids a agreement old (asks.Call j) act w fine d e = calls_live (interface_of a j.context) j act w d e
 does_live ids a agreement old (asks.Cancel id) act w fine d e = fine (sym d.2 ∙ e)
@@ -209,7 +209,7 @@ choose_free : (ids : List SyntaxId) (a : List Accepted) (agreement : Agreement) 
 choose_free ids a agreement None = idles tt
 choose_free ids a agreement (Some (asks.Cancel id)) = idles tt
 choose_free ids a agreement (Some (asks.Orphan id)) = idles tt
-choose_free ids a agreement (Some (asks.Bind c b)) = does (asks.Bind c b) _ _ refl (refl, refl)
+choose_free ids a agreement (Some (asks.Bind c flags b)) = does (asks.Bind c flags b) _ _ refl (refl, refl)
 choose_free ids a agreement (Some (asks.Alter c b)) = does (asks.Alter c b) _ _ refl (refl, refl)
 choose_free ids a agreement (Some (asks.Call j)) = choose_call ids a agreement j (interface_of a j.context) refl
 choose_free ids a agreement (Some (asks.Broken c f)) = does (asks.Broken c f) _ _ refl (refl, refl)
@@ -218,7 +218,7 @@ choose_off : (ids : List SyntaxId) (a : List Accepted) (agreement : Agreement) (
 choose_off ids a agreement c maybe None off = idles tt
 choose_off ids a agreement c maybe (Some (asks.Cancel id)) off = does (asks.Cancel id) (acts.Cancel id) (Call c maybe) refl ((c, maybe, refl), refl, refl)
 choose_off ids a agreement c maybe (Some (asks.Orphan id)) off = does (asks.Orphan id) (acts.Orphan id) (Call c maybe) refl ((c, maybe, refl), refl, refl)
-choose_off ids a agreement c maybe (Some (asks.Bind e b)) off = absurd off
+choose_off ids a agreement c maybe (Some (asks.Bind e flags b)) off = absurd off
 choose_off ids a agreement c maybe (Some (asks.Alter e b)) off = absurd off
 choose_off ids a agreement c maybe (Some (asks.Call j)) off = absurd off
 choose_off ids a agreement c maybe (Some (asks.Broken e f)) off = absurd off

@@ -46,13 +46,13 @@ if_elements false a b x y = sym y
 abbrev some_ask : Ask → Option Ask
 some_ask a = Some a
 
-offers_bind : (t : Bool) (c : Caller) (b : BindBody) (ask : Option Ask) → ask ≡ some_ask (if t then asks.Broken c (conn.Nak 0) else asks.Bind c b) → Offers (bodies.Bind b) ask
-offers_bind true c b ask e = broken c (conn.Nak 0) e
-offers_bind false c b ask e = offers (ap elements_of (sym e))
+offers_bind : (t : Bool) (c : Caller) (flags : ℕ) (b : BindBody) (ask : Option Ask) → ask ≡ some_ask (if t then asks.Broken c (conn.Nak 0) else asks.Bind c flags b) → Offers (bodies.Bind b) ask
+offers_bind true c flags b ask e = broken c (conn.Nak 0) e
+offers_bind false c flags b ask e = offers (ap elements_of (sym e))
 
-bind_by : (bound : Bool) (c : Caller) (b : BindBody) (ask : Option Ask) → ask ≡ Some (of_bind bound c b) → Offers (bodies.Bind b) ask
-bind_by true c b ask e = broken c conn.Rebound e
-bind_by false c b ask e = offers_bind _ c b ask e
+bind_by : (bound : Bool) (c : Caller) (flags : ℕ) (b : BindBody) (ask : Option Ask) → ask ≡ Some (of_bind bound c flags b) → Offers (bodies.Bind b) ask
+bind_by true c flags b ask e = broken c conn.Rebound e
+bind_by false c flags b ask e = offers_bind _ c flags b ask e
 
 alter_by : (bound : Bool) (c : Caller) (b : AlterBody) (ask : Option Ask) → ask ≡ Some (of_alter bound c b) → Offers (bodies.Alter b) ask
 alter_by true c b ask e = offers (ap elements_of (sym e))
@@ -69,7 +69,7 @@ request_by false run p r ask h = broken _ conn.Unbound h
 
 offers_by : (bound : Bool) (run : Option Joined) (call : Option ℕ) (p : Pdu) (body : Body) (ask : Option Ask) → AsksWith bound run call p body ask → Offers body ask
 offers_by bound run call p (bodies.Request r) ask h = request_by bound run p r ask h
-offers_by bound run call p (bodies.Bind b) ask h = bind_by bound (caller p 0) b ask h
+offers_by bound run call p (bodies.Bind b) ask h = bind_by bound (caller p 0) p.flags b ask h
 offers_by bound run call p (bodies.Alter b) ask h = alter_by bound (caller p 0) b ask h
 offers_by bound run call p bodies.CoCancel ask h =
     offers (if_elements (is_called p.call_id call) (Some (asks.Cancel p.call_id)) None refl refl ∙ ap elements_of (sym h))
@@ -138,7 +138,7 @@ pub record Left (m : ConnState) (asked : List Ask) : Type 0 where
 pub leads_map : (ask : Option Ask) (P Q : List Ask → Type 0) (asked : List Ask) → ((xs : List Ask) → P xs → Q xs) → AsksFirst ask P asked → AsksFirst ask Q asked
 leads_map None P Q asked f h = f asked h
 leads_map (Some (asks.Broken c g)) P Q asked f h = h
-leads_map (Some (asks.Bind c b)) P Q asked f h = (h.0, h.1, f h.0 h.2)
+leads_map (Some (asks.Bind c flags b)) P Q asked f h = (h.0, h.1, f h.0 h.2)
 leads_map (Some (asks.Alter c b)) P Q asked f h = (h.0, h.1, f h.0 h.2)
 leads_map (Some (asks.Call j)) P Q asked f h = (h.0, h.1, f h.0 h.2)
 leads_map (Some (asks.Cancel id)) P Q asked f h = (h.0, h.1, f h.0 h.2)

@@ -49,7 +49,7 @@ stuck_takes m n p t stuck = stuck_by m.waits p m.rest n.rest t.may t.next stuck
 -- ---- what is skipped isn't done
 
 idle_by : (ids : List SyntaxId) (a : List Accepted) (agreement : Agreement) (old : Waits) (ask : Ask) (act : Act) (w : Waits) → IsIdle old (Some ask) → DoesWith ids a agreement old ask act w → ⊥
-idle_by ids a agreement Nothing (asks.Bind c b) act w idle d = idle
+idle_by ids a agreement Nothing (asks.Bind c flags b) act w idle d = idle
 idle_by ids a agreement Nothing (asks.Alter c b) act w idle d = idle
 idle_by ids a agreement Nothing (asks.Call j) act w idle d = idle
 idle_by ids a agreement Nothing (asks.Cancel id) act w idle d = absurd (cc (d.0.2))

@@ -65,7 +65,7 @@ joins_by run f (Some (asks.Broken c conn.Direction)) h = absurd h
 joins_by run f (Some (asks.Broken c conn.Unbound)) h = absurd h
 joins_by run f (Some (asks.Broken c conn.Rebound)) h = absurd h
 joins_by run f (Some (asks.Broken c (conn.Nak reason))) h = absurd h
-joins_by run f (Some (asks.Bind c b)) h = absurd h
+joins_by run f (Some (asks.Bind c flags b)) h = absurd h
 joins_by run f (Some (asks.Alter c b)) h = absurd h
 joins_by run f (Some (asks.Cancel id)) h = absurd h
 joins_by run f (Some (asks.Orphan id)) h = absurd h
@@ -122,7 +122,7 @@ one_call None j act act' w w' h l = (h.0 ∙ sym l.0, h.1 ∙ sym l.1)
 
 pub one_does : (ids : List SyntaxId) (a : List Accepted) (agreement : Agreement) (old : Waits) (ask : Ask) (act act' : Act) (w w' : Waits)
     → DoesWith ids a agreement old ask act w → DoesWith ids a agreement old ask act' w' → (act ≡ act') × (w ≡ w')
-one_does ids a agreement old (asks.Bind c b) act act' w w' h k = (h.0 ∙ sym k.0, h.1 ∙ sym k.1)
+one_does ids a agreement old (asks.Bind c flags b) act act' w w' h k = (h.0 ∙ sym k.0, h.1 ∙ sym k.1)
 one_does ids a agreement old (asks.Alter c b) act act' w w' h k = (h.0 ∙ sym k.0, h.1 ∙ sym k.1)
 one_does ids a agreement old (asks.Call j) act act' w w' h k = one_call (interface_of a j.context) j act act' w w' h k
 one_does ids a agreement old (asks.Cancel id) act act' w w' h k = (h.1 ∙ sym k.1, h.2 ∙ sym k.2)

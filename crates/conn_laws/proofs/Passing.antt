@@ -41,7 +41,7 @@ pub idle_off : (w : Waits) (ask : Option Ask) → IsIdle w ask → IsOff ask
 idle_off w None h = tt
 idle_off Nothing (Some (asks.Cancel id)) h = tt
 idle_off Nothing (Some (asks.Orphan id)) h = tt
-idle_off Nothing (Some (asks.Bind c b)) h = absurd h
+idle_off Nothing (Some (asks.Bind c flags b)) h = absurd h
 idle_off Nothing (Some (asks.Alter c b)) h = absurd h
 idle_off Nothing (Some (asks.Call j)) h = absurd h
 idle_off Nothing (Some (asks.Broken c f)) h = absurd h
@@ -60,7 +60,7 @@ called_lasts (Some k) j act w h = subst IsLasting (sym h.0) tt
 called_lasts None j act w h = subst IsLasting (sym h.0) tt
 
 pub done_by : (ids : List SyntaxId) (a : List Accepted) (agreement : Agreement) (old : Waits) (ask : Ask) (act : Act) (w : Waits) → DoesWith ids a agreement old ask act w → Done old ask act w
-done_by ids a agreement old (asks.Bind c b) act w h = lasts (subst IsLasting (sym h.0) tt) (λ off. off)
+done_by ids a agreement old (asks.Bind c flags b) act w h = lasts (subst IsLasting (sym h.0) tt) (λ off. off)
 done_by ids a agreement old (asks.Alter c b) act w h = lasts (subst IsLasting (sym h.0) tt) (λ off. off)
 done_by ids a agreement old (asks.Call j) act w h = lasts (called_lasts (interface_of a j.context) j act w h) (λ off. off)
 done_by ids a agreement old (asks.Cancel id) act w h = calls_off tt h.2 (λ l. subst IsLasting h.1 l) h.0

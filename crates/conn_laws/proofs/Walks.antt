@@ -135,7 +135,7 @@ skip_by m n all k asked p (Some (asks.Cancel id)) t h idle waits l go =
 skip_by m n all k asked p (Some (asks.Orphan id)) t h idle waits l go =
     let on = walk_from m n all k l.0 waits (known_same m n p (Some (asks.Orphan id)) t tt refl h) (go l.0 l.2) in
     ask_passed m all k asked l.0 (asks.Orphan id) (not_idle m.waits (asks.Orphan id) idle).0 l.1 (λ negotiated done x. x) on
-skip_by m n all k asked p (Some (asks.Bind c b)) t h idle waits l go = absurd (not_idle m.waits (asks.Bind c b) idle).1
+skip_by m n all k asked p (Some (asks.Bind c flags b)) t h idle waits l go = absurd (not_idle m.waits (asks.Bind c flags b) idle).1
 skip_by m n all k asked p (Some (asks.Alter c b)) t h idle waits l go = absurd (not_idle m.waits (asks.Alter c b) idle).1
 skip_by m n all k asked p (Some (asks.Call j)) t h idle waits l go = absurd (not_idle m.waits (asks.Call j) idle).1
 skip_by m n all k asked p (Some (asks.Broken c f)) t h idle waits l go = absurd (not_idle m.waits (asks.Broken c f) idle).1
@@ -208,8 +208,8 @@ call_by m n act later k asked behind j None found free knows e d go =
 -- where nothing is waited for
 act_free : (m n : ConnState) (p : Pdu) (act : Act) (later : List Event) (k : ConnState) (asked : List Ask) (ask : Ask) → m.waits ≡ Nothing → TakesPdu m p n → Asks m.past p (Some ask)
     → DoesWith m.ids (accepted m) m.agreement Nothing ask act n.waits → AsksFirst (Some ask) (Left n) asked → Go n later k → Shut n later k → Walk m (Did act ∷ later) k asked
-act_free m n p act later k asked (asks.Bind c b) free t h d l go shut =
-    done_first m n act later k asked l.0 (asks.Bind c b) Nothing _ (offering (negotiated m) b.elements) free d.1 (known_on m n p (Some (asks.Bind c b)) t tt h) l.1
+act_free m n p act later k asked (asks.Bind c flags b) free t h d l go shut =
+    done_first m n act later k asked l.0 (asks.Bind c flags b) Nothing _ (offering (negotiated m) b.elements) free d.1 (known_on m n p (Some (asks.Bind c flags b)) t tt h) l.1
     (λ done x. (later, ap (did_first later) d.0, x)) (go l.0 l.2 (λ o. absurd (cc (d.1, o))))
 act_free m n p act later k asked (asks.Alter c b) free t h d l go shut =
     done_first m n act later k asked l.0 (asks.Alter c b) Nothing Nothing (offering (negotiated m) b.elements) free d.1 (known_on m n p (Some (asks.Alter c b)) t tt h) l.1
@@ -229,7 +229,7 @@ act_called m n p act later k asked (asks.Cancel id) c maybe w t h d off l go =
 act_called m n p act later k asked (asks.Orphan id) c maybe w t h d off l go =
     done_first m n act later k asked l.0 (asks.Orphan id) (Call c maybe) (Call c maybe) (negotiated m) w d.2 (known_same m n p (Some (asks.Orphan id)) t tt refl h) l.1
     (λ done x. (Did (acts.Orphan id) ∷ x.0, x.1, x.2, (λ i. Did (d.1 i) ∷ x.3 i), (done, refl, x.4), x.5)) (go l.0 l.2 (λ o. absurd (cc (d.2, o))))
-act_called m n p act later k asked (asks.Bind e b) c maybe w t h d off l go = absurd off
+act_called m n p act later k asked (asks.Bind e flags b) c maybe w t h d off l go = absurd off
 act_called m n p act later k asked (asks.Alter e b) c maybe w t h d off l go = absurd off
 act_called m n p act later k asked (asks.Call j) c maybe w t h d off l go = absurd off
 act_called m n p act later k asked (asks.Broken e f) c maybe w t h d off l go = absurd off
