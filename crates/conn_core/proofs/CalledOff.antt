@@ -1,8 +1,9 @@
 -- A call is called off.
 use Rattle.std.proofs.Common.{◌≡◌, ℕ, ◌<◌, ◌≤◌, Bool, true, false, nat_eq, List, [], ◌∷◌, ◌++◌, length, slice_index, Option, Some, None, Ok, inl, refl, sym, ap, subst, ◌∙◌, arith, length-append}
-use Rattle.std.specs.Prelude.{◌==◌, ◌||◌, if◌then◌else◌}
+use Rattle.std.specs.Prelude.{◌==◌, ◌||◌, ◌&&◌, not, nat_le, if◌then◌else◌}
+use Rattle.std.specs.Bool.{OnTrue}
 use Rattle.std.proofs.lemmas.List.{get_or_append_left}
-use Rattle.std.proofs.lemmas.Bool.{le-leb}
+use Rattle.std.proofs.lemmas.Bool.{le-leb, leb-true}
 use Rattle.pdu_codec.specs.declared.pdu.Pdu.{Pdu}
 use Rattle.pdu_codec.specs.declared.pdu.Body.{Body}
 use Rattle.pdu_codec.specs.declared.pdu.Body.TheVariants as bodies
@@ -20,9 +21,9 @@ use Rattle.conn_asks.specs.declared.events.Ask.TheVariants as asks
 use Rattle.conn_asks.specs.declared.events.Waits.{Waits}
 use Rattle.conn_asks.specs.declared.events.Waits.TheVariants.{Call}
 use Rattle.conn_asks.specs.Asks.{is_bind, is_bound, called, called_behind, is_called, offered_by, AsksWith}
-use Rattle.conn_asks.specs.States.{ConnState, accepted, MayCome, is_calling_off, IsCalling, TakesPdu, Does, IsStuck}
+use Rattle.conn_asks.specs.States.{ConnState, accepted, MayCome, is_calling_off, calls_off_by, IsCalling, TakesPdu, Does, IsStuck}
 use Rattle.conn_core.specs.Fields.{ConnFields, KeepsState, Knows, IsAt}
-use Rattle.conn_core.specs.Steps.{StepsFrom, calls_off, act_with, behind}
+use Rattle.conn_core.specs.Steps.{StepsFrom, calls_off, holds_up, act_with, behind}
 use Rattle.conn_core.specs.declared.next.Step.TheVariants.{Stuck, Skipped, Acted}
 use Rattle.conn_core.proofs.Turns.{same_keeps}
 use Rattle.conn_core.proofs.Heard.{keeps_more, fine, same_Ok}
@@ -79,7 +80,27 @@ stuck_at t u m c maybe at is rest served waits agreement bound joining none =
 pub none_off : (rest : List ℕ) → calls_off rest ≡ false → (p : Pdu) (others : List ℕ) → IsNext rest p others → is_calling_off p.body ≡ false
 none_off rest h p others next = sym (off_next rest others p next) ∙ h
 
--- what a co_cancel or an orphaned is, beside what it asks
+-- ---- what has to wait
+
+both : (a b : Bool) → (a && not b) ≡ true → (a ≡ true) × (b ≡ false)
+both true true h = absurd (cc (h))
+both true false h = (refl, refl)
+both false b h = absurd (cc (h))
+
+-- a header that stands in front stays, whatever comes behind it
+held_up : (rest more others : List ℕ) (p : Pdu) → holds_up rest ≡ true → IsNext (rest ++ more) p others → is_calling_off p.body ≡ false
+held_up rest more others p h next =
+    let b = both (nat_le 16 (length rest)) (calls_off_by (kind_at rest)) h in
+    let long : 16 ≤ length rest = leb-true 16 (length rest) b.0 in
+    let kind : kind_at rest ≡ kind_of p.body = sym (index_front rest more 2 (omega (arith, long))) ∙ kind_next (rest ++ more) others p next in
+    sym (off_kind p.body) ∙ (ap calls_off_by (sym kind) ∙ b.1)
+
+pub stuck_behind : (w : Waits) (rest : List ℕ) (c : Caller) (maybe held : Bool) → w ≡ Call c maybe → held ≡ holds_up rest → OnTrue held ((more : List ℕ) → IsStuck w (rest ++ more))
+stuck_behind w rest c maybe true is h = λ more. subst (λ (x : Waits). IsStuck x (rest ++ more)) (sym is) (λ p others next. held_up rest more others p (sym h) next)
+stuck_behind w rest c maybe false is h = tt
+
+-- ---- what a co_cancel or an orphaned is, beside what it asks
+
 record IsQuiet (p : Pdu) (body : Body) : Type 0 where
   bind : is_bind body ≡ false
   offers : offered_by body ≡ []

@@ -75,8 +75,8 @@ Offers (Broken c f) body = ⊤
 Offers ask body = offered_by body ≡ elements_in ask
 
 offers_bind : (c : Caller) (flags : ℕ) (b : BindBody) (q : Bool) → Offers (if q then Broken c (conn.Nak 0) else Bind c flags b) (bodies.Bind b)
-offers_bind c b true = tt
-offers_bind c b false = refl
+offers_bind c flags b true = tt
+offers_bind c flags b false = refl
 
 offers_of_bind : (bound : Bool) (c : Caller) (flags : ℕ) (b : BindBody) → Offers (of_bind bound c flags b) (bodies.Bind b)
 offers_of_bind true c flags b = tt
@@ -145,9 +145,9 @@ call_broken : (j : Joined) (c : Caller) (x : ConnFault) → Call j ≡ Broken c 
 call_broken j c x e = no_call j (Broken c x) refl e
 
 bind_no_call : (bound q : Bool) (c : Caller) (flags : ℕ) (b : BindBody) → nat_lt b.max_recv 1432 ≡ q → is_call (of_bind bound c flags b) ≡ false
-bind_no_call true q c b e = refl
-bind_no_call false true c b e = rw e refl
-bind_no_call false false c b e = rw e refl
+bind_no_call true q c flags b e = refl
+bind_no_call false true c flags b e = rw e refl
+bind_no_call false false c flags b e = rw e refl
 
 call_bind : (bound : Bool) (c : Caller) (flags : ℕ) (b : BindBody) (j : Joined) → Call j ≡ of_bind bound c flags b → ⊥
 call_bind bound c flags b j e = no_call j (of_bind bound c flags b) (bind_no_call bound (nat_lt b.max_recv 1432) c flags b refl) e

@@ -49,6 +49,19 @@ stream [] = []
 stream (Came octets ∷ later) = octets ++ stream later
 stream (_ ∷ later) = stream later
 
+-- the octets of an act
+abbrev pub act_octets : Act → List ℕ
+act_octets (acts.Answer octets) = octets
+act_octets (acts.Close octets why) = octets
+act_octets _ = []
+
+-- the octets that are put to the client: those of the answers, of a close and of the decisions, in order
+abbrev pub put : List Event → List ℕ
+put [] = []
+put (Did act ∷ later) = act_octets act ++ put later
+put (Decided decision octets ∷ later) = octets ++ put later
+put (_ ∷ later) = put later
+
 -- what the server decided
 abbrev pub decisions : List Event → List Decision
 decisions [] = []

@@ -29,7 +29,7 @@ use Rattle.conn_laws.proofs.OneAsk.{one_ask}
 
 -- ---- one list
 
-abbrev ask_first : Ask → List Ask → List Ask
+abbrev pub ask_first : Ask → List Ask → List Ask
 ask_first ask later = ask ∷ later
 
 leads_alike : (ask : Option Ask) (P : List Ask → Type 0) (a b : List Ask) → ((x y : List Ask) → P x → P y → x ≡ y) → AsksFirst ask P a → AsksFirst ask P b → a ≡ b
@@ -41,7 +41,7 @@ leads_alike (Some (asks.Call j)) P a b one h k = h.1 ∙ ap (ask_first (asks.Cal
 leads_alike (Some (asks.Cancel id)) P a b one h k = h.1 ∙ ap (ask_first (asks.Cancel id)) (one h.0 k.0 h.2 k.2) ∙ sym k.1
 leads_alike (Some (asks.Orphan id)) P a b one h k = h.1 ∙ ap (ask_first (asks.Orphan id)) (one h.0 k.0 h.2 k.2) ∙ sym k.1
 
-asks_alike : (past pdus : List Pdu) (end a b : List Ask) → AreAsks past pdus end a → AreAsks past pdus end b → a ≡ b
+pub asks_alike : (past pdus : List Pdu) (end a b : List Ask) → AreAsks past pdus end a → AreAsks past pdus end b → a ≡ b
 asks_alike past [] end a b h k = h ∙ sym k
 asks_alike past (p ∷ more) end a b h k =
     let same = one_ask past p h.0 k.0 h.1 k.1 in

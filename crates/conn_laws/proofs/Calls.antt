@@ -45,19 +45,19 @@ no_alter : (bound : Bool) (c : Caller) (b : AlterBody) (j : Joined) → call_of 
 no_alter true c b j h = absurd (cc (h))
 no_alter false c b j h = absurd (cc (h))
 
-record Called (bound : Bool) (run : Option Joined) (p : Pdu) (body : Body) (j : Joined) : Type 0 where
-  part : RequestBody
-  is : body ≡ bodies.Request part
-  bound_is : bound ≡ true
-  taken : IsTaken run (request_fragment p part)
-  last : is_last (request_fragment p part) ≡ true
-  joins : j ≡ with_fragment run (request_fragment p part)
+pub record Called (bound : Bool) (run : Option Joined) (p : Pdu) (body : Body) (j : Joined) : Type 0 where
+  pub part : RequestBody
+  pub is : body ≡ bodies.Request part
+  pub bound_is : bound ≡ true
+  pub taken : IsTaken run (request_fragment p part)
+  pub last : is_last (request_fragment p part) ≡ true
+  pub joins : j ≡ with_fragment run (request_fragment p part)
 
 of_request : (bound : Bool) (run : Option Joined) (p : Pdu) (r : RequestBody) (j : Joined) → OfRequest bound run (request_fragment p r) (Some (asks.Call j)) → Called bound run p (bodies.Request r) j
 of_request true run p r j h = record { part = r; is = refl; bound_is = refl; taken = h.0; last = h.1; joins = h.2 }
 of_request false run p r j h = absurd (cc (h))
 
-called_by : (bound : Bool) (run : Option Joined) (call : Option ℕ) (p : Pdu) (body : Body) (j : Joined) → AsksWith bound run call p body (Some (asks.Call j)) → Called bound run p body j
+pub called_by : (bound : Bool) (run : Option Joined) (call : Option ℕ) (p : Pdu) (body : Body) (j : Joined) → AsksWith bound run call p body (Some (asks.Call j)) → Called bound run p body j
 called_by bound run call p (bodies.Request r) j h = of_request bound run p r j h
 called_by bound run call p (bodies.Bind b) j h = absurd (no_bind bound (caller p 0) p.flags b j h)
 called_by bound run call p (bodies.Alter b) j h = absurd (no_alter bound (caller p 0) b j h)

@@ -12,7 +12,7 @@ use Rattle.conn_histories.specs.Plays.{Negotiated, negotiated_at_start, Plays, E
 use Rattle.conn_laws.specs.Played.{Done}
 use Rattle.conn_laws.proofs.Early.{early}
 use Rattle.conn_laws.proofs.Left.{Left, none_at_start}
-use Rattle.conn_laws.proofs.Walks.{known, Rest, walk, left_at}
+use Rattle.conn_laws.proofs.Walks.{negotiated, Rest, walk, left_at}
 use Rattle.conn_laws.proofs.Walks.Rest.{open_yet, closed, refused}
 
 at_rest : (m : ConnState) (left : List Ask) (all : List Event) → Rest m left all → m.waits ≡ Nothing → IsAtRest m → left ≡ []
@@ -33,7 +33,7 @@ acts_are_asks ids events m asked h a =
     let e = early events (at_start ids) m start [] refl h in
     let l : Left start asked = record { cut = a.cut; is_cut = a.is_cut; asks = a.asked } in
     let w = walk (seen events) start e.reached m e.skipped asked e.acted e.skips (λ o. absurd (cc (o))) l in
-    let knows : known start ≡ negotiated_at_start ids = λ i. record { ids = ids; accepted = none_at_start ids i; agreement = start.agreement } in
+    let knows : negotiated start ≡ negotiated_at_start ids = λ i. record { ids = ids; accepted = none_at_start ids i; agreement = start.agreement } in
     record {
       done = w.done;
       left = w.left;

@@ -13,3 +13,8 @@ pub mod Done
 pub mod Asking
 pub mod Goes
 pub mod Rests
+pub mod Called
+pub mod Along
+pub mod Closing
+pub mod Onward
+pub mod Saying

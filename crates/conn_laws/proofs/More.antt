@@ -33,7 +33,7 @@ skips_append m (p ∷ ps) qs n k all later = (all.0, all.1, skips_append all.0 p
 
 -- ---- a fault's header
 
-long_by : (rest : List ℕ) (f : PduFault) → StopsBy rest f → 16 ≤ length rest
+pub long_by : (rest : List ℕ) (f : PduFault) → StopsBy rest f → 16 ≤ length rest
 long_by rest f (by_head h) = h.0
 long_by rest f (by_body f_is whole more e fault) = omega (arith, ap length e, length-append whole more, fault.0)
 
@@ -44,10 +44,10 @@ id_more : (rest more : List ℕ) → 16 ≤ length rest → take 4 (drop 12 (res
 id_more rest more long =
     rw (drop-append-le 12 rest more (omega (arith, long))) (take-append-le 4 (drop 12 rest) more (omega (arith, length-drop 12 rest, long)))
 
-caller_more : (rest more : List ℕ) → 16 ≤ length rest → caller_at (rest ++ more) ≡ caller_at rest
+pub caller_more : (rest more : List ℕ) → 16 ≤ length rest → caller_at (rest ++ more) ≡ caller_at rest
 caller_more rest more long = rw (index_more rest more 4 (omega arith) long, id_more rest more long) refl
 
-broken_more : (rest more : List ℕ) (f : PduFault) → 16 ≤ length rest → broken_by (rest ++ more) f ≡ broken_by rest f
+pub broken_more : (rest more : List ℕ) (f : PduFault) → 16 ≤ length rest → broken_by (rest ++ more) f ≡ broken_by rest f
 broken_more rest more f long = rw (index_more rest more 2 (omega arith) long) refl
 
 close_more : (rest more : List ℕ) (f : PduFault) → 16 ≤ length rest

@@ -19,14 +19,14 @@ use Rattle.conn_histories.specs.Histories.Event.{Did}
 -- ---- what may come next
 
 -- the act calls off the call with that id
-abbrev pub CallsOff : ℕ → Act → Type 0
-CallsOff id act = (act ≡ Cancel id) ⊎ (act ≡ Orphan id)
+abbrev pub IsCallOff : ℕ → Act → Type 0
+IsCallOff id act = (act ≡ Cancel id) ⊎ (act ≡ Orphan id)
 
 -- While a call is unanswered the next act calls it off, and it stays unanswered.
 abbrev pub CallsStayUnanswered : Type 0
 CallsStayUnanswered =
     (ids : List SyntaxId) (events : List Event) (m n : ConnState) (act : Act) (c : Caller) (maybe : Bool)
-    → Lives (at_start ids) events m → m.waits ≡ Call c maybe → Goes m (Ok (Some act)) n → CallsOff c.call_id act × (n.waits ≡ Call c maybe)
+    → Lives (at_start ids) events m → m.waits ≡ Call c maybe → Goes m (Ok (Some act)) n → IsCallOff c.call_id act × (n.waits ≡ Call c maybe)
 
 -- While nothing is waited for the next act is another, and it says what is waited for then.
 abbrev pub OthersWhileFree : Type 0

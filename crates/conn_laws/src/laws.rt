@@ -2,6 +2,7 @@
 ghost use Rattle.conn_laws.specs.Laws.{ComesOn, GoesOnInTheStream, LeavesOfAll, ActStays, SkippedBefore, OneAct};
 ghost use Rattle.conn_laws.specs.Histories.{AllHasCome, EachGoes, EachRests, OneAnswer, SameActs, SameAnswers};
 ghost use Rattle.conn_laws.specs.Played.{ActsAreAsks, OneAsking, EachAsks};
+ghost use Rattle.conn_laws.specs.Serving.{CallsStayUnanswered, OthersWhileFree, HistoriesGoOn, OneEventMore, PutInOrder, CloseIsLast, AsksGoOn, EachReply};
 ghost use Rattle.conn_laws.specs.WholeRuns.{CallsAreWholeRuns, WholeRunsAreRuns};
 
 /// The PDUs that were taken and the octets behind them are what came, whatever the pieces.
@@ -95,4 +96,45 @@ pub fn one_asking()
 /// All octets ask something, or nothing: there is such a list.
 pub fn each_asks()
     ensures { EachAsks }
+{}
+
+/// While a call is unanswered the next act is a cancel or an orphaning of it, and it stays unanswered.
+pub fn calls_stay_unanswered()
+    ensures { CallsStayUnanswered }
+{}
+
+/// While nothing is waited for the next act is neither a cancel nor an orphaning.
+pub fn others_while_free()
+    ensures { OthersWhileFree }
+{}
+
+/// One history and then another are a history.
+pub fn histories_go_on()
+    ensures { HistoriesGoOn }
+{}
+
+/// A history with one event more at its end is a history.
+pub fn one_event_more()
+    ensures { OneEventMore }
+{}
+
+/// What came, was decided, seen and put in two histories stands in their order, and what is put is put where
+/// acts and decisions are seen.
+pub fn put_in_order()
+    ensures { PutInOrder }
+{}
+
+/// A close by a fault is the last that is asked.
+pub fn close_is_last()
+    ensures { CloseIsLast }
+{}
+
+/// What a longer stream asks goes on from what its front asks.
+pub fn asks_go_on()
+    ensures { AsksGoOn }
+{}
+
+/// Whatever a call's end says within the limit of a stub, there are octets for it.
+pub fn each_reply()
+    ensures { EachReply }
 {}

@@ -2,6 +2,7 @@ use Rattle.std.proofs.Common.{refl, sym, subst}
 use Rattle.conn_core.specs.Fields.{ConnFields}
 use Rattle.conn_core.specs.Steps.{IsFree}
 use Rattle.conn_core.proofs.Hearing.{heard_none, heard_act, heard_idle}
+use Rattle.conn_core.proofs.Waiting.{does_waits}
 use Rattle.conn_core.proofs.conn.Conn.hear.Goals as goal
 
 pub returns-in-None-clause-heard : goal.returns-in-None-clause-heard
@@ -32,3 +33,8 @@ returns-in-None-2-clause-heard c m h =
     let u : ConnFields = record { fed = s.feed; bound = c.is_bound-self-inside.result; joining = c.ask.new.joiner; served = c.act.new.contexts; waits = s.waits; agreement = s.agreement } in
     heard_idle t u m c.args.pdu c.in-Some.asked free (rw c.in-Some.is at c.in_ok-asked.ensures.found) c.is_bound-self-inside.ensures
     (rw c.in-None-2.is at c.in_ok-act.ensures.acts) free.waits
+
+pub returns-in-Some-2-clause-waits : goal.returns-in-Some-2-clause-waits
+returns-in-Some-2-clause-waits c =
+    let done = rw c.in-Some-2.is at c.in_ok-act.ensures.acts in
+    does_waits _ _ _ c.in-Some.asked c.in-Some-2.act c.in-Some-2.waits done.0

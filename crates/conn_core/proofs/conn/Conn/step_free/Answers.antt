@@ -3,6 +3,7 @@ use Rattle.pdu_stream.specs.Cuts.{Fed}
 use Rattle.conn_core.specs.Fields.{ConnFields}
 use Rattle.conn_core.proofs.Causes.{next_shorter}
 use Rattle.conn_core.proofs.Passing.{passes_one, may_free, is_free, stepped, hear_shorter, next_of, stopped, stop_passes, stop_shorter}
+use Rattle.conn_core.proofs.Waiting.{stop_waits}
 use Rattle.conn_core.proofs.conn.Conn.step_free.Goals as goal
 
 pub returns-in-Ok-Some-clause-passes : goal.returns-in-Ok-Some-clause-passes
@@ -61,3 +62,6 @@ returns-in-Err-clause-steps c m at =
 
 pub returns-in-Err-Memory-clause-steps : goal.returns-in-Err-Memory-clause-steps
 returns-in-Err-Memory-clause-steps c m at = may_free c.args.self.now m at c.requires
+
+pub returns-in-Err-clause-waits : goal.returns-in-Err-clause-waits
+returns-in-Err-clause-waits c = stop_waits _ c.in-Err.fault c.stop.result _ c.stop.new.self c.stop.ensures
