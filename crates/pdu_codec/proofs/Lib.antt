@@ -8,4 +8,5 @@ pub mod Early
 pub mod PduLaws
 pub mod WritingLaws
 pub mod SizeLaws
+pub mod FragmentLaws
 pub mod AnswerLaws

@@ -45,8 +45,9 @@ pub record IsPut (old : List ℕ) (p : Pdu) (mid : List ℕ) : Type 0 where
   pub size : length mid ≡ length old + length (pdu_octets p)
   pub long : 16 ≤ length (pdu_octets p)
 
-pub is_put : (old first mid : List ℕ) (p : Pdu) → first ≡ old ++ head_octets p.minor zeros_3 (head_of p 0) → mid ≡ first ++ body_octets p.order p.body → IsPut old p mid
-is_put old first mid p first_is mid_is =
+pub is_put : (old first mid : List ℕ) (p : Pdu) (h : Head) → h ≡ head_of p 0 → first ≡ old ++ head_octets p.minor zeros_3 h → mid ≡ first ++ body_octets p.order p.body → IsPut old p mid
+is_put old first mid p h h_is put_is mid_is =
+    let first_is : first ≡ old ++ head_octets p.minor zeros_3 (head_of p 0) = put_is ∙ ap (λ (x : Head). old ++ head_octets p.minor zeros_3 x) h_is in
     let head = head_octets p.minor zeros_3 (head_of p 0) in
     let body = body_octets p.order p.body in
     let parts : mid ≡ old ++ (head ++ body) = mid_is ∙ ap (λ (t : List ℕ). t ++ body) first_is ∙ append_assoc old head body in
@@ -55,6 +56,16 @@ is_put old first mid p first_is mid_is =
       size = omega (arith, ap length parts, length-append old (head ++ body), length-append head body, length-head_octets p.minor (head_of p 0), length-pdu_octets p);
       long = omega (arith, length-pdu_octets p);
     }
+
+-- a header and a body that were put
+pub whole_put : (old mid new : List ℕ) (p : Pdu) (size : ℕ) → size ≡ length (pdu_octets p) → mid ≡ old ++ head_octets p.minor zeros_3 (head_of p size) → new ≡ mid ++ body_octets p.order p.body
+    → new ≡ old ++ pdu_octets p
+unfolding pdu_octets
+whole_put old mid new p size size_is mid_is new_is =
+    let body = body_octets p.order p.body in
+    let head = head_octets p.minor zeros_3 (head_of p size) in
+    new_is ∙ ap (λ (t : List ℕ). t ++ body) mid_is ∙ append_assoc old head body
+    ∙ ap (λ n. old ++ (head_octets p.minor zeros_3 (head_of p n) ++ body)) (size_is ∙ length-pdu_octets p)
 
 pub sized : (old : List ℕ) (p : Pdu) (at size : ℕ) (mid new : List ℕ) → IsPut old p mid → at ≡ length old → size ≡ length mid - at
     → new ≡ take (at + 8) mid ++ u16_octets p.order size ++ drop (at + 10) mid → new ≡ old ++ pdu_octets p

@@ -4,7 +4,9 @@ use Rattle.std.specs.Int.{w16, w32}
 use Rattle.rpc_base.specs.declared.identifiers.Order.{Order}
 use Rattle.rpc_base.specs.declared.identifiers.Order.TheVariants.{Big, Little}
 use Rattle.rpc_base.specs.Fields.{number_of, order_of}
+use Rattle.pdu_codec.specs.Constants.{request_type, response_type, fault_type, bind_type, alter_context_resp_type, shutdown_type, orphaned_type, major_version, most_minor, header_size}
 use Rattle.pdu_codec.specs.declared.pdu.Head.{Head}
+use Rattle.pdu_codec.specs.declared.pdu.RawHead.{RawHead}
 use Rattle.pdu_codec.specs.declared.pdu.Body.{Body}
 use Rattle.pdu_codec.specs.declared.fault.PduFault.{PduFault}
 use Rattle.pdu_codec.specs.declared.fault.PduFault.TheVariants as faults
@@ -31,10 +33,11 @@ auth_length octets = number_of (length_order (slice_index octets 4)) w16 (take 2
 
 -- ---- kinds of PDUs
 
--- the PTYPEs of the connection-oriented protocol: request 0, response 2, fault 3, bind 11, bind_ack 12,
--- bind_nak 13, alter_context 14, alter_context_resp 15, shutdown 17, co_cancel 18, orphaned 19
+-- the PTYPEs of the connection-oriented protocol
 abbrev pub is_known : ℕ → Bool
-is_known kind = kind == 0 || kind == 2 || kind == 3 || (nat_le 11 kind && nat_le kind 15) || (nat_le 17 kind && nat_le kind 19)
+is_known kind =
+    kind == request_type || kind == response_type || kind == fault_type
+    || (nat_le bind_type kind && nat_le kind alter_context_resp_type) || (nat_le shutdown_type kind && nat_le kind orphaned_type)
 
 -- ---- the tests of a header, each with those before it
 
@@ -42,18 +45,18 @@ is_known kind = kind == 0 || kind == 2 || kind == 3 || (nat_le 11 kind && nat_le
 -- them are at hand.
 
 abbrev pub PassesVersion : List ℕ → Type 0
-PassesVersion octets = (slice_index octets 0 ≡ 5) × (slice_index octets 1 ≤ 1)
+PassesVersion octets = (slice_index octets 0 ≡ major_version) × (slice_index octets 1 ≤ most_minor)
 
 abbrev pub PassesKind : Bool → List ℕ → Type 0
 PassesKind known octets = PassesVersion octets × (known ≡ true)
 
 abbrev pub IsRightLength : Option ℕ → ℕ → Type 0
-IsRightLength None n = 16 ≤ n
-IsRightLength (Some size) n = (16 ≤ n) × (n ≡ size)
+IsRightLength None n = header_size ≤ n
+IsRightLength (Some size) n = (header_size ≤ n) × (n ≡ size)
 
 abbrev pub IsWrongLength : Option ℕ → ℕ → Type 0
-IsWrongLength None n = n < 16
-IsWrongLength (Some size) n = (n < 16) ⊎ (n ≢ size)
+IsWrongLength None n = n < header_size
+IsWrongLength (Some size) n = (n < header_size) ⊎ (n ≢ size)
 
 abbrev pub PassesLength : Bool → Option ℕ → List ℕ → Type 0
 PassesLength known size octets = PassesKind known octets × IsRightLength size (frag_length octets)
@@ -67,7 +70,7 @@ PassesHead known size order octets = PassesAuth known size octets × (order_of (
 
 -- The fault is the first one of a header.
 abbrev pub IsHeadFault : Bool → Option ℕ → List ℕ → PduFault → Type 0
-IsHeadFault known size octets faults.Version = (slice_index octets 0 ≢ 5) ⊎ (1 < slice_index octets 1)
+IsHeadFault known size octets faults.Version = (slice_index octets 0 ≢ major_version) ⊎ (most_minor < slice_index octets 1)
 IsHeadFault known size octets faults.Kind = PassesVersion octets × (known ≡ false)
 IsHeadFault known size octets faults.Length = PassesKind known octets × IsWrongLength size (frag_length octets)
 IsHeadFault known size octets faults.Auth = PassesLength known size octets × (auth_length octets ≢ 0)
@@ -80,14 +83,20 @@ abbrev pub head_at : Order → List ℕ → Head
 head_at order octets =
     record { kind = kind_at octets; flags = flags_at octets; order = order; length = frag_length octets; call_id = number_of order w32 (take 4 (drop 12 octets)) }
 
+-- what a header says before any of it is tested, its numbers in the order of its lengths
+abbrev pub raw_head_of : List ℕ → RawHead
+raw_head_of octets =
+    let order = length_order (slice_index octets 4) in
+    record { kind = kind_at octets; order = order; call_id = number_of order w32 (take 4 (drop 12 octets)) }
+
 -- The octets are a header that says this.
 pub record IsHead (h : Head) (octets : List ℕ) : Type 0 where
   pub known : is_known h.kind ≡ true
-  pub long : 16 ≤ h.length
+  pub long : header_size ≤ h.length
   pub short : h.length < 2 ^ 16
   pub call_id : h.call_id < 2 ^ 32
   pub minor : ℕ
-  pub below : minor ≤ 1
+  pub below : minor ≤ most_minor
   pub drep : List ℕ
   pub three : length drep ≡ 3
   pub whole : octets ≡ head_octets minor drep h
@@ -110,17 +119,17 @@ pub record EndsEarly (order : Order) (flags kind : ℕ) (octets : List ℕ) : Ty
 
 -- The fault is the first one of a header that stands in front of the octets, all of which are a PDU's.
 abbrev pub IsFrontFault : List ℕ → PduFault → Type 0
-IsFrontFault octets fault = (16 ≤ length octets) × IsHeadFault (is_known (kind_at octets)) (Some (length octets)) octets fault
+IsFrontFault octets fault = (header_size ≤ length octets) × IsHeadFault (is_known (kind_at octets)) (Some (length octets)) octets fault
 
--- The fault is the first one of the octets. Fewer than 16 of them are a `Length` before all else. Want of memory
+-- The fault is the first one of the octets. Fewer than a header's are a `Length` before all else. Want of memory
 -- has no cause in the octets.
 abbrev pub IsFault : List ℕ → PduFault → Type 0
 IsFault octets faults.Version = IsFrontFault octets faults.Version
 IsFault octets faults.Kind = IsFrontFault octets faults.Kind
-IsFault octets faults.Length = (length octets < 16) ⊎ IsFrontFault octets faults.Length
+IsFault octets faults.Length = (length octets < header_size) ⊎ IsFrontFault octets faults.Length
 IsFault octets faults.Auth = IsFrontFault octets faults.Auth
 IsFault octets faults.Characters = IsFrontFault octets faults.Characters
 IsFault octets faults.Body =
-    (16 ≤ length octets) × (order : Order) × PassesHead (is_known (kind_at octets)) (Some (length octets)) order octets
-    × EndsEarly order (flags_at octets) (kind_at octets) (drop 16 octets)
+    (header_size ≤ length octets) × (order : Order) × PassesHead (is_known (kind_at octets)) (Some (length octets)) order octets
+    × EndsEarly order (flags_at octets) (kind_at octets) (drop header_size octets)
 IsFault octets faults.Memory = ⊤

@@ -7,6 +7,7 @@ use Rattle.rpc_base.specs.declared.identifiers.Order.{Order}
 use Rattle.rpc_base.specs.declared.identifiers.Order.TheVariants.{Big, Little}
 use Rattle.rpc_base.specs.declared.identifiers.SyntaxId.{SyntaxId}
 use Rattle.rpc_base.specs.Fields.{u16_octets, u32_octets, uuid_octets, syntax_octets, FitsSyntax}
+use Rattle.pdu_codec.specs.Constants.{request_type, response_type, fault_type, bind_type, bind_ack_type, bind_nak_type, alter_context_type, alter_context_resp_type, shutdown_type, co_cancel_type, orphaned_type, object_uuid_flag, major_version, most_minor, header_size}
 use Rattle.pdu_codec.specs.declared.pdu.Pdu.{Pdu}
 use Rattle.pdu_codec.specs.declared.pdu.Head.{Head}
 use Rattle.pdu_codec.specs.declared.pdu.Body.{Body}
@@ -27,17 +28,17 @@ use Rattle.pdu_codec.specs.declared.pdu.ContextResult.{ContextResult}
 
 -- the PTYPE of a body
 abbrev pub kind_of : Body → ℕ
-kind_of (Request b) = 0
-kind_of (Response b) = 2
-kind_of (Fault b) = 3
-kind_of (Bind b) = 11
-kind_of (BindAck b) = 12
-kind_of (BindNak b) = 13
-kind_of (Alter b) = 14
-kind_of (AlterResp b) = 15
-kind_of Shutdown = 17
-kind_of CoCancel = 18
-kind_of Orphaned = 19
+kind_of (Request b) = request_type
+kind_of (Response b) = response_type
+kind_of (Fault b) = fault_type
+kind_of (Bind b) = bind_type
+kind_of (BindAck b) = bind_ack_type
+kind_of (BindNak b) = bind_nak_type
+kind_of (Alter b) = alter_context_type
+kind_of (AlterResp b) = alter_context_resp_type
+kind_of Shutdown = shutdown_type
+kind_of CoCancel = co_cancel_type
+kind_of Orphaned = orphaned_type
 
 -- the first octet of a data representation with ASCII characters
 abbrev pub drep_octet : Order → ℕ
@@ -47,17 +48,17 @@ drep_octet Little = 16
 abbrev pub zeros_3 : List ℕ
 zeros_3 = 0 ∷ 0 ∷ 0 ∷ []
 
--- the 16 octets of a header with no authentication data, given the three octets behind the first of its
+-- the octets of a header with no authentication data, given the three octets behind the first of its
 -- data representation
 unfoldable pub head_octets : ℕ → List ℕ → Head → List ℕ
 head_octets minor drep h =
-    5 ∷ minor ∷ h.kind ∷ h.flags ∷ drep_octet h.order ∷ (drep ++ (u16_octets h.order h.length ++ (u16_octets h.order 0 ++ u32_octets h.order h.call_id)))
+    major_version ∷ minor ∷ h.kind ∷ h.flags ∷ drep_octet h.order ∷ (drep ++ (u16_octets h.order h.length ++ (u16_octets h.order 0 ++ u32_octets h.order h.call_id)))
 
 -- ---- bodies: each with its reserved octets, and with what may follow its last field, as arguments
 
 -- whether the flag OBJECT_UUID is set
 abbrev pub has_object : ℕ → Bool
-has_object flags = not (bit_and flags 128 == 0)
+has_object flags = not (bit_and flags object_uuid_flag == 0)
 
 abbrev pub object_octets : Order → Option (List ℕ) → List ℕ
 object_octets order None = []
@@ -268,7 +269,7 @@ head_of p size = record { kind = kind_of p.body; flags = p.flags; order = p.orde
 -- The octets spell the PDU.
 pub record IsPdu (p : Pdu) (octets : List ℕ) : Type 0 where
   pub fits : FitsPdu p
-  pub minor : p.minor ≤ 1
+  pub minor : p.minor ≤ most_minor
   pub drep : List ℕ
   pub three : length drep ≡ 3
   pub size : length octets < 2 ^ 16
@@ -301,7 +302,7 @@ body_octets order Orphaned = []
 unfoldable pub pdu_octets : Pdu → List ℕ
 pdu_octets p =
     let body = body_octets p.order p.body in
-    head_octets p.minor zeros_3 (head_of p (16 + length body)) ++ body
+    head_octets p.minor zeros_3 (head_of p (header_size + length body)) ++ body
 
 -- the lists of a bind and of its answer have at most as many items as their counts tell
 abbrev pub HasCounts : BindBody → Type 0
@@ -326,6 +327,6 @@ HasSpelling flags Orphaned = ⊤
 
 -- The PDU has a spelling, and the one that is written has at most 65,535 octets.
 pub record IsWritable (p : Pdu) : Type 0 where
-  pub minor : p.minor ≤ 1
+  pub minor : p.minor ≤ most_minor
   pub body : HasSpelling p.flags p.body
   pub size : length (pdu_octets p) < 2 ^ 16

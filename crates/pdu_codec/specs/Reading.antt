@@ -4,6 +4,7 @@ use Rattle.std.specs.Int.{w16, w32}
 use Rattle.rpc_base.specs.declared.identifiers.Order.{Order}
 use Rattle.rpc_base.specs.declared.identifiers.SyntaxId.{SyntaxId}
 use Rattle.rpc_base.specs.Fields.{number_of, uuid_octets, syntax_of}
+use Rattle.pdu_codec.specs.Constants.{request_type, response_type, fault_type, bind_type, bind_ack_type, bind_nak_type, alter_context_type, alter_context_resp_type, shutdown_type, co_cancel_type, orphaned_type}
 use Rattle.pdu_codec.specs.declared.pdu.Body.{Body}
 use Rattle.pdu_codec.specs.declared.pdu.Body.TheVariants.{Request, Response, Fault, Bind, BindAck, BindNak, Alter, AlterResp, Shutdown, CoCancel, Orphaned}
 use Rattle.pdu_codec.specs.declared.pdu.RequestBody.{RequestBody}
@@ -178,15 +179,15 @@ alter_resp_at order octets = bind_ack_at order octets >>= λ b. Some (as_alter_r
 -- a body of that PTYPE
 unfoldable pub body_at : Order → ℕ → ℕ → List ℕ → Option Body
 body_at order flags kind octets =
-    if kind == 0 then (request_at order flags octets >>= λ b. Some (Request b))
-    else if kind == 2 then (response_at order octets >>= λ b. Some (Response b))
-    else if kind == 3 then (fault_at order octets >>= λ b. Some (Fault b))
-    else if kind == 11 then (bind_at order octets >>= λ b. Some (Bind b))
-    else if kind == 12 then (bind_ack_at order octets >>= λ b. Some (BindAck b))
-    else if kind == 13 then (bind_nak_at order octets >>= λ b. Some (BindNak b))
-    else if kind == 14 then (alter_at order octets >>= λ b. Some (Alter b))
-    else if kind == 15 then (alter_resp_at order octets >>= λ b. Some (AlterResp b))
-    else if kind == 17 then Some Shutdown
-    else if kind == 18 then Some CoCancel
-    else if kind == 19 then Some Orphaned
+    if kind == request_type then (request_at order flags octets >>= λ b. Some (Request b))
+    else if kind == response_type then (response_at order octets >>= λ b. Some (Response b))
+    else if kind == fault_type then (fault_at order octets >>= λ b. Some (Fault b))
+    else if kind == bind_type then (bind_at order octets >>= λ b. Some (Bind b))
+    else if kind == bind_ack_type then (bind_ack_at order octets >>= λ b. Some (BindAck b))
+    else if kind == bind_nak_type then (bind_nak_at order octets >>= λ b. Some (BindNak b))
+    else if kind == alter_context_type then (alter_at order octets >>= λ b. Some (Alter b))
+    else if kind == alter_context_resp_type then (alter_resp_at order octets >>= λ b. Some (AlterResp b))
+    else if kind == shutdown_type then Some Shutdown
+    else if kind == co_cancel_type then Some CoCancel
+    else if kind == orphaned_type then Some Orphaned
     else None

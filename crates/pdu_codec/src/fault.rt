@@ -6,11 +6,11 @@ use rpc_base::NoMemory;
 use std::alloc::{AllocError, AllocFailed};
 use thiserror::Error;
 
-/// Why octets are no PDU: the first of these that is so, except that fewer than 16 octets are a
+/// Why octets are no PDU: the first of these that is so, except that fewer octets than a header's are a
 /// `Length` before all else.
 #[derive(Clone, Copy, Debug, PartialEq, Eq, Error)]
 pub enum PduFault {
-    /// The major version is not 5, or the minor version is above 1.
+    /// The major version is another, or the minor version is above the greatest known.
     #[error("protocol version")]
     Version,
     /// The protocol has no such PTYPE.

@@ -1,19 +1,18 @@
 //! Reading the common header.
 ghost use Rattle.std.specs.Prelude.{◌≡◌, ◌≤◌, ◌<◌, ◌^◌, ℕ, length, slice_index, Ok, Some, None, IfOk, IfErr};
 ghost use Rattle.std.specs.Bool.{OnTrue, OnFalse};
-ghost use Rattle.pdu_codec.specs.Faults.{is_known, kind_at, length_order, frag_length, auth_length, IsRightLength, IsWrongLength, PassesHead, IsHeadFault, head_at, IsHead};
+ghost use Rattle.pdu_codec.specs.Constants.{header_size};
+ghost use Rattle.pdu_codec.specs.Faults.{is_known, kind_at, length_order, frag_length, auth_length, IsRightLength, IsWrongLength, PassesHead, IsHeadFault, head_at, IsHead, raw_head_of};
 
-use crate::{Head, PduFault};
+use crate::ptypes::{ALTER_CONTEXT_RESP, BIND, FAULT, ORPHANED, REQUEST, RESPONSE, SHUTDOWN};
+use crate::{HEADER_SIZE, Head, MAJOR_VERSION, MOST_MINOR, PduFault, RawHead};
 use rpc_base::{Order, drep_order, get_u16, get_u32};
-
-/// The octets of a common header.
-pub const HEADER: usize = 16;
 
 /// Whether the protocol has the PTYPE.
 pub fn is_kind(kind: u8) -> bool
     ensures { result ≡ is_known kind }
 {
-    matches!(kind, 0 | 2 | 3 | 11..=15 | 17..=19)
+    matches!(kind, REQUEST | RESPONSE | FAULT | BIND..=ALTER_CONTEXT_RESP | SHUTDOWN..=ORPHANED)
 }
 
 /// The order of a header's lengths, before it is known whether its data representation is.
@@ -31,21 +30,35 @@ fn is_length(length: u16, size: Option<usize>) -> bool
     ensures right { OnTrue result (IsRightLength size length) }
     ensures wrong { OnFalse result (IsWrongLength size length) }
 {
+    let length = length as usize;
     match size {
-        None => length >= 16,
-        Some(size) => length >= 16 && length as usize == size,
+        None => length >= HEADER_SIZE,
+        Some(size) => length >= HEADER_SIZE && length == size,
+    }
+}
+
+/// What a header says before any of it is tested, its numbers in the order of its lengths.
+pub fn raw_head(octets: &[u8]) -> RawHead
+    requires { header_size ≤ length octets.now }
+    ensures { result ≡ raw_head_of octets.now }
+{
+    let order = order_of_lengths(octets[4]);
+    RawHead {
+        kind: octets[2],
+        order,
+        call_id: get_u32(order, octets, 12),
     }
 }
 
 /// The header at the front of octets, given whether the protocol has its PTYPE and, where all of the PDU's
 /// octets are at hand, how many they are.
 pub fn front_head(octets: &[u8], known: bool, size: Option<usize>) -> Result<Head, PduFault>
-    requires { 16 ≤ length octets.now }
+    requires { header_size ≤ length octets.now }
     ensures head { IfOk result (λ h. PassesHead known size h.order octets.now) }
     ensures fields { IfOk result (λ h. h ≡ head_at h.order octets.now) }
     ensures fault { IfErr result (IsHeadFault known size octets.now) }
 {
-    if octets[0] != 5 || octets[1] > 1 {
+    if octets[0] != MAJOR_VERSION || octets[1] > MOST_MINOR {
         return Err(PduFault::Version);
     }
     if !known {
@@ -71,9 +84,9 @@ pub fn front_head(octets: &[u8], known: bool, size: Option<usize>) -> Result<Hea
     }
 }
 
-/// What the 16 octets of a header say.
+/// What the octets of a header say.
 fn whole_head(octets: &[u8]) -> Result<Head, PduFault>
-    requires { length octets.now ≡ 16 }
+    requires { length octets.now ≡ header_size }
     ensures head { IfOk result (λ h. IsHead h octets.now) }
     ensures only { (h : Head) → IsHead h octets.now → result ≡ Ok h }
     ensures fault { IfErr result (IsHeadFault (is_known (kind_at octets.now)) None octets.now) }
@@ -84,7 +97,7 @@ fn whole_head(octets: &[u8]) -> Result<Head, PduFault>
 /// What a PDU's common header says (C706, "Connection-oriented RPC PDUs", common fields). The tests
 /// are those of the faults `Version`, `Kind`, `Length`, `Auth` and `Characters`, in this order; the
 /// length must be at least a header's. It takes no memory.
-pub fn read_head(octets: [u8; 16]) -> Result<Head, PduFault>
+pub fn read_head(octets: [u8; HEADER_SIZE]) -> Result<Head, PduFault>
     // What is read is what the octets say.
     ensures head { IfOk result (λ h. IsHead h octets) }
     // A header is read.

@@ -4,6 +4,7 @@
 mod answers;
 mod bodies;
 mod fault;
+mod fragments;
 mod heads;
 mod laws;
 mod pdu;
@@ -12,12 +13,14 @@ mod reading;
 mod writing;
 
 pub use fault::PduFault;
-pub use heads::read_head;
+pub use fragments::FragmentHead;
+pub use heads::{raw_head, read_head};
 pub use laws::{one_answer, one_pdu, spelled_is_writable, written_is_spelling};
 pub use pdu::{
     AlterBody, AlterRespBody, BindAckBody, BindBody, BindNakBody, Body, ContextResult, Element,
-    Elements, FaultBody, Head, Pdu, RequestBody, ResponseBody, Results, Syntaxes, Version,
-    Versions, flags,
+    Elements, FaultBody, HEADER_SIZE, Head, LEAST_FRAGMENT, MAJOR_VERSION, MOST_FRAGMENT,
+    MOST_MINOR, Pdu, RawHead, RequestBody, ResponseBody, Results, STUB_OFFSET, Syntaxes, Version,
+    Versions, flags, ptypes,
 };
 pub use reading::read_pdu;
 pub use writing::write_pdu;

@@ -3,12 +3,39 @@
 use rpc_base::{Items, Octets, Order, Status, SyntaxId};
 use uuid::Uuid;
 
+/// What a PDU is, by its PTYPE.
+pub mod ptypes {
+    pub const REQUEST: u8 = 0;
+
+    pub const RESPONSE: u8 = 2;
+
+    pub const FAULT: u8 = 3;
+
+    pub const BIND: u8 = 11;
+
+    pub const BIND_ACK: u8 = 12;
+
+    pub const BIND_NAK: u8 = 13;
+
+    pub const ALTER_CONTEXT: u8 = 14;
+
+    pub const ALTER_CONTEXT_RESP: u8 = 15;
+
+    pub const SHUTDOWN: u8 = 17;
+
+    pub const CO_CANCEL: u8 = 18;
+
+    pub const ORPHANED: u8 = 19;
+}
+
 /// The flags of a PDU that this runtime knows. It ignores the others.
 pub mod flags {
     /// The first fragment of a message.
     pub const FIRST_FRAG: u8 = 0x01;
     /// The last fragment of a message.
     pub const LAST_FRAG: u8 = 0x02;
+    /// The only fragment of a message.
+    pub const ONLY_FRAG: u8 = FIRST_FRAG | LAST_FRAG;
     /// A cancel was pending at the sender (requests alone).
     pub const PENDING_CANCEL: u8 = 0x04;
     /// The connection carries several calls at once.
@@ -21,11 +48,29 @@ pub mod flags {
     pub const OBJECT_UUID: u8 = 0x80;
 }
 
+/// The protocol's major version.
+pub const MAJOR_VERSION: u8 = 5;
+
+/// The greatest minor version that this runtime knows.
+pub const MOST_MINOR: u8 = 1;
+
+/// The octets of a common header.
+pub const HEADER_SIZE: usize = 16;
+
+/// The octets in front of a response's stub, or of that of a request without an object.
+pub const STUB_OFFSET: u16 = 24;
+
+/// The fragment that each side takes at least, in octets.
+pub const LEAST_FRAGMENT: u16 = 1432;
+
+/// The fragment that this runtime sends and takes at most, in octets.
+pub const MOST_FRAGMENT: u16 = 4280;
+
 /// A PDU without what its octets say of themselves: lengths, counts and reserved octets. The major
-/// version is 5.
+/// version is [`MAJOR_VERSION`].
 #[derive(Debug, Drop)]
 pub struct Pdu {
-    /// The minor version, 0 or 1.
+    /// The minor version, at most [`MOST_MINOR`].
     pub minor: u8,
     /// The flags of [`flags`], and others.
     pub flags: u8,
@@ -174,11 +219,21 @@ pub type Versions = Items<Version>;
 /// What a PDU's common header says.
 #[derive(Clone, Copy, Debug, PartialEq, Eq)]
 pub struct Head {
-    /// The PTYPE.
+    /// The PTYPE, of [`ptypes`].
     pub kind: u8,
     pub flags: u8,
     pub order: Order,
     /// The PDU's octets, with those of the header.
     pub length: u16,
+    pub call_id: u32,
+}
+
+/// What a PDU's common header says before any of it is tested.
+#[derive(Clone, Copy, Debug, PartialEq, Eq)]
+pub struct RawHead {
+    /// The PTYPE, of [`ptypes`] or another.
+    pub kind: u8,
+    /// The order of the header's numbers: big-endian, or else little-endian.
+    pub order: Order,
     pub call_id: u32,
 }

@@ -6,7 +6,7 @@ ghost use Rattle.rpc_base.specs.Fields.{u16_octets};
 ghost use Rattle.pdu_codec.specs.Writing.{KeepsFront};
 
 use crate::{
-    BindNakBody, Body, ContextResult, Element, FaultBody, Pdu, RequestBody, ResponseBody, Version,
+    BindNakBody, Body, ContextResult, Element, FaultBody, Head, MAJOR_VERSION, Pdu, Version, ptypes,
 };
 use rpc_base::{NoMemory, Order, SyntaxId, put_syntax, put_u16, put_u32, put_uuid};
 use uuid::Uuid;
@@ -16,17 +16,17 @@ fn kind(body: &Body) -> u8
     ensures { result ≡ kind_of body.now }
 {
     match body {
-        Body::Request(_) => 0,
-        Body::Response(_) => 2,
-        Body::Fault(_) => 3,
-        Body::Bind(_) => 11,
-        Body::BindAck(_) => 12,
-        Body::BindNak(_) => 13,
-        Body::Alter(_) => 14,
-        Body::AlterResp(_) => 15,
-        Body::Shutdown => 17,
-        Body::CoCancel => 18,
-        Body::Orphaned => 19,
+        Body::Request(_) => ptypes::REQUEST,
+        Body::Response(_) => ptypes::RESPONSE,
+        Body::Fault(_) => ptypes::FAULT,
+        Body::Bind(_) => ptypes::BIND,
+        Body::BindAck(_) => ptypes::BIND_ACK,
+        Body::BindNak(_) => ptypes::BIND_NAK,
+        Body::Alter(_) => ptypes::ALTER_CONTEXT,
+        Body::AlterResp(_) => ptypes::ALTER_CONTEXT_RESP,
+        Body::Shutdown => ptypes::SHUTDOWN,
+        Body::CoCancel => ptypes::CO_CANCEL,
+        Body::Orphaned => ptypes::ORPHANED,
     }
 }
 
@@ -49,27 +49,41 @@ fn put(octets: &[u8], into: &mut Vec<u8>) -> Result<(), NoMemory>
 }
 
 #[tactic(auto, unfolding(crate::specs::Pdus::head_octets))]
-fn put_head(pdu: &Pdu, size: u16, into: &mut Vec<u8>) -> Result<(), NoMemory>
-    ensures ok { OnOk result (into.new.items ≡ into.old.items ++ head_octets pdu.now.minor zeros_3 (head_of pdu.now size)) }
+pub(crate) fn put_head(minor: u8, head: Head, into: &mut Vec<u8>) -> Result<(), NoMemory>
+    ensures ok { OnOk result (into.new.items ≡ into.old.items ++ head_octets minor zeros_3 head) }
     ensures err { OnErr result (KeepsFront into.old.items into.new.items) }
 {
+    let order = head.order;
     put(
         &[
-            5,
-            pdu.minor,
-            kind(&pdu.body),
-            pdu.flags,
-            drep(pdu.order),
+            MAJOR_VERSION,
+            minor,
+            head.kind,
+            head.flags,
+            drep(order),
             0,
             0,
             0,
         ],
         into,
     )?;
-    put_u16(pdu.order, size, into)?;
-    put_u16(pdu.order, 0, into)?;
-    put_u32(pdu.order, pdu.call_id, into)?;
+    put_u16(order, head.length, into)?;
+    put_u16(order, 0, into)?;
+    put_u32(order, head.call_id, into)?;
     Ok(())
+}
+
+/// The header of a PDU of so many octets.
+fn head_of(pdu: &Pdu, length: u16) -> Head
+    ensures { result ≡ head_of pdu.now length }
+{
+    Head {
+        kind: kind(&pdu.body),
+        flags: pdu.flags,
+        order: pdu.order,
+        length,
+        call_id: pdu.call_id,
+    }
 }
 
 fn put_object(order: Order, object: &Option<Uuid>, into: &mut Vec<u8>) -> Result<(), NoMemory>
@@ -83,27 +97,42 @@ fn put_object(order: Order, object: &Option<Uuid>, into: &mut Vec<u8>) -> Result
 }
 
 #[tactic(auto, unfolding(crate::specs::Pdus::request_octets))]
-fn put_request(order: Order, body: &RequestBody, into: &mut Vec<u8>) -> Result<(), NoMemory>
-    ensures ok { OnOk result (into.new.items ≡ into.old.items ++ request_octets order body.now) }
+pub(crate) fn put_request(
+    order: Order,
+    alloc_hint: u32,
+    context: u16,
+    op: u16,
+    object: &Option<Uuid>,
+    stub: &[u8],
+    into: &mut Vec<u8>,
+) -> Result<(), NoMemory>
+    ensures ok { OnOk result (into.new.items ≡ into.old.items ++ request_octets order (record { alloc_hint = alloc_hint; context = context; op = op; object = object.now; stub = stub.now })) }
     ensures err { OnErr result (KeepsFront into.old.items into.new.items) }
 {
-    put_u32(order, body.alloc_hint, into)?;
-    put_u16(order, body.context, into)?;
-    put_u16(order, body.op, into)?;
-    put_object(order, &body.object, into)?;
-    put(body.stub.as_slice(), into)?;
+    put_u32(order, alloc_hint, into)?;
+    put_u16(order, context, into)?;
+    put_u16(order, op, into)?;
+    put_object(order, object, into)?;
+    put(stub, into)?;
     Ok(())
 }
 
 #[tactic(auto, unfolding(crate::specs::Pdus::response_octets))]
-fn put_response(order: Order, body: &ResponseBody, into: &mut Vec<u8>) -> Result<(), NoMemory>
-    ensures ok { OnOk result (into.new.items ≡ into.old.items ++ response_octets order 0 body.now) }
+pub(crate) fn put_response(
+    order: Order,
+    alloc_hint: u32,
+    context: u16,
+    cancel_count: u8,
+    stub: &[u8],
+    into: &mut Vec<u8>,
+) -> Result<(), NoMemory>
+    ensures ok { OnOk result (into.new.items ≡ into.old.items ++ response_octets order 0 (record { alloc_hint = alloc_hint; context = context; cancel_count = cancel_count; stub = stub.now })) }
     ensures err { OnErr result (KeepsFront into.old.items into.new.items) }
 {
-    put_u32(order, body.alloc_hint, into)?;
-    put_u16(order, body.context, into)?;
-    put(&[body.cancel_count, 0], into)?;
-    put(body.stub.as_slice(), into)?;
+    put_u32(order, alloc_hint, into)?;
+    put_u16(order, context, into)?;
+    put(&[cancel_count, 0], into)?;
+    put(stub, into)?;
     Ok(())
 }
 
@@ -287,8 +316,23 @@ fn put_body(pdu: &Pdu, into: &mut Vec<u8>) -> Result<(), NoMemory>
     ensures err { OnErr result (KeepsFront into.old.items into.new.items) }
 {
     match &pdu.body {
-        Body::Request(body) => put_request(pdu.order, body, into),
-        Body::Response(body) => put_response(pdu.order, body, into),
+        Body::Request(body) => put_request(
+            pdu.order,
+            body.alloc_hint,
+            body.context,
+            body.op,
+            &body.object,
+            body.stub.as_slice(),
+            into,
+        ),
+        Body::Response(body) => put_response(
+            pdu.order,
+            body.alloc_hint,
+            body.context,
+            body.cancel_count,
+            body.stub.as_slice(),
+            into,
+        ),
         Body::Fault(body) => put_fault(pdu.order, body, into),
         Body::Bind(body) => put_bind(
             pdu.order,
@@ -354,7 +398,7 @@ fn put_pdu(pdu: &Pdu, into: &mut Vec<u8>) -> Result<(), NoMemory>
     ensures err { OnErr result (KeepsFront into.old.items into.new.items) }
 {
     let start = into.len();
-    put_head(pdu, 0, into)?;
+    put_head(pdu.minor, head_of(pdu, 0), into)?;
     put_body(pdu, into)?;
     let size = into.len() - start;
     set_size(pdu.order, size as u16, start, into);

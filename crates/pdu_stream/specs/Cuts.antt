@@ -1,6 +1,7 @@
 -- A stream of octets as PDUs, one after the other, and what follows them. Each PDU takes as many octets as its
 -- header says (C706, "Connection-oriented RPC PDUs", common fields).
 use Rattle.std.specs.Prelude.{◌≡◌, ℕ, ◌<◌, ◌≤◌, List, [], ◌∷◌, ◌++◌, length, take, Option, Some, None, Result, Ok, Err, ◌⊎◌, ⊤}
+use Rattle.pdu_codec.specs.Constants.{header_size}
 use Rattle.pdu_codec.specs.declared.pdu.Pdu.{Pdu}
 use Rattle.pdu_codec.specs.declared.fault.PduFault.{PduFault}
 use Rattle.pdu_codec.specs.declared.fault.PduFault.TheVariants as faults
@@ -10,18 +11,18 @@ use Rattle.pdu_stream.specs.declared.cut.Cut.{Cut}
 
 -- The octets begin with a header that has no fault.
 pub record HasHead (octets : List ℕ) : Type 0 where
-  pub long : 16 ≤ length octets
+  pub long : header_size ≤ length octets
   pub sound : (fault : PduFault) → IsHeadFault (is_known (kind_at octets)) None octets fault → ⊥
 
 -- The octets may still become a PDU: they end within a header, or its header has no fault and says more octets.
 abbrev pub IsPartial : List ℕ → Type 0
-IsPartial rest = (length rest < 16) ⊎ (HasHead rest × (length rest < frag_length rest))
+IsPartial rest = (length rest < header_size) ⊎ (HasHead rest × (length rest < frag_length rest))
 
 -- a header stands in front, and the fault is its first one
 abbrev pub HeadStops : List ℕ → PduFault → Type 0
-HeadStops rest fault = (16 ≤ length rest) × IsHeadFault (is_known (kind_at rest)) None rest fault
+HeadStops rest fault = (header_size ≤ length rest) × IsHeadFault (is_known (kind_at rest)) None rest fault
 
--- The octets begin with a fault: that of a header as soon as its 16 octets stand, that of a body where all octets
+-- The octets begin with a fault: that of a header as soon as all of it stands, that of a body where all octets
 -- of its PDU do. Want of memory has no cause in the octets.
 abbrev pub IsStop : List ℕ → PduFault → Type 0
 IsStop rest faults.Version = HeadStops rest faults.Version

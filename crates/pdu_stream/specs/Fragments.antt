@@ -2,6 +2,7 @@
 use Rattle.std.specs.Prelude.{◌≡◌, ◌≢◌, ℕ, ◌^◌, ◌<◌, ◌≤◌, ◌==◌, ◌&&◌, ◌||◌, bit_and, Bool, true, false, not, List, [], ◌∷◌, ◌++◌, length, Option, Some, None, Result, Ok, Err, ⊤}
 use Rattle.std.specs.List.{flat_map, list_any}
 use Rattle.rpc_base.specs.declared.identifiers.Order.{Order}
+use Rattle.pdu_codec.specs.Constants.{first_frag, last_frag, pending_cancel, maybe_flag}
 use Rattle.pdu_codec.specs.declared.pdu.RequestBody.{RequestBody}
 use Rattle.pdu_stream.specs.declared.joined.Joined.{Joined}
 use Rattle.pdu_stream.specs.declared.joined.JoinFault.{JoinFault}
@@ -19,21 +20,17 @@ pub record Fragment : Type 0 where
 abbrev pub has_flag : ℕ → ℕ → Bool
 has_flag flag flags = not (bit_and flags flag == 0)
 
--- FIRST_FRAG
 abbrev pub is_first : Fragment → Bool
-is_first f = has_flag 1 f.flags
+is_first f = has_flag first_frag f.flags
 
--- LAST_FRAG
 abbrev pub is_last : Fragment → Bool
-is_last f = has_flag 2 f.flags
+is_last f = has_flag last_frag f.flags
 
--- PENDING_CANCEL
 abbrev pub is_cancelled : Fragment → Bool
-is_cancelled f = has_flag 4 f.flags
+is_cancelled f = has_flag pending_cancel f.flags
 
--- MAYBE
 abbrev pub is_maybe : Fragment → Bool
-is_maybe f = has_flag 64 f.flags
+is_maybe f = has_flag maybe_flag f.flags
 
 -- ---- what fragments join to
 
@@ -54,9 +51,9 @@ joined_of first later cancelled =
       stub = flat_map stub_of (first ∷ later);
     }
 
--- most octets of a stub
+-- most octets of a stub: 64 MiB
 abbrev pub most_stub : ℕ
-most_stub = 2 ^ 24
+most_stub = 2 ^ 26
 
 -- ---- a fragment behind others, which have joined to a request so far
 

@@ -57,7 +57,7 @@ impl Feed {
     }
 
     /// The next PDU of the octets pushed. `None` where they end within a header, or within a PDU whose header has
-    /// no fault. A header's fault is answered as soon as its 16 octets came, that of a body once its PDU's octets
+    /// no fault. A header's fault is answered as soon as the header came, that of a body once its PDU's octets
     /// did. A fault is answered for good. The octets of a stub are copied once.
     pub fn next(&mut self) -> Result<Option<Pdu>, PduFault>
         ensures { GivesNext self.old result self.new }

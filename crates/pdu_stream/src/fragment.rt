@@ -7,8 +7,8 @@ use pdu_codec::RequestBody;
 use pdu_codec::flags::{FIRST_FRAG, MAYBE, PENDING_CANCEL};
 use rpc_base::Order;
 
-/// Most octets of a request's stub: 16 MiB.
-const MOST_STUB: usize = 0x100_0000;
+/// Most octets of a stub: 64 MiB.
+pub const MOST_STUB: usize = 0x400_0000;
 
 pub fn has_flag(flags: u8, flag: u8) -> bool
     ensures { result ≡ has_flag flag flags }

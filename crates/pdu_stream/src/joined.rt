@@ -33,8 +33,8 @@ pub enum JoinFault {
     /// Its numbers are in another order than those of the first fragment.
     #[error("data representation of a fragment")]
     FragDrep,
-    /// The stub would pass 16 MiB.
-    #[error("stub data above 16 MiB")]
+    /// The stub would pass [`MOST_STUB`](crate::MOST_STUB).
+    #[error("stub data above 64 MiB")]
     TooLong,
     #[error("out of memory")]
     Memory,

@@ -12,6 +12,7 @@ mod pieces;
 
 pub use cut::{Cut, Pdus, cut_stream};
 pub use feed::Feed;
+pub use fragment::MOST_STUB;
 pub use joined::{JoinFault, Joined};
 pub use joiner::Joiner;
 pub use laws::{

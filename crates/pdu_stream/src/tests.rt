@@ -309,19 +309,16 @@ fn marks_and_drops(rt: HostRuntime) -> Result<(), JoinFault> {
     Ok(())
 }
 
-/// What a last fragment is answered whose stub has that many octets, behind 256 fragments with 65,511 each.
+/// What a last fragment is answered whose stub has that many octets, behind one with 8 less than the limit.
 fn long(alloc: Global, last: usize) -> Result<Option<usize>, JoinFault> {
     let mut joiner = Joiner::new();
-    joiner.add(Order::Big, FIRST_FRAG, 2, part(alloc, 0, 3, 65511)?)?;
-    for _ in 0..255 {
-        joiner.add(Order::Big, 0, 2, part(alloc, 0, 3, 65511)?)?;
-    }
+    joiner.add(Order::Big, FIRST_FRAG, 2, part(alloc, 0, 3, MOST_STUB - 8)?)?;
     let whole = joiner.add(Order::Big, LAST_FRAG, 2, part(alloc, 0, 3, last)?)?;
     Ok(whole.map(|joined| joined.stub.len()))
 }
 
 #[test]
-fn sixteen_mebibytes(rt: HostRuntime) {
-    assert!(rt; long(rt.alloc(), 6400) == Ok(Some(16_777_216)));
-    assert!(rt; long(rt.alloc(), 6401) == Err(JoinFault::TooLong));
+fn the_most_octets(rt: HostRuntime) {
+    assert!(rt; long(rt.alloc(), 8) == Ok(Some(67_108_864)));
+    assert!(rt; long(rt.alloc(), 9) == Err(JoinFault::TooLong));
 }

@@ -10,11 +10,11 @@ use Rattle.pdu_codec.specs.declared.pdu.Element.{Element}
 use Rattle.presentation.specs.declared.verdict.Accepted.{Accepted}
 use Rattle.presentation.specs.Serving.{serving, has_ndr}
 use Rattle.presentation.specs.Offers.{after, contexts_after, interface_of, is_of}
-use Rattle.presentation.specs.Laws.{Asks}
+use Rattle.presentation.specs.Laws.{AsksForContext}
 use Rattle.presentation.proofs.Offered.{AddsContext, one}
 
 abbrev Backed : List SyntaxId → List Element → List Accepted → Type 0
-Backed ids all a = (c k : ℕ) → interface_of a c ≡ Some k → (e : Element) × Contains all e × Asks ids c k e
+Backed ids all a = (c k : ℕ) → interface_of a c ≡ Some k → (e : Element) × Contains all e × AsksForContext ids c k e
 
 -- the new one, or one of those before
 in_either : (o p : Option Accepted) (k : ℕ) → option_map (λ (x : Accepted). x.interface) (option_or o p) ≡ Some k
@@ -27,7 +27,7 @@ in_new x c k true b h = (grind arith, grind arith)
 in_new x c k false b h = grind arith
 
 backed_in : (ids : List SyntaxId) (all : List Element) (a : List Accepted) (e : Element) (j : ℕ) → Contains all e → serving ids e.syntax ≡ Some j → has_ndr e.transfers ≡ true → Backed ids all a
-    → (c k : ℕ) → (interface_of a c ≡ Some k) ⊎ (interface_of (record { context = e.context; interface = j } ∷ []) c ≡ Some k) → (e : Element) × Contains all e × Asks ids c k e
+    → (c k : ℕ) → (interface_of a c ≡ Some k) ⊎ (interface_of (record { context = e.context; interface = j } ∷ []) c ≡ Some k) → (e : Element) × Contains all e × AsksForContext ids c k e
 backed_in ids all a e j within serves ndr backed c k (inl h) = backed c k h
 backed_in ids all a e j within serves ndr backed c k (inr h) =
     let x : Accepted = record { context = e.context; interface = j } in
@@ -58,5 +58,5 @@ backed_all ids all a [] within backed = backed
 backed_all ids all a (e ∷ es) within backed =
     backed_all ids all (after ids a e) es (λ x h. within x (behind e es x h)) (backed_one ids all a e (within e (first e es)) (one ids a e) backed)
 
-pub backed : (ids : List SyntaxId) (es : List Element) (c k : ℕ) → interface_of (contexts_after ids [] es) c ≡ Some k → (e : Element) × Contains es e × Asks ids c k e
+pub backed : (ids : List SyntaxId) (es : List Element) (c k : ℕ) → interface_of (contexts_after ids [] es) c ≡ Some k → (e : Element) × Contains es e × AsksForContext ids c k e
 backed ids es = backed_all ids es [] es (λ x h. h) (λ c k h. absurd (none-some k h))

@@ -14,7 +14,7 @@ use Rattle.pdu_codec.specs.declared.pdu.Element.{Element}
 use Rattle.pdu_codec.specs.declared.pdu.ContextResult.{ContextResult}
 use Rattle.presentation.specs.declared.verdict.Accepted.{Accepted}
 use Rattle.presentation.specs.Serving.{serving, has_ndr}
-use Rattle.presentation.specs.Offers.{verdict, after, contexts_after, results_after, result_of, interface_of, is_of}
+use Rattle.presentation.specs.Offers.{most_contexts, verdict, after, contexts_after, results_after, result_of, interface_of, is_of}
 
 -- A context is accepted that wasn't before.
 pub record AddsContext (ids : List SyntaxId) (a : List Accepted) (e : Element) : Type 0 where
@@ -22,7 +22,7 @@ pub record AddsContext (ids : List SyntaxId) (a : List Accepted) (e : Element) :
   pub serves : serving ids e.syntax ≡ Some k
   pub ndr : has_ndr e.transfers ≡ true
   pub fresh : interface_of a e.context ≡ None
-  pub room : length a < 32
+  pub room : length a < most_contexts
   pub new : after ids a e ≡ a ++ record { context = e.context; interface = k } ∷ []
 
 known : (ids : List SyntaxId) (a : List Accepted) (e : Element) (k j : ℕ) (same : Bool) → nat_eq j k ≡ same → serving ids e.syntax ≡ Some k → has_ndr e.transfers ≡ true
@@ -32,7 +32,7 @@ known ids a e k j true b s' n' i' = rw (s', n', i', b, i') refl
 known ids a e k j false b s' n' i' = rw (s', n', i', b) refl
 
 one_of : (ids : List SyntaxId) (a : List Accepted) (e : Element) (s : Option ℕ) (n : Bool) (i : Option ℕ) (same room : Bool)
-    → serving ids e.syntax ≡ s → has_ndr e.transfers ≡ n → interface_of a e.context ≡ i → nat_lt (length a) 32 ≡ room → (after ids a e ≡ a) ⊎ AddsContext ids a e
+    → serving ids e.syntax ≡ s → has_ndr e.transfers ≡ n → interface_of a e.context ≡ i → nat_lt (length a) most_contexts ≡ room → (after ids a e ≡ a) ⊎ AddsContext ids a e
 unfolding verdict
 one_of ids a e None n i same room s' n' i' r' = inl (rw s' refl)
 one_of ids a e (Some k) false i same room s' n' i' r' = inl (rw (s', n') refl)
@@ -43,23 +43,23 @@ one_of ids a e (Some k) true None same true s' n' i' r' = inr (record {
   serves = s';
   ndr = n';
   fresh = i';
-  room = ltb-true (length a) 32 r';
+  room = ltb-true (length a) most_contexts r';
   new = rw (s', n', i', r', i') refl;
 })
 
 -- an element changes nothing, or a context more is accepted
 pub one : (ids : List SyntaxId) (a : List Accepted) (e : Element) → (after ids a e ≡ a) ⊎ AddsContext ids a e
 one ids a e =
-    one_of ids a e (serving ids e.syntax) (has_ndr e.transfers) (interface_of a e.context) true (nat_lt (length a) 32) refl refl refl refl
+    one_of ids a e (serving ids e.syntax) (has_ndr e.transfers) (interface_of a e.context) true (nat_lt (length a) most_contexts) refl refl refl refl
 
--- ---- at most 32
+-- ---- at most most_contexts
 
-within : (ids : List SyntaxId) (a : List Accepted) (e : Element) → (after ids a e ≡ a) ⊎ AddsContext ids a e → length a ≤ 32 → length (after ids a e) ≤ 32
+within : (ids : List SyntaxId) (a : List Accepted) (e : Element) → (after ids a e ≡ a) ⊎ AddsContext ids a e → length a ≤ most_contexts → length (after ids a e) ≤ most_contexts
 within ids a e (inl same) few = rw same few
 within ids a e (inr adds) few =
     rw adds.new (omega (arith, length-append a (record { context = e.context; interface = adds.k } ∷ []), adds.room))
 
-pub bounded : (ids : List SyntaxId) (a : List Accepted) (es : List Element) → length a ≤ 32 → length (contexts_after ids a es) ≤ 32
+pub bounded : (ids : List SyntaxId) (a : List Accepted) (es : List Element) → length a ≤ most_contexts → length (contexts_after ids a es) ≤ most_contexts
 unfolding contexts_after
 bounded ids a [] few = few
 bounded ids a (e ∷ es) few = bounded ids (after ids a e) es (within ids a e (one ids a e) few)

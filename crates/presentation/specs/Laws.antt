@@ -3,10 +3,10 @@ use Rattle.std.specs.Prelude.{◌≡◌, ℕ, ◌≤◌, true, Some, List, ◌++
 use Rattle.rpc_base.specs.declared.identifiers.SyntaxId.{SyntaxId}
 use Rattle.pdu_codec.specs.declared.pdu.Element.{Element}
 use Rattle.presentation.specs.Serving.{serving, has_ndr}
-use Rattle.presentation.specs.Offers.{contexts, contexts_after, interface_of}
+use Rattle.presentation.specs.Offers.{most_contexts, contexts, contexts_after, interface_of}
 
 -- An element asks for a context for an interface, and offers NDR.
-pub record Asks (ids : List SyntaxId) (context k : ℕ) (e : Element) : Type 0 where
+pub record AsksForContext (ids : List SyntaxId) (context k : ℕ) (e : Element) : Type 0 where
   pub context_is : e.context ≡ context
   pub interface_is : serving ids e.syntax ≡ Some k
   pub ndr : has_ndr e.transfers ≡ true
@@ -15,11 +15,11 @@ pub record Asks (ids : List SyntaxId) (context k : ℕ) (e : Element) : Type 0 w
 abbrev pub ServesWhatItAccepts : Type 0
 ServesWhatItAccepts =
     (ids : List SyntaxId) (elements : List Element) (context k : ℕ) → interface_of (contexts ids elements) context ≡ Some k
-    → (e : Element) × Contains elements e × Asks ids context k e
+    → (e : Element) × Contains elements e × AsksForContext ids context k e
 
--- at most 32 are accepted
-abbrev pub TakesAtMost32 : Type 0
-TakesAtMost32 = (ids : List SyntaxId) (elements : List Element) → length (contexts ids elements) ≤ 32
+-- no more are accepted than a connection may have
+abbrev pub AcceptsWithinLimit : Type 0
+AcceptsWithinLimit = (ids : List SyntaxId) (elements : List Element) → length (contexts ids elements) ≤ most_contexts
 
 -- what is accepted stays so, for the same interface, whatever is offered later
 abbrev pub KeepsWhatItAccepts : Type 0

@@ -25,12 +25,23 @@ is_of context a = a.context == context
 abbrev pub interface_of : List Accepted → ℕ → Option ℕ
 interface_of accepted context = option_map (λ a. a.interface) (find (is_of context) accepted)
 
+-- how many contexts a connection may have
+abbrev pub most_contexts : ℕ
+most_contexts = 32
+
+-- results of an element on the wire
+abbrev pub acceptance : ℕ
+acceptance = 0
+
+abbrev pub provider_rejection : ℕ
+provider_rejection = 2
+
 -- WHAT AN ELEMENT IS ANSWERED
 
 -- a context for an interface, where its id is accepted for one already, or is new
 abbrev pub verdict_for : List Accepted → ℕ → Option ℕ → Verdict
 verdict_for accepted k (Some j) = if j == k then Accept k else Reject NotSpecified
-verdict_for accepted k None = if nat_lt (length accepted) 32 then Accept k else Reject LocalLimit
+verdict_for accepted k None = if nat_lt (length accepted) most_contexts then Accept k else Reject LocalLimit
 
 -- an element whose abstract syntax is served by an interface, or by none
 abbrev pub judged : List Accepted → Element → Option ℕ → Verdict
@@ -47,10 +58,10 @@ number_of AbstractSyntax = 1
 number_of TransferSyntaxes = 2
 number_of LocalLimit = 3
 
--- on the wire: acceptance 0 with NDR, or provider_rejection 2 with its reason
+-- on the wire: an acceptance with NDR, or a rejection with its reason
 abbrev pub result_of : Verdict → ContextResult
-result_of (Accept k) = record { result = 0; reason = 0; transfer = ndr }
-result_of (Reject reason) = record { result = 2; reason = number_of reason; transfer = no_syntax }
+result_of (Accept k) = record { result = acceptance; reason = number_of NotSpecified; transfer = ndr }
+result_of (Reject reason) = record { result = provider_rejection; reason = number_of reason; transfer = no_syntax }
 
 -- WHAT IS ACCEPTED THEN
 

@@ -1,14 +1,14 @@
 //! What holds of the accepted contexts, each law the contract of a function that does nothing.
-ghost use Rattle.presentation.specs.Laws.{ServesWhatItAccepts, TakesAtMost32, KeepsWhatItAccepts, OneAfterTheOther};
+ghost use Rattle.presentation.specs.Laws.{ServesWhatItAccepts, AcceptsWithinLimit, KeepsWhatItAccepts, OneAfterTheOther};
 
 /// A context that is accepted for an interface was offered so, with NDR.
 pub fn serves_what_it_accepts()
     ensures { ServesWhatItAccepts }
 {}
 
-/// At most 32 contexts are accepted.
-pub fn takes_at_most_32()
-    ensures { TakesAtMost32 }
+/// No more contexts are accepted than a connection may have.
+pub fn accepts_within_limit()
+    ensures { AcceptsWithinLimit }
 {}
 
 /// What is accepted stays so, whatever is offered later.

@@ -9,7 +9,7 @@ mod verdict;
 
 pub use contexts::Contexts;
 pub use laws::{
-    keeps_what_it_accepts, one_after_the_other, serves_what_it_accepts, takes_at_most_32,
+    accepts_within_limit, keeps_what_it_accepts, one_after_the_other, serves_what_it_accepts,
 };
 pub use offers::ndr;
 pub use verdict::{Accepted, Reason, Verdict};

@@ -34,7 +34,13 @@ fn no_syntax() -> SyntaxId
 }
 
 /// How many contexts a connection may have.
-const CONTEXTS: usize = 32;
+const MOST_CONTEXTS: usize = 32;
+
+/// The result of an element that is accepted, on the wire.
+const ACCEPTANCE: u16 = 0;
+
+/// The result of an element that is rejected by the server, on the wire.
+const PROVIDER_REJECTION: u16 = 2;
 
 /// Whether an interface serves one that is asked for.
 fn serves(asked: &SyntaxId, served: &SyntaxId) -> bool
@@ -77,7 +83,7 @@ fn settle(accepted: &[Accepted], interface: u16, before: Option<u16>) -> Verdict
 {
     match before {
         Some(other) if other != interface => Verdict::Reject(Reason::NotSpecified),
-        None if accepted.len() >= CONTEXTS => Verdict::Reject(Reason::LocalLimit),
+        None if accepted.len() >= MOST_CONTEXTS => Verdict::Reject(Reason::LocalLimit),
         _ => Verdict::Accept(interface),
     }
 }
@@ -119,12 +125,12 @@ pub fn answer(verdict: Verdict) -> ContextResult
 {
     match verdict {
         Verdict::Accept(_) => ContextResult {
-            result: 0,
-            reason: 0,
+            result: ACCEPTANCE,
+            reason: number(Reason::NotSpecified),
             transfer: ndr(),
         },
         Verdict::Reject(reason) => ContextResult {
-            result: 2,
+            result: PROVIDER_REJECTION,
             reason: number(reason),
             transfer: no_syntax(),
         },

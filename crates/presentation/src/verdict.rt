@@ -23,10 +23,10 @@ pub enum Verdict {
 pub enum Reason {
     /// 0, not specified: the context is accepted for another interface.
     NotSpecified,
-    /// 1: no interface that is served fits the abstract syntax.
+    /// 1: no interface serves the abstract syntax.
     AbstractSyntax,
     /// 2: NDR isn't among the transfer syntaxes.
     TransferSyntaxes,
-    /// 3: 32 contexts are accepted.
+    /// 3: the connection has all the contexts that it may have.
     LocalLimit,
 }
