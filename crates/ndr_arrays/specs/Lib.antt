@@ -1,0 +1,3 @@
+pub mod Bind
+pub mod Counted
+pub mod Texts

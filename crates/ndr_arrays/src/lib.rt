@@ -1,0 +1,9 @@
+//! The counts of arrays and the octets of texts (C706, chapter "Transfer Syntax NDR", arrays and
+//! strings).
+#![tactic(auto)]
+
+mod counts;
+mod texts;
+
+pub use counts::{CountFault, Counts, read_counts};
+pub use texts::{TextFault, read_text};
