@@ -14,6 +14,7 @@ use Rattle.pdu_codec.specs.declared.fault.PduFault.{PduFault}
 use Rattle.pdu_codec.specs.declared.fault.PduFault.TheVariants as faults
 use Rattle.pdu_codec.specs.Pdus.{kind_of, zeros_3, head_octets, head_of, element_octets, gap, as_bind, as_bind_ack, IsElement, AreSpelled, IsBind, IsBindAck, IsBody, FitsPdu, IsPdu, written_bind, written_bind_ack, body_octets, pdu_octets, HasCounts, HasAckCounts, HasSpelling, IsWritable}
 use Rattle.rpc_base.specs.Fields.{order_of}
+use Rattle.pdu_codec.specs.Constants.{header_size}
 use Rattle.pdu_codec.specs.Faults.{is_known, kind_at, flags_at, frag_length, IsRightLength, IsWrongLength, PassesVersion, PassesHead, IsHeadFault, Spells, EndsEarly, IsFault}
 use Rattle.pdu_codec.proofs.WritingLaws.{length-pdu_octets}
 use Rattle.pdu_codec.proofs.PduLaws.{pdu_says, pdu_long, pdu_no_head_fault, some_same}
@@ -96,61 +97,61 @@ not_order : (o : Option Order) (order : Order) → o ≡ None → o ≡ Some ord
 not_order o order none some = absurd (cc (none, some))
 
 -- a header's fault, and a header that passes
-fault_passes : (known : Bool) (size : Option ℕ) (order : Order) (octets : List ℕ) (f : PduFault) → IsHeadFault known size octets f → PassesHead known size order octets → ⊥
-fault_passes known size order octets faults.Version h p = not_version octets h p.0.0.0.0
-fault_passes known size order octets faults.Kind h p = not_kind known h.1 p.0.0.0.1
-fault_passes known size order octets faults.Length h p = not_length size (frag_length octets) h.1 p.0.0.1
-fault_passes known size order octets faults.Auth h p = h.1 p.0.1
-fault_passes known size order octets faults.Characters h p = not_order (order_of (slice_index octets 4)) order h.1 p.1
-fault_passes known size order octets faults.Body h p = h
-fault_passes known size order octets faults.Memory h p = h
+fault_passes : (size : Option ℕ) (order : Order) (octets : List ℕ) (f : PduFault) → IsHeadFault size octets f → PassesHead size order octets → ⊥
+fault_passes size order octets faults.Version h p = not_version octets h p.0.0.0.0
+fault_passes size order octets faults.Kind h p = not_kind (is_known (kind_at octets)) h.1 p.0.0.0.1
+fault_passes size order octets faults.Length h p = not_length size (frag_length octets) h.1 p.0.0.1
+fault_passes size order octets faults.Auth h p = h.1 p.0.1
+fault_passes size order octets faults.Characters h p = not_order (order_of (slice_index octets 4)) order h.1 p.1
+fault_passes size order octets faults.Body h p = h
+fault_passes size order octets faults.Memory h p = h
 
 -- a header has one first fault
-pub head_one : (known : Bool) (size : Option ℕ) (octets : List ℕ) (f g : PduFault) → IsHeadFault known size octets f → IsHeadFault known size octets g → f ≡ g
-head_one known size octets faults.Version faults.Version h k = refl
-head_one known size octets faults.Version faults.Kind h k = absurd (not_version octets h k.0)
-head_one known size octets faults.Version faults.Length h k = absurd (not_version octets h k.0.0)
-head_one known size octets faults.Version faults.Auth h k = absurd (not_version octets h k.0.0.0)
-head_one known size octets faults.Version faults.Characters h k = absurd (not_version octets h k.0.0.0.0)
-head_one known size octets faults.Version faults.Body h k = absurd k
-head_one known size octets faults.Version faults.Memory h k = absurd k
-head_one known size octets faults.Kind faults.Version h k = absurd (not_version octets k h.0)
-head_one known size octets faults.Kind faults.Kind h k = refl
-head_one known size octets faults.Kind faults.Length h k = absurd (not_kind known h.1 k.0.1)
-head_one known size octets faults.Kind faults.Auth h k = absurd (not_kind known h.1 k.0.0.1)
-head_one known size octets faults.Kind faults.Characters h k = absurd (not_kind known h.1 k.0.0.0.1)
-head_one known size octets faults.Kind faults.Body h k = absurd k
-head_one known size octets faults.Kind faults.Memory h k = absurd k
-head_one known size octets faults.Length faults.Version h k = absurd (not_version octets k h.0.0)
-head_one known size octets faults.Length faults.Kind h k = absurd (not_kind known k.1 h.0.1)
-head_one known size octets faults.Length faults.Length h k = refl
-head_one known size octets faults.Length faults.Auth h k = absurd (not_length size (frag_length octets) h.1 k.0.1)
-head_one known size octets faults.Length faults.Characters h k = absurd (not_length size (frag_length octets) h.1 k.0.0.1)
-head_one known size octets faults.Length faults.Body h k = absurd k
-head_one known size octets faults.Length faults.Memory h k = absurd k
-head_one known size octets faults.Auth faults.Version h k = absurd (not_version octets k h.0.0.0)
-head_one known size octets faults.Auth faults.Kind h k = absurd (not_kind known k.1 h.0.0.1)
-head_one known size octets faults.Auth faults.Length h k = absurd (not_length size (frag_length octets) k.1 h.0.1)
-head_one known size octets faults.Auth faults.Auth h k = refl
-head_one known size octets faults.Auth faults.Characters h k = absurd (h.1 k.0.1)
-head_one known size octets faults.Auth faults.Body h k = absurd k
-head_one known size octets faults.Auth faults.Memory h k = absurd k
-head_one known size octets faults.Characters faults.Version h k = absurd (not_version octets k h.0.0.0.0)
-head_one known size octets faults.Characters faults.Kind h k = absurd (not_kind known k.1 h.0.0.0.1)
-head_one known size octets faults.Characters faults.Length h k = absurd (not_length size (frag_length octets) k.1 h.0.0.1)
-head_one known size octets faults.Characters faults.Auth h k = absurd (k.1 h.0.1)
-head_one known size octets faults.Characters faults.Characters h k = refl
-head_one known size octets faults.Characters faults.Body h k = absurd k
-head_one known size octets faults.Characters faults.Memory h k = absurd k
-head_one known size octets faults.Body g h k = absurd h
-head_one known size octets faults.Memory g h k = absurd h
+pub head_one : (size : Option ℕ) (octets : List ℕ) (f g : PduFault) → IsHeadFault size octets f → IsHeadFault size octets g → f ≡ g
+head_one size octets faults.Version faults.Version h k = refl
+head_one size octets faults.Version faults.Kind h k = absurd (not_version octets h k.0)
+head_one size octets faults.Version faults.Length h k = absurd (not_version octets h k.0.0)
+head_one size octets faults.Version faults.Auth h k = absurd (not_version octets h k.0.0.0)
+head_one size octets faults.Version faults.Characters h k = absurd (not_version octets h k.0.0.0.0)
+head_one size octets faults.Version faults.Body h k = absurd k
+head_one size octets faults.Version faults.Memory h k = absurd k
+head_one size octets faults.Kind faults.Version h k = absurd (not_version octets k h.0)
+head_one size octets faults.Kind faults.Kind h k = refl
+head_one size octets faults.Kind faults.Length h k = absurd (not_kind (is_known (kind_at octets)) h.1 k.0.1)
+head_one size octets faults.Kind faults.Auth h k = absurd (not_kind (is_known (kind_at octets)) h.1 k.0.0.1)
+head_one size octets faults.Kind faults.Characters h k = absurd (not_kind (is_known (kind_at octets)) h.1 k.0.0.0.1)
+head_one size octets faults.Kind faults.Body h k = absurd k
+head_one size octets faults.Kind faults.Memory h k = absurd k
+head_one size octets faults.Length faults.Version h k = absurd (not_version octets k h.0.0)
+head_one size octets faults.Length faults.Kind h k = absurd (not_kind (is_known (kind_at octets)) k.1 h.0.1)
+head_one size octets faults.Length faults.Length h k = refl
+head_one size octets faults.Length faults.Auth h k = absurd (not_length size (frag_length octets) h.1 k.0.1)
+head_one size octets faults.Length faults.Characters h k = absurd (not_length size (frag_length octets) h.1 k.0.0.1)
+head_one size octets faults.Length faults.Body h k = absurd k
+head_one size octets faults.Length faults.Memory h k = absurd k
+head_one size octets faults.Auth faults.Version h k = absurd (not_version octets k h.0.0.0)
+head_one size octets faults.Auth faults.Kind h k = absurd (not_kind (is_known (kind_at octets)) k.1 h.0.0.1)
+head_one size octets faults.Auth faults.Length h k = absurd (not_length size (frag_length octets) k.1 h.0.1)
+head_one size octets faults.Auth faults.Auth h k = refl
+head_one size octets faults.Auth faults.Characters h k = absurd (h.1 k.0.1)
+head_one size octets faults.Auth faults.Body h k = absurd k
+head_one size octets faults.Auth faults.Memory h k = absurd k
+head_one size octets faults.Characters faults.Version h k = absurd (not_version octets k h.0.0.0.0)
+head_one size octets faults.Characters faults.Kind h k = absurd (not_kind (is_known (kind_at octets)) k.1 h.0.0.0.1)
+head_one size octets faults.Characters faults.Length h k = absurd (not_length size (frag_length octets) k.1 h.0.0.1)
+head_one size octets faults.Characters faults.Auth h k = absurd (k.1 h.0.1)
+head_one size octets faults.Characters faults.Characters h k = refl
+head_one size octets faults.Characters faults.Body h k = absurd k
+head_one size octets faults.Characters faults.Memory h k = absurd k
+head_one size octets faults.Body g h k = absurd h
+head_one size octets faults.Memory g h k = absurd h
 
 -- what a first fault is, by where it lies
 data Lies (octets : List ℕ) (f : PduFault) : Type 0 where
-  lies_short : length octets < 16 → f ≡ faults.Length → Lies octets f
-  lies_front : 16 ≤ length octets → IsHeadFault (is_known (kind_at octets)) (Some (length octets)) octets f → Lies octets f
-  lies_behind : f ≡ faults.Body → 16 ≤ length octets → (order : Order) → PassesHead (is_known (kind_at octets)) (Some (length octets)) order octets
-      → EndsEarly order (flags_at octets) (kind_at octets) (drop 16 octets) → Lies octets f
+  lies_short : length octets < header_size → f ≡ faults.Length → Lies octets f
+  lies_front : header_size ≤ length octets → IsHeadFault (Some (length octets)) octets f → Lies octets f
+  lies_behind : f ≡ faults.Body → header_size ≤ length octets → (order : Order) → PassesHead (Some (length octets)) order octets
+      → EndsEarly order (flags_at octets) (kind_at octets) (drop header_size octets) → Lies octets f
   lies_nowhere : f ≡ faults.Memory → Lies octets f
 
 lies : (octets : List ℕ) (f : PduFault) → IsFault octets f → Lies octets f
@@ -170,11 +171,11 @@ lie_same octets f g f' g' (lies_short short is) (lies_front long h) = absurd (om
 lie_same octets f g f' g' (lies_short short is) (lies_behind is' long order passes early) = absurd (omega arith)
 lie_same octets f g f' g' (lies_short short is) (lies_nowhere is') = absurd (g' is')
 lie_same octets f g f' g' (lies_front long h) (lies_short short is') = absurd (omega arith)
-lie_same octets f g f' g' (lies_front long h) (lies_front long' k) = head_one (is_known (kind_at octets)) (Some (length octets)) octets f g h k
-lie_same octets f g f' g' (lies_front long h) (lies_behind is' long' order passes early) = absurd (fault_passes (is_known (kind_at octets)) (Some (length octets)) order octets f h passes)
+lie_same octets f g f' g' (lies_front long h) (lies_front long' k) = head_one (Some (length octets)) octets f g h k
+lie_same octets f g f' g' (lies_front long h) (lies_behind is' long' order passes early) = absurd (fault_passes (Some (length octets)) order octets f h passes)
 lie_same octets f g f' g' (lies_front long h) (lies_nowhere is') = absurd (g' is')
 lie_same octets f g f' g' (lies_behind is long order passes early) (lies_short short is') = absurd (omega arith)
-lie_same octets f g f' g' (lies_behind is long order passes early) (lies_front long' k) = absurd (fault_passes (is_known (kind_at octets)) (Some (length octets)) order octets g k passes)
+lie_same octets f g f' g' (lies_behind is long order passes early) (lies_front long' k) = absurd (fault_passes (Some (length octets)) order octets g k passes)
 lie_same octets f g f' g' (lies_behind is long order passes early) (lies_behind is' long' order' passes' early') = is ∙ sym is'
 lie_same octets f g f' g' (lies_behind is long order passes early) (lies_nowhere is') = absurd (g' is')
 
@@ -184,12 +185,12 @@ one_fault octets f g h k f' g' = lie_same octets f g f' g' (lies octets f h) (li
 
 pdu_no_lie : (p : Pdu) (octets : List ℕ) (f : PduFault) → IsPdu p octets → Lies octets f → f ≡ faults.Memory
 pdu_no_lie p octets f is (lies_short short f_is) = absurd (omega (arith, pdu_long p octets is))
-pdu_no_lie p octets f is (lies_front long h) = absurd (pdu_no_head_fault (is_known (kind_at octets)) p octets is refl f h)
+pdu_no_lie p octets f is (lies_front long h) = absurd (pdu_no_head_fault p octets is f h)
 pdu_no_lie p octets f is (lies_behind f_is long order passes early) =
     let s = pdu_says p octets is in
     let order_is : p.order ≡ order = some_same p.order order (sym s.order ∙ passes.1) in
     let own : Spells p.order p.flags (kind_of p.body) p.body is.body = record { is_kind = refl; fits = is.fits.body; is_body = is.is_body } in
-    let spelled : Spells order (flags_at octets) (kind_at octets) p.body (drop 16 octets) =
+    let spelled : Spells order (flags_at octets) (kind_at octets) p.body (drop header_size octets) =
     subst (λ (x : Order × ℕ × ℕ × List ℕ). Spells x.0 x.1 x.2 p.body x.3) (λ i. (order_is i, sym s.flags i, sym s.kind i, sym s.behind i)) own in
     absurd (early.alone p.body spelled)
 pdu_no_lie p octets f is (lies_nowhere f_is) = f_is

@@ -237,11 +237,12 @@ alter_resp_goes order octets fits le =
 
 -- the protocol has no PTYPE above 19
 above : (kind : ℕ) → 20 ≤ kind → is_known kind ≡ true → ⊥
+unfolding is_known
 above kind le known = absurd (grind (arith, nat_tests))
 
 -- where the protocol has the PTYPE
 body_goes : (order : Order) (flags kind : ℕ) (octets : List ℕ) → is_known kind ≡ true → IsOctets octets → 1306632 ≤ length octets → (b : Body) × (body_at order flags kind octets ≡ Some b)
-unfolding body_at
+unfolding body_at is_known
 body_goes order flags zero octets known fits le =
     let r = request_goes order flags octets fits (omega arith) in
     (Request r.0, through (request_at order flags octets) (λ x. Some (Request x)) r.0 r.1)

@@ -7,15 +7,16 @@ use Rattle.rpc_base.specs.declared.identifiers.Order.{Order}
 use Rattle.rpc_base.specs.declared.identifiers.Order.TheVariants.{Big, Little}
 use Rattle.rpc_base.specs.Fields.{IsOctets, number_octets, number_of, order_of}
 use Rattle.rpc_base.proofs.FieldLaws.{wide16, wide32, part_at}
+use Rattle.pdu_codec.specs.Constants.{header_size, major_version, most_minor}
 use Rattle.pdu_codec.specs.declared.pdu.Head.{Head}
 use Rattle.pdu_codec.specs.declared.fault.PduFault.{PduFault}
 use Rattle.pdu_codec.specs.declared.fault.PduFault.TheVariants as faults
 use Rattle.pdu_codec.specs.Pdus.{head_octets, drep_octet}
-use Rattle.pdu_codec.specs.Faults.{kind_at, flags_at, length_order, frag_length, auth_length, IsRightLength, PassesHead, IsHeadFault, head_at}
+use Rattle.pdu_codec.specs.Faults.{is_known, kind_at, flags_at, length_order, frag_length, auth_length, IsRightLength, PassesHead, IsHeadFault, head_at}
 
 -- what octets say that begin with this header
 pub record Says (minor : ℕ) (h : Head) (body octets : List ℕ) : Type 0 where
-  pub major : slice_index octets 0 ≡ 5
+  pub major : slice_index octets 0 ≡ major_version
   pub minor_is : slice_index octets 1 ≡ minor
   pub kind : kind_at octets ≡ h.kind
   pub flags : flags_at octets ≡ h.flags
@@ -23,8 +24,8 @@ pub record Says (minor : ℕ) (h : Head) (body octets : List ℕ) : Type 0 where
   pub size : frag_length octets ≡ h.length
   pub auth : auth_length octets ≡ 0
   pub head : head_at h.order octets ≡ h
-  pub behind : drop 16 octets ≡ body
-  pub len : length octets ≡ 16 + length body
+  pub behind : drop header_size octets ≡ body
+  pub len : length octets ≡ header_size + length body
 
 said : (order : Order) (minor kind flags size call a b c : ℕ) (body : List ℕ) → size < 2 ^ 16 → call < 2 ^ 32
     → let h : Head = record { kind = kind; flags = flags; order = order; length = size; call_id = call } in Says minor h body (head_octets minor (a ∷ b ∷ c ∷ []) h ++ body)
@@ -68,18 +69,18 @@ says minor (a ∷ b ∷ c ∷ []) h body three size call = said h.order minor h.
 says minor (a ∷ b ∷ c ∷ d ∷ drep) h body three size call = absurd (omega arith)
 
 -- octets that begin with a header which passes have none of a header's faults
-pub no_head_fault : (known : Bool) (size : Option ℕ) (minor : ℕ) (h : Head) (body octets : List ℕ) → Says minor h body octets → minor ≤ 1 → known ≡ true → IsRightLength size h.length
-    → (f : PduFault) → IsHeadFault known size octets f → ⊥
-no_head_fault known size minor h body octets s low k right faults.Version (inl wrong) = wrong s.major
-no_head_fault known size minor h body octets s low k right faults.Version (inr wrong) = absurd (omega (arith, s.minor_is))
-no_head_fault known size minor h body octets s low k right faults.Kind wrong = absurd cc
-no_head_fault known None minor h body octets s low k right faults.Length wrong = absurd (omega (arith, s.size, wrong.1))
-no_head_fault known (Some n) minor h body octets s low k right faults.Length wrong =
+pub no_head_fault : (size : Option ℕ) (minor : ℕ) (h : Head) (body octets : List ℕ) → Says minor h body octets → minor ≤ most_minor → is_known (kind_at octets) ≡ true → IsRightLength size h.length
+    → (f : PduFault) → IsHeadFault size octets f → ⊥
+no_head_fault size minor h body octets s low k right faults.Version (inl wrong) = wrong s.major
+no_head_fault size minor h body octets s low k right faults.Version (inr wrong) = absurd (omega (arith, s.minor_is))
+no_head_fault size minor h body octets s low k right faults.Kind wrong = absurd (cc (wrong.1, k))
+no_head_fault None minor h body octets s low k right faults.Length wrong = absurd (omega (arith, s.size, wrong.1))
+no_head_fault (Some n) minor h body octets s low k right faults.Length wrong =
     elim wrong.1 [ inl less ↦ omega (arith, s.size, less, right.0) | inr other ↦ other (s.size ∙ right.1) ]
-no_head_fault known size minor h body octets s low k right faults.Auth wrong = wrong.1 s.auth
-no_head_fault known size minor h body octets s low k right faults.Characters wrong = absurd (cc (wrong.1, s.order))
-no_head_fault known size minor h body octets s low k right faults.Body wrong = wrong
-no_head_fault known size minor h body octets s low k right faults.Memory wrong = wrong
+no_head_fault size minor h body octets s low k right faults.Auth wrong = wrong.1 s.auth
+no_head_fault size minor h body octets s low k right faults.Characters wrong = absurd (cc (wrong.1, s.order))
+no_head_fault size minor h body octets s low k right faults.Body wrong = wrong
+no_head_fault size minor h body octets s low k right faults.Memory wrong = wrong
 
 -- ---- back: the octets of a header that passes
 
@@ -113,10 +114,10 @@ cell i octets lt = sym (drop-cons octets i 0 lt)
 piece : (n k : ℕ) (octets : List ℕ) → take k (drop n octets) ++ drop (n + k) octets ≡ drop n octets
 piece n k octets = ap (λ (t : List ℕ). take k (drop n octets) ++ t) (sym (drop-drop k n octets)) ∙ take-append-drop k (drop n octets)
 
-pub stands : (known : Bool) (size : Option ℕ) (order : Order) (octets : List ℕ) → IsOctets octets → 16 ≤ length octets → PassesHead known size order octets
-    → octets ≡ head_octets (slice_index octets 1) (take 3 (drop 5 octets)) (head_at order octets) ++ drop 16 octets
+pub stands : (size : Option ℕ) (order : Order) (octets : List ℕ) → IsOctets octets → header_size ≤ length octets → PassesHead size order octets
+    → octets ≡ head_octets (slice_index octets 1) (take 3 (drop 5 octets)) (head_at order octets) ++ drop header_size octets
 unfolding head_octets
-stands known size order octets fits long passes =
+stands size order octets fits long passes =
     let d = drep_is (slice_index octets 4) order passes.1 in
     let p8 = part_at 2 8 octets (omega arith) fits in
     let p10 = part_at 2 10 octets (omega arith) fits in
@@ -126,8 +127,8 @@ stands known size order octets fits long passes =
     let auth_is : number_octets order w16 0 ≡ take 2 (drop 10 octets) =
     ap (number_octets order w16) (sym passes.0.1 ∙ ap (λ (o : Order). number_of o w16 (take 2 (drop 10 octets))) d.1) ∙ wide16.back order (take 2 (drop 10 octets)) p10.len p10.fits in
     let call_is : number_octets order w32 (number_of order w32 (take 4 (drop 12 octets))) ≡ take 4 (drop 12 octets) = wide32.back order (take 4 (drop 12 octets)) p12.len p12.fits in
-    let major : slice_index octets 0 ≡ 5 = passes.0.0.0.0.0 in
-    let rest : List ℕ = drop 16 octets in
+    let major : slice_index octets 0 ≡ major_version = passes.0.0.0.0.0 in
+    let rest : List ℕ = drop header_size octets in
     let t12 : number_octets order w32 (number_of order w32 (take 4 (drop 12 octets))) ++ rest ≡ drop 12 octets = ap (λ (t : List ℕ). t ++ rest) call_is ∙ piece 12 4 octets in
     let t10 : number_octets order w16 0 ++ drop 12 octets ≡ drop 10 octets = ap (λ (t : List ℕ). t ++ drop 12 octets) auth_is ∙ piece 10 2 octets in
     let t8 : number_octets order w16 (frag_length octets) ++ drop 10 octets ≡ drop 8 octets = ap (λ (t : List ℕ). t ++ drop 10 octets) size_is ∙ piece 8 2 octets in

@@ -3,6 +3,7 @@ use Rattle.std.proofs.Common.{◌≡◌, ℕ, inl, inr, cond, eqb, List, Option,
 use Rattle.std.proofs.lemmas.Bool.{eqb-true}
 use Rattle.rpc_base.specs.declared.identifiers.Order.{Order}
 use Rattle.rpc_base.specs.Fields.{IsOctets}
+use Rattle.pdu_codec.specs.Constants.{request_type, response_type, fault_type, bind_type, bind_ack_type, bind_nak_type, alter_context_type, alter_context_resp_type, shutdown_type, co_cancel_type, orphaned_type}
 use Rattle.pdu_codec.specs.declared.pdu.Body.{Body}
 use Rattle.pdu_codec.specs.declared.pdu.Body.TheVariants.{Request, Response, Fault, Bind, BindAck, BindNak, Alter, AlterResp, Shutdown, CoCancel, Orphaned}
 use Rattle.pdu_codec.specs.declared.pdu.AlterBody.{AlterBody}
@@ -72,17 +73,17 @@ takes_none order flags kind octets b e = absurd cc
 pub body_takes : (order : Order) (flags kind : ℕ) (octets : List ℕ) (b : Body) → IsOctets octets → body_at order flags kind octets ≡ Some b → Spells order flags kind b octets
 unfolding body_at
 body_takes order flags kind octets b fits e =
-    takes_one order flags kind octets b 0 (request_at order flags octets) (λ x. Request x) _ (λ x. request_takes order flags octets x fits) (λ x. refl)
-    (takes_one order flags kind octets b 2 (response_at order octets) (λ x. Response x) _ (λ x. response_takes order octets x fits) (λ x. refl)
-    (takes_one order flags kind octets b 3 (fault_at order octets) (λ x. Fault x) _ (λ x. fault_takes order octets x fits) (λ x. refl)
-    (takes_one order flags kind octets b 11 (bind_at order octets) (λ x. Bind x) _ (λ x. bind_takes order octets x fits) (λ x. refl)
-    (takes_one order flags kind octets b 12 (bind_ack_at order octets) (λ x. BindAck x) _ (λ x. bind_ack_takes order octets x fits) (λ x. refl)
-    (takes_one order flags kind octets b 13 (bind_nak_at order octets) (λ x. BindNak x) _ (λ x. bind_nak_takes order octets x fits) (λ x. refl)
-    (takes_one order flags kind octets b 14 (alter_at order octets) (λ x. Alter x) _ (λ x. alter_takes order octets x fits) (λ x. refl)
-    (takes_one order flags kind octets b 15 (alter_resp_at order octets) (λ x. AlterResp x) _ (λ x. alter_resp_takes order octets x fits) (λ x. refl)
-    (takes_plain order flags kind octets b 17 Shutdown _ tt tt refl
-    (takes_plain order flags kind octets b 18 CoCancel _ tt tt refl
-    (takes_plain order flags kind octets b 19 Orphaned _ tt tt refl (takes_none order flags kind octets b))))))))))) e
+    takes_one order flags kind octets b request_type (request_at order flags octets) (λ x. Request x) _ (λ x. request_takes order flags octets x fits) (λ x. refl)
+    (takes_one order flags kind octets b response_type (response_at order octets) (λ x. Response x) _ (λ x. response_takes order octets x fits) (λ x. refl)
+    (takes_one order flags kind octets b fault_type (fault_at order octets) (λ x. Fault x) _ (λ x. fault_takes order octets x fits) (λ x. refl)
+    (takes_one order flags kind octets b bind_type (bind_at order octets) (λ x. Bind x) _ (λ x. bind_takes order octets x fits) (λ x. refl)
+    (takes_one order flags kind octets b bind_ack_type (bind_ack_at order octets) (λ x. BindAck x) _ (λ x. bind_ack_takes order octets x fits) (λ x. refl)
+    (takes_one order flags kind octets b bind_nak_type (bind_nak_at order octets) (λ x. BindNak x) _ (λ x. bind_nak_takes order octets x fits) (λ x. refl)
+    (takes_one order flags kind octets b alter_context_type (alter_at order octets) (λ x. Alter x) _ (λ x. alter_takes order octets x fits) (λ x. refl)
+    (takes_one order flags kind octets b alter_context_resp_type (alter_resp_at order octets) (λ x. AlterResp x) _ (λ x. alter_resp_takes order octets x fits) (λ x. refl)
+    (takes_plain order flags kind octets b shutdown_type Shutdown _ tt tt refl
+    (takes_plain order flags kind octets b co_cancel_type CoCancel _ tt tt refl
+    (takes_plain order flags kind octets b orphaned_type Orphaned _ tt tt refl (takes_none order flags kind octets b))))))))))) e
 
 again_one : {B : Type 0} (order : Order) (flags kind : ℕ) (octets : List ℕ) (b : Body) (read : Option B) (make : B → Body) (x : B) → kind_of b ≡ kind → read ≡ Some x → make x ≡ b
     → body_at order flags (kind_of b) octets ≡ (read >>= λ y. Some (make y)) → body_at order flags kind octets ≡ Some b

@@ -5,6 +5,7 @@ use Rattle.std.proofs.lemmas.List.{length-take, length-drop}
 use Rattle.rpc_base.specs.declared.identifiers.Order.{Order}
 use Rattle.rpc_base.specs.Fields.{IsOctets, number_of}
 use Rattle.rpc_base.proofs.FieldLaws.{wide16, wide32, IsOctets-drop, part_at}
+use Rattle.pdu_codec.specs.Constants.{header_size}
 use Rattle.pdu_codec.specs.declared.pdu.Pdu.{Pdu}
 use Rattle.pdu_codec.specs.declared.pdu.Body.{Body}
 use Rattle.pdu_codec.specs.declared.pdu.Body.TheVariants as bodies
@@ -23,11 +24,12 @@ pub pdu_says : (p : Pdu) (octets : List ℕ) → (is : IsPdu p octets) → Says 
 pdu_says p octets is =
     subst (λ (o : List ℕ). Says p.minor (head_of p (length octets)) is.body o) (sym is.whole) (says p.minor is.drep (head_of p (length octets)) is.body is.three is.size is.fits.call_id)
 
-pub pdu_long : (p : Pdu) (octets : List ℕ) → IsPdu p octets → 16 ≤ length octets
+pub pdu_long : (p : Pdu) (octets : List ℕ) → IsPdu p octets → header_size ≤ length octets
 pdu_long p octets is = omega (arith, (pdu_says p octets is).len)
 
 -- the protocol has the PTYPE of every body
 pub body_known : (b : Body) → is_known (kind_of b) ≡ true
+unfolding is_known
 body_known (bodies.Request b) = refl
 body_known (bodies.Response b) = refl
 body_known (bodies.Fault b) = refl
@@ -41,27 +43,27 @@ body_known bodies.CoCancel = refl
 body_known bodies.Orphaned = refl
 
 -- a PDU has no fault in its header
-pub pdu_no_head_fault : (known : Bool) (p : Pdu) (octets : List ℕ) → IsPdu p octets → known ≡ is_known (kind_at octets)
-    → (f : PduFault) → IsHeadFault known (Some (length octets)) octets f → ⊥
-pdu_no_head_fault known p octets is known_is f wrong =
+pub pdu_no_head_fault : (p : Pdu) (octets : List ℕ) → IsPdu p octets
+    → (f : PduFault) → IsHeadFault (Some (length octets)) octets f → ⊥
+pdu_no_head_fault p octets is f wrong =
     let s = pdu_says p octets is in
-    no_head_fault known (Some (length octets)) p.minor (head_of p (length octets)) is.body octets s is.minor (known_is ∙ ap is_known s.kind ∙ body_known p.body) (pdu_long p octets is, refl) f wrong
+    no_head_fault (Some (length octets)) p.minor (head_of p (length octets)) is.body octets s is.minor (ap is_known s.kind ∙ body_known p.body) (pdu_long p octets is, refl) f wrong
 
 -- what is known once a header has been read
 pub record Opened (octets : List ℕ) (h : Head) : Type 0 where
   pub fits : IsOctets octets
-  pub long : 16 ≤ length octets
-  pub passes : PassesHead (is_known (kind_at octets)) (Some (length octets)) h.order octets
+  pub long : header_size ≤ length octets
+  pub passes : PassesHead (Some (length octets)) h.order octets
   pub head : h ≡ head_at h.order octets
 
 -- the PDU of a header and a body
 abbrev pub pdu_of : List ℕ → Head → Body → Pdu
 pdu_of octets h b = record { minor = slice_index octets 1; flags = h.flags; order = h.order; call_id = h.call_id; body = b }
 
-opened_spells : (octets : List ℕ) (h : Head) (b : Body) → Opened octets h → body_at h.order h.flags h.kind (drop 16 octets) ≡ Some b → Spells h.order h.flags h.kind b (drop 16 octets)
-opened_spells octets h b o e = body_takes h.order h.flags h.kind (drop 16 octets) b (IsOctets-drop 16 octets o.fits) e
+opened_spells : (octets : List ℕ) (h : Head) (b : Body) → Opened octets h → body_at h.order h.flags h.kind (drop header_size octets) ≡ Some b → Spells h.order h.flags h.kind b (drop header_size octets)
+opened_spells octets h b o e = body_takes h.order h.flags h.kind (drop header_size octets) b (IsOctets-drop header_size octets o.fits) e
 
-pub opened_found : (octets : List ℕ) (h : Head) (b : Body) → Opened octets h → body_at h.order h.flags h.kind (drop 16 octets) ≡ Some b → IsPdu (pdu_of octets h b) octets
+pub opened_found : (octets : List ℕ) (h : Head) (b : Body) → Opened octets h → body_at h.order h.flags h.kind (drop header_size octets) ≡ Some b → IsPdu (pdu_of octets h b) octets
 opened_found octets h b o e =
     let t = opened_spells octets h b o e in
     let size_is : frag_length octets ≡ length octets = o.passes.0.0.1.1 in
@@ -84,10 +86,10 @@ opened_found octets h b o e =
       drep = drep;
       three = omega (arith, length-take 3 (drop 5 octets), length-drop 5 octets, o.long);
       size = omega (arith, size, size_is);
-      body = drop 16 octets;
+      body = drop header_size octets;
       is_body = t.is_body;
-      whole = stands (is_known (kind_at octets)) (Some (length octets)) h.order octets o.fits o.long o.passes
-          ∙ ap (λ (x : Head). head_octets (slice_index octets 1) drep x ++ drop 16 octets) same;
+      whole = stands (Some (length octets)) h.order octets o.fits o.long o.passes
+          ∙ ap (λ (x : Head). head_octets (slice_index octets 1) drep x ++ drop header_size octets) same;
     }
 
 abbrev pub given : {A : Type 0} → A → Option A
@@ -103,29 +105,29 @@ opened_head p octets h is o =
     let order_is : h.order ≡ p.order = some_same h.order p.order (sym o.passes.1 ∙ s.order) in
     o.head ∙ ap (λ (x : Order). head_at x octets) order_is ∙ s.head
 
-opened_body : (p : Pdu) (octets : List ℕ) (h : Head) → IsPdu p octets → Opened octets h → body_at h.order h.flags h.kind (drop 16 octets) ≡ Some p.body
+opened_body : (p : Pdu) (octets : List ℕ) (h : Head) → IsPdu p octets → Opened octets h → body_at h.order h.flags h.kind (drop header_size octets) ≡ Some p.body
 opened_body p octets h is o =
     let s = pdu_says p octets is in
     let e = opened_head p octets h is o in
     let spelled : Spells p.order p.flags (kind_of p.body) p.body is.body = record { is_kind = refl; fits = is.fits.body; is_body = is.is_body } in
     (λ i. body_at (e i).order (e i).flags (e i).kind (s.behind i)) ∙ body_again p.order p.flags (kind_of p.body) is.body p.body spelled
 
-pub opened_same : (p : Pdu) (octets : List ℕ) (h : Head) (b : Body) → IsPdu p octets → Opened octets h → body_at h.order h.flags h.kind (drop 16 octets) ≡ Some b → pdu_of octets h b ≡ p
+pub opened_same : (p : Pdu) (octets : List ℕ) (h : Head) (b : Body) → IsPdu p octets → Opened octets h → body_at h.order h.flags h.kind (drop header_size octets) ≡ Some b → pdu_of octets h b ≡ p
 opened_same p octets h b is o e =
     let s = pdu_says p octets is in
     let head_is = opened_head p octets h is o in
     let body_is : b ≡ p.body = some_same b p.body (sym e ∙ opened_body p octets h is o) in
     λ i. record { minor = s.minor_is i; flags = (head_is i).flags; order = (head_is i).order; call_id = (head_is i).call_id; body = body_is i }
 
-pub opened_read : (p : Pdu) (octets : List ℕ) (h : Head) → IsPdu p octets → Opened octets h → body_at h.order h.flags h.kind (drop 16 octets) ≡ None → ⊥
+pub opened_read : (p : Pdu) (octets : List ℕ) (h : Head) → IsPdu p octets → Opened octets h → body_at h.order h.flags h.kind (drop header_size octets) ≡ None → ⊥
 opened_read p octets h is o e = absurd (cc (e, opened_body p octets h is o))
 
 -- a body that isn't read ends early
-pub opened_early : (octets : List ℕ) (h : Head) → Opened octets h → body_at h.order h.flags h.kind (drop 16 octets) ≡ None → IsFault octets faults.Body
+pub opened_early : (octets : List ℕ) (h : Head) → Opened octets h → body_at h.order h.flags h.kind (drop header_size octets) ≡ None → IsFault octets faults.Body
 opened_early octets h o e =
     let known : is_known (kind_at octets) ≡ true = o.passes.0.0.0.1 in
-    let unread : body_at h.order (flags_at octets) (kind_at octets) (drop 16 octets) ≡ None = (λ i. body_at h.order (sym o.head i).flags (sym o.head i).kind (drop 16 octets)) ∙ e in
-    (o.long, h.order, o.passes, ends_early h.order (flags_at octets) (kind_at octets) (drop 16 octets) known (IsOctets-drop 16 octets o.fits) unread)
+    let unread : body_at h.order (flags_at octets) (kind_at octets) (drop header_size octets) ≡ None = (λ i. body_at h.order (sym o.head i).flags (sym o.head i).kind (drop header_size octets)) ∙ e in
+    (o.long, h.order, o.passes, ends_early h.order (flags_at octets) (kind_at octets) (drop header_size octets) known (IsOctets-drop header_size octets o.fits) unread)
 
 -- a reader's fault, by cases
 pub fails_memory : (f : PduFault) (read : Option Body) → BodyFails f read → (read ≡ None → ⊥) → f ≡ faults.Memory
@@ -147,9 +149,9 @@ fails_fault octets faults.Body read h k = k h
 fails_fault octets faults.Memory read h k = tt
 
 -- what opens octets, as a call says it
-pub opened : (known : Bool) (octets : List ℕ) (h : Head) → IsOctets octets → 16 ≤ length octets → known ≡ is_known (kind_at octets) → PassesHead known (Some (length octets)) h.order octets → h ≡ head_at h.order octets → Opened octets h
-opened known octets h fits long known_is passes head =
-    record { fits = fits; long = long; passes = subst (λ (k : Bool). PassesHead k (Some (length octets)) h.order octets) known_is passes; head = head }
+pub opened : (octets : List ℕ) (h : Head) → IsOctets octets → header_size ≤ length octets → PassesHead (Some (length octets)) h.order octets → h ≡ head_at h.order octets → Opened octets h
+opened octets h fits long passes head =
+    record { fits = fits; long = long; passes = passes; head = head }
 
 -- octets spell at most one PDU
 pub one_pdu : (p q : Pdu) (octets : List ℕ) → IsPdu p octets → IsPdu q octets → p ≡ q

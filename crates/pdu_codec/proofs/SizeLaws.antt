@@ -6,6 +6,7 @@ use Rattle.std.proofs.lemmas.List.{length-append, length-replicate}
 use Rattle.rpc_base.specs.declared.identifiers.Order.{Order}
 use Rattle.rpc_base.specs.Fields.{u16_octets, u32_octets, syntax_octets, FitsSyntax}
 use Rattle.rpc_base.proofs.FieldLaws.{wide16, wide32, length-syntax_octets, length-uuid_octets}
+use Rattle.pdu_codec.specs.Constants.{header_size, most_minor}
 use Rattle.pdu_codec.specs.declared.pdu.Pdu.{Pdu}
 use Rattle.pdu_codec.specs.declared.pdu.Body.{Body}
 use Rattle.pdu_codec.specs.declared.pdu.Body.TheVariants.{Request, Response, Fault, Bind, BindAck, BindNak, Alter, AlterResp, Shutdown, CoCancel, Orphaned}
@@ -165,24 +166,24 @@ pdu_writable p octets is =
 -- ---- answers that can be written
 
 -- a PDU with this body
-body_size : (p : Pdu) (body : Body) → p.body ≡ body → length (pdu_octets p) ≡ 16 + length (body_octets p.order body)
-body_size p body is = length-pdu_octets p ∙ ap (λ (b : Body). 16 + length (body_octets p.order b)) is
+body_size : (p : Pdu) (body : Body) → p.body ≡ body → length (pdu_octets p) ≡ header_size + length (body_octets p.order body)
+body_size p body is = length-pdu_octets p ∙ ap (λ (b : Body). header_size + length (body_octets p.order b)) is
 
-pub request_writable : (p : Pdu) (b : RequestBody) → p.minor ≤ 1 → p.body ≡ Request b → is_some b.object ≡ has_object p.flags → IfSome b.object (λ id. length id ≡ 16) → 40 + length b.stub < 2 ^ 16 → IsWritable p
+pub request_writable : (p : Pdu) (b : RequestBody) → p.minor ≤ most_minor → p.body ≡ Request b → is_some b.object ≡ has_object p.flags → IfSome b.object (λ id. length id ≡ header_size) → 40 + length b.stub < 2 ^ 16 → IsWritable p
 request_writable p b minor is object id short = record {
   minor = minor;
   body = subst (λ (x : Body). HasSpelling p.flags x) (sym is) object;
   size = omega (arith, body_size p (Request b) is, length-request p.order b, object_most p.order b.object id, short);
 }
 
-pub response_writable : (p : Pdu) (b : ResponseBody) → p.minor ≤ 1 → p.body ≡ Response b → 24 + length b.stub < 2 ^ 16 → IsWritable p
+pub response_writable : (p : Pdu) (b : ResponseBody) → p.minor ≤ most_minor → p.body ≡ Response b → 24 + length b.stub < 2 ^ 16 → IsWritable p
 response_writable p b minor is short = record {
   minor = minor;
   body = subst (λ (x : Body). HasSpelling p.flags x) (sym is) tt;
   size = omega (arith, body_size p (Response b) is, length-response p.order 0 b, short);
 }
 
-pub fault_writable : (p : Pdu) (b : FaultBody) → p.minor ≤ 1 → p.body ≡ Fault b → IsWritable p
+pub fault_writable : (p : Pdu) (b : FaultBody) → p.minor ≤ most_minor → p.body ≡ Fault b → IsWritable p
 fault_writable p b minor is = record {
   minor = minor;
   body = subst (λ (x : Body). HasSpelling p.flags x) (sym is) tt;
@@ -202,7 +203,7 @@ length-results order [] fits = refl
 length-results order (r ∷ rs) fits =
     omega (arith, length-append (result_octets order r) (results_octets order rs), length-result order r fits.0, length-results order rs fits.1)
 
-pub bind_ack_writable : (p : Pdu) (b : BindAckBody) → p.minor ≤ 1 → p.body ≡ BindAck b → length b.results < 256 → AllByRecursion (λ r. FitsSyntax r.transfer) b.results
+pub bind_ack_writable : (p : Pdu) (b : BindAckBody) → p.minor ≤ most_minor → p.body ≡ BindAck b → length b.results < 256 → AllByRecursion (λ r. FitsSyntax r.transfer) b.results
     → 33 + length b.address + 24 * length b.results < 2 ^ 16 → IsWritable p
 bind_ack_writable p b minor is few fits short =
     let padding : List ℕ = replicate (gap (10 + length b.address)) 0 in
@@ -212,14 +213,14 @@ bind_ack_writable p b minor is few fits short =
       size = omega (arith, body_size p (BindAck b) is, length-bind_ack p.order padding zeros_3 [] b, length-replicate {A = ℕ} (gap (10 + length b.address)) 0, length-results p.order b.results fits, short);
     }
 
-pub bind_nak_writable : (p : Pdu) (b : BindNakBody) → p.minor ≤ 1 → p.body ≡ BindNak b → length b.versions < 256 → IsWritable p
+pub bind_nak_writable : (p : Pdu) (b : BindNakBody) → p.minor ≤ most_minor → p.body ≡ BindNak b → length b.versions < 256 → IsWritable p
 bind_nak_writable p b minor is few = record {
   minor = minor;
   body = subst (λ (x : Body). HasSpelling p.flags x) (sym is) few;
   size = omega (arith, body_size p (BindNak b) is, length-bind_nak p.order [] b);
 }
 
-pub alter_resp_writable : (p : Pdu) (b : AlterRespBody) → p.minor ≤ 1 → p.body ≡ AlterResp b → length b.results < 256 → AllByRecursion (λ r. FitsSyntax r.transfer) b.results
+pub alter_resp_writable : (p : Pdu) (b : AlterRespBody) → p.minor ≤ most_minor → p.body ≡ AlterResp b → length b.results < 256 → AllByRecursion (λ r. FitsSyntax r.transfer) b.results
     → 33 + length b.address + 24 * length b.results < 2 ^ 16 → IsWritable p
 alter_resp_writable p b minor is few fits short =
     let padding : List ℕ = replicate (gap (10 + length b.address)) 0 in
@@ -230,5 +231,5 @@ alter_resp_writable p b minor is few fits short =
     }
 
 -- a PDU without fields
-pub plain_writable : (p : Pdu) → p.minor ≤ 1 → HasSpelling p.flags p.body → body_octets p.order p.body ≡ [] → IsWritable p
+pub plain_writable : (p : Pdu) → p.minor ≤ most_minor → HasSpelling p.flags p.body → body_octets p.order p.body ≡ [] → IsWritable p
 plain_writable p minor has none = record { minor = minor; body = has; size = omega (arith, length-pdu_octets p, ap length none) }

@@ -5,6 +5,7 @@ use Rattle.std.proofs.Math.Seq.{take-append_seam, take-append-add, drop-append-a
 use Rattle.rpc_base.specs.declared.identifiers.Order.{Order}
 use Rattle.rpc_base.specs.declared.identifiers.Order.TheVariants.{Big, Little}
 use Rattle.rpc_base.specs.Fields.{number_octets, u16_octets}
+use Rattle.pdu_codec.specs.Constants.{header_size}
 use Rattle.pdu_codec.specs.declared.pdu.Pdu.{Pdu}
 use Rattle.pdu_codec.specs.declared.pdu.Head.{Head}
 use Rattle.pdu_codec.specs.Pdus.{zeros_3, head_octets, head_of, body_octets, pdu_octets}
@@ -15,19 +16,19 @@ keeps_then old more mid new mid_is kept =
     let within : length old ≤ length mid = omega (arith, ap length mid_is, length-append old more) in
     sym (take-take (length old) (length mid) new within) ∙ ap (take (length old)) (kept ∙ mid_is) ∙ take-append_seam old more
 
-length-head : (order : Order) (minor kind flags size call : ℕ) → length (head_octets minor zeros_3 (record { kind = kind; flags = flags; order = order; length = size; call_id = call })) ≡ 16
+length-head : (order : Order) (minor kind flags size call : ℕ) → length (head_octets minor zeros_3 (record { kind = kind; flags = flags; order = order; length = size; call_id = call })) ≡ header_size
 unfolding head_octets number_octets
 length-head Big minor kind flags size call = refl
 length-head Little minor kind flags size call = refl
 
-pub length-head_octets : (minor : ℕ) (h : Head) → length (head_octets minor zeros_3 h) ≡ 16
+pub length-head_octets : (minor : ℕ) (h : Head) → length (head_octets minor zeros_3 h) ≡ header_size
 length-head_octets minor h = length-head h.order minor h.kind h.flags h.length h.call_id
 
-pub length-pdu_octets : (p : Pdu) → length (pdu_octets p) ≡ 16 + length (body_octets p.order p.body)
+pub length-pdu_octets : (p : Pdu) → length (pdu_octets p) ≡ header_size + length (body_octets p.order p.body)
 unfolding pdu_octets
 length-pdu_octets p =
     let body = body_octets p.order p.body in
-    let h = head_of p (16 + length body) in
+    let h = head_of p (header_size + length body) in
     length-append (head_octets p.minor zeros_3 h) body ∙ ap (λ n. n + length body) (length-head_octets p.minor h)
 
 -- the size put into a header
@@ -43,7 +44,7 @@ head_sized Little minor kind flags size call body = refl
 pub record IsPut (old : List ℕ) (p : Pdu) (mid : List ℕ) : Type 0 where
   pub parts : mid ≡ old ++ (head_octets p.minor zeros_3 (head_of p 0) ++ body_octets p.order p.body)
   pub size : length mid ≡ length old + length (pdu_octets p)
-  pub long : 16 ≤ length (pdu_octets p)
+  pub long : header_size ≤ length (pdu_octets p)
 
 pub is_put : (old first mid : List ℕ) (p : Pdu) (h : Head) → h ≡ head_of p 0 → first ≡ old ++ head_octets p.minor zeros_3 h → mid ≡ first ++ body_octets p.order p.body → IsPut old p mid
 is_put old first mid p h h_is put_is mid_is =
@@ -73,7 +74,7 @@ unfolding pdu_octets
 sized old p at size mid new put at_is size_is new_is =
     let body = body_octets p.order p.body in
     let blank = head_octets p.minor zeros_3 (head_of p 0) ++ body in
-    let size_now : size ≡ 16 + length body = omega (arith, put.size, length-pdu_octets p) in
+    let size_now : size ≡ header_size + length body = omega (arith, put.size, length-pdu_octets p) in
     let front : take (at + 8) mid ≡ old ++ take 8 blank = (λ i. take (at_is i + 8) (put.parts i)) ∙ take-append-add old blank 8 in
     let back : drop (at + 10) mid ≡ drop 10 blank = (λ i. drop (at_is i + 10) (put.parts i)) ∙ drop-append-add old blank 10 in
     let kind = (head_of p 0).kind in

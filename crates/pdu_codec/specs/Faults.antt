@@ -34,21 +34,20 @@ auth_length octets = number_of (length_order (slice_index octets 4)) w16 (take 2
 -- ---- kinds of PDUs
 
 -- the PTYPEs of the connection-oriented protocol
-abbrev pub is_known : ℕ → Bool
+unfoldable pub is_known : ℕ → Bool
 is_known kind =
     kind == request_type || kind == response_type || kind == fault_type
     || (nat_le bind_type kind && nat_le kind alter_context_resp_type) || (nat_le shutdown_type kind && nat_le kind orphaned_type)
 
 -- ---- the tests of a header, each with those before it
 
--- `known` says whether the protocol has the PTYPE, and `size` is the number of the PDU's octets where all of
--- them are at hand.
+-- `size` is the number of the PDU's octets where all of them are at hand.
 
 abbrev pub PassesVersion : List ℕ → Type 0
 PassesVersion octets = (slice_index octets 0 ≡ major_version) × (slice_index octets 1 ≤ most_minor)
 
-abbrev pub PassesKind : Bool → List ℕ → Type 0
-PassesKind known octets = PassesVersion octets × (known ≡ true)
+abbrev pub PassesKind : List ℕ → Type 0
+PassesKind octets = PassesVersion octets × (is_known (kind_at octets) ≡ true)
 
 abbrev pub IsRightLength : Option ℕ → ℕ → Type 0
 IsRightLength None n = header_size ≤ n
@@ -58,25 +57,25 @@ abbrev pub IsWrongLength : Option ℕ → ℕ → Type 0
 IsWrongLength None n = n < header_size
 IsWrongLength (Some size) n = (n < header_size) ⊎ (n ≢ size)
 
-abbrev pub PassesLength : Bool → Option ℕ → List ℕ → Type 0
-PassesLength known size octets = PassesKind known octets × IsRightLength size (frag_length octets)
+abbrev pub PassesLength : Option ℕ → List ℕ → Type 0
+PassesLength size octets = PassesKind octets × IsRightLength size (frag_length octets)
 
-abbrev pub PassesAuth : Bool → Option ℕ → List ℕ → Type 0
-PassesAuth known size octets = PassesLength known size octets × (auth_length octets ≡ 0)
+abbrev pub PassesAuth : Option ℕ → List ℕ → Type 0
+PassesAuth size octets = PassesLength size octets × (auth_length octets ≡ 0)
 
 -- The header has no fault, and its numbers are in the order.
-abbrev pub PassesHead : Bool → Option ℕ → Order → List ℕ → Type 0
-PassesHead known size order octets = PassesAuth known size octets × (order_of (slice_index octets 4) ≡ Some order)
+abbrev pub PassesHead : Option ℕ → Order → List ℕ → Type 0
+PassesHead size order octets = PassesAuth size octets × (order_of (slice_index octets 4) ≡ Some order)
 
 -- The fault is the first one of a header.
-abbrev pub IsHeadFault : Bool → Option ℕ → List ℕ → PduFault → Type 0
-IsHeadFault known size octets faults.Version = (slice_index octets 0 ≢ major_version) ⊎ (most_minor < slice_index octets 1)
-IsHeadFault known size octets faults.Kind = PassesVersion octets × (known ≡ false)
-IsHeadFault known size octets faults.Length = PassesKind known octets × IsWrongLength size (frag_length octets)
-IsHeadFault known size octets faults.Auth = PassesLength known size octets × (auth_length octets ≢ 0)
-IsHeadFault known size octets faults.Characters = PassesAuth known size octets × (order_of (slice_index octets 4) ≡ None)
-IsHeadFault known size octets faults.Body = ⊥
-IsHeadFault known size octets faults.Memory = ⊥
+abbrev pub IsHeadFault : Option ℕ → List ℕ → PduFault → Type 0
+IsHeadFault size octets faults.Version = (slice_index octets 0 ≢ major_version) ⊎ (most_minor < slice_index octets 1)
+IsHeadFault size octets faults.Kind = PassesVersion octets × (is_known (kind_at octets) ≡ false)
+IsHeadFault size octets faults.Length = PassesKind octets × IsWrongLength size (frag_length octets)
+IsHeadFault size octets faults.Auth = PassesLength size octets × (auth_length octets ≢ 0)
+IsHeadFault size octets faults.Characters = PassesAuth size octets × (order_of (slice_index octets 4) ≡ None)
+IsHeadFault size octets faults.Body = ⊥
+IsHeadFault size octets faults.Memory = ⊥
 
 -- what the fields of a header say, in the order
 abbrev pub head_at : Order → List ℕ → Head
@@ -119,7 +118,7 @@ pub record EndsEarly (order : Order) (flags kind : ℕ) (octets : List ℕ) : Ty
 
 -- The fault is the first one of a header that stands in front of the octets, all of which are a PDU's.
 abbrev pub IsFrontFault : List ℕ → PduFault → Type 0
-IsFrontFault octets fault = (header_size ≤ length octets) × IsHeadFault (is_known (kind_at octets)) (Some (length octets)) octets fault
+IsFrontFault octets fault = (header_size ≤ length octets) × IsHeadFault (Some (length octets)) octets fault
 
 -- The fault is the first one of the octets. Fewer than a header's are a `Length` before all else. Want of memory
 -- has no cause in the octets.
@@ -130,6 +129,6 @@ IsFault octets faults.Length = (length octets < header_size) ⊎ IsFrontFault oc
 IsFault octets faults.Auth = IsFrontFault octets faults.Auth
 IsFault octets faults.Characters = IsFrontFault octets faults.Characters
 IsFault octets faults.Body =
-    (header_size ≤ length octets) × (order : Order) × PassesHead (is_known (kind_at octets)) (Some (length octets)) order octets
+    (header_size ≤ length octets) × (order : Order) × PassesHead (Some (length octets)) order octets
     × EndsEarly order (flags_at octets) (kind_at octets) (drop header_size octets)
 IsFault octets faults.Memory = ⊤

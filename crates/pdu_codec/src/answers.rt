@@ -2,7 +2,7 @@
 ghost use Rattle.std.specs.Prelude.{◌≡◌};
 ghost use Rattle.pdu_codec.specs.Reading.{Gives, items_at, result_at, address_at, bind_ack_at, version_at, bind_nak_at, alter_resp_at};
 
-use crate::pieces::{take_piece, take_syntax, take_u8, take_u16, take_u32};
+use crate::fields::{take_piece, take_syntax, take_u8, take_u16, take_u32};
 use crate::{
     AlterRespBody, BindAckBody, BindNakBody, ContextResult, PduFault, Results, Version, Versions,
 };

@@ -3,7 +3,7 @@ ghost use Rattle.std.specs.Prelude.{◌≡◌};
 ghost use Rattle.pdu_codec.specs.Pdus.{has_object};
 ghost use Rattle.pdu_codec.specs.Reading.{Gives, syntax_at, object_at, request_at, response_at, fault_at, items_at, element_at, bind_at, alter_at};
 
-use crate::pieces::{take_piece, take_syntax, take_u8, take_u16, take_u32, take_uuid};
+use crate::fields::{take_piece, take_syntax, take_u8, take_u16, take_u32, take_uuid};
 use crate::{
     AlterBody, BindBody, Element, Elements, FaultBody, PduFault, RequestBody, ResponseBody,
     Syntaxes, flags,

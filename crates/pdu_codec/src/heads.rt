@@ -2,14 +2,15 @@
 ghost use Rattle.std.specs.Prelude.{◌≡◌, ◌≤◌, ◌<◌, ◌^◌, ℕ, length, slice_index, Ok, Some, None, IfOk, IfErr};
 ghost use Rattle.std.specs.Bool.{OnTrue, OnFalse};
 ghost use Rattle.pdu_codec.specs.Constants.{header_size};
-ghost use Rattle.pdu_codec.specs.Faults.{is_known, kind_at, length_order, frag_length, auth_length, IsRightLength, IsWrongLength, PassesHead, IsHeadFault, head_at, IsHead, raw_head_of};
+ghost use Rattle.pdu_codec.specs.Faults.{is_known, length_order, frag_length, auth_length, IsRightLength, IsWrongLength, PassesHead, IsHeadFault, head_at, IsHead, raw_head_of};
 
 use crate::ptypes::{ALTER_CONTEXT_RESP, BIND, FAULT, ORPHANED, REQUEST, RESPONSE, SHUTDOWN};
 use crate::{HEADER_SIZE, Head, MAJOR_VERSION, MOST_MINOR, PduFault, RawHead};
 use rpc_base::{Order, drep_order, get_u16, get_u32};
 
 /// Whether the protocol has the PTYPE.
-pub fn is_kind(kind: u8) -> bool
+#[tactic(auto, unfolding(crate::specs::Faults::is_known))]
+fn is_kind(kind: u8) -> bool
     ensures { result ≡ is_known kind }
 {
     matches!(kind, REQUEST | RESPONSE | FAULT | BIND..=ALTER_CONTEXT_RESP | SHUTDOWN..=ORPHANED)
@@ -50,18 +51,17 @@ pub fn raw_head(octets: &[u8]) -> RawHead
     }
 }
 
-/// The header at the front of octets, given whether the protocol has its PTYPE and, where all of the PDU's
-/// octets are at hand, how many they are.
-pub fn front_head(octets: &[u8], known: bool, size: Option<usize>) -> Result<Head, PduFault>
+/// The header at the front of octets, given, where all of the PDU's octets are at hand, how many they are.
+pub fn front_head(octets: &[u8], size: Option<usize>) -> Result<Head, PduFault>
     requires { header_size ≤ length octets.now }
-    ensures head { IfOk result (λ h. PassesHead known size h.order octets.now) }
+    ensures head { IfOk result (λ h. PassesHead size h.order octets.now) }
     ensures fields { IfOk result (λ h. h ≡ head_at h.order octets.now) }
-    ensures fault { IfErr result (IsHeadFault known size octets.now) }
+    ensures fault { IfErr result (IsHeadFault size octets.now) }
 {
     if octets[0] != MAJOR_VERSION || octets[1] > MOST_MINOR {
         return Err(PduFault::Version);
     }
-    if !known {
+    if !is_kind(octets[2]) {
         return Err(PduFault::Kind);
     }
     let lengths = order_of_lengths(octets[4]);
@@ -89,9 +89,9 @@ fn whole_head(octets: &[u8]) -> Result<Head, PduFault>
     requires { length octets.now ≡ header_size }
     ensures head { IfOk result (λ h. IsHead h octets.now) }
     ensures only { (h : Head) → IsHead h octets.now → result ≡ Ok h }
-    ensures fault { IfErr result (IsHeadFault (is_known (kind_at octets.now)) None octets.now) }
+    ensures fault { IfErr result (IsHeadFault None octets.now) }
 {
-    front_head(octets, is_kind(octets[2]), None)
+    front_head(octets, None)
 }
 
 /// What a PDU's common header says (C706, "Connection-oriented RPC PDUs", common fields). The tests
@@ -103,7 +103,7 @@ pub fn read_head(octets: [u8; HEADER_SIZE]) -> Result<Head, PduFault>
     // A header is read.
     ensures only { (h : Head) → IsHead h octets → result ≡ Ok h }
     // Which fault it is.
-    ensures fault { IfErr result (IsHeadFault (is_known (kind_at octets)) None octets) }
+    ensures fault { IfErr result (IsHeadFault None octets) }
 {
     whole_head(&octets)
 }

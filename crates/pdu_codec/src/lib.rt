@@ -4,11 +4,11 @@
 mod answers;
 mod bodies;
 mod fault;
+mod fields;
 mod fragments;
 mod heads;
 mod laws;
 mod pdu;
-mod pieces;
 mod reading;
 mod writing;
 
@@ -24,6 +24,3 @@ pub use pdu::{
 };
 pub use reading::read_pdu;
 pub use writing::write_pdu;
-
-#[cfg(test)]
-mod tests;

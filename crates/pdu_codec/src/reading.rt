@@ -7,12 +7,12 @@ ghost use Rattle.pdu_codec.specs.Reading.{Gives, body_at};
 
 use crate::answers::{read_alter_resp, read_bind_ack, read_bind_nak};
 use crate::bodies::{read_alter, read_bind, read_fault, read_request, read_response};
-use crate::heads::{front_head, is_kind};
+use crate::heads::front_head;
 use crate::{Body, HEADER_SIZE, Head, Pdu, PduFault, ptypes};
 use std::alloc::Global;
 
 /// The body behind a header.
-#[tactic(auto, unfolding(crate::specs::Reading::body_at))]
+#[tactic(auto, unfolding(crate::specs::Reading::body_at, crate::specs::Faults::is_known))]
 fn read_body(alloc: Global, head: &Head, octets: &[u8]) -> Result<Body, PduFault>
     requires long { header_size ≤ length octets.now }
     requires kind { is_known head.now.kind ≡ true }
@@ -48,7 +48,7 @@ pub fn read_pdu(alloc: Global, octets: &[u8]) -> Result<Pdu, PduFault>
     if octets.len() < HEADER_SIZE {
         return Err(PduFault::Length);
     }
-    let head = front_head(octets, is_kind(octets[2]), Some(octets.len()))?;
+    let head = front_head(octets, Some(octets.len()))?;
     let body = read_body(alloc, &head, octets)?;
     Ok(Pdu {
         minor: octets[1],

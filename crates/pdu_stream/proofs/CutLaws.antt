@@ -1,6 +1,7 @@
 -- A stream has one cut, which goes on.
 use Rattle.std.proofs.Common.{◌≡◌, ◌≢◌, ℕ, ◌≤◌, inl, inr, List, [], ◌∷◌, ◌++◌, length, take, drop, Option, Some, None, refl, sym, ap, subst, ◌∙◌, append_assoc, arith}
 use Rattle.std.proofs.lemmas.List.{length-append, take_at, drop_at}
+use Rattle.pdu_codec.specs.Constants.{header_size}
 use Rattle.pdu_codec.specs.declared.pdu.Pdu.{Pdu}
 use Rattle.pdu_codec.specs.declared.fault.PduFault.{PduFault}
 use Rattle.pdu_codec.specs.declared.fault.PduFault.TheVariants as faults
@@ -51,7 +52,7 @@ head_stops rest faults.Memory h = absurd h.1
 
 -- ---- a PDU with a fault of its body has as many octets as its header says
 
-body_long : (whole : List ℕ) → IsFault whole faults.Body → 16 ≤ length whole
+body_long : (whole : List ℕ) → IsFault whole faults.Body → header_size ≤ length whole
 body_long whole h = h.0
 
 body_size : (whole more : List ℕ) → IsFault whole faults.Body → frag_length (whole ++ more) ≡ length whole
@@ -66,7 +67,7 @@ pub pdu_sound : (p : Pdu) (front others : List ℕ) (f : PduFault) → IsPdu p f
 pdu_sound p front others f is stops =
     let s = pdu_says p front is in
     let long = pdu_long p front is in
-    no_head_fault (is_known (kind_at front)) None p.minor (head_of p (length front)) is.body front s is.minor (ap is_known s.kind ∙ body_known p.body) long f
+    no_head_fault None p.minor (head_of p (length front)) is.body front s is.minor (ap is_known s.kind ∙ body_known p.body) long f
     (fault_along None (front ++ others) front f (tested_more front others long) stops.1)
 
 not_partial : (p : Pdu) (front others : List ℕ) → IsPdu p front → IsPartial (front ++ others) → ⊥
@@ -95,7 +96,7 @@ stopped_partial rest f (by_body f_is whole more e fault) (inl short) =
 stopped_partial rest f (by_body f_is whole more e fault) (inr part) =
     absurd (omega (arith, ap length e, length-append whole more, ap frag_length e, body_size whole more fault, part.1))
 
-front_fault : (whole : List ℕ) (f : PduFault) → 16 ≤ length whole → IsHeadFault (is_known (kind_at whole)) (Some (length whole)) whole f → IsFault whole f
+front_fault : (whole : List ℕ) (f : PduFault) → header_size ≤ length whole → IsHeadFault (Some (length whole)) whole f → IsFault whole f
 front_fault whole faults.Version long h = (long, h)
 front_fault whole faults.Kind long h = (long, h)
 front_fault whole faults.Length long h = inr (long, h)
@@ -107,15 +108,15 @@ front_fault whole faults.Memory long h = absurd h
 head_and_body : (rest : List ℕ) (f : PduFault) (whole more : List ℕ) → HeadStops rest f → rest ≡ whole ++ more → IsFault whole faults.Body → ⊥
 head_and_body rest f whole more stops e fault =
     let long = body_long whole fault in
-    let alone : IsHeadFault (is_known (kind_at whole)) None whole f = fault_along None rest whole f (ap tested e ∙ tested_more whole more long) stops.1 in
-    let head : IsHeadFault (is_known (kind_at whole)) (Some (length whole)) whole f = fault_of_whole (is_known (kind_at whole)) (length whole) whole f fault.2.0.0.1.1 alone in
-    let known : f ≢ faults.Memory = λ f_is. subst (λ (g : PduFault). IsHeadFault (is_known (kind_at whole)) None whole g) f_is alone in
+    let alone : IsHeadFault None whole f = fault_along None rest whole f (ap tested e ∙ tested_more whole more long) stops.1 in
+    let head : IsHeadFault (Some (length whole)) whole f = fault_of_whole (length whole) whole f fault.2.0.0.1.1 alone in
+    let known : f ≢ faults.Memory = λ f_is. subst (λ (g : PduFault). IsHeadFault None whole g) f_is alone in
     let body : faults.Body ≢ faults.Memory = λ b. absurd (cc (b)) in
     let f_is : f ≡ faults.Body = one_fault whole f faults.Body (front_fault whole f long head) fault known body in
-    subst (λ (g : PduFault). IsHeadFault (is_known (kind_at whole)) None whole g) f_is alone
+    subst (λ (g : PduFault). IsHeadFault None whole g) f_is alone
 
 one_stopped : (rest : List ℕ) (f g : PduFault) → StopsBy rest f → StopsBy rest g → f ≡ g
-one_stopped rest f g (by_head h) (by_head k) = head_one (is_known (kind_at rest)) None rest f g h.1 k.1
+one_stopped rest f g (by_head h) (by_head k) = head_one None rest f g h.1 k.1
 one_stopped rest f g (by_head h) (by_body g_is whole more e fault) = absurd (head_and_body rest f whole more h e fault)
 one_stopped rest f g (by_body f_is whole more e fault) (by_head k) = absurd (head_and_body rest g whole more k e fault)
 one_stopped rest f g (by_body f_is whole more e fault) (by_body g_is whole' more' e' fault') = f_is ∙ sym g_is

@@ -5,6 +5,7 @@ use Rattle.std.proofs.lemmas.List.{length-append, length-take-le, take-take, tak
 use Rattle.rpc_base.specs.declared.identifiers.Order.{Order}
 use Rattle.rpc_base.specs.Fields.{IsOctets, order_of}
 use Rattle.rpc_base.proofs.FieldLaws.{IsOctets-drop, IsOctets-take}
+use Rattle.pdu_codec.specs.Constants.{header_size, major_version}
 use Rattle.pdu_codec.specs.declared.pdu.Pdu.{Pdu}
 use Rattle.pdu_codec.specs.declared.pdu.Body.{Body}
 use Rattle.pdu_codec.specs.declared.fault.PduFault.{PduFault}
@@ -23,23 +24,23 @@ use Rattle.pdu_stream.proofs.CutLaws.{head_stops, cut_goes_on}
 -- ---- a header has a fault or passes
 
 abbrev Head : List ℕ → Type 0
-Head o = ((f : PduFault) × IsHeadFault (is_known (kind_at o)) None o f) ⊎ ((order : Order) × PassesHead (is_known (kind_at o)) None order o)
+Head o = ((f : PduFault) × IsHeadFault None o f) ⊎ ((order : Order) × PassesHead None order o)
 
-by_order : (o : List ℕ) (found : Option Order) → order_of (slice_index o 4) ≡ found → PassesAuth (is_known (kind_at o)) None o → Head o
+by_order : (o : List ℕ) (found : Option Order) → order_of (slice_index o 4) ≡ found → PassesAuth None o → Head o
 by_order o None e h = inl (faults.Characters, (h, e))
 by_order o (Some order) e h = inr (order, (h, e))
 
-by_auth : (o : List ℕ) → PassesLength (is_known (kind_at o)) None o → Head o
+by_auth : (o : List ℕ) → PassesLength None o → Head o
 by_auth o h = elim (cases_eq (auth_length o) 0) [ inl e ↦ by_order o (order_of (slice_index o 4)) refl (h, e) | inr n ↦ inl (faults.Auth, (h, n)) ]
 
-by_length : (o : List ℕ) → PassesKind (is_known (kind_at o)) o → Head o
-by_length o h = elim (cases_lt (frag_length o) 16) [ inl lt ↦ inl (faults.Length, (h, lt)) | inr le ↦ by_auth o (h, le) ]
+by_length : (o : List ℕ) → PassesKind o → Head o
+by_length o h = elim (cases_lt (frag_length o) header_size) [ inl lt ↦ inl (faults.Length, (h, lt)) | inr le ↦ by_auth o (h, le) ]
 
 by_kind : (o : List ℕ) (known : Bool) → is_known (kind_at o) ≡ known → PassesVersion o → Head o
 by_kind o false e h = inl (faults.Kind, (h, e))
 by_kind o true e h = by_length o (h, e)
 
-by_minor : (o : List ℕ) → slice_index o 0 ≡ 5 → Head o
+by_minor : (o : List ℕ) → slice_index o 0 ≡ major_version → Head o
 by_minor o major = elim (cases_lt 1 (slice_index o 1)) [ inl lt ↦ inl (faults.Version, inr lt) | inr le ↦ by_kind o (is_known (kind_at o)) refl (major, le) ]
 
 head_of_any : (o : List ℕ) → Head o
@@ -47,41 +48,41 @@ head_of_any o = elim (cases_eq (slice_index o 0) 5) [ inl e ↦ by_minor o e | i
 
 -- ---- what stands in front of octets
 
-pub passes_sound : (o : List ℕ) (order : Order) → IsOctets o → 16 ≤ length o → PassesHead (is_known (kind_at o)) None order o
-    → (f : PduFault) → IsHeadFault (is_known (kind_at o)) None o f → ⊥
+pub passes_sound : (o : List ℕ) (order : Order) → IsOctets o → header_size ≤ length o → PassesHead None order o
+    → (f : PduFault) → IsHeadFault None o f → ⊥
 passes_sound o order fits long passes f wrong =
-    let t = take 16 o in
-    let alone : PassesHead (is_known (kind_at t)) None order t = passes_along None order o t (sym (tested_front o)) passes in
-    let h = head_found (is_known (kind_at t)) t (head_at order t) (IsOctets-take 16 o fits) (length-take-le 16 o long) refl alone refl in
+    let t = take header_size o in
+    let alone : PassesHead None order t = passes_along None order o t (sym (tested_front o)) passes in
+    let h = head_found t (head_at order t) (IsOctets-take header_size o fits) (length-take-le header_size o long) alone refl in
     let s = head_says (head_at order t) t h in
-    no_head_fault (is_known (kind_at t)) None h.minor (head_at order t) [] t s h.below h.known h.long f (fault_along None o t f (sym (tested_front o)) wrong)
+    no_head_fault None h.minor (head_at order t) [] t s h.below h.known h.long f (fault_along None o t f (sym (tested_front o)) wrong)
 
 abbrev Front : List ℕ → Type 0
 Front o = ((p : Pdu) × (front : List ℕ) × (others : List ℕ) × IsPdu p front × (o ≡ front ++ others)) ⊎ ((f : Option PduFault) × Remains o f)
 
 by_body : (o whole others : List ℕ) (order : Order) (body : Option Body) → o ≡ whole ++ others → Opened whole (head_at order whole)
-    → body_at order (flags_at whole) (kind_at whole) (drop 16 whole) ≡ body → Front o
+    → body_at order (flags_at whole) (kind_at whole) (drop header_size whole) ≡ body → Front o
 by_body o whole others order None e opened b = inr (Some faults.Body, (whole, others, e, opened_early whole (head_at order whole) opened b))
 by_body o whole others order (Some body) e opened b =
     inl (pdu_of whole (head_at order whole) body, whole, others, opened_found whole (head_at order whole) body opened b, e)
 
-by_size : (o : List ℕ) (order : Order) → IsOctets o → 16 ≤ length o → PassesHead (is_known (kind_at o)) None order o → frag_length o ≤ length o → Front o
+by_size : (o : List ℕ) (order : Order) → IsOctets o → header_size ≤ length o → PassesHead None order o → frag_length o ≤ length o → Front o
 by_size o order fits long passes le =
     let n = frag_length o in
     let whole = take n o in
-    let least : 16 ≤ n = passes.0.0.1 in
+    let least : header_size ≤ n = passes.0.0.1 in
     let len : length whole ≡ n = length-take-le n o le in
-    let same : tested o ≡ tested whole = sym (tested_front o) ∙ ap tested (sym (take-take 16 n o least)) ∙ tested_front whole in
+    let same : tested o ≡ tested whole = sym (tested_front o) ∙ ap tested (sym (take-take header_size n o least)) ∙ tested_front whole in
     let size : frag_length whole ≡ length whole = sym (size_along o whole same) ∙ sym len in
     let opened : Opened whole (head_at order whole) = record {
       fits = IsOctets-take n o fits;
       long = omega (arith, len, least);
-      passes = passes_whole (is_known (kind_at whole)) (length whole) order whole size (passes_along None order o whole same passes);
+      passes = passes_whole (length whole) order whole size (passes_along None order o whole same passes);
       head = refl;
     } in
-    by_body o whole (drop n o) order (body_at order (flags_at whole) (kind_at whole) (drop 16 whole)) (sym (take-append-drop n o)) opened refl
+    by_body o whole (drop n o) order (body_at order (flags_at whole) (kind_at whole) (drop header_size whole)) (sym (take-append-drop n o)) opened refl
 
-by_head : (o : List ℕ) → IsOctets o → 16 ≤ length o → Head o → Front o
+by_head : (o : List ℕ) → IsOctets o → header_size ≤ length o → Head o → Front o
 by_head o fits long (inl wrong) = inr (Some wrong.0, head_stops o wrong.0 (long, wrong.1))
 by_head o fits long (inr right) = elim (cases_lt (length o) (frag_length o)) [
   | inl lt ↦ inr (None, inr (record { long = long; sound = passes_sound o right.0 fits long right.1 }, lt))
@@ -89,7 +90,7 @@ by_head o fits long (inr right) = elim (cases_lt (length o) (frag_length o)) [
 ]
 
 front_of_any : (o : List ℕ) → IsOctets o → Front o
-front_of_any o fits = elim (cases_lt (length o) 16) [ inl short ↦ inr (None, inl short) | inr long ↦ by_head o fits long (head_of_any o) ]
+front_of_any o fits = elim (cases_lt (length o) header_size) [ inl short ↦ inr (None, inl short) | inr long ↦ by_head o fits long (head_of_any o) ]
 
 -- ---- the whole
 

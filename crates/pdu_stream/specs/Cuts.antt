@@ -6,13 +6,13 @@ use Rattle.pdu_codec.specs.declared.pdu.Pdu.{Pdu}
 use Rattle.pdu_codec.specs.declared.fault.PduFault.{PduFault}
 use Rattle.pdu_codec.specs.declared.fault.PduFault.TheVariants as faults
 use Rattle.pdu_codec.specs.Pdus.{IsPdu, AreSpelled}
-use Rattle.pdu_codec.specs.Faults.{is_known, kind_at, frag_length, IsHeadFault, IsFault}
+use Rattle.pdu_codec.specs.Faults.{frag_length, IsHeadFault, IsFault}
 use Rattle.pdu_stream.specs.declared.cut.Cut.{Cut}
 
 -- The octets begin with a header that has no fault.
 pub record HasHead (octets : List ℕ) : Type 0 where
   pub long : header_size ≤ length octets
-  pub sound : (fault : PduFault) → IsHeadFault (is_known (kind_at octets)) None octets fault → ⊥
+  pub sound : (fault : PduFault) → IsHeadFault None octets fault → ⊥
 
 -- The octets may still become a PDU: they end within a header, or its header has no fault and says more octets.
 abbrev pub IsPartial : List ℕ → Type 0
@@ -20,7 +20,7 @@ IsPartial rest = (length rest < header_size) ⊎ (HasHead rest × (length rest <
 
 -- a header stands in front, and the fault is its first one
 abbrev pub HeadStops : List ℕ → PduFault → Type 0
-HeadStops rest fault = (header_size ≤ length rest) × IsHeadFault (is_known (kind_at rest)) None rest fault
+HeadStops rest fault = (header_size ≤ length rest) × IsHeadFault None rest fault
 
 -- The octets begin with a fault: that of a header as soon as all of it stands, that of a body where all octets
 -- of its PDU do. Want of memory has no cause in the octets.

@@ -20,6 +20,3 @@ pub use laws::{
     push_goes_on, runs_go_on, runs_join,
 };
 pub use pieces::piece;
-
-#[cfg(test)]
-mod tests;

@@ -13,6 +13,3 @@ pub use laws::{
 };
 pub use offers::ndr;
 pub use verdict::{Accepted, Reason, Verdict};
-
-#[cfg(test)]
-mod tests;

@@ -9,13 +9,13 @@ returns-then-octets-lt-HEADER_SIZE-clause-only c = λ p is. absurd (omega (arith
 
 pub returns-in_err-head-clause-only : goal.returns-in_err-head-clause-only
 returns-in_err-head-clause-only c = λ p is.
-    absurd (pdu_no_head_fault c.is_kind.result p c.args.octets.now is c.is_kind.ensures c.in_err-head.field-0.0 c.in_err-head.ensures.fault)
+    absurd (pdu_no_head_fault p c.args.octets.now is c.in_err-head.field-0.0 c.in_err-head.ensures.fault)
 
 pub returns-in_err-body-clause-only : goal.returns-in_err-body-clause-only
 returns-in_err-body-clause-only c = λ p is.
     let h = c.in_ok-head.head in
     let octets = c.args.octets.now in
-    let o = opened c.is_kind.result octets h (λ i. omega (arith, c.type_inv.octets i)) c.if-octets-lt-HEADER_SIZE.false c.is_kind.ensures c.in_ok-head.ensures.head c.in_ok-head.ensures.fields in
+    let o = opened octets h (λ i. omega (arith, c.type_inv.octets i)) c.if-octets-lt-HEADER_SIZE.false c.in_ok-head.ensures.head c.in_ok-head.ensures.fields in
     let r = err_from_is_err_and c.from_residual-in_err-body.result c.from_residual-in_err-body.ensures.1 in
     rw (r.1, r.2) (fails_memory c.in_err-body.field-0.0 (body_at h.order h.flags h.kind (drop 16 octets)) c.in_err-body.ensures (opened_read p octets h is o))
 
@@ -23,7 +23,7 @@ pub returns-in_err-body-clause-fault : goal.returns-in_err-body-clause-fault
 returns-in_err-body-clause-fault c =
     let h = c.in_ok-head.head in
     let octets = c.args.octets.now in
-    let o = opened c.is_kind.result octets h (λ i. omega (arith, c.type_inv.octets i)) c.if-octets-lt-HEADER_SIZE.false c.is_kind.ensures c.in_ok-head.ensures.head c.in_ok-head.ensures.fields in
+    let o = opened octets h (λ i. omega (arith, c.type_inv.octets i)) c.if-octets-lt-HEADER_SIZE.false c.in_ok-head.ensures.head c.in_ok-head.ensures.fields in
     let r = err_from_is_err_and c.from_residual-in_err-body.result c.from_residual-in_err-body.ensures.1 in
     rw (r.1, r.2) (fails_fault octets c.in_err-body.field-0.0 (body_at h.order h.flags h.kind (drop 16 octets)) c.in_err-body.ensures (opened_early octets h o))
 
@@ -31,12 +31,12 @@ pub returns-clause-found : goal.returns-clause-found
 returns-clause-found c =
     let h = c.in_ok-head.head in
     let octets = c.args.octets.now in
-    let o = opened c.is_kind.result octets h (λ i. omega (arith, c.type_inv.octets i)) c.if-octets-lt-HEADER_SIZE.false c.is_kind.ensures c.in_ok-head.ensures.head c.in_ok-head.ensures.fields in
+    let o = opened octets h (λ i. omega (arith, c.type_inv.octets i)) c.if-octets-lt-HEADER_SIZE.false c.in_ok-head.ensures.head c.in_ok-head.ensures.fields in
     opened_found octets h c.in_ok-body.body o c.in_ok-body.ensures
 
 pub returns-clause-only : goal.returns-clause-only
 returns-clause-only c = λ p is.
     let h = c.in_ok-head.head in
     let octets = c.args.octets.now in
-    let o = opened c.is_kind.result octets h (λ i. omega (arith, c.type_inv.octets i)) c.if-octets-lt-HEADER_SIZE.false c.is_kind.ensures c.in_ok-head.ensures.head c.in_ok-head.ensures.fields in
+    let o = opened octets h (λ i. omega (arith, c.type_inv.octets i)) c.if-octets-lt-HEADER_SIZE.false c.in_ok-head.ensures.head c.in_ok-head.ensures.fields in
     opened_same p octets h c.in_ok-body.body is o c.in_ok-body.ensures
