@@ -186,6 +186,8 @@ const ATTRIBUTES: &[(u8, usize, &str)] = &[
         "typedef[switch_type(long)]union{case 1:;default:[unique]long*a;}u;",
     ),
     (0, 0, "typedef long*p;void f([out]p a[2]);"),
+    (3, 57, "[maybe]foo f();"),
+    (3, 57, "[maybe]struct S f();"),
 ];
 
 /// Names in attributes, of the right type and of others.
@@ -262,6 +264,21 @@ const SIZES: &[(u8, usize, &str)] = &[
         0,
         0,
         "void f([in,size_is(7),length_is(4294967295)]long a[],[in,max_is(4294967294)]long b[]);",
+    ),
+    (
+        4,
+        111,
+        "union U switch(long t){case 1:long n;case 2:[length_is(n)]long a[4];};",
+    ),
+    (
+        4,
+        111,
+        "struct S{long n;union switch(long t){case 1:[length_is(n)]long a[4];}u;};",
+    ),
+    (
+        4,
+        154,
+        "typedef[switch_type(long)]union{case 1:;}u;union V switch(long t){case 1:char c;case 2:[switch_is(c)]u v;};",
     ),
 ];
 
@@ -418,6 +435,16 @@ const TYPES: &[(u8, usize, &str)] = &[
         "typedef[switch_type(char)]union U{case 0:case 1:long a;}u;",
     ),
     (0, 0, "typedef short t;union U switch(t x){case -32768:;};"),
+    (2, 72, "struct S{struct S{long a;}x;struct S y;};"),
+    (2, 79, "struct S{struct{struct S{long a;}b;}x;struct S y;};"),
+    (2, 72, "struct S{struct S{struct S a;}x;};"),
+    (7, 63, "struct S{struct S a;struct S{long b;}x;};"),
+    (2, 72, "struct S{struct S{long b;}*x;struct S y;};"),
+    (
+        2,
+        85,
+        "struct S{union switch(struct S{long b;}t){case 1:struct S y;}u;};",
+    ),
 ];
 
 /// What lies outside the profile, and what lies just inside.

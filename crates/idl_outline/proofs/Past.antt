@@ -17,8 +17,8 @@ use Rattle.std.proofs.lemmas.List.{reverse-append}
 use Rattle.std.proofs.lemmas.List.Sums.{sum_by-cons}
 use Rattle.idl_outline.specs.declared.event.Event.{Event}
 use Rattle.idl_outline.specs.declared.event.Event.TheVariants as events
-use Rattle.idl_outline.specs.declared.known.Known.{Known}
-use Rattle.idl_outline.specs.declared.known.Tagged.{Tagged}
+use Rattle.idl_outline.specs.declared.entries.NameEntry.{NameEntry}
+use Rattle.idl_outline.specs.declared.entries.TagEntry.{TagEntry}
 use Rattle.idl_outline.specs.Names.{Past, type_named, constant_named, struct_named, name_in, declares, declares_tag, is_operation, is_typedef_event}
 use Rattle.idl_outline.specs.Kept.{Key, IsKept, known, tagged, known_behind, tagged_behind, tag_said, text_of, by_name, or_unknown, or_untagged, one_if}
 
@@ -267,11 +267,11 @@ no_more p x xs h = more p x xs ∙ rw h (omega arith)
 
 -- ---- what is kept
 
-or_cond : (b : Bool) (v : Known) (o : Option Known) → or_unknown (cond b (Some v) o) ≡ (if b then v else or_unknown o)
+or_cond : (b : Bool) (v : NameEntry) (o : Option NameEntry) → or_unknown (cond b (Some v) o) ≡ (if b then v else or_unknown o)
 or_cond true v o = refl
 or_cond false v o = refl
 
-or_cond_tagged : (b : Bool) (v : Tagged) (o : Option Tagged) → or_untagged (cond b (Some v) o) ≡ (if b then v else or_untagged o)
+or_cond_tagged : (b : Bool) (v : TagEntry) (o : Option TagEntry) → or_untagged (cond b (Some v) o) ≡ (if b then v else or_untagged o)
 or_cond_tagged true v o = refl
 or_cond_tagged false v o = refl
 
@@ -281,7 +281,7 @@ choose true false v w x y e p q = absurd (cc)
 choose false true v w x y e p q = absurd (cc)
 choose false false v w x y e p q = q
 
-named_kept : (past : Past) (e : Event) (names new : BTreeMap Key Known) (tags : BTreeMap Key Tagged) (operations typedefs : ℕ) (key : Key) (v : Known) → IsKept past names tags operations typedefs
+named_kept : (past : Past) (e : Event) (names new : BTreeMap Key NameEntry) (tags : BTreeMap Key TagEntry) (operations typedefs : ℕ) (key : Key) (v : NameEntry) → IsKept past names tags operations typedefs
     → text_of (name_in e) ≡ Some key.items → v ≡ known_behind e (known key.items past) → new.entries ≡ insert_entry by_items names.entries key v
     → IsKept (e ∷ past) new tags (operations + one_if (is_operation e)) (typedefs + one_if (is_typedef_event e))
 named_kept past e names new tags operations typedefs key v k h n entries = record {
@@ -296,7 +296,7 @@ named_kept past e names new tags operations typedefs key v k h n entries = recor
   typedefs_are = ap (λ m. m + one_if (is_typedef_event e)) k.typedefs_are ∙ sym (more is_typedef_event e past);
 }
 
-tagged_kept : (past : Past) (e : Event) (names : BTreeMap Key Known) (tags new : BTreeMap Key Tagged) (operations typedefs : ℕ) (key : Key) (v : Tagged) → IsKept past names tags operations typedefs
+tagged_kept : (past : Past) (e : Event) (names : BTreeMap Key NameEntry) (tags new : BTreeMap Key TagEntry) (operations typedefs : ℕ) (key : Key) (v : TagEntry) → IsKept past names tags operations typedefs
     → text_of (tag_said e) ≡ Some key.items → v ≡ tagged_behind e (tagged key.items past) → new.entries ≡ insert_entry by_items tags.entries key v
     → IsKept (e ∷ past) names new operations typedefs
 tagged_kept past e names tags new operations typedefs key v k h n entries = record {
@@ -311,7 +311,7 @@ tagged_kept past e names tags new operations typedefs key v k h n entries = reco
   typedefs_are = k.typedefs_are ∙ sym (no_more is_typedef_event e past (no_typedef e (no_name e key.items h)));
 }
 
-other_kept : (past : Past) (e : Event) (names : BTreeMap Key Known) (tags : BTreeMap Key Tagged) (operations typedefs : ℕ) → IsKept past names tags operations typedefs
+other_kept : (past : Past) (e : Event) (names : BTreeMap Key NameEntry) (tags : BTreeMap Key TagEntry) (operations typedefs : ℕ) → IsKept past names tags operations typedefs
     → text_of (name_in e) ≡ None → text_of (tag_said e) ≡ None → IsKept (e ∷ past) names tags operations typedefs
 other_kept past e names tags operations typedefs k h g = record {
   names_are = λ q. k.names_are q ∙ sym (other_names e past q h);
@@ -328,18 +328,18 @@ reverse-snoc xs x = reverse-append xs (x ∷ [])
 newest : (xs ys : List Event) (e : Event) → ys ≡ xs ++ e ∷ [] → e ∷ reverse xs ≡ reverse ys
 newest xs ys e h = sym (ap reverse h ∙ reverse-snoc xs e)
 
-pub named_pushed : (xs ys : List Event) (e : Event) (names new : BTreeMap Key Known) (tags : BTreeMap Key Tagged) (operations typedefs o t : ℕ) (key : Key) (v : Known) → ys ≡ xs ++ e ∷ [] → IsKept (reverse xs) names tags operations typedefs
+pub named_pushed : (xs ys : List Event) (e : Event) (names new : BTreeMap Key NameEntry) (tags : BTreeMap Key TagEntry) (operations typedefs o t : ℕ) (key : Key) (v : NameEntry) → ys ≡ xs ++ e ∷ [] → IsKept (reverse xs) names tags operations typedefs
     → text_of (name_in e) ≡ Some key.items → v ≡ known_behind e (known key.items (reverse xs)) → new.entries ≡ insert_entry by_items names.entries key v
     → o ≡ operations + one_if (is_operation e) → t ≡ typedefs + one_if (is_typedef_event e) → IsKept (reverse ys) new tags o t
 named_pushed xs ys e names new tags operations typedefs o t key v p k h n entries c d =
     rw (c, d) (subst (λ (past : Past). IsKept past new tags (operations + one_if (is_operation e)) (typedefs + one_if (is_typedef_event e))) (newest xs ys e p) (named_kept (reverse xs) e names new tags operations typedefs key v k h n entries))
 
-pub tagged_pushed : (xs ys : List Event) (e : Event) (names : BTreeMap Key Known) (tags new : BTreeMap Key Tagged) (operations typedefs : ℕ) (key : Key) (v : Tagged) → ys ≡ xs ++ e ∷ [] → IsKept (reverse xs) names tags operations typedefs
+pub tagged_pushed : (xs ys : List Event) (e : Event) (names : BTreeMap Key NameEntry) (tags new : BTreeMap Key TagEntry) (operations typedefs : ℕ) (key : Key) (v : TagEntry) → ys ≡ xs ++ e ∷ [] → IsKept (reverse xs) names tags operations typedefs
     → text_of (tag_said e) ≡ Some key.items → v ≡ tagged_behind e (tagged key.items (reverse xs)) → new.entries ≡ insert_entry by_items tags.entries key v → IsKept (reverse ys) names new operations typedefs
 tagged_pushed xs ys e names tags new operations typedefs key v p k h n entries =
     subst (λ (past : Past). IsKept past names new operations typedefs) (newest xs ys e p) (tagged_kept (reverse xs) e names tags new operations typedefs key v k h n entries)
 
-pub other_pushed : (xs ys : List Event) (e : Event) (names : BTreeMap Key Known) (tags : BTreeMap Key Tagged) (operations typedefs : ℕ) → ys ≡ xs ++ e ∷ [] → IsKept (reverse xs) names tags operations typedefs
+pub other_pushed : (xs ys : List Event) (e : Event) (names : BTreeMap Key NameEntry) (tags : BTreeMap Key TagEntry) (operations typedefs : ℕ) → ys ≡ xs ++ e ∷ [] → IsKept (reverse xs) names tags operations typedefs
     → text_of (name_in e) ≡ None → text_of (tag_said e) ≡ None → IsKept (reverse ys) names tags operations typedefs
 other_pushed xs ys e names tags operations typedefs p k h g =
     subst (λ (past : Past). IsKept past names tags operations typedefs) (newest xs ys e p) (other_kept (reverse xs) e names tags operations typedefs k h g)

@@ -10,25 +10,25 @@ use Rattle.std.specs.BTreeMap.{BTreeMap, get_by}
 use Rattle.idl_tree.specs.declared.leaf.Ident.{Ident}
 use Rattle.idl_outline.specs.declared.event.Event.{Event}
 use Rattle.idl_outline.specs.declared.event.Event.TheVariants as events
-use Rattle.idl_outline.specs.declared.known.Known.{Known}
-use Rattle.idl_outline.specs.declared.known.Tagged.{Tagged}
+use Rattle.idl_outline.specs.declared.entries.NameEntry.{NameEntry}
+use Rattle.idl_outline.specs.declared.entries.TagEntry.{TagEntry}
 use Rattle.idl_outline.specs.Names.{Past, type_named, constant_named, struct_named, name_in, declares, declares_tag, is_operation, is_typedef_event}
 
-abbrev pub nothing_known : Known
+abbrev pub nothing_known : NameEntry
 nothing_known = record { ty = None; constant = None; declared = false }
 
-abbrev pub nothing_tagged : Tagged
+abbrev pub nothing_tagged : TagEntry
 nothing_tagged = record { body = None; declared = false }
 
 -- what the events say of a name, and of a tag
-abbrev pub known : List ℕ → Past → Known
+abbrev pub known : List ℕ → Past → NameEntry
 known name past = record { ty = type_named name past; constant = constant_named name past; declared = list_any (declares name) past }
 
-abbrev pub tagged : List ℕ → Past → Tagged
+abbrev pub tagged : List ℕ → Past → TagEntry
 tagged name past = record { body = struct_named name past; declared = list_any (declares_tag name) past }
 
 -- behind an event that declares the name
-abbrev pub known_behind : Event → Known → Known
+abbrev pub known_behind : Event → NameEntry → NameEntry
 known_behind (events.Typedef i t) k = record { ty = Some t; constant = k.constant; declared = true }
 known_behind (events.Constant b i n) k = record { ty = k.ty; constant = Some n; declared = true }
 known_behind (events.EnumName i n) k = record { ty = k.ty; constant = Some n; declared = true }
@@ -36,7 +36,7 @@ known_behind (events.Operation i) k = record { ty = k.ty; constant = k.constant;
 known_behind _ k = k
 
 -- behind an event that says something of the tag
-abbrev pub tagged_behind : Event → Tagged → Tagged
+abbrev pub tagged_behind : Event → TagEntry → TagEntry
 tagged_behind (events.StructBegins i itself) t = record { body = Some None; declared = true }
 tagged_behind (events.StructEnds i o) t = record { body = Some (Some o); declared = t.declared }
 tagged_behind (events.OtherTag i) t = record { body = t.body; declared = true }
@@ -63,18 +63,18 @@ items_of (Some k) = Some k.items
 abbrev pub by_name : List ℕ → Key → Ordering
 by_name name k = slice_cmp nat_cmp name k.items
 
-abbrev pub or_unknown : Option Known → Known
+abbrev pub or_unknown : Option NameEntry → NameEntry
 or_unknown None = nothing_known
 or_unknown (Some k) = k
 
-abbrev pub or_untagged : Option Tagged → Tagged
+abbrev pub or_untagged : Option TagEntry → TagEntry
 or_untagged None = nothing_tagged
 or_untagged (Some t) = t
 
 abbrev pub one_if : Bool → ℕ
 one_if b = if b then 1 else 0
 
-pub record IsKept (past : Past) (names : BTreeMap Key Known) (tags : BTreeMap Key Tagged) (operations typedefs : ℕ) : Type 0 where
+pub record IsKept (past : Past) (names : BTreeMap Key NameEntry) (tags : BTreeMap Key TagEntry) (operations typedefs : ℕ) : Type 0 where
   pub names_are : (name : List ℕ) → or_unknown (get_by (by_name name) names) ≡ known name past
   pub tags_are : (name : List ℕ) → or_untagged (get_by (by_name name) tags) ≡ tagged name past
   pub operations_are : operations ≡ count_by is_operation past

@@ -1,6 +1,7 @@
 -- The outline of an interface: its events in the order of the text, the newest first.
-use Rattle.std.specs.Prelude.{ℕ, ◌+◌, ◌==◌, Bool, true, false, not, ◌||◌, ◌&&◌, List, [], ◌∷◌, ◌++◌, Option, Some, None, map, length, if◌then◌else◌, bytes_eq}
+use Rattle.std.specs.Prelude.{ℕ, ◌+◌, ◌==◌, Bool, true, false, not, ◌||◌, ◌&&◌, List, [], ◌∷◌, ◌++◌, Option, Some, None, map, length, if◌then◌else◌, unwrap_or, bytes_eq}
 use Rattle.std.specs.List.{list_any}
+use Rattle.std.specs.Option.{option_or}
 use Rattle.idl_tree.specs.declared.leaf.Ident.{Ident}
 use Rattle.idl_tree.specs.declared.leaf.Pk.{Pk}
 use Rattle.idl_tree.specs.declared.leaf.Pk.TheVariants as pks
@@ -53,30 +54,47 @@ is_tag None tag = false
 is_tag (Some i) tag = bytes_eq i.text tag
 
 abbrev mutual
-  -- the spec is, or holds by value, the structure with that tag
-  pub holds : List ℕ → PSpec → Bool
-  holds tag (spec at k) = kind_holds tag k
+  -- within the body of the structure with that tag: the first place where the tag stands for the structure itself, without a pointer
+  -- between (true), or is declared for another structure, for which it stands from there on (false). direct: no pointer so far
+  pub spec_use : List ℕ → Bool → PSpec → Option Bool
+  spec_use tag direct (spec at k) = kind_use tag direct k
 
-  pub kind_holds : List ℕ → PKind → Bool
-  kind_holds tag (of_tag t) = is_tag t tag
-  kind_holds tag (of_struct t ms) = members_hold tag ms
-  kind_holds tag (of_union t s arms) = arms_hold tag arms
-  kind_holds tag _ = false
+  pub kind_use : List ℕ → Bool → PKind → Option Bool
+  kind_use tag direct (of_tag t) = if direct && is_tag t tag then Some true else None
+  kind_use tag direct (of_struct t ms) = if is_tag t tag then Some false else members_use tag direct ms
+  kind_use tag direct (of_union t s arms) = option_or (switch_use tag s) (arms_use tag direct arms)
+  kind_use tag direct _ = None
 
-  pub member_holds : List ℕ → PMember → Bool
-  member_holds tag (member as' s ds) = by_value ds && holds tag s
+  -- what a switch or an attribute says isn't held
+  pub switch_use : List ℕ → PSwitch → Option Bool
+  switch_use tag no_switch = None
+  switch_use tag (switch s i) = spec_use tag false s
 
-  pub members_hold : List ℕ → PMembers → Bool
-  members_hold tag no_member = false
-  members_hold tag (then_member m ms) = member_holds tag m || members_hold tag ms
+  pub mark_use : List ℕ → PMark → Option Bool
+  mark_use tag (is_switch_type s) = spec_use tag false s
+  mark_use tag _ = None
 
-  pub arm_holds : List ℕ → PArm → Bool
-  arm_holds tag (arm ls m) = member_holds tag m
-  arm_holds tag (empty_arm ls) = false
+  pub attr_use : List ℕ → PAttr → Option Bool
+  attr_use tag (attr at m) = mark_use tag m
 
-  pub arms_hold : List ℕ → PArms → Bool
-  arms_hold tag no_arm = false
-  arms_hold tag (then_arm a as') = arm_holds tag a || arms_hold tag as'
+  pub attrs_use : List ℕ → PAttrs → Option Bool
+  attrs_use tag no_attr = None
+  attrs_use tag (then_attr a as') = option_or (attr_use tag a) (attrs_use tag as')
+
+  pub member_use : List ℕ → Bool → PMember → Option Bool
+  member_use tag direct (member as' s ds) = option_or (attrs_use tag as') (spec_use tag (direct && by_value ds) s)
+
+  pub members_use : List ℕ → Bool → PMembers → Option Bool
+  members_use tag direct no_member = None
+  members_use tag direct (then_member m ms) = option_or (member_use tag direct m) (members_use tag direct ms)
+
+  pub arm_use : List ℕ → Bool → PArm → Option Bool
+  arm_use tag direct (arm ls m) = member_use tag direct m
+  arm_use tag direct (empty_arm ls) = None
+
+  pub arms_use : List ℕ → Bool → PArms → Option Bool
+  arms_use tag direct no_arm = None
+  arms_use tag direct (then_arm a as') = option_or (arm_use tag direct a) (arms_use tag direct as')
 
 -- ---- small parts
 
@@ -172,9 +190,10 @@ abbrev pub struct_end : Option Ident → List Field → Past → Past
 struct_end None fs p = events.Body fs ∷ p
 struct_end (Some i) fs p = events.StructEnds i (ends_open fs) ∷ events.Body fs ∷ p
 
+-- a structure with a tag holds itself by value
 abbrev pub tag_holds : Option Ident → PMembers → Bool
 tag_holds None ms = false
-tag_holds (Some i) ms = members_hold i.text ms
+tag_holds (Some i) ms = unwrap_or (members_use i.text true ms) false
 
 -- the field of a spec that was read up to the past p
 abbrev pub field_of : Pk → Place → List Attribute → DataType → Bare → List Dtor → Past → Field

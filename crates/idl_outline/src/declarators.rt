@@ -6,7 +6,7 @@ ghost use Rattle.idl_outline.specs.Outline.{by_value, all_pointed, alone, before
 
 use crate::event::{Event, Tag};
 use crate::field::{
-    Attribute, Attributes, Bare, Declared, Extent, Field, Mark, Named, Place, Size,
+    Attribute, Attributes, Bare, Declared, Extent, Field, Mark, NameRef, Place, Size,
 };
 use crate::names::copy_name;
 use crate::outline::Outline;
@@ -318,7 +318,7 @@ pub fn size(alloc: Global, size: &SizeRef) -> Result<Size, NoMemory>
         SizeRef::Number(number) => Ok(Size::Number(number.value)),
         SizeRef::Named { star, name } => {
             let name = copy_name(alloc, name)?;
-            Ok(Size::Of(Named { star: *star, name }))
+            Ok(Size::Of(NameRef { star: *star, name }))
         }
     }
 }

@@ -6,7 +6,7 @@ use rpc_base::Items;
 
 /// A name that stands as a size or a switch, and whether a star stands before it.
 #[derive(Drop)]
-pub struct Named {
+pub struct NameRef {
     pub star: bool,
     pub name: Ident,
 }
@@ -15,7 +15,7 @@ pub struct Named {
 #[derive(Drop)]
 pub enum Size {
     Number(u64),
-    Of(Named),
+    Of(NameRef),
 }
 
 /// What an attribute says.
@@ -33,7 +33,7 @@ pub enum Mark {
     SizeIs(Size),
     MaxIs(Size),
     LengthIs(Size),
-    SwitchIs(Named),
+    SwitchIs(NameRef),
     /// The octet where its spec begins, and the type.
     SwitchType { spec_at: usize, ty: DataType },
 }

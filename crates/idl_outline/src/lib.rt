@@ -4,9 +4,9 @@
 #![tactic(auto)]
 
 mod declarators;
+mod entries;
 mod event;
 mod field;
-mod known;
 mod names;
 mod outline;
 mod setting;
@@ -19,7 +19,7 @@ pub use declarators::{
 };
 pub use event::{Event, Events, Label, Labels, Tag};
 pub use field::{
-    Attribute, Attributes, Bare, Declared, Extent, Field, Fields, Mark, Named, Place, Size,
+    Attribute, Attributes, Bare, Declared, Extent, Field, Fields, Mark, NameRef, Place, Size,
 };
 pub use names::{copy_name, is_name};
 pub use outline::Outline;

@@ -5,8 +5,8 @@ ghost use Rattle.idl_outline.specs.declared.event.Event.{Event};
 ghost use Rattle.idl_outline.specs.Kept as kept;
 ghost use Rattle.idl_outline.specs.Names as spec;
 
+use crate::entries::{NameEntry, TagEntry};
 use crate::event::{Event, Events};
-use crate::known::{Known, Tagged};
 use crate::names::{is_operation, is_typedef, name_key, tag_key};
 use crate::ty::DataType;
 use idl_tree::Num;
@@ -21,8 +21,8 @@ use std::marker::Model;
 pub struct Outline {
     alloc: Global,
     events: Vec<Event>,
-    names: BTreeMap<Vec<u8>, Known>,
-    tags: BTreeMap<Vec<u8>, Tagged>,
+    names: BTreeMap<Vec<u8>, NameEntry>,
+    tags: BTreeMap<Vec<u8>, TagEntry>,
     operations: usize,
     typedefs: usize,
 }
@@ -66,20 +66,20 @@ impl Outline {
         }
     }
 
-    fn known(&self, name: &[u8]) -> Known
+    fn known(&self, name: &[u8]) -> NameEntry
         ensures { result ≡ kept.known name.now self.now }
     {
         match self.names.get(name) {
-            None => Known::nothing(),
+            None => NameEntry::nothing(),
             Some(known) => *known,
         }
     }
 
-    fn tagged(&self, name: &[u8]) -> Tagged
+    fn tagged(&self, name: &[u8]) -> TagEntry
         ensures { result ≡ kept.tagged name.now self.now }
     {
         match self.tags.get(name) {
-            None => Tagged::nothing(),
+            None => TagEntry::nothing(),
             Some(tagged) => *tagged,
         }
     }

@@ -185,8 +185,9 @@ each_field (f ∷ fs) = field_places f (is_more fs) ++ each_field fs
 
 -- ---- maybe
 
+-- a result or an out parameter; no type name stands for no result, so an unknown one is a result too
 abbrev pub answers : Field → List Field → Bool
-answers r ps = not (is_void r.spec.core || is_unknown r.spec.core) || list_any (has says_out) ps
+answers r ps = not (is_void r.spec.core) || list_any (has says_out) ps
 
 abbrev pub maybe_places : Field → List Field → Attribute → List ℕ
 maybe_places r ps a = at_if (says_maybe a.mark && answers r ps) a.at

@@ -4,7 +4,7 @@ use Rattle.std.specs.Prelude.{bytes_eq, not}
 use Rattle.std.specs.List.{list_any}
 use Rattle.idl_outline.specs.declared.field.Declared.{Declared}
 use Rattle.idl_outline.specs.declared.field.Field.{Field}
-use Rattle.idl_outline.specs.declared.field.Named.{Named}
+use Rattle.idl_outline.specs.declared.field.NameRef.{NameRef}
 use Rattle.idl_rules.specs.declared.asked.Asked.{Asked}
 use Rattle.idl_rules.specs.declared.asked.Asked.TheVariants as asks
 use Rattle.idl_rules.specs.Types.{has, says_in, is_parameter}
@@ -42,12 +42,12 @@ spread true true false false = refl
 spread true false a k = refl
 spread false o a k = refl
 
-each : (k : Asked) (f : Field) (n : Named) (g : Field) (ds : List Declared) → list_any (offers_as n.name.text (want k f n) g) ds ≡ list_any (is_it k n g) ds && (has says_in g || not (is_parameter f.place && has says_in f))
+each : (k : Asked) (f : Field) (n : NameRef) (g : Field) (ds : List Declared) → list_any (offers_as n.name.text (want k f n) g) ds ≡ list_any (is_it k n g) ds && (has says_in g || not (is_parameter f.place && has says_in f))
 each k f n g [] = refl
 each k f n g (d ∷ ds) =
     (λ j. (bytes_eq d.name.text n.name.text && meets_is k n.star (is_parameter f.place && has says_in f) g d j) || each k f n g ds j)
     ∙ spread (bytes_eq d.name.text n.name.text) (is_of k n.star g d) (list_any (is_it k n g) ds) (has says_in g || not (is_parameter f.place && has says_in f))
 
-pub offered_by : (k : Asked) (f : Field) (n : Named) (list : List Field) → list_any (λ g. list_any (offers_as n.name.text (want k f n) g) g.declared) list ≡ list_any (offers k f n) list
+pub offered_by : (k : Asked) (f : Field) (n : NameRef) (list : List Field) → list_any (λ g. list_any (offers_as n.name.text (want k f n) g) g.declared) list ≡ list_any (offers k f n) list
 offered_by k f n [] = refl
 offered_by k f n (g ∷ gs) = λ j. each k f n g g.declared j || offered_by k f n gs j

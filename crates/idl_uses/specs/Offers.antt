@@ -7,7 +7,7 @@ use Rattle.std.specs.BTreeMap.{BTreeMap}
 use Rattle.name_map.specs.Named.{at_name}
 use Rattle.idl_outline.specs.declared.field.Declared.{Declared}
 use Rattle.idl_outline.specs.declared.field.Field.{Field}
-use Rattle.idl_outline.specs.declared.field.Named.{Named}
+use Rattle.idl_outline.specs.declared.field.NameRef.{NameRef}
 use Rattle.idl_rules.specs.declared.asked.Asked.{Asked}
 use Rattle.idl_rules.specs.declared.asked.Asked.TheVariants as asks
 use Rattle.idl_rules.specs.Types.{has, says_in, is_parameter}
@@ -50,7 +50,7 @@ offer_of g d = record {
 }
 
 -- what is asked where the attributes of f name n
-abbrev pub want : Asked → Field → Named → Want
+abbrev pub want : Asked → Field → NameRef → Want
 want k f n = record { asked = k; star = n.star; inward = is_parameter f.place && has says_in f }
 
 -- ---- the names of a list

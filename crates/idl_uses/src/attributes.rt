@@ -13,8 +13,7 @@ use crate::meanings::has_meaning;
 use crate::parameters::bad_on_parameter;
 use idl_outline::{Attribute, Declared, Event, Field};
 use idl_rules::{
-    has_direction_out, is_parameter, is_unknown, is_uuid, is_void, lesser, place_if, repeated,
-    says_maybe,
+    has_direction_out, is_parameter, is_uuid, is_void, lesser, place_if, repeated, says_maybe,
 };
 use idl_tree::{Ast, FileAttr};
 use rpc_base::NoMemory;
@@ -113,7 +112,7 @@ fn any_out(parameters: &[Field]) -> bool
 fn answers(field: &Field, parameters: &[Field]) -> bool
     ensures { result ≡ spec.answers field.now parameters.now }
 {
-    !(is_void(field.spec.core) || is_unknown(field.spec.core)) || any_out(parameters)
+    !is_void(field.spec.core) || any_out(parameters)
 }
 
 /// The place of `maybe` on an operation that has a result or a parameter that comes back.

@@ -8,12 +8,13 @@ ghost use Rattle.idl_rules.specs.Types.{has, says_in};
 ghost use Rattle.idl_uses.specs.Offers.{IsOffers, want};
 
 use crate::offers::{Offers, Want, is_offered, offers_of};
-use idl_outline::{Attribute, Event, Field, Mark, Named, Size};
-use idl_rules::{Asked, has_direction_in, is_parameter, lesser, place_if};
+use idl_outline::{Attribute, Event, Field, Mark, NameRef, Size};
+use idl_rules::{Asked, has_direction_in, is_arm, is_parameter, lesser, place_if};
 use rpc_base::NoMemory;
 use std::alloc::Global;
+use std::slice;
 
-fn wanted(asked: Asked, field: &Field, inward: bool, named: &Named) -> Want
+fn wanted(asked: Asked, field: &Field, inward: bool, named: &NameRef) -> Want
     requires { inward ≡ has says_in field.now }
     ensures { result ≡ want asked field.now named.now }
 {
@@ -30,7 +31,7 @@ fn name_place(
     offers: &Offers,
     field: &Field,
     inward: bool,
-    named: &Named,
+    named: &NameRef,
 ) -> Option<usize>
     requires offers { IsOffers list.now offers.now }
     requires inward { inward ≡ has says_in field.now }
@@ -104,14 +105,32 @@ fn alone(alloc: Global, field: &Field) -> Result<Option<usize>, NoMemory>
     Ok(field_place(&[], &offers, field))
 }
 
+// The names of a field of a list; in a union's arm, those of the arm alone.
+fn listed_place(
+    alloc: Global,
+    list: &[Field],
+    offers: &Offers,
+    field: &Field,
+) -> Result<Option<usize>, NoMemory>
+    requires { IsOffers list.now offers.now }
+    ensures { IfOk result (λ at. at ≡ least (spec.listed_places list.now field.now)) }
+{
+    if is_arm(field.place) {
+        let own = slice::from_ref(field);
+        let offers = offers_of(alloc, own)?;
+        return Ok(field_place(own, &offers, field));
+    }
+    Ok(field_place(list, offers, field))
+}
+
 #[tactic(auto, using(idl_rules::proofs::Leasts::leasts))]
 fn each_place(alloc: Global, list: &[Field]) -> Result<Option<usize>, NoMemory>
-    ensures { IfOk result (λ at. at ≡ least (flat_map (spec.field_places list.now) list.now)) }
+    ensures { IfOk result (λ at. at ≡ least (flat_map (spec.listed_places list.now) list.now)) }
 {
     let offers = offers_of(alloc, list)?;
     let mut found = None;
     for field in list {
-        found = lesser(found, field_place(list, &offers, field));
+        found = lesser(found, listed_place(alloc, list, &offers, field)?);
     }
     Ok(found)
 }

@@ -1,10 +1,10 @@
 //! Structures that hold themselves without a pointer between. The recursion goes as deep as the tree.
-ghost use Rattle.std.specs.Prelude.{◌≡◌};
-ghost use Rattle.idl_outline.specs.Plain.{plain_spec, plain_kind, plain_member, plain_members, plain_arm, plain_arms};
+ghost use Rattle.std.specs.Prelude.{◌≡◌, false, true, unwrap_or};
+ghost use Rattle.idl_outline.specs.Plain.{plain_spec, plain_kind, plain_switch, plain_mark, plain_attr, plain_attrs, plain_member, plain_members, plain_arm, plain_arms};
 ghost use Rattle.idl_outline.specs.Outline as outlines;
 
 use idl_outline::{any_by_value, is_name};
-use idl_tree::{ArmNode, Ident, Member, Spec, SpecKind};
+use idl_tree::{ArmNode, Attr, AttrKind, Ident, Member, Spec, SpecKind, Switch};
 
 fn is_tag(own: &Option<Ident>, tag: &[u8]) -> bool
     ensures { result ≡ outlines.is_tag own.now tag.now }
@@ -15,74 +15,136 @@ fn is_tag(own: &Option<Ident>, tag: &[u8]) -> bool
     }
 }
 
-#[cycle(holds)]
-fn spec_holds(tag: &[u8], spec: &Spec) -> bool
-    ensures { result ≡ outlines.holds tag.now (plain_spec spec.now) }
+#[cycle(uses)]
+fn spec_use(tag: &[u8], direct: bool, spec: &Spec) -> Option<bool>
+    ensures { result ≡ outlines.spec_use tag.now direct (plain_spec spec.now) }
 {
-    kind_holds(tag, &spec.what)
+    kind_use(tag, direct, &spec.what)
 }
 
-#[cycle(holds)]
+#[cycle(uses)]
 #[tactic(auto, using(crate::proofs::Layers::kinds))]
-fn kind_holds(tag: &[u8], kind: &SpecKind) -> bool
-    ensures { result ≡ outlines.kind_holds tag.now (plain_kind kind.now) }
+fn kind_use(tag: &[u8], direct: bool, kind: &SpecKind) -> Option<bool>
+    ensures { result ≡ outlines.kind_use tag.now direct (plain_kind kind.now) }
 {
     match kind {
-        SpecKind::Base(_) => false,
-        SpecKind::Named(_) => false,
-        SpecKind::Void => false,
-        SpecKind::HandleT => false,
-        SpecKind::ErrorStatus => false,
+        SpecKind::Base(_) => None,
+        SpecKind::Named(_) => None,
+        SpecKind::Void => None,
+        SpecKind::HandleT => None,
+        SpecKind::ErrorStatus => None,
         SpecKind::Struct { tag: own, members } => match members {
-            None => is_tag(own, tag),
-            Some(members) => members_hold(tag, members),
+            None => {
+                if direct && is_tag(own, tag) {
+                    Some(true)
+                } else {
+                    None
+                }
+            }
+            Some(members) => {
+                if is_tag(own, tag) {
+                    Some(false)
+                } else {
+                    members_use(tag, direct, members)
+                }
+            }
         },
         SpecKind::Union { switch, arms, .. } => match switch {
-            None => arms_hold(tag, arms),
-            Some(_) => arms_hold(tag, arms),
+            None => arms_use(tag, direct, arms),
+            Some(switch) => match switch_use(tag, switch) {
+                Some(found) => Some(found),
+                None => arms_use(tag, direct, arms),
+            },
         },
-        SpecKind::Enum { .. } => false,
+        SpecKind::Enum { .. } => None,
     }
 }
 
-#[cycle(holds)]
-fn member_holds(tag: &[u8], member: &Member) -> bool
-    ensures { result ≡ outlines.member_holds tag.now (plain_member member.now) }
+#[cycle(uses)]
+fn switch_use(tag: &[u8], switch: &Switch) -> Option<bool>
+    ensures { result ≡ outlines.switch_use tag.now (plain_switch switch.now) }
 {
-    any_by_value(&member.dtors) && spec_holds(tag, &member.spec)
+    spec_use(tag, false, &switch.spec)
 }
 
-/// Whether one of the members is, or holds by value, the structure with that tag.
-#[cycle(holds)]
-pub(crate) fn members_hold(tag: &[u8], members: &[Member]) -> bool
-    ensures { result ≡ outlines.members_hold tag.now (plain_members members.now) }
+#[cycle(uses)]
+#[tactic(auto, using(crate::proofs::Layers::marks))]
+fn mark_use(tag: &[u8], kind: &AttrKind) -> Option<bool>
+    ensures { result ≡ outlines.mark_use tag.now (plain_mark kind.now) }
+{
+    match kind {
+        AttrKind::SwitchType(spec) => spec_use(tag, false, spec),
+        _ => None,
+    }
+}
+
+#[cycle(uses)]
+fn attr_use(tag: &[u8], attr: &Attr) -> Option<bool>
+    ensures { result ≡ outlines.attr_use tag.now (plain_attr attr.now) }
+{
+    mark_use(tag, &attr.what)
+}
+
+#[cycle(uses)]
+fn attrs_use(tag: &[u8], attrs: &[Attr]) -> Option<bool>
+    ensures { result ≡ outlines.attrs_use tag.now (plain_attrs attrs.now) }
+{
+    for attr in attrs {
+        if let Some(found) = attr_use(tag, attr) {
+            return Some(found);
+        }
+    }
+    None
+}
+
+#[cycle(uses)]
+fn member_use(tag: &[u8], direct: bool, member: &Member) -> Option<bool>
+    ensures { result ≡ outlines.member_use tag.now direct (plain_member member.now) }
+{
+    match attrs_use(tag, &member.attrs) {
+        Some(found) => Some(found),
+        None => spec_use(tag, direct && any_by_value(&member.dtors), &member.spec),
+    }
+}
+
+#[cycle(uses)]
+fn members_use(tag: &[u8], direct: bool, members: &[Member]) -> Option<bool>
+    ensures { result ≡ outlines.members_use tag.now direct (plain_members members.now) }
 {
     for member in members {
-        if member_holds(tag, member) {
-            return true;
+        if let Some(found) = member_use(tag, direct, member) {
+            return Some(found);
         }
     }
-    false
+    None
 }
 
-#[cycle(holds)]
-fn arm_holds(tag: &[u8], arm: &ArmNode) -> bool
-    ensures { result ≡ outlines.arm_holds tag.now (plain_arm arm.now) }
+#[cycle(uses)]
+fn arm_use(tag: &[u8], direct: bool, arm: &ArmNode) -> Option<bool>
+    ensures { result ≡ outlines.arm_use tag.now direct (plain_arm arm.now) }
 {
     match &arm.member {
-        None => false,
-        Some(member) => member_holds(tag, member),
+        None => None,
+        Some(member) => member_use(tag, direct, member),
     }
 }
 
-#[cycle(holds)]
-fn arms_hold(tag: &[u8], arms: &[ArmNode]) -> bool
-    ensures { result ≡ outlines.arms_hold tag.now (plain_arms arms.now) }
+#[cycle(uses)]
+fn arms_use(tag: &[u8], direct: bool, arms: &[ArmNode]) -> Option<bool>
+    ensures { result ≡ outlines.arms_use tag.now direct (plain_arms arms.now) }
 {
     for arm in arms {
-        if arm_holds(tag, arm) {
-            return true;
+        if let Some(found) = arm_use(tag, direct, arm) {
+            return Some(found);
         }
     }
-    false
+    None
+}
+
+/// Whether a structure with that tag and these members holds itself without a pointer between. The
+/// tag stands for it until another structure of that tag is declared within.
+pub(crate) fn holds_itself(tag: &[u8], members: &[Member]) -> bool
+    ensures { result ≡ unwrap_or (outlines.members_use tag.now true (plain_members members.now)) false }
+{
+    members_use(tag, true, members).unwrap_or(false)
 }

@@ -11,7 +11,7 @@ use crate::used::{
     structure_begins, structure_ends, tag_used, void,
 };
 use idl_outline::{
-    Attribute, Attributes, Core, DataType, Event, Field, Fields, Labels, Mark, Named, Outline,
+    Attribute, Attributes, Core, DataType, Event, Field, Fields, Labels, Mark, NameRef, Outline,
     Place, Setting, Tag, bare, copy_name, core_of, field_with, setting_alone, setting_of, size,
 };
 use idl_tree::{ArmNode, Attr, AttrKind, Ident, Member, Pk, Spec, SpecKind, Switch};
@@ -310,7 +310,7 @@ fn mark_walked(
         AttrKind::LengthIs(given) => Ok(Mark::LengthIs(size(alloc, given)?)),
         AttrKind::SwitchIs { star, name } => {
             let name = copy_name(alloc, name)?;
-            Ok(Mark::SwitchIs(Named { star: *star, name }))
+            Ok(Mark::SwitchIs(NameRef { star: *star, name }))
         }
         AttrKind::SwitchType(spec) => switch_type(alloc, default, spec, outline),
     }

@@ -6,7 +6,7 @@ ghost use Rattle.idl_outline.specs.Plain.{plain_spec, plain_members};
 ghost use Rattle.idl_outline.specs.Names as names;
 ghost use Rattle.idl_outline.specs.Outline as outlines;
 
-use crate::holding::members_hold;
+use crate::holding;
 use idl_outline::{
     Attributes, Bare, Core, DataType, Event, Field, Fields, Label, Labels, Outline, Place, Setting,
     bare, copy_name, ends_open, field_with, named_type, sizes_used, tagged_type,
@@ -77,7 +77,7 @@ pub(crate) fn structure_begins(
     match tag {
         None => Ok(()),
         Some(tag) => {
-            let holds_itself = members_hold(tag.text.as_slice(), members);
+            let holds_itself = holding::holds_itself(tag.text.as_slice(), members);
             let tag = copy_name(alloc, tag)?;
             outline.happen(Event::StructBegins { tag, holds_itself })
         }

@@ -8,7 +8,7 @@ use idl_tree::Num;
 
 /// What is known of a name of the interface.
 #[derive(Clone, Copy, PartialEq, Eq)]
-pub(crate) struct Known {
+pub(crate) struct NameEntry {
     pub(crate) ty: Option<DataType>,
     pub(crate) constant: Option<Num>,
     /// Whether a type, a constant, a name of an enumeration or an operation of that name is declared.
@@ -17,7 +17,7 @@ pub(crate) struct Known {
 
 /// What is known of a tag.
 #[derive(Clone, Copy, PartialEq, Eq)]
-pub(crate) struct Tagged {
+pub(crate) struct TagEntry {
     /// Whether a structure's body hasn't ended (None), or has, and then whether a conformant array ends
     /// it.
     pub(crate) body: Option<Option<bool>>,
@@ -25,12 +25,12 @@ pub(crate) struct Tagged {
     pub(crate) declared: bool,
 }
 
-impl Known {
+impl NameEntry {
     /// Nothing is known.
-    pub(crate) fn nothing() -> Known
+    pub(crate) fn nothing() -> NameEntry
         ensures { result ≡ spec.nothing_known }
     {
-        Known {
+        NameEntry {
             ty: None,
             constant: None,
             declared: false,
@@ -38,26 +38,26 @@ impl Known {
     }
 
     /// What is known behind an event that declares the name.
-    pub(crate) fn behind(self, event: &Event) -> Known
+    pub(crate) fn behind(self, event: &Event) -> NameEntry
         ensures { result ≡ spec.known_behind event.now self }
     {
         match event {
-            Event::Typedef { ty, .. } => Known {
+            Event::Typedef { ty, .. } => NameEntry {
                 ty: Some(*ty),
                 constant: self.constant,
                 declared: true,
             },
-            Event::Constant { value, .. } => Known {
+            Event::Constant { value, .. } => NameEntry {
                 ty: self.ty,
                 constant: Some(*value),
                 declared: true,
             },
-            Event::EnumName { value, .. } => Known {
+            Event::EnumName { value, .. } => NameEntry {
                 ty: self.ty,
                 constant: Some(*value),
                 declared: true,
             },
-            Event::Operation(_) => Known {
+            Event::Operation(_) => NameEntry {
                 ty: self.ty,
                 constant: self.constant,
                 declared: true,
@@ -67,31 +67,31 @@ impl Known {
     }
 }
 
-impl Tagged {
+impl TagEntry {
     /// Nothing is known.
-    pub(crate) fn nothing() -> Tagged
+    pub(crate) fn nothing() -> TagEntry
         ensures { result ≡ spec.nothing_tagged }
     {
-        Tagged {
+        TagEntry {
             body: None,
             declared: false,
         }
     }
 
     /// What is known behind an event that says something of the tag.
-    pub(crate) fn behind(self, event: &Event) -> Tagged
+    pub(crate) fn behind(self, event: &Event) -> TagEntry
         ensures { result ≡ spec.tagged_behind event.now self }
     {
         match event {
-            Event::StructBegins { .. } => Tagged {
+            Event::StructBegins { .. } => TagEntry {
                 body: Some(None),
                 declared: true,
             },
-            Event::StructEnds { open, .. } => Tagged {
+            Event::StructEnds { open, .. } => TagEntry {
                 body: Some(Some(*open)),
                 declared: self.declared,
             },
-            Event::OtherTag(_) => Tagged {
+            Event::OtherTag(_) => TagEntry {
                 body: self.body,
                 declared: true,
             },
