@@ -19,7 +19,7 @@ use Rattle.std.proofs.lemmas.List.Elements.{filter_map-append}
 use Rattle.journal_laws.proofs.Apart.{taken_within, asked_within}
 use Rattle.call_table.specs.declared.row.Row.{Row}
 use Rattle.call_table.specs.Rows.{is_other, stays, taken, cancelled, orphaned, at_call, with_start, with_cancel, with_orphan, without, left}
-use Rattle.call_table.specs.Shown.{row_of, row_as, row_in, rows_of}
+use Rattle.call_table.specs.Shown.{call_row, row_as, row_in, rows_of}
 
 -- LISTS
 
@@ -146,7 +146,7 @@ row_none : (past : List Entry) (k : ℕ) (o : Option Asked) → waits past k ≡
 row_none past k None w r = refl
 row_none past k (Some a) w r = rw (w, r) refl
 
-row_there : (past : List Entry) (k : ℕ) (a : Asked) → (waits past k || runs past k) ≡ true → row_as past k (Some a) ≡ Some (row_of past k a)
+row_there : (past : List Entry) (k : ℕ) (a : Asked) → (waits past k || runs past k) ≡ true → row_as past k (Some a) ≡ Some (call_row past k a)
 row_there past k a c = rw c refl
 
 or_left : (a b : Bool) → a ≡ true → (a || b) ≡ true
@@ -297,7 +297,7 @@ fresh_row home past k a l =
 older_some : (past : List Entry) (k m : ℕ) (b a : Asked) → asked (Accept k b ∷ past) m ≡ Some a → asked past m ≡ Some a → row_as (Accept k b ∷ past) m (Some a) ≡ row_as past m (Some a)
 older_some past k m b a n e =
     let same : waits (Accept k b ∷ past) m ≡ waits past m = rw (n, e) refl in
-    ap (λ (w : Bool). if w || runs past m then Some (row_of past m a) else None) same
+    ap (λ (w : Bool). if w || runs past m then Some (call_row past m a) else None) same
 
 older_as : (past : List Entry) (k m : ℕ) (b : Asked) (o : Option Asked) → (k == m) ≡ false → asked past m ≡ o → row_in (Accept k b ∷ past) m ≡ row_in past m
 older_as past k m b None d e =
@@ -421,7 +421,7 @@ leave_one past c m (Some a) e =
     let now : (waits (Leave c ∷ past) m || runs past m) ≡ ((waits past m || runs past m) && not (not (runs past m) && (a.conn == c))) =
     ap (λ x. x || runs past m) (w ∙ ap (λ x. waits past m && not x) turn) ∙ b in
     elim (cases_Bool (waits past m || runs past m)) [
-      | inl t ↦ elim (cases_Bool (stays c (row_of past m a))) [
+      | inl t ↦ elim (cases_Bool (stays c (call_row past m a))) [
         | inl s ↦ let yes : (waits (Leave c ∷ past) m || runs past m) ≡ true = now ∙ rw (t, s) refl in rw (t, s) (row_there (Leave c ∷ past) m a yes)
         | inr s ↦ let no : (waits (Leave c ∷ past) m || runs past m) ≡ false = now ∙ rw (t, s) refl in rw (t, s) (rw no refl)
       ]

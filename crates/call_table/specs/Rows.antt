@@ -8,7 +8,7 @@ use Rattle.handle_model.specs.Journal.{any_clash, least}
 use Rattle.call_table.specs.declared.row.Row.{Row}
 
 -- the calls by rising number, and how many more may be accepted before memory is taken
-pub record Calls : Type 0 where
+pub record OpenCalls : Type 0 where
   pub rows : List Row
   pub room : ℕ
 

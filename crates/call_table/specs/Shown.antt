@@ -7,14 +7,14 @@ use Rattle.handle_model.specs.Journal.{asked, accepted, waits, runs, cancels, or
 use Rattle.call_table.specs.declared.row.Row.{Row}
 
 -- the row of call k, which asked a
-abbrev pub row_of : List Entry → ℕ → Asked → Row
-row_of past k a =
+abbrev pub call_row : List Entry → ℕ → Asked → Row
+call_row past k a =
     record { call = k; conn = a.conn; slots = a.slots; runs = runs past k; cancelled = list_any (cancels k) past; orphaned = list_any (orphans k) past }
 
 -- while it waits or runs
 abbrev pub row_as : List Entry → ℕ → Option Asked → Option Row
 row_as past k None = None
-row_as past k (Some a) = if waits past k || runs past k then Some (row_of past k a) else None
+row_as past k (Some a) = if waits past k || runs past k then Some (call_row past k a) else None
 
 abbrev pub row_in : List Entry → ℕ → Option Row
 row_in past k = row_as past k (asked past k)

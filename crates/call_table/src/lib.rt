@@ -14,6 +14,3 @@ pub use laws::{
 };
 pub use row::{CallSlots, Row};
 pub use table::CallTable;
-
-#[cfg(test)]
-mod tests;

@@ -22,10 +22,10 @@ pub struct CallTable {
 }
 
 impl Model for CallTable {
-    ghost use Rattle.call_table.specs.Rows.{Calls};
+    ghost use Rattle.call_table.specs.Rows.{OpenCalls};
     ghost use Rattle.call_table.specs.Kept.{IsKept};
 
-    ghost Value = { Calls };
+    ghost Value = { OpenCalls };
 
     ghost view = { λ t. record { rows = t.rows.items; room = t.room } };
 

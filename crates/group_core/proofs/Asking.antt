@@ -11,7 +11,7 @@ use Rattle.handle_model.specs.declared.entry.Entry.TheVariants.{Join, Accept, Ta
 use Rattle.handle_model.specs.Journal.{takes, accepted, Legal}
 use Rattle.handle_model.proofs.Reversed.{reverse-snoc}
 use Rattle.group_core.specs.Stages.{is_asked}
-use Rattle.group_core.specs.Told.{is_quiet, IsTold}
+use Rattle.group_core.specs.Flags.{is_quiet, IsFlagged}
 use Rattle.group_core.proofs.Owing.{taken_accepted, accepted_within}
 
 -- WHAT THE MARKS SAY AFTER AN ENTRY
@@ -20,8 +20,8 @@ unmarked : (k : ℕ) → get_or (false ∷ []) k false ≡ false
 unmarked zero = refl
 unmarked (suc k) = refl
 
-pub told_none : IsTold [] []
-told_none = record { count = refl; each = unmarked }
+pub flags_none : IsFlagged [] []
+flags_none = record { count = refl; each = unmarked }
 
 mark_more : (marks : List Bool) (i : ℕ) → get_or (marks ++ false ∷ []) i false ≡ get_or marks i false
 mark_more [] zero = refl
@@ -30,12 +30,12 @@ mark_more (m ∷ marks) zero = refl
 mark_more (m ∷ marks) (suc i) = mark_more marks i
 
 -- a call is accepted
-pub told_accept : (entries : List Entry) (marks : List Bool) (k : ℕ) (a : Asked) → IsTold entries marks → IsTold (entries ++ Accept k a ∷ []) (marks ++ false ∷ [])
-told_accept entries marks k a told =
+pub flags_accept : (entries : List Entry) (marks : List Bool) (k : ℕ) (a : Asked) → IsFlagged entries marks → IsFlagged (entries ++ Accept k a ∷ []) (marks ++ false ∷ [])
+flags_accept entries marks k a flags =
     let past : reverse (entries ++ Accept k a ∷ []) ≡ Accept k a ∷ reverse entries = reverse-snoc entries (Accept k a) in
     record {
-      count = length-append marks (false ∷ []) ∙ (ap (λ n. n + 1) told.count ∙ sym (ap (λ es. length (accepted es)) past ∙ omega arith));
-      each = λ j. mark_more (false ∷ marks) j ∙ (told.each j ∙ sym (ap (λ es. is_asked es j) past));
+      count = length-append marks (false ∷ []) ∙ (ap (λ n. n + 1) flags.count ∙ sym (ap (λ es. length (accepted es)) past ∙ omega arith));
+      each = λ j. mark_more (false ∷ marks) j ∙ (flags.each j ∙ sym (ap (λ es. is_asked es j) past));
     }
 
 quiet_asked : (past : List Entry) (e : Entry) (k : ℕ) → is_quiet past e ≡ true → is_asked (e ∷ past) k ≡ is_asked past k
@@ -61,12 +61,12 @@ quiet_accepted past (Leave c) q = refl
 quiet_accepted past (Shut items) q = refl
 
 -- an entry comes that says nothing of it
-pub told_quiet : (entries : List Entry) (marks : List Bool) (e : Entry) → is_quiet (reverse entries) e ≡ true → IsTold entries marks → IsTold (entries ++ e ∷ []) marks
-told_quiet entries marks e q told =
+pub flags_quiet : (entries : List Entry) (marks : List Bool) (e : Entry) → is_quiet (reverse entries) e ≡ true → IsFlagged entries marks → IsFlagged (entries ++ e ∷ []) marks
+flags_quiet entries marks e q flags =
     let past : reverse (entries ++ e ∷ []) ≡ e ∷ reverse entries = reverse-snoc entries e in
     record {
-      count = told.count ∙ sym (ap (λ es. length (accepted es)) past ∙ ap length (quiet_accepted (reverse entries) e q));
-      each = λ k. told.each k ∙ sym (ap (λ es. is_asked es k) past ∙ quiet_asked (reverse entries) e k q);
+      count = flags.count ∙ sym (ap (λ es. length (accepted es)) past ∙ ap length (quiet_accepted (reverse entries) e q));
+      each = λ k. flags.each k ∙ sym (ap (λ es. is_asked es k) past ∙ quiet_asked (reverse entries) e k q);
     }
 
 mark_set : (marks : List Bool) (i k : ℕ) → i < length marks → get_or (false ∷ set marks i true) k false ≡ (nat_eq (i + 1) k || get_or (false ∷ marks) k false)
@@ -86,14 +86,14 @@ flag_asked past m k b t low e =
     ])
 
 -- a call is asked to end
-pub told_flag : (entries : List Entry) (marks : List Bool) (m : ℕ) → list_any (takes m) (reverse entries) ≡ true → 1 ≤ m → m ≤ length (accepted (reverse entries)) → IsTold entries marks → IsTold (entries ++ Cancel m ∷ []) (set marks (m - 1) true)
-told_flag entries marks m t low high told =
+pub flags_flag : (entries : List Entry) (marks : List Bool) (m : ℕ) → list_any (takes m) (reverse entries) ≡ true → 1 ≤ m → m ≤ length (accepted (reverse entries)) → IsFlagged entries marks → IsFlagged (entries ++ Cancel m ∷ []) (set marks (m - 1) true)
+flags_flag entries marks m t low high flags =
     let past : reverse (entries ++ Cancel m ∷ []) ≡ Cancel m ∷ reverse entries = reverse-snoc entries (Cancel m) in
     record {
-      count = length-set marks (m - 1) true ∙ (told.count ∙ sym (ap (λ es. length (accepted es)) past));
+      count = length-set marks (m - 1) true ∙ (flags.count ∙ sym (ap (λ es. length (accepted es)) past));
       each = λ k.
-          let before = told.each k in
-          let set_is = mark_set marks (m - 1) k (omega (arith, told.count)) in
+          let before = flags.each k in
+          let set_is = mark_set marks (m - 1) k (omega (arith, flags.count)) in
           set_is ∙ (flag_asked (reverse entries) m k (get_or (false ∷ marks) k false) t low before ∙ sym (ap (λ es. is_asked es k) past));
     }
 

@@ -6,7 +6,7 @@ use Rattle.handle_model.specs.declared.entry.Asked.{Asked}
 use Rattle.handle_model.specs.declared.entry.Entry.{Entry}
 use Rattle.handle_model.specs.Journal.{asked, waits, runs, cancels, orphans, Legal}
 use Rattle.call_table.specs.declared.row.Row.{Row}
-use Rattle.call_table.specs.Shown.{row_of, row_as, row_in}
+use Rattle.call_table.specs.Shown.{call_row, row_as, row_in}
 use Rattle.call_table.proofs.Found.{runs_asked}
 use Rattle.call_table.proofs.Steps.{waits_idle}
 use Rattle.group_core.specs.Calls.{is_cancellable, is_orphanable}
@@ -53,24 +53,24 @@ unasked_runs home past k l e = not_true (runs past k) (λ r. let s = runs_asked 
 
 waits_row_of : (home : Home) (past : List Entry) (k : ℕ) (o : Option Asked) → asked past k ≡ o → waits_in (row_as past k o) ≡ waits past k
 waits_row_of home past k None e = sym (unasked_waits past k e)
-waits_row_of home past k (Some a) e = pick_waits (waits past k) (runs past k) (row_of past k a) refl (waits_idle past k)
+waits_row_of home past k (Some a) e = pick_waits (waits past k) (runs past k) (call_row past k a) refl (waits_idle past k)
 
 runs_row_of : (home : Home) (past : List Entry) (k : ℕ) (o : Option Asked) → Legal home past → asked past k ≡ o → runs_in (row_as past k o) ≡ runs past k
 runs_row_of home past k None l e = sym (unasked_runs home past k l e)
-runs_row_of home past k (Some a) l e = pick_runs (waits past k) (runs past k) (row_of past k a) refl
+runs_row_of home past k (Some a) l e = pick_runs (waits past k) (runs past k) (call_row past k a) refl
 
 tells_row_of : (home : Home) (past : List Entry) (k : ℕ) (o : Option Asked) → Legal home past → asked past k ≡ o → tells_in (row_as past k o) ≡ is_cancellable past k
 tells_row_of home past k None l e = let r = unasked_runs home past k l e in sym (rw r refl)
-tells_row_of home past k (Some a) l e = pick_tells (waits past k) (runs past k) (list_any (cancels k) past) (row_of past k a) refl refl
+tells_row_of home past k (Some a) l e = pick_tells (waits past k) (runs past k) (list_any (cancels k) past) (call_row past k a) refl refl
 
 drops_row_of : (home : Home) (past : List Entry) (k : ℕ) (o : Option Asked) → Legal home past → asked past k ≡ o → drops_in (row_as past k o) ≡ is_orphanable past k
 drops_row_of home past k None l e = let r = unasked_runs home past k l e in sym (rw r refl)
-drops_row_of home past k (Some a) l e = pick_drops (waits past k) (runs past k) (list_any (orphans k) past) (row_of past k a) refl refl
+drops_row_of home past k (Some a) l e = pick_drops (waits past k) (runs past k) (list_any (orphans k) past) (call_row past k a) refl refl
 
 left_row_of : (home : Home) (past : List Entry) (k : ℕ) (o : Option Asked) → Legal home past → asked past k ≡ o → runs past k ≡ true → left_in (row_as past k o) ≡ (if list_any (cancels k) past then 0 else 1) + (if list_any (orphans k) past then 0 else 1)
 left_row_of home past k None l e r = let f = unasked_runs home past k l e in cc
 left_row_of home past k (Some a) l e r =
-    pick_left (waits past k) (runs past k) (list_any (cancels k) past) (list_any (orphans k) past) (row_of past k a) refl refl r
+    pick_left (waits past k) (runs past k) (list_any (cancels k) past) (list_any (orphans k) past) (call_row past k a) refl refl r
 
 pub waits_row : (home : Home) (past : List Entry) (k : ℕ) → waits_in (row_in past k) ≡ waits past k
 waits_row home past k = waits_row_of home past k (asked past k) refl

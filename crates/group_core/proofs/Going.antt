@@ -19,23 +19,23 @@ use Rattle.group_core.proofs.Openings.{without_openings}
 use Rattle.group_core.proofs.Counting.{leave_count}
 use Rattle.handle_model.proofs.Steps.{legal_more, open_unshut, runs_unshut}
 use Rattle.handle_table.specs.Handles.{Handles}
-use Rattle.handle_table.specs.Ended.{ended, issued}
-use Rattle.call_table.specs.Rows.{Calls, is_running, slots_at, without, left}
+use Rattle.handle_table.specs.Ended.{ended, issue_count}
+use Rattle.call_table.specs.Rows.{OpenCalls, is_running, slots_at, without, left}
 use Rattle.call_table.specs.Shown.{rows_of}
 use Rattle.call_table.proofs.Counts.{idle_shown}
 use Rattle.group_core.specs.declared.answer.Rest.{Rest}
 use Rattle.group_core.specs.declared.answer.Rest.TheVariants as rest
 use Rattle.group_core.specs.declared.counts.Counts.{Counts}
-use Rattle.group_core.specs.Conns.{Goes}
+use Rattle.group_core.specs.Conns.{Settles}
 use Rattle.group_core.specs.Owed.{owed, shut_owed}
 use Rattle.group_core.specs.Kept.{IsKept, Logged, Shows}
-use Rattle.group_core.specs.Judges.{Closes, is_due_at}
+use Rattle.group_core.specs.Judges.{ShutsIfDue, is_due_at}
 use Rattle.group_core.proofs.Owing.{end_owed_all, leave_owed, shut_less}
 use Rattle.group_core.proofs.Shown.{end_shows, leave_shows, shut_shows}
 use Rattle.group_core.proofs.Keeping.{newest}
 
 -- after the entry, while a Shut may be due
-pub record Mid (home : Home) (log mid : Logged) (entry : Entry) (handles : Handles) (calls : Calls) (counts : Counts) : Type 0 where
+pub record Mid (home : Home) (log mid : Logged) (entry : Entry) (handles : Handles) (calls : OpenCalls) (counts : Counts) : Type 0 where
   pub legal : Legal home (entry ∷ reverse log.entries)
   pub unshut : list_any is_shut (entry ∷ reverse log.entries) ≡ false
   pub entries : mid.entries ≡ log.entries ++ entry ∷ []
@@ -46,7 +46,7 @@ unshut_one : (past : List Entry) → list_any is_shut past ≡ false → shut_ow
 unshut_one past u = rw u refl
 
 -- there is room for the Shut
-pub mid_room : (home : Home) (log mid : Logged) (entry : Entry) (handles : Handles) (calls : Calls) (counts : Counts) → Mid home log mid entry handles calls counts → 1 ≤ mid.spare
+pub mid_room : (home : Home) (log mid : Logged) (entry : Entry) (handles : Handles) (calls : OpenCalls) (counts : Counts) → Mid home log mid entry handles calls counts → 1 ≤ mid.spare
 mid_room home log mid entry handles calls counts m = let one = unshut_one (entry ∷ reverse log.entries) m.unshut in omega (arith, one, m.owes)
 
 none : (ns : List ℕ) → (length ns == 0) ≡ is_empty ns
@@ -61,7 +61,7 @@ due_parts false false true false e = refl
 due_parts false false false r e = refl
 
 -- the Shut is due by the counts where it is
-due_is : (home : Home) (past : List Entry) (handles : Handles) (calls : Calls) (counts : Counts) → Shows home past handles calls counts → Legal home past → list_any is_shut past ≡ false → is_due_at counts (list_any is_running calls.rows) ≡ due past
+due_is : (home : Home) (past : List Entry) (handles : Handles) (calls : OpenCalls) (counts : Counts) → Shows home past handles calls counts → Legal home past → list_any is_shut past ≡ false → is_due_at counts (list_any is_running calls.rows) ≡ due past
 due_is home past handles calls counts s l u =
     let j : (counts.joined == 0) ≡ is_empty (joined past) = ap (λ n. n == 0) s.joined_is ∙ none (joined past) in
     let c : (counts.conns == 0) ≡ is_empty (conns past) = ap (λ n. n == 0) s.conns_are ∙ none (conns past) in
@@ -75,7 +75,7 @@ last : (home : Home) (log mid new : Logged) (entry : Entry) (items : List DueIte
 last home log mid new entry items e f = newest mid new (Shut items) f ∙ ap (λ (es : List Entry). Shut items ∷ es) (newest log mid entry e)
 
 -- what is then kept
-pub closed_kept : (home : Home) (log mid new : Logged) (entry : Entry) (rest : Rest) (handles left : Handles) (calls : Calls) (counts : Counts) → Mid home log mid entry handles calls counts → Closes (is_due_at counts (list_any is_running calls.rows)) mid handles rest new left → IsKept home new left calls counts
+pub closed_kept : (home : Home) (log mid new : Logged) (entry : Entry) (rest : Rest) (handles left : Handles) (calls : OpenCalls) (counts : Counts) → Mid home log mid entry handles calls counts → ShutsIfDue (is_due_at counts (list_any is_running calls.rows)) mid handles rest new left → IsKept home new left calls counts
 closed_kept home log mid new entry rest.Stays handles left calls counts m c =
     let past : reverse new.entries ≡ entry ∷ reverse log.entries = ap (λ (x : Logged). reverse x.entries) c.1 ∙ newest log mid entry m.entries in
     let d = sym (due_is home (entry ∷ reverse log.entries) handles calls counts m.shows m.legal m.unshut) ∙ c.0 in
@@ -97,13 +97,13 @@ closed_kept home log mid new entry (rest.Shut items) handles left calls counts m
     }
 
 -- and what was added
-pub closed_goes : (home : Home) (log mid new : Logged) (entry : Entry) (rest : Rest) (handles left : Handles) (calls : Calls) (counts : Counts) → Mid home log mid entry handles calls counts → Closes (is_due_at counts (list_any is_running calls.rows)) mid handles rest new left → Goes (history_of home log.entries) entry rest (history_of home new.entries)
-closed_goes home log mid new entry rest.Stays handles left calls counts m c =
+pub closed_settles : (home : Home) (log mid new : Logged) (entry : Entry) (rest : Rest) (handles left : Handles) (calls : OpenCalls) (counts : Counts) → Mid home log mid entry handles calls counts → ShutsIfDue (is_due_at counts (list_any is_running calls.rows)) mid handles rest new left → Settles (history_of home log.entries) entry rest (history_of home new.entries)
+closed_settles home log mid new entry rest.Stays handles left calls counts m c =
     let past : reverse new.entries ≡ entry ∷ reverse log.entries = ap (λ (x : Logged). reverse x.entries) c.1 ∙ newest log mid entry m.entries in (
       sym (due_is home (entry ∷ reverse log.entries) handles calls counts m.shows m.legal m.unshut) ∙ c.0,
       ap (λ (es : List Entry). let h : History = record { home = home; past = es } in h) past,
     )
-closed_goes home log mid new entry (rest.Shut items) handles left calls counts m c =
+closed_settles home log mid new entry (rest.Shut items) handles left calls counts m c =
     let before = entry ∷ reverse log.entries in
     let past = last home log mid new entry items m.entries c.2 in (
       sym (due_is home before handles calls counts m.shows m.legal m.unshut) ∙ c.0,
@@ -113,11 +113,11 @@ closed_goes home log mid new entry (rest.Shut items) handles left calls counts m
 
 -- THE TWO ENTRIES
 
-pub end_room : (home : Home) (log : Logged) (k : ℕ) (results : List Outcome) (said : Said) (handles : Handles) (calls : Calls) (counts : Counts) → IsKept home log handles calls counts → runs (reverse log.entries) k ≡ true → 1 + ((if list_any (cancels k) (reverse log.entries) then 0 else 1) + (if list_any (orphans k) (reverse log.entries) then 0 else 1)) ≤ log.spare
+pub end_room : (home : Home) (log : Logged) (k : ℕ) (results : List Outcome) (said : Said) (handles : Handles) (calls : OpenCalls) (counts : Counts) → IsKept home log handles calls counts → runs (reverse log.entries) k ≡ true → 1 + ((if list_any (cancels k) (reverse log.entries) then 0 else 1) + (if list_any (orphans k) (reverse log.entries) then 0 else 1)) ≤ log.spare
 end_room home log k results said handles calls counts kept r =
     let past = reverse log.entries in omega (arith, end_owed_all home past k results said kept.sound.legal r, kept.owes)
 
-pub end_mid : (home : Home) (log mid : Logged) (k : ℕ) (results : List Outcome) (said : Said) (freed : ℕ) (handles handles' : Handles) (calls calls' : Calls) (counts : Counts) → IsKept home log handles calls counts → Fits home (reverse log.entries) (End k results said) → mid.entries ≡ log.entries ++ End k results said ∷ [] → freed ≡ (if list_any (cancels k) (reverse log.entries) then 0 else 1) + (if list_any (orphans k) (reverse log.entries) then 0 else 1) → mid.spare + freed + 1 ≡ log.spare → handles'.home ≡ handles.home → handles'.items ≡ ended handles.home (slots_at calls.rows k) results handles.items → handles.room ≤ handles'.room + issued results → calls'.rows ≡ without k calls.rows → Mid home log mid (End k results said) handles' calls' counts
+pub end_mid : (home : Home) (log mid : Logged) (k : ℕ) (results : List Outcome) (said : Said) (freed : ℕ) (handles handles' : Handles) (calls calls' : OpenCalls) (counts : Counts) → IsKept home log handles calls counts → Fits home (reverse log.entries) (End k results said) → mid.entries ≡ log.entries ++ End k results said ∷ [] → freed ≡ (if list_any (cancels k) (reverse log.entries) then 0 else 1) + (if list_any (orphans k) (reverse log.entries) then 0 else 1) → mid.spare + freed + 1 ≡ log.spare → handles'.home ≡ handles.home → handles'.items ≡ ended handles.home (slots_at calls.rows k) results handles.items → handles.room ≤ handles'.room + issue_count results → calls'.rows ≡ without k calls.rows → Mid home log mid (End k results said) handles' calls' counts
 end_mid home log mid k results said freed handles handles' calls calls' counts kept fits entries f spare h i m r =
     let past = reverse log.entries in
     let u = runs_unshut home past k kept.sound.legal fits.0 in
@@ -130,10 +130,10 @@ end_mid home log mid k results said freed handles handles' calls calls' counts k
       shows = end_shows home past k results said handles handles' calls calls' counts kept.shows legal h i m r;
     }
 
-pub leave_room : (home : Home) (log : Logged) (c : ℕ) (handles : Handles) (calls : Calls) (counts : Counts) → IsKept home log handles calls counts → is_open (reverse log.entries) c ≡ true → 1 ≤ log.spare
+pub leave_room : (home : Home) (log : Logged) (c : ℕ) (handles : Handles) (calls : OpenCalls) (counts : Counts) → IsKept home log handles calls counts → is_open (reverse log.entries) c ≡ true → 1 ≤ log.spare
 leave_room home log c handles calls counts kept o = let past = reverse log.entries in omega (arith, leave_owed past c o, kept.owes)
 
-pub leave_mid : (home : Home) (log mid : Logged) (c : ℕ) (handles : Handles) (calls calls' : Calls) (counts : Counts) (n : ℕ) → IsKept home log handles calls counts → is_open (reverse log.entries) c ≡ true → mid.entries ≡ log.entries ++ Leave c ∷ [] → mid.spare + 1 ≡ log.spare → calls'.rows ≡ left c calls.rows → n + 1 ≡ counts.conns → Mid home log mid (Leave c) handles calls' (record { joined = counts.joined; conns = n; accepted = counts.accepted; opened = counts.opened })
+pub leave_mid : (home : Home) (log mid : Logged) (c : ℕ) (handles : Handles) (calls calls' : OpenCalls) (counts : Counts) (n : ℕ) → IsKept home log handles calls counts → is_open (reverse log.entries) c ≡ true → mid.entries ≡ log.entries ++ Leave c ∷ [] → mid.spare + 1 ≡ log.spare → calls'.rows ≡ left c calls.rows → n + 1 ≡ counts.conns → Mid home log mid (Leave c) handles calls' (record { joined = counts.joined; conns = n; accepted = counts.accepted; opened = counts.opened })
 leave_mid home log mid c handles calls calls' counts n kept o entries spare r e =
     let past = reverse log.entries in
     let u = open_unshut home past c kept.sound.legal o in
@@ -147,7 +147,7 @@ leave_mid home log mid c handles calls calls' counts n kept o entries spare r e 
     }
 
 -- the results issue no more than there is room for
-pub end_issues : (home : Home) (log : Logged) (k : ℕ) (results : List Outcome) (handles : Handles) (calls : Calls) (counts : Counts) → IsKept home log handles calls counts → runs (reverse log.entries) k ≡ true → suit (slots (reverse log.entries) k) results ≡ true → issued results ≤ handles.room
+pub end_issues : (home : Home) (log : Logged) (k : ℕ) (results : List Outcome) (handles : Handles) (calls : OpenCalls) (counts : Counts) → IsKept home log handles calls counts → runs (reverse log.entries) k ≡ true → suit (slots (reverse log.entries) k) results ≡ true → issue_count results ≤ handles.room
 end_issues home log k results handles calls counts kept r s =
     let past = reverse log.entries in
     let u = runs_unshut home past k kept.sound.legal r in
@@ -156,6 +156,6 @@ end_issues home log k results handles calls counts kept r s =
     omega (arith, without_openings k (rows_of past), kept.shows.issues u, issued_within (slots past k) results s, all)
 
 -- an open connection is counted
-pub leave_counted : (home : Home) (log : Logged) (c : ℕ) (handles : Handles) (calls : Calls) (counts : Counts) → IsKept home log handles calls counts → is_open (reverse log.entries) c ≡ true → 1 ≤ counts.conns
+pub leave_counted : (home : Home) (log : Logged) (c : ℕ) (handles : Handles) (calls : OpenCalls) (counts : Counts) → IsKept home log handles calls counts → is_open (reverse log.entries) c ≡ true → 1 ≤ counts.conns
 leave_counted home log c handles calls counts kept o =
     omega (arith, kept.shows.conns_are, leave_count home (reverse log.entries) c kept.sound.legal o)

@@ -14,11 +14,11 @@ use Rattle.handle_model.specs.Slots.{opens}
 use Rattle.handle_model.specs.Journal.{waits, runs, slots, due_items, Legal}
 use Rattle.handle_model.proofs.Held.{or_right}
 use Rattle.handle_table.specs.Handles.{Handles}
-use Rattle.handle_table.specs.Ended.{ended, issued}
+use Rattle.handle_table.specs.Ended.{ended, issue_count}
 use Rattle.handle_table.proofs.Live.{end_due}
 use Rattle.handle_table.proofs.Steps.{join_due, accept_due, take_due, deny_due, cancel_due, orphan_due, leave_due, shut_due, issued_within}
 use Rattle.call_table.specs.declared.row.Row.{Row}
-use Rattle.call_table.specs.Rows.{Calls, openings_of, slots_at, with_start, with_cancel, with_orphan, without, left, stays, is_other}
+use Rattle.call_table.specs.Rows.{OpenCalls, openings_of, slots_at, with_start, with_cancel, with_orphan, without, left, stays, is_other}
 use Rattle.call_table.specs.Shown.{rows_of}
 use Rattle.call_table.proofs.Found.{slots_shown}
 use Rattle.call_table.proofs.Steps.{join_rows, accept_rows, take_rows, deny_rows, cancel_rows, flag_rows, orphan_rows, drop_rows, end_rows, leave_rows, shut_rows}
@@ -31,7 +31,7 @@ use Rattle.group_core.proofs.Openings.{start_openings, cancel_openings, orphan_o
 issues_by : (rows rows' before : List Row) (room : ℕ) → rows ≡ rows' → openings_of rows' ≤ openings_of before → openings_of before ≤ room → openings_of rows ≤ room
 issues_by rows rows' before room e less h = subst (λ (rs : List Row). openings_of rs ≤ room) (sym e) (omega (arith, less, h))
 
-pub join_shows : (home : Home) (past : List Entry) (c : ℕ) (handles : Handles) (calls : Calls) (counts : Counts) → Shows home past handles calls counts → Legal home (Join c ∷ past) → Shows home (Join c ∷ past) handles calls (record { joined = counts.joined + 1; conns = counts.conns + 1; accepted = counts.accepted; opened = counts.opened })
+pub join_shows : (home : Home) (past : List Entry) (c : ℕ) (handles : Handles) (calls : OpenCalls) (counts : Counts) → Shows home past handles calls counts → Legal home (Join c ∷ past) → Shows home (Join c ∷ past) handles calls (record { joined = counts.joined + 1; conns = counts.conns + 1; accepted = counts.accepted; opened = counts.opened })
 join_shows home past c handles calls counts s l =
     record {
       home_is = s.home_is;
@@ -44,7 +44,7 @@ join_shows home past c handles calls counts s l =
       issues = λ u. issues_by (rows_of (Join c ∷ past)) (rows_of past) (rows_of past) handles.room (join_rows past c) (omega arith) (s.issues u);
     }
 
-pub accept_shows : (home : Home) (past : List Entry) (k : ℕ) (a : Asked) (handles new : Handles) (calls calls' : Calls) (counts : Counts) (n : ℕ) → Shows home past handles calls counts → Legal home (Accept k a ∷ past) → new.home ≡ handles.home → new.items ≡ handles.items → calls'.rows ≡ calls.rows ++ record { call = k; conn = a.conn; slots = a.slots; runs = false; cancelled = false; orphaned = false } ∷ [] → n ≡ length (filter opens a.slots) → openings_of calls.rows + n ≤ new.room → Shows home (Accept k a ∷ past) new calls' (record { joined = counts.joined; conns = counts.conns; accepted = counts.accepted + 1; opened = counts.opened + n })
+pub accept_shows : (home : Home) (past : List Entry) (k : ℕ) (a : Asked) (handles new : Handles) (calls calls' : OpenCalls) (counts : Counts) (n : ℕ) → Shows home past handles calls counts → Legal home (Accept k a ∷ past) → new.home ≡ handles.home → new.items ≡ handles.items → calls'.rows ≡ calls.rows ++ record { call = k; conn = a.conn; slots = a.slots; runs = false; cancelled = false; orphaned = false } ∷ [] → n ≡ length (filter opens a.slots) → openings_of calls.rows + n ≤ new.room → Shows home (Accept k a ∷ past) new calls' (record { joined = counts.joined; conns = counts.conns; accepted = counts.accepted + 1; opened = counts.opened + n })
 accept_shows home past k a handles new calls calls' counts n s l h i r o room =
     let row : Row = record { call = k; conn = a.conn; slots = a.slots; runs = false; cancelled = false; orphaned = false } in
     let rows = accept_rows home past k a l in
@@ -60,7 +60,7 @@ accept_shows home past k a handles new calls calls' counts n s l h i r o room =
           subst (λ (rs : List Row). openings_of rs ≤ new.room) (sym rows) (omega (arith, append_openings row (rows_of past), same, o, room));
     }
 
-pub take_shows : (home : Home) (past : List Entry) (k : ℕ) (cookies : List (Option ℕ)) (handles : Handles) (calls calls' : Calls) (counts : Counts) → Shows home past handles calls counts → Legal home (Take k cookies ∷ past) → calls'.rows ≡ with_start k calls.rows → Shows home (Take k cookies ∷ past) handles calls' counts
+pub take_shows : (home : Home) (past : List Entry) (k : ℕ) (cookies : List (Option ℕ)) (handles : Handles) (calls calls' : OpenCalls) (counts : Counts) → Shows home past handles calls counts → Legal home (Take k cookies ∷ past) → calls'.rows ≡ with_start k calls.rows → Shows home (Take k cookies ∷ past) handles calls' counts
 take_shows home past k cookies handles calls calls' counts s l r =
     let rows = take_rows home past k cookies l.1 l.0.fits.0 in
     record {
@@ -74,7 +74,7 @@ take_shows home past k cookies handles calls calls' counts s l r =
       issues = λ u. issues_by (rows_of (Take k cookies ∷ past)) (with_start k (rows_of past)) (rows_of past) handles.room rows (omega (arith, start_openings k (rows_of past))) (s.issues u);
     }
 
-pub deny_shows : (home : Home) (past : List Entry) (k j : ℕ) (handles : Handles) (calls calls' : Calls) (counts : Counts) → Shows home past handles calls counts → Legal home (Deny k j ∷ past) → calls'.rows ≡ without k calls.rows → Shows home (Deny k j ∷ past) handles calls' counts
+pub deny_shows : (home : Home) (past : List Entry) (k j : ℕ) (handles : Handles) (calls calls' : OpenCalls) (counts : Counts) → Shows home past handles calls counts → Legal home (Deny k j ∷ past) → calls'.rows ≡ without k calls.rows → Shows home (Deny k j ∷ past) handles calls' counts
 deny_shows home past k j handles calls calls' counts s l r =
     let rows = deny_rows past k j l.0.fits.0 in
     record {
@@ -89,7 +89,7 @@ deny_shows home past k j handles calls calls' counts s l r =
     }
 
 -- a waiting call is cancelled, or a running one
-pub ended_shows : (home : Home) (past : List Entry) (k : ℕ) (handles : Handles) (calls calls' : Calls) (counts : Counts) → Shows home past handles calls counts → Legal home (Cancel k ∷ past) → waits past k ≡ true → calls'.rows ≡ without k calls.rows → Shows home (Cancel k ∷ past) handles calls' counts
+pub ended_shows : (home : Home) (past : List Entry) (k : ℕ) (handles : Handles) (calls calls' : OpenCalls) (counts : Counts) → Shows home past handles calls counts → Legal home (Cancel k ∷ past) → waits past k ≡ true → calls'.rows ≡ without k calls.rows → Shows home (Cancel k ∷ past) handles calls' counts
 ended_shows home past k handles calls calls' counts s l w r =
     let rows = cancel_rows past k w in
     record {
@@ -103,7 +103,7 @@ ended_shows home past k handles calls calls' counts s l w r =
       issues = λ u. issues_by (rows_of (Cancel k ∷ past)) (without k (rows_of past)) (rows_of past) handles.room rows (filter_openings (is_other k) (rows_of past)) (s.issues u);
     }
 
-pub flagged_shows : (home : Home) (past : List Entry) (k : ℕ) (handles : Handles) (calls calls' : Calls) (counts : Counts) → Shows home past handles calls counts → Legal home (Cancel k ∷ past) → runs past k ≡ true → calls'.rows ≡ with_cancel k calls.rows → Shows home (Cancel k ∷ past) handles calls' counts
+pub flagged_shows : (home : Home) (past : List Entry) (k : ℕ) (handles : Handles) (calls calls' : OpenCalls) (counts : Counts) → Shows home past handles calls counts → Legal home (Cancel k ∷ past) → runs past k ≡ true → calls'.rows ≡ with_cancel k calls.rows → Shows home (Cancel k ∷ past) handles calls' counts
 flagged_shows home past k handles calls calls' counts s l w r =
     let rows = flag_rows past k w in
     record {
@@ -118,7 +118,7 @@ flagged_shows home past k handles calls calls' counts s l w r =
     }
 
 -- and so with an orphaned one
-pub dropped_shows : (home : Home) (past : List Entry) (k : ℕ) (handles : Handles) (calls calls' : Calls) (counts : Counts) → Shows home past handles calls counts → Legal home (Orphan k ∷ past) → waits past k ≡ true → calls'.rows ≡ without k calls.rows → Shows home (Orphan k ∷ past) handles calls' counts
+pub dropped_shows : (home : Home) (past : List Entry) (k : ℕ) (handles : Handles) (calls calls' : OpenCalls) (counts : Counts) → Shows home past handles calls counts → Legal home (Orphan k ∷ past) → waits past k ≡ true → calls'.rows ≡ without k calls.rows → Shows home (Orphan k ∷ past) handles calls' counts
 dropped_shows home past k handles calls calls' counts s l w r =
     let rows = orphan_rows past k w in
     record {
@@ -132,7 +132,7 @@ dropped_shows home past k handles calls calls' counts s l w r =
       issues = λ u. issues_by (rows_of (Orphan k ∷ past)) (without k (rows_of past)) (rows_of past) handles.room rows (filter_openings (is_other k) (rows_of past)) (s.issues u);
     }
 
-pub unanswered_shows : (home : Home) (past : List Entry) (k : ℕ) (handles : Handles) (calls calls' : Calls) (counts : Counts) → Shows home past handles calls counts → Legal home (Orphan k ∷ past) → runs past k ≡ true → calls'.rows ≡ with_orphan k calls.rows → Shows home (Orphan k ∷ past) handles calls' counts
+pub unanswered_shows : (home : Home) (past : List Entry) (k : ℕ) (handles : Handles) (calls calls' : OpenCalls) (counts : Counts) → Shows home past handles calls counts → Legal home (Orphan k ∷ past) → runs past k ≡ true → calls'.rows ≡ with_orphan k calls.rows → Shows home (Orphan k ∷ past) handles calls' counts
 unanswered_shows home past k handles calls calls' counts s l w r =
     let rows = drop_rows past k w in
     record {
@@ -146,7 +146,7 @@ unanswered_shows home past k handles calls calls' counts s l w r =
       issues = λ u. issues_by (rows_of (Orphan k ∷ past)) (with_orphan k (rows_of past)) (rows_of past) handles.room rows (omega (arith, orphan_openings k (rows_of past))) (s.issues u);
     }
 
-pub end_shows : (home : Home) (past : List Entry) (k : ℕ) (results : List Outcome) (said : Said) (handles new : Handles) (calls calls' : Calls) (counts : Counts) → Shows home past handles calls counts → Legal home (End k results said ∷ past) → new.home ≡ handles.home → new.items ≡ ended handles.home (slots_at calls.rows k) results handles.items → handles.room ≤ new.room + issued results → calls'.rows ≡ without k calls.rows → Shows home (End k results said ∷ past) new calls' counts
+pub end_shows : (home : Home) (past : List Entry) (k : ℕ) (results : List Outcome) (said : Said) (handles new : Handles) (calls calls' : OpenCalls) (counts : Counts) → Shows home past handles calls counts → Legal home (End k results said ∷ past) → new.home ≡ handles.home → new.items ≡ ended handles.home (slots_at calls.rows k) results handles.items → handles.room ≤ new.room + issue_count results → calls'.rows ≡ without k calls.rows → Shows home (End k results said ∷ past) new calls' counts
 end_shows home past k results said handles new calls calls' counts s l h i m r =
     let rows = end_rows past k results said l.0.fits.0 in
     let those : slots_at (rows_of past) k ≡ slots past k = slots_shown home past k l.1 (or_right (waits past k) (runs past k) l.0.fits.0) in
@@ -166,7 +166,7 @@ end_shows home past k results said handles new calls calls' counts s l h i m r =
           subst (λ (rs : List Row). openings_of rs ≤ new.room) (sym rows) (omega (arith, without_openings k (rows_of past), s.issues u, few, all, m));
     }
 
-pub leave_shows : (home : Home) (past : List Entry) (c : ℕ) (handles : Handles) (calls calls' : Calls) (counts : Counts) (n : ℕ) → Shows home past handles calls counts → Legal home (Leave c ∷ past) → calls'.rows ≡ left c calls.rows → n + 1 ≡ counts.conns → Shows home (Leave c ∷ past) handles calls' (record { joined = counts.joined; conns = n; accepted = counts.accepted; opened = counts.opened })
+pub leave_shows : (home : Home) (past : List Entry) (c : ℕ) (handles : Handles) (calls calls' : OpenCalls) (counts : Counts) (n : ℕ) → Shows home past handles calls counts → Legal home (Leave c ∷ past) → calls'.rows ≡ left c calls.rows → n + 1 ≡ counts.conns → Shows home (Leave c ∷ past) handles calls' (record { joined = counts.joined; conns = n; accepted = counts.accepted; opened = counts.opened })
 leave_shows home past c handles calls calls' counts n s l r o =
     let rows = leave_rows past c in
     record {
@@ -180,7 +180,7 @@ leave_shows home past c handles calls calls' counts n s l r o =
       issues = λ u. issues_by (rows_of (Leave c ∷ past)) (left c (rows_of past)) (rows_of past) handles.room rows (filter_openings (stays c) (rows_of past)) (s.issues u);
     }
 
-pub shut_shows : (home : Home) (past : List Entry) (items : List DueItem) (handles new : Handles) (calls : Calls) (counts : Counts) → Shows home past handles calls counts → Legal home (Shut items ∷ past) → new ≡ record { home = handles.home; items = []; room = 0 } → Shows home (Shut items ∷ past) new calls counts
+pub shut_shows : (home : Home) (past : List Entry) (items : List DueItem) (handles new : Handles) (calls : OpenCalls) (counts : Counts) → Shows home past handles calls counts → Legal home (Shut items ∷ past) → new ≡ record { home = handles.home; items = []; room = 0 } → Shows home (Shut items ∷ past) new calls counts
 shut_shows home past items handles new calls counts s l e =
     record {
       home_is = ap (λ (x : Handles). x.home) e ∙ s.home_is;

@@ -22,7 +22,7 @@ use Rattle.group_core.specs.declared.answer.Orphaned.{Orphaned}
 use Rattle.group_core.specs.declared.answer.Orphaned.TheVariants as orphaned
 use Rattle.group_core.specs.declared.answer.Rest.{Rest}
 use Rattle.group_core.specs.Adds.{Adds}
-use Rattle.group_core.specs.Conns.{Goes}
+use Rattle.group_core.specs.Conns.{Settles}
 
 -- what is asked, with the serials of the handles that it may issue going on from those before
 abbrev pub numbered : List Entry → Asked → Asked
@@ -38,8 +38,8 @@ Accepts old a (Err (b, Numbers)) new = (accept_limit old.home old.past a.slots �
 Accepts old a (Err (b, Memory)) new = (b ≡ a) × Adds old [] new
 
 -- the cookies of at most four slots, in a row of four
-abbrev pub row_of : List (Option ℕ) → List (Option ℕ)
-row_of cookies = take 4 (cookies ++ None ∷ None ∷ None ∷ None ∷ [])
+abbrev pub cookie_row : List (Option ℕ) → List (Option ℕ)
+cookie_row cookies = take 4 (cookies ++ None ∷ None ∷ None ∷ None ∷ [])
 
 -- the serial of the first slot that may issue a handle, 0 where none may
 abbrev pub first_serial : List Slot → ℕ
@@ -51,7 +51,7 @@ first_serial (_ ∷ later) = first_serial later
 abbrev pub Takes : History → ℕ → Taking → History → Type 0
 Takes old k (taking.Run row serial) new =
     (waits old.past k ≡ true) × (blocker old.past k ≡ None) × (fault old.home old.past k ≡ None)
-    × (row ≡ row_of (cookies_for old.home old.past (slots old.past k))) × (serial ≡ first_serial (slots old.past k))
+    × (row ≡ cookie_row (cookies_for old.home old.past (slots old.past k))) × (serial ≡ first_serial (slots old.past k))
     × Adds old (Take k (cookies_for old.home old.past (slots old.past k)) ∷ []) new
 Takes old k (taking.Denied j) new =
     (waits old.past k ≡ true) × (blocker old.past k ≡ None) × (fault old.home old.past k ≡ Some j) × Adds old (Deny k j ∷ []) new
@@ -78,4 +78,4 @@ Orphans old k orphaned.Running new = (is_orphanable old.past k ≡ true) × Adds
 Orphans old k orphaned.Late new = (waits old.past k ≡ false) × (is_orphanable old.past k ≡ false) × Adds old [] new
 
 abbrev pub Ends : History → ℕ → List Outcome → Said → Rest → History → Type 0
-Ends old k results said rest new = Goes old (End k results said) rest new
+Ends old k results said rest new = Settles old (End k results said) rest new

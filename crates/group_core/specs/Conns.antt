@@ -20,10 +20,10 @@ Joins old (Err Numbers) new = (join_limit old.past ≡ Some limit.Numbers) × Ad
 Joins old (Err Memory) new = Adds old [] new
 
 -- an entry comes, and then the Shut where it is due, with the handles that are to be run down
-abbrev pub Goes : History → Entry → Rest → History → Type 0
-Goes old e rest.Stays new = (due (e ∷ old.past) ≡ false) × Adds old (e ∷ []) new
-Goes old e (rest.Shut items) new =
+abbrev pub Settles : History → Entry → Rest → History → Type 0
+Settles old e rest.Stays new = (due (e ∷ old.past) ≡ false) × Adds old (e ∷ []) new
+Settles old e (rest.Shut items) new =
     (due (e ∷ old.past) ≡ true) × (items ≡ due_items old.home (e ∷ old.past)) × Adds old (Shut items ∷ e ∷ []) new
 
 abbrev pub Leaves : History → ℕ → Rest → History → Type 0
-Leaves old c rest new = Goes old (Leave c) rest new
+Leaves old c rest new = Settles old (Leave c) rest new

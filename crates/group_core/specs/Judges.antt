@@ -18,7 +18,7 @@ use Rattle.group_core.specs.declared.answer.Stage.TheVariants as stage
 use Rattle.group_core.specs.declared.judge.Judged.{Judged}
 use Rattle.group_core.specs.declared.judge.Judged.TheVariants.{Free, AtFault, Blocked, NotWaiting}
 use Rattle.group_core.specs.declared.counts.Counts.{Counts}
-use Rattle.group_core.specs.Calls.{row_of, first_serial}
+use Rattle.group_core.specs.Calls.{cookie_row, first_serial}
 use Rattle.group_core.specs.Kept.{Logged}
 
 -- a row is that of a waiting call, of a running one, of one that may yet be cancelled or orphaned
@@ -42,7 +42,7 @@ drops_in (Some r) = r.runs && not r.orphaned
 abbrev pub Judges : Home → List DueItem → List Row → ℕ → Judged → Type 0
 Judges home items rows k (Free row serial) =
     (waits_in (row_at rows k) ≡ true) × (conflict_of rows k ≡ None) × (fault_at home items (slots_at rows k) ≡ None)
-    × (row ≡ row_of (cookies_at home items (slots_at rows k))) × (serial ≡ first_serial (slots_at rows k))
+    × (row ≡ cookie_row (cookies_at home items (slots_at rows k))) × (serial ≡ first_serial (slots_at rows k))
 Judges home items rows k (AtFault j) =
     (waits_in (row_at rows k) ≡ true) × (conflict_of rows k ≡ None) × (fault_at home items (slots_at rows k) ≡ Some j)
 Judges home items rows k (Blocked m) = (waits_in (row_at rows k) ≡ true) × (conflict_of rows k ≡ Some m)
@@ -73,8 +73,8 @@ abbrev pub is_due_at : Counts → Bool → Bool
 is_due_at counts running = not (counts.joined == 0) && (counts.conns == 0) && not running
 
 -- the Shut comes where it is due, with all handles
-abbrev pub Closes : Bool → Logged → Handles → Rest → Logged → Handles → Type 0
-Closes due log handles rest.Stays new left = (due ≡ false) × (new ≡ log) × (left ≡ handles)
-Closes due log handles (rest.Shut items) new left =
+abbrev pub ShutsIfDue : Bool → Logged → Handles → Rest → Logged → Handles → Type 0
+ShutsIfDue due log handles rest.Stays new left = (due ≡ false) × (new ≡ log) × (left ≡ handles)
+ShutsIfDue due log handles (rest.Shut items) new left =
     (due ≡ true) × (items ≡ handles.items) × (new.entries ≡ log.entries ++ Shut items ∷ []) × (new.spare + 1 ≡ log.spare)
     × (left ≡ record { home = handles.home; items = []; room = 0 })

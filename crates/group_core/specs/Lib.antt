@@ -7,4 +7,4 @@ pub mod Counts
 pub mod Kept
 pub mod Judges
 pub mod Refusals
-pub mod Told
+pub mod Flags

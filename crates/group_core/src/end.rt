@@ -1,9 +1,9 @@
 //! A call ends, or a connection leaves, and the group ends where that is then due.
 ghost use Rattle.std.specs.Prelude.{◌≡◌, ◌+◌, ◌≤◌, true, Some};
 ghost use Rattle.handle_model.specs.Journal as spec;
-ghost use Rattle.handle_table.specs.Ended.{ended, issued};
+ghost use Rattle.handle_table.specs.Ended.{ended, issue_count};
 ghost use Rattle.call_table.specs.Rows.{row_at, slots_at, without};
-ghost use Rattle.group_core.specs.Judges.{Closes, is_due_at, left_in};
+ghost use Rattle.group_core.specs.Judges.{ShutsIfDue, is_due_at, left_in};
 
 use crate::answer::Rest;
 use crate::counts::Counts;
@@ -49,9 +49,9 @@ impl Group {
 
 /// Enters the results of a call in the tables, and says how many further entries it might have had.
 fn settle(handles: &mut HandleTable, calls: &mut CallTable, call: u32, results: &[Outcome]) -> usize
-    requires { issued results.now ≤ handles.old.room }
+    requires { issue_count results.now ≤ handles.old.room }
     ensures items { handles.new.items ≡ ended handles.old.home (slots_at calls.old.rows call) results.now handles.old.items }
-    ensures room { handles.old.room ≤ handles.new.room + issued results.now }
+    ensures room { handles.old.room ≤ handles.new.room + issue_count results.now }
     ensures home { handles.new.home ≡ handles.old.home }
     ensures rows { calls.new.rows ≡ without call calls.old.rows }
     ensures freed { result ≡ left_in (row_at calls.old.rows call) }
@@ -77,7 +77,7 @@ fn entries_left(row: &Row) -> usize
 /// Enters the Shut where it is due, with all handles that are live.
 fn close(log: &mut Log, handles: &mut HandleTable, counts: Counts, running: bool) -> Rest
     requires { 1 ≤ log.old.spare }
-    ensures { Closes (is_due_at counts running) log.old handles.old result log.new handles.new }
+    ensures { ShutsIfDue (is_due_at counts running) log.old handles.old result log.new handles.new }
 {
     if counts.joined == 0 || counts.conns != 0 || running {
         return Rest::Stays;

@@ -91,7 +91,7 @@ pub fn stage_of(table: &CallTable, call: u32) -> Stage
 /// The cookies of the slots, in a row of four.
 fn cookie_row(handles: &HandleTable, slots: &[Slot]) -> CookieRow
     requires { length slots.now ≤ 4 }
-    ensures { result ≡ calls.row_of (cookies_at handles.now.home handles.now.items slots.now) }
+    ensures { result ≡ calls.cookie_row (cookies_at handles.now.home handles.now.items slots.now) }
 {
     match slots {
         [] => [None; 4],

@@ -3,7 +3,7 @@ ghost use Rattle.std.specs.Prelude.{◌≡◌, ◌+◌, ◌++◌, ◌≤◌, tru
 ghost use Rattle.std.specs.List.{list_any};
 ghost use Rattle.handle_model.specs.Journal.{takes, accepted};
 ghost use Rattle.group_core.specs.Stages.{is_asked};
-ghost use Rattle.group_core.specs.Told.{is_quiet};
+ghost use Rattle.group_core.specs.Flags.{is_quiet};
 
 use crate::journal::Journal;
 use handle_model::{Asked, Entry};
@@ -16,19 +16,19 @@ use std::marker::Model;
 #[derive(Drop)]
 pub struct Log {
     journal: Journal,
-    told: Vec<bool>,
+    flagged: Vec<bool>,
 }
 
 impl Model for Log {
     ghost use Rattle.std.specs.Prelude.{◌+◌, ◌≤◌, vec_len, vec_capacity};
     ghost use Rattle.group_core.specs.Kept.{Logged};
-    ghost use Rattle.group_core.specs.Told.{IsTold};
+    ghost use Rattle.group_core.specs.Flags.{IsFlagged};
 
     ghost Value = { Logged };
 
     ghost view = { λ l. l.journal };
 
-    ghost invariant = { λ l. (vec_len l.told + l.journal.spare ≤ vec_capacity l.told) × IsTold l.journal.entries l.told.items };
+    ghost invariant = { λ l. (vec_len l.flagged + l.journal.spare ≤ vec_capacity l.flagged) × IsFlagged l.journal.entries l.flagged.items };
 }
 
 impl Log {
@@ -38,7 +38,7 @@ impl Log {
     {
         Log {
             journal: Journal::new(alloc),
-            told: Vec::new(alloc),
+            flagged: Vec::new(alloc),
         }
     }
 
@@ -51,7 +51,7 @@ impl Log {
         let Some(wanted) = self.journal.spare().checked_add(more) else {
             return Err(NoMemory);
         };
-        self.told.reserve(wanted)?;
+        self.flagged.reserve(wanted)?;
         self.journal.reserve(more)
     }
 
@@ -72,7 +72,7 @@ impl Log {
         ensures entries { self.new.entries ≡ self.old.entries ++ Entry.Accept call asked ∷ [] }
         ensures spare { self.new.spare + 1 ≡ self.old.spare }
     {
-        self.told.push_reserved(false);
+        self.flagged.push_reserved(false);
         self.journal.add(Entry::Accept { call, asked }, 0);
     }
 
@@ -85,7 +85,7 @@ impl Log {
         ensures entries { self.new.entries ≡ self.old.entries ++ Entry.Cancel call ∷ [] }
         ensures spare { self.new.spare + 1 ≡ self.old.spare }
     {
-        self.told[call as usize - 1] = true;
+        self.flagged[call as usize - 1] = true;
         self.journal.add(Entry::Cancel { call }, 0);
     }
 
@@ -95,7 +95,7 @@ impl Log {
     {
         match call.checked_sub(1) {
             None => false,
-            Some(at) => self.told.get(at as usize).copied().unwrap_or(false),
+            Some(at) => self.flagged.get(at as usize).copied().unwrap_or(false),
         }
     }
 

@@ -21,17 +21,17 @@ abbrev pub is_lost : List Entry → ℕ → Bool
 is_lost past k = list_any (orphans k) past || has_left past (asked past k)
 
 -- what the end of the call said, where the call was not lost before
-abbrev pub told : List Entry → ℕ → Option Said
-told [] k = None
-told (End m results said ∷ past) k = if m == k then (if is_lost past k then None else Some said) else told past k
-told (_ ∷ past) k = told past k
+abbrev pub ended_with : List Entry → ℕ → Option Said
+ended_with [] k = None
+ended_with (End m results said ∷ past) k = if m == k then (if is_lost past k then None else Some said) else ended_with past k
+ended_with (_ ∷ past) k = ended_with past k
 
-abbrev pub reply_told : Option Said → Bool → Reply
-reply_told (Some said) lost = Ran said
-reply_told None lost = if lost then Dropped else Open
+abbrev pub reply_of : Option Said → Bool → Reply
+reply_of (Some said) lost = Ran said
+reply_of None lost = if lost then Dropped else Open
 
 abbrev pub replies : List Entry → ℕ → Reply
 replies past k =
     if list_any (denies k) past then Never context_mismatch
     else (if list_any (cancels k) past && not (list_any (takes k) past) then Never cancelled
-    else reply_told (told past k) (is_lost past k))
+    else reply_of (ended_with past k) (is_lost past k))

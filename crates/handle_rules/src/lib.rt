@@ -24,6 +24,3 @@ pub use replies::{is_lost, reply};
 pub use rules::{
     accepted_count, allowed, cookies_of, due_items, is_due, joined_count, opened, suit,
 };
-
-#[cfg(test)]
-mod tests;

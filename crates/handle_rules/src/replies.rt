@@ -36,8 +36,8 @@ pub fn is_lost(entries: &[Entry], call: u32) -> bool
 }
 
 /// What the end of the call said, where the call was not lost before.
-fn told(entries: &[Entry], call: u32) -> Option<&Said>
-    ensures { option_copied result ≡ spec.told (reverse entries.now) call }
+fn ended_with(entries: &[Entry], call: u32) -> Option<&Said>
+    ensures { option_copied result ≡ spec.ended_with (reverse entries.now) call }
 {
     let mut rest = entries;
     while let Some((entry, before)) = newest(rest) {
@@ -66,7 +66,7 @@ pub fn reply(alloc: Global, entries: &[Entry], call: u32) -> Result<Reply, NoMem
     if any_cancels(entries, call) && !any_takes(entries, call) {
         return Ok(Reply::Never(Status::NCA_S_FAULT_CANCEL));
     }
-    match told(entries, call) {
+    match ended_with(entries, call) {
         Some(said) => Ok(Reply::Ran(said.copy(alloc)?)),
         None if is_lost(entries, call) => Ok(Reply::Dropped),
         None => Ok(Reply::Open),

@@ -16,7 +16,7 @@ use Rattle.handle_model.specs.Journal.{is_item_of}
 use Rattle.handle_table.specs.Handles.{item_at, is_wire, is_below, is_above, is_other, with_item, without, with_cookie}
 use Rattle.handle_table.specs.Uses.{item_named}
 use Rattle.handle_table.specs.Kept.{Rises}
-use Rattle.handle_table.specs.Ended.{kept, closed, settled, ended}
+use Rattle.handle_table.specs.Ended.{kept, closed, after_outcome, ended}
 use Rattle.handle_table.proofs.Wires.{wire_is, known}
 
 -- WHAT IS FOUND
@@ -202,7 +202,7 @@ close_item home s items h (Some x) e =
           item_without x.serial items h ∙ rw (n, q) refl
     ]
 
-pub settled_item : (home : Home) (s : Slot) (o : Outcome) (items : List DueItem) (h : ℕ) → item_at (settled home s o items) h ≡ effect home h s o (item_at items h)
+pub settled_item : (home : Home) (s : Slot) (o : Outcome) (items : List DueItem) (h : ℕ) → item_at (after_outcome home s o items) h ≡ effect home h s o (item_at items h)
 settled_item home s (Issue g c) items h = item_with (record { serial = g; kind = kind_of s; cookie = c }) items h
 settled_item home s (Keep c) items h = keep_item home s c items h (item_named home items s) refl
 settled_item home s Close items h = close_item home s items h (item_named home items s) refl

@@ -25,7 +25,7 @@ use Rattle.journal_laws.proofs.Fate.{usable_live, unclosed, kept_up, fate, FateA
 use Rattle.handle_table.specs.Handles.{item_at}
 use Rattle.handle_table.specs.Kept.{Rises}
 use Rattle.handle_table.specs.Uses.{item_named}
-use Rattle.handle_table.specs.Ended.{kept, closed, settled, ended}
+use Rattle.handle_table.specs.Ended.{kept, closed, after_outcome, ended}
 use Rattle.handle_table.proofs.Items.{effects, ended_item, same_items}
 use Rattle.handle_table.proofs.Edits.{rises_with, rises_without, rises_cookie}
 
@@ -164,7 +164,7 @@ same_due home past newer l m e =
 abbrev pub IssuesSmall : List Outcome → Type 0
 IssuesSmall os = (h : ℕ) → list_any (issues h) os ≡ true → h < 2 ^ 32
 
-settled_rises : (home : Home) (s : Slot) (o : Outcome) (items : List DueItem) → ((h : ℕ) → issues h o ≡ true → h < 2 ^ 32) → Rises 0 items → Rises 0 (settled home s o items)
+settled_rises : (home : Home) (s : Slot) (o : Outcome) (items : List DueItem) → ((h : ℕ) → issues h o ≡ true → h < 2 ^ 32) → Rises 0 items → Rises 0 (after_outcome home s o items)
 settled_rises home s (Issue g c) items small r = rises_with (record { serial = g; kind = kind_of s; cookie = c }) 0 items r (omega arith) (small g (eq-eqb g g refl))
 settled_rises home s (Keep c) items small r = kept_rises (item_named home items s)
   where

@@ -19,7 +19,7 @@ use Rattle.handle_model.specs.Journal.{Legal, is_item_of, is_live, is_issued, is
 use Rattle.handle_model.proofs.Held.{and_right}
 use Rattle.handle_table.specs.Handles.{is_below, is_above, is_other, with_item, cookie_set}
 use Rattle.handle_table.specs.Uses.{item_named}
-use Rattle.handle_table.specs.Ended.{issues_one, issued, kept, closed, settled, ended}
+use Rattle.handle_table.specs.Ended.{issues_one, issue_count, kept, closed, after_outcome, ended}
 use Rattle.handle_table.specs.Laws.{left_by}
 use Rattle.handle_table.proofs.Items.{same_items}
 use Rattle.handle_table.proofs.Live.{due_item_at, due_rises, same_due, end_due}
@@ -102,20 +102,20 @@ closed_within : (o : Option DueItem) (items : List DueItem) → length (closed o
 closed_within None items = omega arith
 closed_within (Some i) items = filter_within (is_other i.serial) items
 
-settled_within : (home : Home) (s : Slot) (o : Outcome) (items : List DueItem) → length (settled home s o items) ≤ length items + issues_one o
+settled_within : (home : Home) (s : Slot) (o : Outcome) (items : List DueItem) → length (after_outcome home s o items) ≤ length items + issues_one o
 settled_within home s (Issue g c) items = with_within (record { serial = g; kind = kind_of s; cookie = c }) items
 settled_within home s (Keep c) items = let w = kept_within c (item_named home items s) items in omega arith
 settled_within home s Close items = let w = closed_within (item_named home items s) items in omega arith
 settled_within home s Nothing items = omega arith
 
-pub ended_within : (home : Home) (ss : List Slot) (os : List Outcome) (items : List DueItem) → length (ended home ss os items) ≤ length items + issued os
+pub ended_within : (home : Home) (ss : List Slot) (os : List Outcome) (items : List DueItem) → length (ended home ss os items) ≤ length items + issue_count os
 ended_within home [] os items = omega arith
 ended_within home (s ∷ ss) [] items = omega arith
 ended_within home (s ∷ ss) (o ∷ os) items =
     let one = settled_within home s o (ended home ss os items) in let rest = ended_within home ss os items in omega arith
 
 -- no more are issued than the slots may issue
-pub issued_within : (ss : List Slot) (os : List Outcome) → suit ss os ≡ true → issued os ≤ length (filter opens ss)
+pub issued_within : (ss : List Slot) (os : List Outcome) → suit ss os ≡ true → issue_count os ≤ length (filter opens ss)
 issued_within [] [] u = omega arith
 issued_within [] (o ∷ os) u = absurd (cc)
 issued_within (s ∷ ss) [] u = absurd (cc)

@@ -19,15 +19,15 @@ closed None items = items
 closed (Some i) items = without i.serial items
 
 -- the result of a call at one slot
-abbrev pub settled : Home → Slot → Outcome → List DueItem → List DueItem
-settled home s (Issue serial cookie) items = with_item (record { serial = serial; kind = kind_of s; cookie = cookie }) items
-settled home s (Keep cookie) items = kept cookie (item_named home items s) items
-settled home s Close items = closed (item_named home items s) items
-settled home s Nothing items = items
+abbrev pub after_outcome : Home → Slot → Outcome → List DueItem → List DueItem
+after_outcome home s (Issue serial cookie) items = with_item (record { serial = serial; kind = kind_of s; cookie = cookie }) items
+after_outcome home s (Keep cookie) items = kept cookie (item_named home items s) items
+after_outcome home s Close items = closed (item_named home items s) items
+after_outcome home s Nothing items = items
 
 -- the results of a call: of two that speak of one handle the first holds
 abbrev pub ended : Home → List Slot → List Outcome → List DueItem → List DueItem
-ended home (s ∷ ss) (o ∷ os) items = settled home s o (ended home ss os items)
+ended home (s ∷ ss) (o ∷ os) items = after_outcome home s o (ended home ss os items)
 ended home [] os items = items
 ended home (s ∷ ss) [] items = items
 
@@ -36,6 +36,6 @@ abbrev pub issues_one : Outcome → ℕ
 issues_one (Issue serial cookie) = 1
 issues_one _ = 0
 
-abbrev pub issued : List Outcome → ℕ
-issued [] = 0
-issued (o ∷ os) = issues_one o + issued os
+abbrev pub issue_count : List Outcome → ℕ
+issue_count [] = 0
+issue_count (o ∷ os) = issues_one o + issue_count os

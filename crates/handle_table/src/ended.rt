@@ -10,9 +10,9 @@ impl HandleTable {
     /// Enters the results of a call, one for each of its slots: what they issue is live from now on,
     /// what they keep has its new cookie, and what they close is live no more. It takes no memory.
     pub fn end(&mut self, slots: &[Slot], results: &[Outcome])
-        requires { spec.issued results.now ≤ self.old.room }
+        requires { spec.issue_count results.now ≤ self.old.room }
         ensures items { self.new.items ≡ spec.ended self.old.home slots.now results.now self.old.items }
-        ensures room { self.old.room ≤ self.new.room + spec.issued results.now }
+        ensures room { self.old.room ≤ self.new.room + spec.issue_count results.now }
         ensures home { self.new.home ≡ self.old.home }
     {
         match (slots.split_first(), results.split_first()) {
@@ -27,7 +27,7 @@ impl HandleTable {
     /// Enters the result at one slot.
     fn settle(&mut self, slot: &Slot, outcome: &Outcome)
         requires { spec.issues_one outcome.now ≤ self.old.room }
-        ensures items { self.new.items ≡ spec.settled self.old.home slot.now outcome.now self.old.items }
+        ensures items { self.new.items ≡ spec.after_outcome self.old.home slot.now outcome.now self.old.items }
         ensures room { self.new.room + spec.issues_one outcome.now ≡ self.old.room }
         ensures home { self.new.home ≡ self.old.home }
     {

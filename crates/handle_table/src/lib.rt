@@ -12,6 +12,3 @@ pub use laws::{
     follows_entries, grows_within, shows_cookies, shows_faults, shows_kind, shows_live,
 };
 pub use table::HandleTable;
-
-#[cfg(test)]
-mod tests;

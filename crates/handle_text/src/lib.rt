@@ -5,6 +5,3 @@ mod line;
 mod part;
 
 pub use line::{entry_text, group_text, journal_text};
-
-#[cfg(test)]
-mod tests;

@@ -2,9 +2,9 @@ use Rattle.std.proofs.Common.{◌≡◌, ◌∙◌, ap, subst, true, reverse, ar
 use Rattle.handle_model.specs.declared.entry.Entry.TheVariants.{End}
 use Rattle.handle_model.specs.Journal.{runs, suit, slots}
 use Rattle.handle_model.specs.History.{History, history_of}
-use Rattle.group_core.specs.Conns.{Goes}
+use Rattle.group_core.specs.Conns.{Settles}
 use Rattle.group_core.proofs.Telling.{left_is}
-use Rattle.group_core.proofs.Going.{end_room, end_issues, end_mid, mid_room, closed_kept, closed_goes}
+use Rattle.group_core.proofs.Going.{end_room, end_issues, end_mid, mid_room, closed_kept, closed_settles}
 use Rattle.group_core.proofs.group.Group.end.Goals as goal
 
 pub settle-freed-requires : goal.settle-freed-requires
@@ -58,5 +58,5 @@ returns c =
     let mid = end_mid c.self.inside.home c.self.inside.log c.add.new.self c.args.call c.args.results c.args.said c.settle-freed.result c.self.inside.handles
     c.settle-freed.new.handles c.self.inside.calls c.settle-freed.new.calls c.self.inside.counts c.self.invariant (r, s) c.add.ensures.entries freed
     c.add.ensures.spare c.settle-freed.ensures.home items room c.settle-freed.ensures.rows in
-    subst (λ (h : History). Goes h (End c.args.call c.args.results c.args.said) c.close.result (history_of c.self.inside.home c.close.new.log.entries)) c.self.view_is
-    (closed_goes _ _ _ _ _ _ _ _ _ _ mid (rw c.any_runs-running.ensures at c.close.ensures))
+    subst (λ (h : History). Settles h (End c.args.call c.args.results c.args.said) c.close.result (history_of c.self.inside.home c.close.new.log.entries)) c.self.view_is
+    (closed_settles _ _ _ _ _ _ _ _ _ _ mid (rw c.any_runs-running.ensures at c.close.ensures))

@@ -2,8 +2,8 @@ use Rattle.std.proofs.Common.{◌≡◌, ◌-◌, ◌∙◌, ap, subst, true, re
 use Rattle.handle_model.specs.declared.entry.Entry.TheVariants.{Leave}
 use Rattle.handle_model.specs.Journal.{is_open}
 use Rattle.handle_model.specs.History.{History, history_of}
-use Rattle.group_core.specs.Conns.{Goes}
-use Rattle.group_core.proofs.Going.{leave_room, leave_counted, leave_mid, mid_room, closed_kept, closed_goes}
+use Rattle.group_core.specs.Conns.{Settles}
+use Rattle.group_core.proofs.Going.{leave_room, leave_counted, leave_mid, mid_room, closed_kept, closed_settles}
 use Rattle.group_core.proofs.group.Group.leave.Goals as goal
 
 pub overflow_sub-self : goal.overflow_sub-self
@@ -38,5 +38,5 @@ returns c =
     let counted = leave_counted _ _ c.args.conn _ _ _ c.self.invariant o in
     let mid = leave_mid c.self.inside.home c.self.inside.log c.add.new.self c.args.conn c.self.inside.handles c.self.inside.calls c.leave.new.self
     c.self.inside.counts (c.self.inside.counts.conns - 1) c.self.invariant o c.add.ensures.entries (omega (arith, c.add.ensures.spare)) c.leave.ensures.rows (omega (arith, counted)) in
-    subst (λ (h : History). Goes h (Leave c.args.conn) c.close.result (history_of c.self.inside.home c.close.new.log.entries)) c.self.view_is
-    (closed_goes _ _ _ _ _ _ _ _ _ _ mid (rw c.any_runs-running.ensures at c.close.ensures))
+    subst (λ (h : History). Settles h (Leave c.args.conn) c.close.result (history_of c.self.inside.home c.close.new.log.entries)) c.self.view_is
+    (closed_settles _ _ _ _ _ _ _ _ _ _ mid (rw c.any_runs-running.ensures at c.close.ensures))

@@ -1,5 +1,5 @@
-//! Groups over many calls: by hand, by a fixed walk over all calls, and with as many handles as a group
-//! may have.
+//! Journals and groups by hand, by a fixed walk over all calls, and with as many handles as a group may
+//! have.
 #![tactic(auto)]
 
 #[cfg(test)]
@@ -14,6 +14,12 @@ mod random;
 mod step;
 #[cfg(test)]
 mod stories;
+#[cfg(test)]
+mod tables;
+#[cfg(test)]
+mod texts;
+#[cfg(test)]
+mod verdicts;
 #[cfg(test)]
 mod walk;
 #[cfg(test)]

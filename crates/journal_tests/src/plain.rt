@@ -79,7 +79,7 @@ fn accept(home: Home, entries: &[Entry], asked: Asked) -> Came
     entered(Answer::Number(call), Entry::Accept { call, asked })
 }
 
-fn row_of(cookies: &Cookies) -> CookieRow {
+fn cookie_row(cookies: &Cookies) -> CookieRow {
     let mut row: CookieRow = [None; 4];
     for i in 0..4 {
         if let Some(cookie) = cookies.get(i) {
@@ -116,7 +116,7 @@ fn take(alloc: Global, home: Home, entries: &[Entry], call: u32) -> Result<Came,
     let cookies = cookies_of(alloc, home, entries, call)?;
     let serial = first_serial(slots(entries, call));
     Ok(entered(
-        Answer::Taking(Taking::Run(row_of(&cookies), serial)),
+        Answer::Taking(Taking::Run(cookie_row(&cookies), serial)),
         Entry::Take { call, cookies },
     ))
 }

@@ -13,6 +13,6 @@ is_quiet past (Cancel k) = not (list_any (takes k) past)
 is_quiet past _ = true
 
 -- each accepted call has a mark, by its number from 1, which says whether it was asked to end; no other call was
-pub record IsTold (entries : List Entry) (marks : List Bool) : Type 0 where
+pub record IsFlagged (entries : List Entry) (marks : List Bool) : Type 0 where
   pub count : length marks ≡ length (accepted (reverse entries))
   pub each : (k : ℕ) → get_or (false ∷ marks) k false ≡ is_asked (reverse entries) k

@@ -1,8 +1,0 @@
-use denote.Text.{Utf8}
-use denote.Shadow.{shadow}
-use Rattle.handle_rules.proofs.tests.each_journal_has_its_verdict.Given as goal
-
--- the journal is text
-abbrev pub invariant-loop-line : goal.invariant-loop-line
-invariant-loop-line g l =
-    (goal.iterator-loop-line g).can_next l.line-iterator × (goal.iterator-loop-line g).is_finite l.line-iterator × shadow (Utf8 l.journal)
