@@ -2,4 +2,5 @@ pub mod Counts
 pub mod Follows
 pub mod Found
 pub mod Marks
+pub mod Owed
 pub mod Steps

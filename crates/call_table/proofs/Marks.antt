@@ -90,7 +90,7 @@ earlier low k i x rows r w =
     let here = w.here no_row in
     elim (eqb_tells x.call k) [ inl e ↦ let same = e.1 in absurd (omega arith) | inr e ↦ e.0 ]
 
-above_kept : (low k : ℕ) (f : Row → Row) (rows : List Row) → Rises low rows → k < low → map (at_call k f) rows ≡ rows
+pub above_kept : (low k : ℕ) (f : Row → Row) (rows : List Row) → Rises low rows → k < low → map (at_call k f) rows ≡ rows
 above_kept low k f [] r lt = refl
 above_kept low k f (x ∷ rows) r lt =
     let first = r.0 in
@@ -133,7 +133,7 @@ call_kept k f r m = elim (cases_Bool (is_call k r)) [ inl t ↦ rw t (m.call r) 
 slots_kept : (k : ℕ) (f : Row → Row) (r : Row) → Marks f → (at_call k f r).slots ≡ r.slots
 slots_kept k f r m = elim (cases_Bool (is_call k r)) [ inl t ↦ rw t (m.slots r) | inr t ↦ rw t refl ]
 
-rises_marked : (k : ℕ) (f : Row → Row) (low : ℕ) (rows : List Row) → Marks f → Rises low rows → Rises low (map (at_call k f) rows)
+pub rises_marked : (k : ℕ) (f : Row → Row) (low : ℕ) (rows : List Row) → Marks f → Rises low rows → Rises low (map (at_call k f) rows)
 rises_marked k f low [] m r = tt
 rises_marked k f low (x ∷ rows) m r =
     let e = call_kept k f x m in
@@ -185,7 +185,7 @@ rises_less : (low more : ℕ) (rows : List Row) → low ≤ more → Rises more 
 rises_less low more [] le r = tt
 rises_less low more (x ∷ rows) le r = let first = r.0 in (omega arith, r.1, r.2)
 
-rises_filter : (p : Row → Bool) (low : ℕ) (rows : List Row) → Rises low rows → Rises low (filter p rows)
+pub rises_filter : (p : Row → Bool) (low : ℕ) (rows : List Row) → Rises low rows → Rises low (filter p rows)
 rises_filter p low [] r = tt
 rises_filter p low (x ∷ rows) r =
     let rest = rises_filter p (x.call + 1) rows r.2 in
@@ -210,7 +210,7 @@ waits_filter p (x ∷ rows) =
 
 -- A NEW ROW
 
-rises_push : (low : ℕ) (rows : List Row) (x : Row) → Rises low rows → over x.call rows ≡ true → low ≤ x.call → x.call < 2 ^ 32 → Rises low (rows ++ x ∷ [])
+pub rises_push : (low : ℕ) (rows : List Row) (x : Row) → Rises low rows → over x.call rows ≡ true → low ≤ x.call → x.call < 2 ^ 32 → Rises low (rows ++ x ∷ [])
 rises_push low [] x r o le small = (le, small, tt)
 rises_push low (y ∷ rows) x r o le small =
     elim (cases_Bool (is_below x.call y)) [

@@ -63,7 +63,7 @@ taken_decided (Cancel m ∷ past) k h = or_right (m == k) (list_any (decides k) 
 taken_decided (Orphan m ∷ past) k h = or_right (m == k) (list_any (decides k) past) (taken_decided past k h)
 taken_decided (_ ∷ past) k h = taken_decided past k h
 
-cancels_decided : (past : List Entry) (k : ℕ) → list_any (cancels k) past ≡ true → list_any (decides k) past ≡ true
+pub cancels_decided : (past : List Entry) (k : ℕ) → list_any (cancels k) past ≡ true → list_any (decides k) past ≡ true
 cancels_decided [] k h = h
 cancels_decided (Cancel m ∷ past) k h = grind (arith, common_steps, cancels_decided past k)
 cancels_decided (Take m cookies ∷ past) k h = or_right (m == k) (list_any (decides k) past) (cancels_decided past k h)
@@ -71,7 +71,7 @@ cancels_decided (Deny m j ∷ past) k h = or_right (m == k) (list_any (decides k
 cancels_decided (Orphan m ∷ past) k h = or_right (m == k) (list_any (decides k) past) (cancels_decided past k h)
 cancels_decided (_ ∷ past) k h = cancels_decided past k h
 
-orphans_decided : (past : List Entry) (k : ℕ) → list_any (orphans k) past ≡ true → list_any (decides k) past ≡ true
+pub orphans_decided : (past : List Entry) (k : ℕ) → list_any (orphans k) past ≡ true → list_any (decides k) past ≡ true
 orphans_decided [] k h = h
 orphans_decided (Orphan m ∷ past) k h = grind (arith, common_steps, orphans_decided past k)
 orphans_decided (Take m cookies ∷ past) k h = or_right (m == k) (list_any (decides k) past) (orphans_decided past k h)
@@ -146,7 +146,7 @@ row_none : (past : List Entry) (k : ℕ) (o : Option Asked) → waits past k ≡
 row_none past k None w r = refl
 row_none past k (Some a) w r = rw (w, r) refl
 
-row_there : (past : List Entry) (k : ℕ) (a : Asked) → (waits past k || runs past k) ≡ true → row_as past k (Some a) ≡ Some (call_row past k a)
+pub row_there : (past : List Entry) (k : ℕ) (a : Asked) → (waits past k || runs past k) ≡ true → row_as past k (Some a) ≡ Some (call_row past k a)
 row_there past k a c = rw c refl
 
 or_left : (a b : Bool) → a ≡ true → (a || b) ≡ true

@@ -98,6 +98,15 @@ abbrev pub openings_of : List Row → ℕ
 openings_of [] = 0
 openings_of (r ∷ rows) = length (filter opens r.slots) + openings_of rows
 
+-- how many entries may still come of a call: Take or Deny, Cancel, Orphan and End where it waits, else those that are left
+abbrev pub owed_by : Row → ℕ
+owed_by r = if r.runs then 1 + (if r.cancelled then 0 else 1) + (if r.orphaned then 0 else 1) else 4
+
+-- and of all
+abbrev pub owed_of : List Row → ℕ
+owed_of [] = 0
+owed_of (r ∷ rows) = owed_by r + owed_of rows
+
 -- no cookie for each slot
 abbrev pub no_cookies : List Slot → List (Option ℕ)
 no_cookies ss = map (λ (s : Slot). None) ss

@@ -1,14 +1,12 @@
 //! Which call stands in the way of another.
 ghost use Rattle.std.specs.Prelude.{◌≡◌};
-ghost use Rattle.std.specs.List.{list_any, find};
+ghost use Rattle.std.specs.List.{find};
 ghost use Rattle.std.specs.Option.{option_copied};
-ghost use Rattle.handle_model.specs.Slots.{clash};
-ghost use Rattle.handle_model.specs.Journal.{any_clash};
 ghost use Rattle.call_table.specs.Kept.{Rises};
 ghost use Rattle.call_table.specs.Rows as spec;
 
 use crate::row::Row;
-use handle_model::Slot;
+use handle_model::{Slot, any_clash};
 
 /// The least running call that clashes with these slots, else the least waiting one below the call.
 pub fn blocker_of(slots: &[Slot], call: u32, rows: &[Row]) -> Option<u32>
@@ -67,16 +65,4 @@ impl Row {
     {
         !self.runs && self.call < call && any_clash(slots, self.slots.as_slice())
     }
-}
-
-fn any_clash(slots: &[Slot], others: &[Slot]) -> bool
-    ensures { result ≡ any_clash slots.now others.now }
-{
-    slots.iter().any(|slot| clashes(slot, others))
-}
-
-fn clashes(slot: &Slot, others: &[Slot]) -> bool
-    ensures { result ≡ list_any (clash slot.now) others.now }
-{
-    others.iter().any(|other| slot.clashes(other))
 }

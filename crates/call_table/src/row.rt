@@ -1,7 +1,7 @@
 //! One call.
 ghost use Rattle.std.specs.Prelude.{◌≡◌, ◌≤◌, filter, length};
 ghost use Rattle.handle_model.specs.Slots.{opens};
-ghost use Rattle.call_table.specs.Rows.{stays};
+ghost use Rattle.call_table.specs.Rows.{stays, owed_by};
 
 use handle_model::{Slot, count_opens};
 use std::marker::Model;
@@ -72,6 +72,18 @@ pub struct Row {
 }
 
 impl Row {
+    /// How many entries may still come of it: a Take or Deny, a Cancel, an Orphan and an End.
+    pub fn owed(&self) -> usize
+        ensures count { result ≡ owed_by self.now }
+        ensures few { result ≤ 4 }
+    {
+        if self.runs {
+            1 + usize::from(!self.cancelled) + usize::from(!self.orphaned)
+        } else {
+            4
+        }
+    }
+
     /// Whether it is none of the waiting calls of the connection.
     pub fn stays(&self, conn: u32) -> bool
         ensures { result ≡ stays conn self.now }

@@ -41,3 +41,15 @@ pub fn openings_of(rows: &[Row]) -> usize
     }
     total
 }
+
+/// How many entries may still come of the calls.
+#[tactic(auto, using(handle_model::proofs::Rest::resting))]
+pub fn owed_of(rows: &[Row]) -> usize
+    ensures { result ≡ spec.owed_of rows.now }
+{
+    let mut total = 0;
+    for row in rows {
+        total += row.owed();
+    }
+    total
+}

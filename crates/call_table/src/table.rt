@@ -6,7 +6,7 @@ ghost use Rattle.std.specs.Option.{option_copied};
 use crate::blocks::blocker_of;
 use crate::lists::{cut, fill};
 use crate::row::{CallSlots, Row};
-use crate::rows::{openings_of, place, waiting_count};
+use crate::rows::{openings_of, owed_of, place, waiting_count};
 use handle_model::{Cookies, Slots};
 use rpc_base::{Items, NoMemory};
 use std::alloc::Global;
@@ -178,11 +178,15 @@ impl CallTable {
         self.rows.retain(|row| row.call != call);
     }
 
-    /// The waiting calls of a connection wait no more.
-    pub fn leave(&mut self, conn: u32)
+    /// The waiting calls of a connection wait no more. The answer is how many entries might have come
+    /// of them.
+    pub fn leave(&mut self, conn: u32) -> usize
         ensures rows { self.new.rows ≡ spec.left conn self.old.rows }
+        ensures freed { result + spec.owed_of self.new.rows ≡ spec.owed_of self.old.rows }
         ensures room { self.new.room ≡ self.old.room }
     {
+        let before = owed_of(self.rows.as_slice());
         self.rows.retain(|row| row.stays(conn));
+        before - owed_of(self.rows.as_slice())
     }
 }

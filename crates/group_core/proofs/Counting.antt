@@ -8,7 +8,11 @@ use Rattle.handle_model.specs.declared.entry.Entry.{Entry}
 use Rattle.handle_model.specs.declared.entry.Entry.TheVariants.{Join, Leave}
 use Rattle.handle_model.specs.Journal.{joins, leaves, joined, is_open, conns, Legal}
 use Rattle.handle_model.proofs.Held.{and_left, left_joined, joined_within}
-use Rattle.group_core.proofs.Owing.{joins_among}
+
+pub joins_among : (past : List Entry) (c : ℕ) → list_any (joins c) past ≡ true → list_any (nat_eq c) (joined past) ≡ true
+joins_among [] c h = h
+joins_among (Join d ∷ past) c h = grind (arith, common_steps, joins_among past c)
+joins_among (_ ∷ past) c h = joins_among past c h
 
 -- the numbers fall to 1
 abbrev pub Falls : List ℕ → Type 0

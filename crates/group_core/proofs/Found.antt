@@ -1,10 +1,10 @@
 -- What the row of a call says of it.
-use Rattle.std.proofs.Common.{◌≡◌, ℕ, ◌+◌, Bool, true, false, ◌&&◌, ◌||◌, not, if◌then◌else◌, Option, Some, None, List, refl, sym}
+use Rattle.std.proofs.Common.{◌≡◌, ℕ, ◌+◌, Bool, true, false, ◌&&◌, ◌||◌, not, if◌then◌else◌, Option, Some, None, List, ◌∷◌, refl, sym, subst}
 use Rattle.std.specs.List.{list_any}
 use Rattle.handle_model.specs.declared.entry.Home.{Home}
 use Rattle.handle_model.specs.declared.entry.Asked.{Asked}
 use Rattle.handle_model.specs.declared.entry.Entry.{Entry}
-use Rattle.handle_model.specs.Journal.{asked, waits, runs, cancels, orphans, Legal}
+use Rattle.handle_model.specs.Journal.{asked, waits, runs, cancels, orphans, is_shut, Legal}
 use Rattle.call_table.specs.declared.row.Row.{Row}
 use Rattle.call_table.specs.Shown.{call_row, row_as, row_in}
 use Rattle.call_table.proofs.Found.{runs_asked}
@@ -72,6 +72,10 @@ left_row_of home past k None l e r = let f = unasked_runs home past k l e in cc
 left_row_of home past k (Some a) l e r =
     pick_left (waits past k) (runs past k) (list_any (cancels k) past) (list_any (orphans k) past) (call_row past k a) refl refl r
 
+or_false : (b : Bool) → (b || false) ≡ b
+or_false true = refl
+or_false false = refl
+
 pub waits_row : (home : Home) (past : List Entry) (k : ℕ) → waits_in (row_in past k) ≡ waits past k
 waits_row home past k = waits_row_of home past k (asked past k) refl
 
@@ -86,3 +90,9 @@ drops_row home past k l = drops_row_of home past k (asked past k) l refl
 
 pub left_row : (home : Home) (past : List Entry) (k : ℕ) → Legal home past → runs past k ≡ true → left_in (row_in past k) ≡ (if list_any (cancels k) past then 0 else 1) + (if list_any (orphans k) past then 0 else 1)
 left_row home past k l r = left_row_of home past k (asked past k) l refl r
+
+-- a Shut is the newest entry
+pub shut_newest : (home : Home) (past before : List Entry) (e : Entry) → Legal home past → past ≡ e ∷ before → list_any is_shut past ≡ is_shut e
+shut_newest home past before e l q =
+    let unshut = (subst (Legal home) q l).0.before_shut in
+    rw (q, unshut) (or_false (is_shut e))

@@ -20,7 +20,8 @@ use Rattle.group_core.proofs.Counting.{leave_count}
 use Rattle.handle_model.proofs.Steps.{legal_more, open_unshut, runs_unshut}
 use Rattle.handle_table.specs.Handles.{Handles}
 use Rattle.handle_table.specs.Ended.{ended, issue_count}
-use Rattle.call_table.specs.Rows.{OpenCalls, is_running, slots_at, without, left}
+use Rattle.call_table.specs.declared.row.Row.{Row}
+use Rattle.call_table.specs.Rows.{OpenCalls, is_running, slots_at, without, left, owed_of}
 use Rattle.call_table.specs.Shown.{rows_of}
 use Rattle.call_table.proofs.Counts.{idle_shown}
 use Rattle.group_core.specs.declared.answer.Rest.{Rest}
@@ -30,7 +31,7 @@ use Rattle.group_core.specs.Conns.{Settles}
 use Rattle.group_core.specs.Owed.{owed, shut_owed}
 use Rattle.group_core.specs.Kept.{IsKept, Logged, Shows}
 use Rattle.group_core.specs.Judges.{ShutsIfDue, is_due_at}
-use Rattle.group_core.proofs.Owing.{end_owed_all, leave_owed, shut_less}
+use Rattle.group_core.proofs.Owing.{end_owed, leave_owed, shut_less}
 use Rattle.group_core.proofs.Shown.{end_shows, leave_shows, shut_shows}
 use Rattle.group_core.proofs.Keeping.{newest}
 
@@ -39,7 +40,7 @@ pub record Mid (home : Home) (log mid : Logged) (entry : Entry) (handles : Handl
   pub legal : Legal home (entry ∷ reverse log.entries)
   pub unshut : list_any is_shut (entry ∷ reverse log.entries) ≡ false
   pub entries : mid.entries ≡ log.entries ++ entry ∷ []
-  pub owes : owed (entry ∷ reverse log.entries) ≤ mid.spare
+  pub owes : owed (entry ∷ reverse log.entries) ≡ mid.spare
   pub shows : Shows home (entry ∷ reverse log.entries) handles calls counts
 
 unshut_one : (past : List Entry) → list_any is_shut past ≡ false → shut_owed past ≡ 1
@@ -82,7 +83,7 @@ closed_kept home log mid new entry rest.Stays handles left calls counts m c =
     let spare : new.spare ≡ mid.spare = ap (λ (x : Logged). x.spare) c.1 in
     record {
       sound = subst (λ (xs : List Entry). IsSound (record { home = home; past = xs })) (sym past) (record { legal = m.legal; settled = d });
-      owes = subst (λ (xs : List Entry). owed xs ≤ new.spare) (sym past) (omega (arith, m.owes, spare));
+      owes = subst (λ (xs : List Entry). owed xs ≡ new.spare) (sym past) (m.owes ∙ sym spare);
       shows = subst (λ (xs : List Entry). Shows home xs left calls counts) (sym past) (subst (λ (x : Handles). Shows home (entry ∷ reverse log.entries) x calls counts) (sym c.2) m.shows);
     }
 closed_kept home log mid new entry (rest.Shut items) handles left calls counts m c =
@@ -92,7 +93,7 @@ closed_kept home log mid new entry (rest.Shut items) handles left calls counts m
     let legal : Legal home (Shut items ∷ before) = (record { before_shut = m.unshut; shut_when_due = λ _. refl; fits = (d, c.1 ∙ m.shows.items_are) }, m.legal) in
     record {
       sound = subst (λ (xs : List Entry). IsSound (record { home = home; past = xs })) (sym past) (record { legal = legal; settled = shut_settled before items });
-      owes = subst (λ (xs : List Entry). owed xs ≤ new.spare) (sym past) (omega (arith, shut_less before items m.unshut, m.owes, c.3));
+      owes = subst (λ (xs : List Entry). owed xs ≡ new.spare) (sym past) (omega (arith, shut_less before items m.unshut, m.owes, c.3));
       shows = subst (λ (xs : List Entry). Shows home xs left calls counts) (sym past) (shut_shows home before items handles left calls counts m.shows legal c.4);
     }
 
@@ -115,7 +116,7 @@ closed_settles home log mid new entry (rest.Shut items) handles left calls count
 
 pub end_room : (home : Home) (log : Logged) (k : ℕ) (results : List Outcome) (said : Said) (handles : Handles) (calls : OpenCalls) (counts : Counts) → IsKept home log handles calls counts → runs (reverse log.entries) k ≡ true → 1 + ((if list_any (cancels k) (reverse log.entries) then 0 else 1) + (if list_any (orphans k) (reverse log.entries) then 0 else 1)) ≤ log.spare
 end_room home log k results said handles calls counts kept r =
-    let past = reverse log.entries in omega (arith, end_owed_all home past k results said kept.sound.legal r, kept.owes)
+    let past = reverse log.entries in omega (arith, end_owed home past k results said kept.sound.legal r, kept.owes)
 
 pub end_mid : (home : Home) (log mid : Logged) (k : ℕ) (results : List Outcome) (said : Said) (freed : ℕ) (handles handles' : Handles) (calls calls' : OpenCalls) (counts : Counts) → IsKept home log handles calls counts → Fits home (reverse log.entries) (End k results said) → mid.entries ≡ log.entries ++ End k results said ∷ [] → freed ≡ (if list_any (cancels k) (reverse log.entries) then 0 else 1) + (if list_any (orphans k) (reverse log.entries) then 0 else 1) → mid.spare + freed + 1 ≡ log.spare → handles'.home ≡ handles.home → handles'.items ≡ ended handles.home (slots_at calls.rows k) results handles.items → handles.room ≤ handles'.room + issue_count results → calls'.rows ≡ without k calls.rows → Mid home log mid (End k results said) handles' calls' counts
 end_mid home log mid k results said freed handles handles' calls calls' counts kept fits entries f spare h i m r =
@@ -126,15 +127,18 @@ end_mid home log mid k results said freed handles handles' calls calls' counts k
       legal = legal;
       unshut = u;
       entries = entries;
-      owes = omega (arith, end_owed_all home past k results said kept.sound.legal fits.0, kept.owes, f, spare);
+      owes = omega (arith, end_owed home past k results said kept.sound.legal fits.0, kept.owes, f, spare);
       shows = end_shows home past k results said handles handles' calls calls' counts kept.shows legal h i m r;
     }
 
-pub leave_room : (home : Home) (log : Logged) (c : ℕ) (handles : Handles) (calls : OpenCalls) (counts : Counts) → IsKept home log handles calls counts → is_open (reverse log.entries) c ≡ true → 1 ≤ log.spare
-leave_room home log c handles calls counts kept o = let past = reverse log.entries in omega (arith, leave_owed past c o, kept.owes)
+pub leave_room : (home : Home) (log : Logged) (c : ℕ) (handles : Handles) (calls : OpenCalls) (counts : Counts) → IsKept home log handles calls counts → is_open (reverse log.entries) c ≡ true → (freed : ℕ) → freed + owed_of (left c calls.rows) ≡ owed_of calls.rows → freed + 1 ≤ log.spare
+leave_room home log c handles calls counts kept o freed f =
+    let past = reverse log.entries in
+    let all : freed + owed_of (left c (rows_of past)) ≡ owed_of (rows_of past) = subst (λ (rs : List Row). freed + owed_of (left c rs) ≡ owed_of rs) kept.shows.rows_are f in
+    omega (arith, leave_owed home past c freed kept.sound.legal o all, kept.owes)
 
-pub leave_mid : (home : Home) (log mid : Logged) (c : ℕ) (handles : Handles) (calls calls' : OpenCalls) (counts : Counts) (n : ℕ) → IsKept home log handles calls counts → is_open (reverse log.entries) c ≡ true → mid.entries ≡ log.entries ++ Leave c ∷ [] → mid.spare + 1 ≡ log.spare → calls'.rows ≡ left c calls.rows → n + 1 ≡ counts.conns → Mid home log mid (Leave c) handles calls' (record { joined = counts.joined; conns = n; accepted = counts.accepted; opened = counts.opened })
-leave_mid home log mid c handles calls calls' counts n kept o entries spare r e =
+pub leave_mid : (home : Home) (log mid : Logged) (c : ℕ) (handles : Handles) (calls calls' : OpenCalls) (counts : Counts) (n freed : ℕ) → IsKept home log handles calls counts → is_open (reverse log.entries) c ≡ true → mid.entries ≡ log.entries ++ Leave c ∷ [] → freed + owed_of calls'.rows ≡ owed_of calls.rows → mid.spare + freed + 1 ≡ log.spare → calls'.rows ≡ left c calls.rows → n + 1 ≡ counts.conns → Mid home log mid (Leave c) handles calls' (record { joined = counts.joined; conns = n; accepted = counts.accepted; opened = counts.opened })
+leave_mid home log mid c handles calls calls' counts n freed kept o entries f spare r e =
     let past = reverse log.entries in
     let u = open_unshut home past c kept.sound.legal o in
     let legal = legal_more (history_of home log.entries) (Leave c) kept.sound u o in
@@ -142,7 +146,9 @@ leave_mid home log mid c handles calls calls' counts n kept o entries spare r e 
       legal = legal;
       unshut = u;
       entries = entries;
-      owes = omega (arith, leave_owed past c o, kept.owes, spare);
+      owes =
+          let all : freed + owed_of (left c (rows_of past)) ≡ owed_of (rows_of past) = subst (λ (rs : List Row). freed + owed_of (left c rs) ≡ owed_of rs) kept.shows.rows_are (rw r at f) in
+          omega (arith, leave_owed home past c freed kept.sound.legal o all, kept.owes, spare);
       shows = leave_shows home past c handles calls calls' counts n kept.shows legal r e;
     }
 

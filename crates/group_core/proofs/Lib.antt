@@ -1,5 +1,4 @@
 pub mod Asking
-pub mod Sums
 pub mod Owing
 pub mod Counting
 pub mod Openings

@@ -9,28 +9,27 @@ use Rattle.handle_model.specs.declared.entry.Entry.{Entry}
 use Rattle.handle_model.specs.declared.entry.Entry.TheVariants.{Join, Accept}
 use Rattle.handle_model.specs.Slots.{opens}
 use Rattle.handle_model.specs.Journal.{Fits, is_open, joined, accepted, opened, waiting, running, live, due_item}
-use Rattle.handle_model.specs.Limits.{join_limit, accept_limit, openings}
+use Rattle.handle_model.specs.Limits.{join_limit_at, join_limit, accept_limit_at, accept_limit, openings}
 use Rattle.handle_model.proofs.Held.{follow-filled, count-filled, length-filled}
 use Rattle.handle_table.specs.Handles.{Handles}
 use Rattle.call_table.specs.Rows.{OpenCalls, openings_of}
 use Rattle.call_table.proofs.Counts.{count_shown, openings_shown}
 use Rattle.group_core.specs.declared.counts.Counts.{Counts}
-use Rattle.group_core.specs.Counts.{join_limit_at, accept_limit_at}
-use Rattle.handle_model.specs.declared.reply.AcceptLimit.{AcceptLimit}
-use Rattle.handle_model.specs.declared.reply.AcceptLimit.TheVariants as limit
+use Rattle.handle_model.specs.declared.limits.AcceptLimit.{AcceptLimit}
+use Rattle.handle_model.specs.declared.limits.AcceptLimit.TheVariants as limit
 use Rattle.handle_model.specs.History.{History}
 use Rattle.group_core.specs.Refusals.{refusal_of}
 use Rattle.group_core.specs.Calls.{numbered, Accepts}
 use Rattle.group_core.specs.Kept.{IsKept, Logged}
 
-pub join_limit_is : (home : Home) (log : Logged) (handles : Handles) (calls : OpenCalls) (counts : Counts) → IsKept home log handles calls counts → join_limit_at counts ≡ join_limit (reverse log.entries)
+pub join_limit_is : (home : Home) (log : Logged) (handles : Handles) (calls : OpenCalls) (counts : Counts) → IsKept home log handles calls counts → join_limit_at counts.conns (counts.joined + 1) ≡ join_limit (reverse log.entries)
 join_limit_is home log handles calls counts kept = rw (kept.shows.conns_are, kept.shows.joined_is) refl
 
 item_count : (home : Home) (past : List Entry) (hs : List ℕ) → length (map (due_item home past) hs) ≡ length hs
 item_count home past [] = refl
 item_count home past (h ∷ hs) = let more = item_count home past hs in grind (arith, common_steps)
 
-pub accept_limit_is : (home : Home) (log : Logged) (handles : Handles) (calls : OpenCalls) (counts : Counts) (ss : List Slot) (n : ℕ) → IsKept home log handles calls counts → n ≡ length (filter opens ss) → accept_limit_at counts (length calls.rows) (length handles.items) (openings_of calls.rows) n ≡ accept_limit home (reverse log.entries) ss
+pub accept_limit_is : (home : Home) (log : Logged) (handles : Handles) (calls : OpenCalls) (counts : Counts) (ss : List Slot) (n : ℕ) → IsKept home log handles calls counts → n ≡ length (filter opens ss) → accept_limit_at (length calls.rows) (length handles.items + openings_of calls.rows + n) (counts.accepted + 1) (counts.opened + n) ≡ accept_limit home (reverse log.entries) ss
 accept_limit_is home log handles calls counts ss n kept e =
     let past = reverse log.entries in
     let busy : length calls.rows ≡ length (waiting past) + length (running past) = ap length kept.shows.rows_are ∙ count_shown home past kept.sound.legal in

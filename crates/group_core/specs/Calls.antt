@@ -8,7 +8,7 @@ use Rattle.handle_model.specs.declared.entry.Outcome.{Outcome}
 use Rattle.handle_model.specs.declared.entry.Said.{Said}
 use Rattle.handle_model.specs.declared.entry.Entry.{Entry}
 use Rattle.handle_model.specs.declared.entry.Entry.TheVariants.{Accept, Take, Deny, Cancel, Orphan, End}
-use Rattle.handle_model.specs.declared.reply.AcceptLimit.TheVariants as limit
+use Rattle.handle_model.specs.declared.limits.AcceptLimit.TheVariants as limit
 use Rattle.handle_model.specs.Journal.{waits, runs, cancels, orphans, blocker, fault, slots, cookies_for, accepted, opened, filled}
 use Rattle.handle_model.specs.History.{History}
 use Rattle.handle_model.specs.Limits.{accept_limit}

@@ -2,7 +2,7 @@
 use Rattle.std.specs.Prelude.{◌≡◌, ℕ, ◌+◌, true, false, Some, None, Result, Ok, Err, [], ◌∷◌, length}
 use Rattle.handle_model.specs.declared.entry.Entry.{Entry}
 use Rattle.handle_model.specs.declared.entry.Entry.TheVariants.{Join, Leave, Shut}
-use Rattle.handle_model.specs.declared.reply.JoinLimit.TheVariants as limit
+use Rattle.handle_model.specs.declared.limits.JoinLimit.TheVariants as limit
 use Rattle.handle_model.specs.Journal.{joined, due, due_items}
 use Rattle.handle_model.specs.History.{History}
 use Rattle.handle_model.specs.Limits.{join_limit}

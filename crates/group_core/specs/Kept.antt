@@ -27,8 +27,8 @@ pub record Shows (home : Home) (past : List Entry) (handles : Handles) (calls : 
   pub opened_is : counts.opened ≡ opened past
   pub issues : list_any is_shut past ≡ false → openings_of (rows_of past) ≤ handles.room
 
--- the journal is legal and settled, and there is room for the entries that may still come
+-- the journal is legal and settled, and there is room for the entries that may still come, and for no others
 pub record IsKept (home : Home) (log : Logged) (handles : Handles) (calls : OpenCalls) (counts : Counts) : Type 0 where
   pub sound : IsSound (history_of home log.entries)
-  pub owes : owed (reverse log.entries) ≤ log.spare
+  pub owes : owed (reverse log.entries) ≡ log.spare
   pub shows : Shows home (reverse log.entries) handles calls counts

@@ -3,7 +3,6 @@ pub mod Conns
 pub mod Calls
 pub mod Stages
 pub mod Owed
-pub mod Counts
 pub mod Kept
 pub mod Judges
 pub mod Refusals

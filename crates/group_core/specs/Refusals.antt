@@ -1,6 +1,6 @@
 -- The refusal for a limit that is reached.
-use Rattle.handle_model.specs.declared.reply.AcceptLimit.{AcceptLimit}
-use Rattle.handle_model.specs.declared.reply.AcceptLimit.TheVariants as limit
+use Rattle.handle_model.specs.declared.limits.AcceptLimit.{AcceptLimit}
+use Rattle.handle_model.specs.declared.limits.AcceptLimit.TheVariants as limit
 use Rattle.group_core.specs.declared.answer.AcceptRefusal.{AcceptRefusal}
 use Rattle.group_core.specs.declared.answer.AcceptRefusal.TheVariants as refusal
 

@@ -1,5 +1,5 @@
 //! A call is accepted.
-ghost use Rattle.std.specs.Prelude.{◌≡◌, ◌+◌, ◌<◌, ◌≤◌, ◌^◌, true, length, filter, OnOk};
+ghost use Rattle.std.specs.Prelude.{◌≡◌, ◌+◌, ◌<◌, ◌≤◌, ◌^◌, true, length, filter, OnErr, OnOk};
 ghost use Rattle.handle_model.specs.Slots.{opens};
 ghost use Rattle.handle_model.specs.Journal as spec;
 
@@ -57,8 +57,9 @@ fn make_room(
     ensures entries { log.new.entries ≡ log.old.entries }
     ensures items { (handles.new.home ≡ handles.old.home) × (handles.new.items ≡ handles.old.items) }
     ensures rows { calls.new.rows ≡ calls.old.rows }
-    ensures kept { (log.old.spare ≤ log.new.spare) × (handles.old.room ≤ handles.new.room) }
+    ensures kept { handles.old.room ≤ handles.new.room }
     ensures spare { OnOk result (log.new.spare ≡ log.old.spare + 5) }
+    ensures same { OnErr result (log.new.spare ≡ log.old.spare) }
     ensures handles { OnOk result (openings ≤ handles.new.room) }
     ensures calls { OnOk result (1 ≤ calls.new.room) }
 {

@@ -1,6 +1,6 @@
 //! How many connections, calls and serials there are.
-ghost use Rattle.std.specs.Prelude.{◌≡◌};
-ghost use Rattle.group_core.specs.Counts as spec;
+ghost use Rattle.std.specs.Prelude.{◌≡◌, ◌+◌};
+ghost use Rattle.handle_model.specs.Limits.{join_limit_at, accept_limit_at};
 
 use handle_model::{AcceptLimit, JoinLimit};
 
@@ -15,15 +15,9 @@ pub struct Counts {
 
 /// Why a further connection is not taken, at these counts.
 pub fn join_limit(counts: Counts) -> Option<JoinLimit>
-    ensures { result ≡ spec.join_limit_at counts }
+    ensures { result ≡ join_limit_at counts.conns (counts.joined + 1) }
 {
-    if counts.conns >= 64 {
-        Some(JoinLimit::TooMany)
-    } else if u64::from(counts.joined) + 1 >= 1 << 32 {
-        Some(JoinLimit::Numbers)
-    } else {
-        None
-    }
+    handle_model::join_limit(u128::from(counts.conns), u128::from(counts.joined) + 1)
 }
 
 /// Why a further call that may issue so many handles is not accepted: at these counts, and with so
@@ -35,17 +29,12 @@ pub fn accept_limit(
     openings: usize,
     opens: usize,
 ) -> Option<AcceptLimit>
-    ensures { result ≡ spec.accept_limit_at counts calls live openings opens }
+    ensures { result ≡ accept_limit_at calls (live + openings + opens) (counts.accepted + 1) (counts.opened + opens) }
 {
-    if calls >= 256 {
-        Some(AcceptLimit::Calls)
-    } else if live as u128 + openings as u128 + opens as u128 > 65_536 {
-        Some(AcceptLimit::Handles)
-    } else if u64::from(counts.accepted) + 1 >= 1 << 32
-        || u128::from(counts.opened) + opens as u128 >= 1 << 32
-    {
-        Some(AcceptLimit::Numbers)
-    } else {
-        None
-    }
+    handle_model::accept_limit(
+        calls as u128,
+        live as u128 + openings as u128 + opens as u128,
+        u128::from(counts.accepted) + 1,
+        u128::from(counts.opened) + opens as u128,
+    )
 }

@@ -39,9 +39,9 @@ impl Group {
         requires { spec.is_open self.old.past conn ≡ true }
         ensures { Leaves self.old conn result self.new }
     {
-        self.calls.leave(conn);
+        let freed = self.calls.leave(conn);
         self.counts.conns -= 1;
-        self.log.add(Entry::Leave { conn }, 0);
+        self.log.add(Entry::Leave { conn }, freed);
         let running = self.calls.any_runs();
         close(&mut self.log, &mut self.handles, self.counts, running)
     }

@@ -1,12 +1,17 @@
 //! A group.
-ghost use Rattle.std.specs.Prelude.{◌≡◌, [], reverse, IfOk};
+ghost use Rattle.std.specs.Prelude.{◌≡◌, ◌||◌, [], true, false, reverse, IfOk};
+ghost use Rattle.std.specs.List.{list_any};
+ghost use Rattle.handle_model.specs.Journal as journal;
 ghost use Rattle.handle_model.specs.History.{IsSound};
+ghost use Rattle.group_core.specs.Stages as stages;
 
-use crate::counts::Counts;
+use crate::answer::{Cancelled, JoinRefusal, Orphaned, Stage, Taking};
+use crate::counts::{Counts, join_limit};
 use crate::journal::Journal;
+use crate::judge::{Judged, entered, judge, judge_cancel, judge_orphan, stage_of};
 use crate::log::Log;
 use call_table::CallTable;
-use handle_model::Home;
+use handle_model::{Entry, Home, JoinLimit, Slot};
 use handle_table::HandleTable;
 use rpc_base::NoMemory;
 use std::alloc::Global;
@@ -37,6 +42,9 @@ impl Model for Group {
 }
 
 impl Group {
+    ghost use Rattle.group_core.specs.Conns.{Joins};
+    ghost use Rattle.group_core.specs.Calls.{Takes, Cancels, Orphans};
+
     /// A group without a connection: the boot word of its server, and its id.
     pub fn begin(alloc: Global, boot: u64, id: u32) -> Result<Group, NoMemory>
         ensures { IfOk result (λ group. group ≡ record { home = record { boot = boot; group = id }; past = [] }) }
@@ -58,11 +66,133 @@ impl Group {
         })
     }
 
+    /// Whose it is: the boot word of its server, and its id.
+    pub fn home(&self) -> Home
+        ensures { result ≡ self.now.home }
+    {
+        self.home
+    }
+
+    /// Whether it has ended. The newest entry says so.
+    #[tactic(auto, using(crate::proofs::Found::shut_newest))]
+    pub fn has_shut(&self) -> bool
+        ensures { result ≡ list_any journal.is_shut self.now.past }
+    {
+        match self.log.journal().as_slice().split_last() {
+            Some((entry, _)) => entry.is_shut(),
+            None => false,
+        }
+    }
+
     /// The entries, oldest first: a legal journal, at whose end no Shut is due.
     pub fn journal(&self) -> &Journal
         ensures past { reverse result.now.entries ≡ self.now.past }
         ensures sound { IsSound self.now }
     {
         self.log.journal()
+    }
+
+    /// A connection joins, and has this number; they count from 1. There is then room for its Leave.
+    pub fn join(&mut self) -> Result<u32, JoinRefusal>
+        requires unshut { list_any journal.is_shut self.old.past ≡ false }
+        ensures { Joins self.old result self.new }
+    {
+        match join_limit(self.counts) {
+            Some(JoinLimit::TooMany) => return Err(JoinRefusal::TooMany),
+            Some(JoinLimit::Numbers) => return Err(JoinRefusal::Numbers),
+            None => {}
+        }
+        self.log.reserve(2)?;
+        self.counts.joined += 1;
+        self.counts.conns += 1;
+        let conn = self.counts.joined;
+        self.log.add(Entry::Join { conn }, 0);
+        Ok(conn)
+    }
+
+    /// Takes a call, where it waits and nothing is in its way, or denies it for its handles. It takes
+    /// no memory.
+    pub fn take(&mut self, call: u32) -> Taking
+        ensures { Takes self.old call result self.new }
+    {
+        let judged = judge(&self.handles, &self.calls, call);
+        match judged {
+            Judged::Free(row, serial) => {
+                let cookies = entered(row, self.calls.start(call));
+                self.log.add(Entry::Take { call, cookies }, 0);
+                Taking::Run(row, serial)
+            }
+            Judged::AtFault(slot) => {
+                self.calls.end(call);
+                self.log.add(Entry::Deny { call, slot }, 3);
+                Taking::Denied(slot)
+            }
+            Judged::Blocked(other) => Taking::Wait(other),
+            Judged::NotWaiting => Taking::Dropped,
+        }
+    }
+
+    /// Cancels a call: it ends where it waits, and is asked to end where it runs. It takes no memory.
+    pub fn cancel(&mut self, call: u32) -> Cancelled
+        ensures { Cancels self.old call result self.new }
+    {
+        let found = judge_cancel(&self.calls, call);
+        match found {
+            Cancelled::Ended => {
+                self.calls.end(call);
+                self.log.add(Entry::Cancel { call }, 3);
+            }
+            Cancelled::Flagged => {
+                self.calls.cancel(call);
+                self.log.flag(call);
+            }
+            Cancelled::Late => {}
+        }
+        found
+    }
+
+    /// Orphans a call: it ends where it waits, and its answer is not sent where it runs. It takes no
+    /// memory.
+    pub fn orphan(&mut self, call: u32) -> Orphaned
+        ensures { Orphans self.old call result self.new }
+    {
+        let found = judge_orphan(&self.calls, call);
+        match found {
+            Orphaned::Dropped => {
+                self.calls.end(call);
+                self.log.add(Entry::Orphan { call }, 3);
+            }
+            Orphaned::Running => {
+                self.calls.orphan(call);
+                self.log.add(Entry::Orphan { call }, 0);
+            }
+            Orphaned::Late => {}
+        }
+        found
+    }
+
+    /// Where a call is. It takes no memory.
+    pub fn stage(&self, call: u32) -> Stage
+        ensures { result ≡ stages.stage_of self.now.past call }
+    {
+        stage_of(&self.calls, call)
+    }
+
+    /// The slots of a call that waits or runs. It takes no memory.
+    pub fn slots(&self, call: u32) -> &[Slot]
+        requires { (journal.waits self.now.past call || journal.runs self.now.past call) ≡ true }
+        ensures { result.now ≡ journal.slots self.now.past call }
+    {
+        match self.calls.row(call) {
+            Some(row) => row.slots.as_slice(),
+            None => &[],
+        }
+    }
+
+    /// Whether a call was cancelled after it was taken. It takes no memory.
+    pub fn asked(&self, call: u32) -> bool
+        ensures { result ≡ stages.is_asked self.now.past call }
+    {
+        self.log.asked(call)
     }
 }

@@ -1,5 +1,5 @@
 //! The entries of a group.
-ghost use Rattle.std.specs.Prelude.{◌≡◌, ◌+◌, ◌++◌, ◌≤◌, ◌==◌, [], ◌∷◌, length, slice_get, OnOk, OnErr};
+ghost use Rattle.std.specs.Prelude.{◌≡◌, ◌+◌, ◌++◌, ◌≤◌, ◌==◌, [], ◌∷◌, length, slice_get, IfOk, OnOk, OnErr};
 ghost use Rattle.std.specs.Option.{option_copied};
 
 use handle_model::Entry;
@@ -65,6 +65,15 @@ impl Journal {
         self.entries.as_slice()
     }
 
+    /// An equal journal. For no further entry there is room.
+    pub fn copy(&self, alloc: Global) -> Result<Journal, NoMemory>
+        ensures { IfOk result (λ copy. copy.entries ≡ self.now.entries) }
+    {
+        let mut copy = Journal::new(alloc);
+        put_copies(alloc, self.entries.as_slice(), &mut copy)?;
+        Ok(copy)
+    }
+
     /// Adds an entry, in memory of its own: the room stays.
     pub fn push(&mut self, entry: Entry) -> Result<(), NoMemory>
         ensures ok { OnOk result (self.new.entries ≡ self.old.entries ++ entry ∷ []) }
@@ -106,4 +115,15 @@ impl Journal {
         self.spare = self.spare - freed - 1;
         self.entries.push_reserved(entry);
     }
+}
+
+/// Adds equal entries.
+#[tactic(auto, using(handle_model::proofs::Rest::resting))]
+fn put_copies(alloc: Global, entries: &[Entry], into: &mut Journal) -> Result<(), NoMemory>
+    ensures { OnOk result (into.new.entries ≡ into.old.entries ++ entries.now) }
+{
+    for entry in entries {
+        into.push(entry.copy(alloc)?)?;
+    }
+    Ok(())
 }

@@ -6,13 +6,9 @@ mod answer;
 mod counts;
 mod end;
 mod group;
-mod join;
 mod journal;
 mod judge;
 mod log;
-mod over;
-mod stage;
-mod take;
 
 pub use answer::{AcceptRefusal, Cancelled, JoinRefusal, Orphaned, Rest, Stage, Taking};
 pub use group::Group;

@@ -90,6 +90,23 @@ pub struct Asked {
     pub stub: Octets,
 }
 
+impl Asked {
+    /// An equal one.
+    pub fn copy(&self, alloc: Global) -> Result<Asked, NoMemory>
+        ensures { IfOk result (λ copy. copy ≡ self.now) }
+    {
+        Ok(Asked {
+            conn: self.conn,
+            iface: self.iface,
+            op: self.op,
+            order: self.order,
+            reply: self.reply,
+            slots: self.slots.copy(alloc)?,
+            stub: self.stub.copy(alloc)?,
+        })
+    }
+}
+
 /// A handle that is run down when its group ends.
 #[derive(Clone, Copy, Debug, PartialEq, Eq)]
 pub struct DueItem {
@@ -145,6 +162,44 @@ pub enum Entry {
     Shut {
         due: DueItems,
     },
+}
+
+impl Entry {
+    /// An equal one.
+    pub fn copy(&self, alloc: Global) -> Result<Entry, NoMemory>
+        ensures { IfOk result (λ copy. copy ≡ self.now) }
+    {
+        match self {
+            Entry::Join { conn } => Ok(Entry::Join { conn: *conn }),
+            Entry::Accept { call, asked } => Ok(Entry::Accept {
+                call: *call,
+                asked: asked.copy(alloc)?,
+            }),
+            Entry::Take { call, cookies } => Ok(Entry::Take {
+                call: *call,
+                cookies: cookies.copy(alloc)?,
+            }),
+            Entry::Deny { call, slot } => Ok(Entry::Deny {
+                call: *call,
+                slot: *slot,
+            }),
+            Entry::Cancel { call } => Ok(Entry::Cancel { call: *call }),
+            Entry::Orphan { call } => Ok(Entry::Orphan { call: *call }),
+            Entry::End {
+                call,
+                results,
+                said,
+            } => Ok(Entry::End {
+                call: *call,
+                results: results.copy(alloc)?,
+                said: said.copy(alloc)?,
+            }),
+            Entry::Leave { conn } => Ok(Entry::Leave { conn: *conn }),
+            Entry::Shut { due } => Ok(Entry::Shut {
+                due: due.copy(alloc)?,
+            }),
+        }
+    }
 }
 
 impl Exact for Slot {

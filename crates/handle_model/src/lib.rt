@@ -5,6 +5,7 @@
 mod due;
 mod entry;
 mod events;
+mod limits;
 mod reply;
 mod slots;
 
@@ -12,5 +13,6 @@ pub use due::{Due, DueList, Rundown};
 pub use entry::{
     Asked, CookieRow, Cookies, DueItem, DueItems, Entry, Home, Outcome, Outcomes, Said, Slot, Slots,
 };
-pub use reply::{AcceptLimit, JoinLimit, Reply};
-pub use slots::{count_opens, handle_of};
+pub use limits::{AcceptLimit, JoinLimit, MOST_HANDLES, accept_limit, join_limit};
+pub use reply::Reply;
+pub use slots::{any_clash, count_opens, handle_of};

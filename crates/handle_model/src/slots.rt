@@ -1,5 +1,6 @@
 //! What one slot says, and one result.
 ghost use Rattle.std.specs.Prelude.{◌≡◌, ◌+◌, ◌*◌, ◌<◌, ◌≤◌, ◌&&◌, filter, length};
+ghost use Rattle.std.specs.List.{list_any};
 ghost use Rattle.handle_model.specs.Slots as spec;
 ghost use Rattle.handle_model.specs.Journal as journal;
 
@@ -80,7 +81,7 @@ impl Slot {
     }
 
     /// Whether the other slot names the same handle.
-    pub fn shares_name(&self, other: &Slot) -> bool
+    fn shares_name(&self, other: &Slot) -> bool
         ensures { result ≡ spec.same_name (spec.named self.now) other.now }
     {
         match self.named() {
@@ -90,10 +91,18 @@ impl Slot {
     }
 
     /// Whether the other slot names the same handle, and its call alone may use it.
-    pub fn shares_name_alone(&self, other: &Slot) -> bool
+    fn shares_name_alone(&self, other: &Slot) -> bool
         ensures { result ≡ (spec.same_name (spec.named self.now) other.now && spec.is_exclusive other.now) }
     {
         self.shares_name(other) && other.is_exclusive()
+    }
+
+    /// Whether one of the earlier slots of its call names the same handle, and one of all excludes
+    /// others from it.
+    pub fn repeats(&self, earlier: &[Slot], all: &[Slot]) -> bool
+        ensures { result ≡ journal.repeats earlier.now all.now self.now }
+    {
+        any_shares_name(self, earlier) && any_shares_name_alone(self, all)
     }
 
     /// Whether it may issue a handle.
@@ -159,6 +168,31 @@ impl Outcome {
             _ => false,
         }
     }
+}
+
+fn any_shares_name(slot: &Slot, others: &[Slot]) -> bool
+    ensures { result ≡ list_any (spec.same_name (spec.named slot.now)) others.now }
+{
+    others.iter().any(|other| slot.shares_name(other))
+}
+
+fn any_shares_name_alone(slot: &Slot, others: &[Slot]) -> bool
+    ensures { result ≡ list_any (λ t. spec.same_name (spec.named slot.now) t && spec.is_exclusive t) others.now }
+{
+    others.iter().any(|other| slot.shares_name_alone(other))
+}
+
+fn clashes_any(slot: &Slot, others: &[Slot]) -> bool
+    ensures { result ≡ list_any (spec.clash slot.now) others.now }
+{
+    others.iter().any(|other| slot.clashes(other))
+}
+
+/// Whether one of the first slots clashes with one of the second.
+pub fn any_clash(first: &[Slot], second: &[Slot]) -> bool
+    ensures { result ≡ journal.any_clash first.now second.now }
+{
+    first.iter().any(|slot| clashes_any(slot, second))
 }
 
 /// How many of the slots may issue a handle.

@@ -5,10 +5,9 @@
 ghost use Rattle.std.specs.Prelude.{◌≡◌, ◌+◌, ◌≤◌, [], ◌∷◌, ◌&&◌, not, reverse, length, Some, None, MatchOption, IfSome};
 ghost use Rattle.std.specs.List.{list_any};
 ghost use Rattle.std.specs.Option.{option_copied};
-ghost use Rattle.handle_model.specs.Slots.{clash};
 ghost use Rattle.handle_model.specs.Journal as spec;
 
-use handle_model::{Asked, Entry, Slot};
+use handle_model::{Asked, Entry, Slot, any_clash};
 
 pub(crate) fn any_joins(entries: &[Entry], conn: u32) -> bool
     ensures { result ≡ list_any (spec.joins conn) entries.now }
@@ -166,18 +165,6 @@ pub(crate) fn waits_at(entries: &[Entry], at: usize, call: u32) -> bool
         return false;
     }
     waits(entries, call)
-}
-
-fn clashes_any(slot: &Slot, others: &[Slot]) -> bool
-    ensures { result ≡ list_any (clash slot.now) others.now }
-{
-    others.iter().any(|other| slot.clashes(other))
-}
-
-fn any_clash(first: &[Slot], second: &[Slot]) -> bool
-    ensures { result ≡ spec.any_clash first.now second.now }
-{
-    first.iter().any(|slot| clashes_any(slot, second))
 }
 
 /// Whether the two calls name one handle, and one of the two uses at least is exclusive.

@@ -1,7 +1,6 @@
 //! What the entries say of handles. They come oldest first.
-ghost use Rattle.std.specs.Prelude.{◌≡◌, ◌&&◌, reverse, Some, None};
+ghost use Rattle.std.specs.Prelude.{◌≡◌, reverse, Some, None};
 ghost use Rattle.std.specs.List.{list_any};
-ghost use Rattle.handle_model.specs.Slots.{named, same_name, is_exclusive};
 ghost use Rattle.handle_model.specs.Journal as spec;
 
 use crate::calls::{newest, slots};
@@ -219,25 +218,11 @@ pub fn is_usable(home: Home, entries: &[Entry], slot: &Slot) -> bool
     }
 }
 
-fn any_shares_name(slot: &Slot, others: &[Slot]) -> bool
-    ensures { result ≡ list_any (same_name (named slot.now)) others.now }
-{
-    others.iter().any(|other| slot.shares_name(other))
-}
-
-fn any_shares_name_alone(slot: &Slot, others: &[Slot]) -> bool
-    ensures { result ≡ list_any (λ t. same_name (named slot.now) t && is_exclusive t) others.now }
-{
-    others.iter().any(|other| slot.shares_name_alone(other))
-}
-
 /// Whether the slot is at fault, after the earlier slots of its call.
 fn is_at_fault(home: Home, entries: &[Entry], earlier: &[Slot], all: &[Slot], slot: &Slot) -> bool
-    ensures { result ≡ spec.is_at_fault home (reverse entries.now) earlier.now all.now slot.now }
+    ensures { result ≡ spec.is_at_fault (spec.is_usable home (reverse entries.now)) earlier.now all.now slot.now }
 {
-    slot.named().is_some()
-        && (!is_usable(home, entries, slot)
-            || any_shares_name(slot, earlier) && any_shares_name_alone(slot, all))
+    slot.named().is_some() && (!is_usable(home, entries, slot) || slot.repeats(earlier, all))
 }
 
 /// The first slot of a call that is at fault, by its index from 0.

@@ -1,12 +1,13 @@
 //! When a group takes no further connection, and no further call. The entries come oldest first.
-ghost use Rattle.std.specs.Prelude.{◌≡◌, ◌+◌, ◌<◌, ◌≤◌, ◌^◌, ◌*◌, reverse, length, filter};
+ghost use Rattle.std.specs.Prelude.{◌≡◌, ◌+◌, ◌<◌, ◌≤◌, ◌^◌, ◌*◌, nat_lt, reverse, length, filter};
+ghost use Rattle.handle_model.specs.Slots.{opens};
 ghost use Rattle.handle_model.specs.Journal as journal;
 ghost use Rattle.handle_model.specs.Limits as spec;
 
 use crate::calls::{is_open_at, runs_at, slots, waits_at};
 use crate::handles::is_live;
 use crate::rules::{accepted_count, joined_count, opened};
-use handle_model::{AcceptLimit, Entry, Home, JoinLimit, Slot, count_opens};
+use handle_model::{AcceptLimit, Entry, Home, JoinLimit, MOST_HANDLES, Slot, count_opens};
 
 /// How many connections are open.
 #[tactic(auto, using(crate::proofs::Sets::growing))]
@@ -108,32 +109,20 @@ fn live_to(home: Home, entries: &[Entry], most: u32) -> u32
     count
 }
 
-/// Whether 256 calls wait or run.
-fn is_busy(entries: &[Entry]) -> bool
-    ensures { result ≡ spec.is_busy (reverse entries.now) }
-{
-    waiting_count(entries) as u128 + running_count(entries) as u128 >= 256
-}
-
-/// Whether the live handles, with those that the calls that are not over and the new one may issue,
-/// would pass 65,536. They are counted one by one only where so many were ever opened.
-fn is_crowded(home: Home, entries: &[Entry], new: &[Slot]) -> bool
+/// How many handles are live or may yet be issued, by the new call too. The live ones are counted one
+/// by one only where so many were opened that they may pass the limit; else all that were opened stand
+/// for them.
+fn handle_count(home: Home, entries: &[Entry], new: &[Slot]) -> u128
     requires { journal.opened (reverse entries.now) < 2 ^ 32 }
-    ensures { result ≡ spec.is_crowded home (reverse entries.now) new.now }
+    ensures { nat_lt 65536 result ≡ nat_lt 65536 (length (journal.live home (reverse entries.now)) + spec.openings (reverse entries.now) (journal.waiting (reverse entries.now)) + spec.openings (reverse entries.now) (journal.running (reverse entries.now)) + length (filter opens new.now)) }
 {
     let opened = opened(entries) as u32;
     let to_come = waiting_openings(entries) + running_openings(entries) + count_opens(new) as u128;
-    u128::from(opened) + to_come > 65_536
-        && u128::from(live_to(home, entries, opened)) + to_come > 65_536
-}
-
-/// Whether the number of a further call, or a serial of it, would pass 32 bits.
-fn is_numbered_out(entries: &[Entry], new: &[Slot]) -> bool
-    requires { journal.opened (reverse entries.now) < 2 ^ 32 }
-    ensures { result ≡ spec.is_numbered_out (reverse entries.now) new.now }
-{
-    accepted_count(entries) as u128 + 1 >= 1 << 32
-        || opened(entries) as u128 + count_opens(new) as u128 >= 1 << 32
+    if u128::from(opened) + to_come > MOST_HANDLES {
+        u128::from(live_to(home, entries, opened)) + to_come
+    } else {
+        u128::from(opened) + to_come
+    }
 }
 
 /// Why the group accepts no further call with these slots.
@@ -141,26 +130,20 @@ pub fn accept_limit(home: Home, entries: &[Entry], new: &[Slot]) -> Option<Accep
     requires { journal.opened (reverse entries.now) < 2 ^ 32 }
     ensures { result ≡ spec.accept_limit home (reverse entries.now) new.now }
 {
-    if is_busy(entries) {
-        Some(AcceptLimit::Calls)
-    } else if is_crowded(home, entries, new) {
-        Some(AcceptLimit::Handles)
-    } else if is_numbered_out(entries, new) {
-        Some(AcceptLimit::Numbers)
-    } else {
-        None
-    }
+    handle_model::accept_limit(
+        waiting_count(entries) as u128 + running_count(entries) as u128,
+        handle_count(home, entries, new),
+        accepted_count(entries) as u128 + 1,
+        opened(entries) as u128 + count_opens(new) as u128,
+    )
 }
 
 /// Why the group takes no further connection.
 pub fn join_limit(entries: &[Entry]) -> Option<JoinLimit>
     ensures { result ≡ spec.join_limit (reverse entries.now) }
 {
-    if open_count(entries) >= 64 {
-        Some(JoinLimit::TooMany)
-    } else if joined_count(entries) as u128 + 1 >= 1 << 32 {
-        Some(JoinLimit::Numbers)
-    } else {
-        None
-    }
+    handle_model::join_limit(
+        open_count(entries) as u128,
+        joined_count(entries) as u128 + 1,
+    )
 }

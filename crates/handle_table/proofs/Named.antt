@@ -14,11 +14,11 @@ use Rattle.handle_model.specs.declared.entry.DueItem.{DueItem}
 use Rattle.handle_model.specs.declared.entry.Entry.{Entry}
 use Rattle.handle_model.specs.declared.entry.Entry.TheVariants.{End}
 use Rattle.handle_model.specs.Slots.{wire_of, kind_of, named, names}
-use Rattle.handle_model.specs.Journal.{Legal, is_live, is_issued, is_kind, is_usable, is_usable_as, is_at_fault, fault_from, fault_in, repeats, kind, cookie, issuer_kind, first_given, issues, gives, suit, suits, slots, serial_named, first_named, cookie_for, cookies_for, due_item, due_items}
+use Rattle.handle_model.specs.Journal.{Legal, is_live, is_issued, is_kind, is_usable, is_usable_as, fault_by, fault_in, kind, cookie, issuer_kind, first_given, issues, gives, suit, suits, slots, serial_named, first_named, cookie_for, cookies_for, due_item, due_items}
 use Rattle.handle_model.proofs.Held.{and_left, and_right, or_cases}
 use Rattle.journal_laws.specs.Running.{AllUsable}
 use Rattle.journal_laws.proofs.LiveNames.{serial_named_is, taken_all}
-use Rattle.handle_table.specs.Uses.{item_named, fits_kind, is_refused, refused_from, fault_at, cookie_at, cookies_at}
+use Rattle.handle_table.specs.Uses.{item_named, fits_kind, fault_at, cookie_at, cookies_at}
 use Rattle.handle_table.proofs.Items.{named_at, named_is}
 use Rattle.handle_table.proofs.Live.{live_item, live_issued, due_item_at}
 
@@ -135,17 +135,9 @@ usable_shown home past s l = usable_named home past s (serial_named home past s)
 
 -- FAULTS
 
-refused_shown : (home : Home) (past : List Entry) (earlier all : List Slot) (s : Slot) → Legal home past → is_refused home (due_items home past) earlier all s ≡ is_at_fault home past earlier all s
-refused_shown home past earlier all s l = ap (λ b. is_some (named s) && (not b || repeats earlier all s)) (usable_shown home past s l)
-
-fault_from_shown : (home : Home) (past : List Entry) (all earlier later : List Slot) → Legal home past → refused_from home (due_items home past) all earlier later ≡ fault_from home past all earlier later
-fault_from_shown home past all earlier [] l = refl
-fault_from_shown home past all earlier (s ∷ later) l =
-    rw (refused_shown home past earlier all s l, fault_from_shown home past all (earlier ++ s ∷ []) later l) refl
-
 -- the table's fault is the journal's
 pub fault_shown : (home : Home) (past : List Entry) (ss : List Slot) → Legal home past → fault_at home (due_items home past) ss ≡ fault_in home past ss
-fault_shown home past ss l = fault_from_shown home past ss [] ss l
+fault_shown home past ss l = λ j. fault_by (λ s. usable_shown home past s l j) ss [] ss
 
 -- COOKIES
 

@@ -1,11 +1,11 @@
 -- What the slots of a call find among the live handles.
-use Rattle.std.specs.Prelude.{ℕ, Bool, false, ◌&&◌, ◌||◌, not, ◌==◌, Option, Some, None, if◌then◌else◌, List, [], ◌∷◌, ◌++◌, length, map, is_some}
+use Rattle.std.specs.Prelude.{ℕ, Bool, false, ◌==◌, Option, Some, None, List, [], map}
 use Rattle.std.specs.Option.{option_map, option_and_then}
 use Rattle.handle_model.specs.declared.entry.Home.{Home}
 use Rattle.handle_model.specs.declared.entry.Slot.{Slot}
 use Rattle.handle_model.specs.declared.entry.DueItem.{DueItem}
 use Rattle.handle_model.specs.Slots.{kind_of, named}
-use Rattle.handle_model.specs.Journal.{repeats}
+use Rattle.handle_model.specs.Journal.{fault_by}
 use Rattle.handle_table.specs.Handles.{item_of}
 
 -- the live handle that the slot names
@@ -17,19 +17,13 @@ abbrev pub fits_kind : Slot → Option DueItem → Bool
 fits_kind s None = false
 fits_kind s (Some i) = i.kind == kind_of s
 
--- a slot that names no live handle of its kind, or repeats a name beside an exclusive use
-abbrev pub is_refused : Home → List DueItem → List Slot → List Slot → Slot → Bool
-is_refused home items earlier all s = is_some (named s) && (not (fits_kind s (item_named home items s)) || repeats earlier all s)
-
--- the first such slot, of those that come after the earlier ones
-abbrev pub refused_from : Home → List DueItem → List Slot → List Slot → List Slot → Option ℕ
-refused_from home items all earlier [] = None
-refused_from home items all earlier (s ∷ later) =
-    if is_refused home items earlier all s then Some (length earlier) else refused_from home items all (earlier ++ s ∷ []) later
+-- the slot names a live handle of its kind
+abbrev pub is_usable_at : Home → List DueItem → Slot → Bool
+is_usable_at home items s = fits_kind s (item_named home items s)
 
 -- the first slot that is at fault
 abbrev pub fault_at : Home → List DueItem → List Slot → Option ℕ
-fault_at home items all = refused_from home items all [] all
+fault_at home items all = fault_by (is_usable_at home items) all [] all
 
 -- the cookie of the handle that a slot names
 abbrev pub cookie_at : Home → List DueItem → Slot → Option ℕ

@@ -93,13 +93,6 @@ impl HandleTable {
         self.items.len()
     }
 
-    /// The live handles, by rising serial.
-    pub fn as_slice(&self) -> &[DueItem]
-        ensures { result.now ≡ self.now.items }
-    {
-        self.items.as_slice()
-    }
-
     /// A handle is live from now on. The serials may come in any order.
     pub fn issue(&mut self, serial: u32, kind: u32, cookie: u64)
         requires fresh { spec.has self.old.items serial ≡ false }

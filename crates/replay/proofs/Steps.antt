@@ -15,7 +15,7 @@ use Rattle.handle_model.specs.declared.entry.Home.{Home}
 use Rattle.handle_model.specs.declared.entry.Slot.TheVariants.{Changes, Opens}
 use Rattle.handle_model.specs.declared.entry.Entry.{Entry}
 use Rattle.handle_model.specs.declared.entry.Entry.TheVariants.{Join, Accept, Leave}
-use Rattle.handle_model.specs.declared.reply.AcceptLimit.{AcceptLimit}
+use Rattle.handle_model.specs.declared.limits.AcceptLimit.{AcceptLimit}
 use Rattle.handle_model.specs.Slots.{is_null, opens}
 use Rattle.handle_model.specs.Journal.{joined, accepted, slots, slots_in, due, follow, opened, fault, suit, Fits}
 use Rattle.handle_model.specs.Limits.{accept_limit, is_numbered_out}
@@ -79,7 +79,7 @@ slot_follows past (calls.Close wire) = slot_by (opened past) wire (is_null wire)
 
 pub accept_fits : (home : Home) (past : List Entry) (call : ProbeCall) → IsQuiet home past → accept_limit home past (slot_of past call ∷ []) ≡ None → Fits home past (Accept (length (accepted past) + 1) (asked_of past call))
 accept_fits home past call q none =
-    let numbered : is_numbered_out past (slot_of past call ∷ []) ≡ false = grind (arith, common_steps) in
+    let numbered : is_numbered_out (length (accepted past) + 1) (opened past + length (filter opens (slot_of past call ∷ []))) ≡ false = grind (arith, common_steps) in
     let follows = slot_follows past call in
     (refl, q.open_, omega arith, follows, grind (arith, common_steps), grind (arith, common_steps))
 

@@ -11,7 +11,7 @@ use Rattle.handle_model.specs.declared.entry.Entry.TheVariants.{Join, Accept, Ta
 use Rattle.handle_model.specs.Journal.{joined, accepted, slots, blocker, fault, cookies_for, due, due_items}
 use Rattle.handle_model.specs.Replies.{replies}
 use Rattle.handle_model.specs.Limits.{accept_limit}
-use Rattle.handle_model.specs.declared.reply.AcceptLimit.{AcceptLimit}
+use Rattle.handle_model.specs.declared.limits.AcceptLimit.{AcceptLimit}
 use Rattle.handle_model.specs.declared.reply.Reply.TheVariants.{Never}
 use Rattle.replay_script.specs.declared.line.Line.{Line}
 use Rattle.replay_script.specs.declared.line.Line.TheVariants as lines

@@ -1,7 +1,8 @@
 use Rattle.std.proofs.Common.{◌≡◌, take, drop}
-use Rattle.handle_table.specs.Uses.{fault_at, refused_from}
+use Rattle.handle_model.specs.Journal.{fault_by}
+use Rattle.handle_table.specs.Uses.{fault_at, is_usable_at}
 use Rattle.handle_table.proofs.uses.fault_at.Given as goal
 
 -- what is left of the slots has the answer
 abbrev pub invariant-loop-i : goal.invariant-loop-i
-invariant-loop-i l = refused_from l.home l.items l.slots (take l.i l.slots) (drop l.i l.slots) ≡ fault_at l.home l.items l.slots
+invariant-loop-i l = fault_by (is_usable_at l.home l.items) l.slots (take l.i l.slots) (drop l.i l.slots) ≡ fault_at l.home l.items l.slots

@@ -1,7 +1,8 @@
-use Rattle.std.proofs.Common.{rules, ◌∙◌, ap}
+use Rattle.std.proofs.Common.{rules, ◌∙◌, ap, arith}
 use Rattle.std.proofs.lemmas.Fn.{filter_same}
-use Rattle.call_table.specs.Rows.{stays, left}
+use Rattle.call_table.specs.Rows.{stays, left, owed_of}
 use Rattle.call_table.proofs.Marks.{filtered}
+use Rattle.call_table.proofs.Owed.{owed_filter}
 use Rattle.call_table.proofs.table.CallTable.leave.Goals as goal
 
 pub invariant_of-self : goal.invariant_of-self
@@ -11,3 +12,18 @@ invariant_of-self c =
 pub returns-clause-rows : goal.returns-clause-rows
 returns-clause-rows c =
     filter_same _ (stays c.args.conn) _ (λ x b f' k. search rules) _ _ c.retain.ensures.filtered ∙ ap (λ v. left c.args.conn v.rows) c.self.view_is
+
+pub overflow_sub-result : goal.overflow_sub-result
+overflow_sub-result c =
+    let gone = ap owed_of (filter_same _ (stays c.args.conn) _ (λ x b f' k. search rules) _ _ c.retain.ensures.filtered) in
+    let before = rw c.as_slice.ensures.value at c.owed_of-before.ensures in
+    let after = rw c.as_slice-2.ensures.value at c.owed_of.ensures in
+    omega (arith, owed_filter (stays c.args.conn) c.self.inside.rows.items, gone, before, after)
+
+pub returns-clause-freed : goal.returns-clause-freed
+returns-clause-freed c =
+    let gone = ap owed_of (filter_same _ (stays c.args.conn) _ (λ x b f' k. search rules) _ _ c.retain.ensures.filtered) in
+    let before = rw c.as_slice.ensures.value at c.owed_of-before.ensures in
+    let after = rw c.as_slice-2.ensures.value at c.owed_of.ensures in
+    let now = ap (λ v. owed_of v.rows) c.self.view_is in
+    omega (arith, owed_filter (stays c.args.conn) c.self.inside.rows.items, gone, before, after, now)

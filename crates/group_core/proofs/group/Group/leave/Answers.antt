@@ -14,29 +14,29 @@ overflow_sub-self c =
 pub add-requires-clause-room : goal.add-requires-clause-room
 add-requires-clause-room c =
     let o : is_open (reverse c.self.inside.log.entries) c.args.conn ≡ true = ap (λ h. is_open h.past c.args.conn) c.self.view_is ∙ c.requires in
-    leave_room _ _ c.args.conn _ _ _ c.self.invariant o
+    leave_room _ _ c.args.conn _ _ _ c.self.invariant o c.leave-freed.result (rw c.leave-freed.ensures.rows at c.leave-freed.ensures.freed)
 
 pub close-requires : goal.close-requires
 close-requires c =
     let o : is_open (reverse c.self.inside.log.entries) c.args.conn ≡ true = ap (λ h. is_open h.past c.args.conn) c.self.view_is ∙ c.requires in
     let counted = leave_counted _ _ c.args.conn _ _ _ c.self.invariant o in
-    let mid = leave_mid c.self.inside.home c.self.inside.log c.add.new.self c.args.conn c.self.inside.handles c.self.inside.calls c.leave.new.self
-    c.self.inside.counts (c.self.inside.counts.conns - 1) c.self.invariant o c.add.ensures.entries (omega (arith, c.add.ensures.spare)) c.leave.ensures.rows (omega (arith, counted)) in
+    let mid = leave_mid c.self.inside.home c.self.inside.log c.add.new.self c.args.conn c.self.inside.handles c.self.inside.calls c.leave-freed.new.self
+    c.self.inside.counts (c.self.inside.counts.conns - 1) c.leave-freed.result c.self.invariant o c.add.ensures.entries c.leave-freed.ensures.freed c.add.ensures.spare c.leave-freed.ensures.rows (omega (arith, counted)) in
     mid_room _ _ _ _ _ _ _ mid
 
 pub invariant_of-self : goal.invariant_of-self
 invariant_of-self c =
     let o : is_open (reverse c.self.inside.log.entries) c.args.conn ≡ true = ap (λ h. is_open h.past c.args.conn) c.self.view_is ∙ c.requires in
     let counted = leave_counted _ _ c.args.conn _ _ _ c.self.invariant o in
-    let mid = leave_mid c.self.inside.home c.self.inside.log c.add.new.self c.args.conn c.self.inside.handles c.self.inside.calls c.leave.new.self
-    c.self.inside.counts (c.self.inside.counts.conns - 1) c.self.invariant o c.add.ensures.entries (omega (arith, c.add.ensures.spare)) c.leave.ensures.rows (omega (arith, counted)) in
+    let mid = leave_mid c.self.inside.home c.self.inside.log c.add.new.self c.args.conn c.self.inside.handles c.self.inside.calls c.leave-freed.new.self
+    c.self.inside.counts (c.self.inside.counts.conns - 1) c.leave-freed.result c.self.invariant o c.add.ensures.entries c.leave-freed.ensures.freed c.add.ensures.spare c.leave-freed.ensures.rows (omega (arith, counted)) in
     closed_kept _ _ _ _ _ _ _ _ _ _ mid (rw c.any_runs-running.ensures at c.close.ensures)
 
 pub returns : goal.returns
 returns c =
     let o : is_open (reverse c.self.inside.log.entries) c.args.conn ≡ true = ap (λ h. is_open h.past c.args.conn) c.self.view_is ∙ c.requires in
     let counted = leave_counted _ _ c.args.conn _ _ _ c.self.invariant o in
-    let mid = leave_mid c.self.inside.home c.self.inside.log c.add.new.self c.args.conn c.self.inside.handles c.self.inside.calls c.leave.new.self
-    c.self.inside.counts (c.self.inside.counts.conns - 1) c.self.invariant o c.add.ensures.entries (omega (arith, c.add.ensures.spare)) c.leave.ensures.rows (omega (arith, counted)) in
+    let mid = leave_mid c.self.inside.home c.self.inside.log c.add.new.self c.args.conn c.self.inside.handles c.self.inside.calls c.leave-freed.new.self
+    c.self.inside.counts (c.self.inside.counts.conns - 1) c.leave-freed.result c.self.invariant o c.add.ensures.entries c.leave-freed.ensures.freed c.add.ensures.spare c.leave-freed.ensures.rows (omega (arith, counted)) in
     subst (λ (h : History). Settles h (Leave c.args.conn) c.close.result (history_of c.self.inside.home c.close.new.log.entries)) c.self.view_is
     (closed_settles _ _ _ _ _ _ _ _ _ _ mid (rw c.any_runs-running.ensures at c.close.ensures))
