@@ -245,7 +245,7 @@ put 5 take 2 5,5 = breach 5
 put 4 accept 2 1 shares:0:1,shares:0:1 = breach 5
 join 1|join 2|accept 1 1 opens:0:1|take 1 none|end 1 issue:1:5|accept 2 2 changes:0:1|accept 3 1 changes:0:1|take 2 5|cancel 3|leave 2|end 2 keep:6|accept 4 1 changes:7:1|deny 4 0|accept 5 1 changes:0:1
 whole = legal 14
-reply 1 = Ran(Out([]))
+reply 1 = Ran(Out(Items { items: [] }))
 reply 2 = Dropped
 reply 3 = Never(Status(469762061))
 reply 4 = Never(Status(469762074))
