@@ -267,16 +267,19 @@ abbrev pub repeats : List Slot → List Slot → Slot → Bool
 repeats earlier all s = list_any (same_name (named s)) earlier && list_any (λ t. same_name (named s) t && is_exclusive t) all
 
 -- a slot that names a handle which it may not use, or repeats a name
-abbrev pub is_at_fault : (Slot → Bool) → List Slot → List Slot → Slot → Bool
-is_at_fault usable earlier all s = is_some (named s) && (not (usable s) || repeats earlier all s)
+abbrev pub is_at_fault_by : (Slot → Bool) → List Slot → List Slot → Slot → Bool
+is_at_fault_by usable earlier all s = is_some (named s) && (not (usable s) || repeats earlier all s)
 
 -- the first slot at fault, of those that come after the earlier ones
 abbrev pub fault_by : (Slot → Bool) → List Slot → List Slot → List Slot → Option ℕ
 fault_by usable all earlier [] = None
 fault_by usable all earlier (s ∷ later) =
-    if is_at_fault usable earlier all s then Some (length earlier) else fault_by usable all (earlier ++ s ∷ []) later
+    if is_at_fault_by usable earlier all s then Some (length earlier) else fault_by usable all (earlier ++ s ∷ []) later
 
 -- the same, where a slot may use a live handle of its kind
+abbrev pub is_at_fault : Home → List Entry → List Slot → List Slot → Slot → Bool
+is_at_fault home past earlier all s = is_at_fault_by (is_usable home past) earlier all s
+
 abbrev pub fault_from : Home → List Entry → List Slot → List Slot → List Slot → Option ℕ
 fault_from home past all earlier later = fault_by (is_usable home past) all earlier later
 

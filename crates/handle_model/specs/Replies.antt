@@ -26,12 +26,12 @@ ended_with [] k = None
 ended_with (End m results said ∷ past) k = if m == k then (if is_lost past k then None else Some said) else ended_with past k
 ended_with (_ ∷ past) k = ended_with past k
 
-abbrev pub reply_of : Option Said → Bool → Reply
-reply_of (Some said) lost = Ran said
-reply_of None lost = if lost then Dropped else Open
+abbrev pub reply_by : Option Said → Bool → Reply
+reply_by (Some said) lost = Ran said
+reply_by None lost = if lost then Dropped else Open
 
 abbrev pub replies : List Entry → ℕ → Reply
 replies past k =
     if list_any (denies k) past then Never context_mismatch
     else (if list_any (cancels k) past && not (list_any (takes k) past) then Never cancelled
-    else reply_of (ended_with past k) (is_lost past k))
+    else reply_by (ended_with past k) (is_lost past k))

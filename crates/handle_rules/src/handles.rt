@@ -220,7 +220,7 @@ pub fn is_usable(home: Home, entries: &[Entry], slot: &Slot) -> bool
 
 /// Whether the slot is at fault, after the earlier slots of its call.
 fn is_at_fault(home: Home, entries: &[Entry], earlier: &[Slot], all: &[Slot], slot: &Slot) -> bool
-    ensures { result ≡ spec.is_at_fault (spec.is_usable home (reverse entries.now)) earlier.now all.now slot.now }
+    ensures { result ≡ spec.is_at_fault home (reverse entries.now) earlier.now all.now slot.now }
 {
     slot.named().is_some() && (!is_usable(home, entries, slot) || slot.repeats(earlier, all))
 }

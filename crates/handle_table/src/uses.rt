@@ -1,6 +1,6 @@
 //! What the slots of a call find among the live handles.
 ghost use Rattle.std.specs.Prelude.{◌≡◌, ◌<◌, length, IfSome};
-ghost use Rattle.handle_model.specs.Journal.{is_at_fault};
+ghost use Rattle.handle_model.specs.Journal.{is_at_fault_by};
 ghost use Rattle.handle_table.specs.Uses as spec;
 ghost use Rattle.handle_table.specs.Kept.{Rises};
 
@@ -35,7 +35,7 @@ pub fn fault_at(home: Home, items: &[DueItem], slots: &[Slot]) -> Option<usize>
 /// Whether the slot is at fault, after the earlier slots of its call.
 fn is_at_fault(home: Home, items: &[DueItem], earlier: &[Slot], all: &[Slot], slot: &Slot) -> bool
     requires { Rises 0 items.now }
-    ensures { result ≡ is_at_fault (spec.is_usable_at home items.now) earlier.now all.now slot.now }
+    ensures { result ≡ is_at_fault_by (spec.is_usable_at home items.now) earlier.now all.now slot.now }
 {
     slot.named().is_some()
         && (!fits_kind(slot, item_named(home, items, slot)) || slot.repeats(earlier, all))

@@ -12,7 +12,7 @@ use Rattle.handle_model.specs.declared.entry.Entry.TheVariants.{Accept, Take, De
 use Rattle.handle_model.specs.declared.reply.Reply.{Reply}
 use Rattle.handle_model.specs.declared.reply.Reply.TheVariants.{Never, Ran, Dropped, Open}
 use Rattle.handle_model.specs.Journal.{Legal, takes, denies, cancels, orphans, ends, decides, asked, has_left, waits, runs}
-use Rattle.handle_model.specs.Replies.{context_mismatch, cancelled, is_lost, told, reply_told, replies}
+use Rattle.handle_model.specs.Replies.{context_mismatch, cancelled, is_lost, ended_with, reply_by, replies}
 use Rattle.handle_model.proofs.Held.{and_left, and_right, or_right, or_cases}
 use Rattle.journal_laws.proofs.Accepted.{fresh_unasked}
 use Rattle.journal_laws.proofs.Stages.{Undecided, undecided, waits_fresh, waits_here, taken_undenied, decided_some}
@@ -32,7 +32,7 @@ ends_taken home (_ ∷ past) k l e = ends_taken home past k l.1 e
 unended : (home : Home) (past : List Entry) (k : ℕ) → Legal home past → list_any (takes k) past ≡ false → list_any (ends k) past ≡ false
 unended home past k l n = false_from_ne_true (list_any (ends k) past) (λ e. let t = ends_taken home past k l e in cc)
 
-says_none : (past : List Entry) (k : ℕ) → list_any (ends k) past ≡ false → told past k ≡ None
+says_none : (past : List Entry) (k : ℕ) → list_any (ends k) past ≡ false → ended_with past k ≡ None
 says_none [] k n = refl
 says_none (End m results said ∷ past) k n = grind (arith, common_steps, says_none past k)
 says_none (_ ∷ past) k n = says_none past k n
@@ -54,20 +54,20 @@ unasked_reply home past k l e =
 -- REPLIES BY THEIR PARTS
 
 abbrev pub reply_of : Bool → Bool → Option Said → Bool → Reply
-reply_of denied stopped said lost = if denied then Never context_mismatch else (if stopped then Never cancelled else reply_told said lost)
+reply_of denied stopped said lost = if denied then Never context_mismatch else (if stopped then Never cancelled else reply_by said lost)
 
 and_off : (a : Bool) → (a && false) ≡ false
 and_off true = refl
 and_off false = refl
 
--- what a running call is told
+-- what a running call is ended_with
 runs_reply : (home : Home) (past : List Entry) (k : ℕ) → Legal home past → runs past k ≡ true → replies past k ≡ (if is_lost past k then Dropped else Open)
 runs_reply home past k l r =
     let t = and_left (list_any (takes k) past) (not (list_any (ends k) past)) r in
     let n = not-true (list_any (ends k) past) (and_right (list_any (takes k) past) (not (list_any (ends k) past)) r) in
     rw (taken_undenied home past k l t, t, and_off (list_any (cancels k) past), says_none past k n) refl
 
--- once a call is lost, what it was told stays
+-- once a call is lost, what it was ended_with stays
 lost_more : (denied stopped : Bool) (said : Option Said) (lost : Bool) → reply_of denied stopped said lost ≢ Open → reply_of denied stopped said true ≡ reply_of denied stopped said lost
 lost_more true stopped said lost n = refl
 lost_more false true said lost n = refl
@@ -116,7 +116,7 @@ open_reply false false None l e = refl
 pub left_reply : (past : List Entry) (c k : ℕ) (a : Asked) → asked past k ≡ Some a → a.conn ≡ c → replies past k ≡ Open → replies (Leave c ∷ past) k ≡ Dropped
 left_reply past c k a e q n =
     let lost = left_lost past c k a e (eq-eqb c a.conn (sym q)) in
-    ap (λ l. reply_of (list_any (denies k) past) (list_any (cancels k) past && not (list_any (takes k) past)) (told past k) l) lost ∙ open_reply (list_any (denies k) past) (list_any (cancels k) past && not (list_any (takes k) past)) (told past k) (is_lost past k) n
+    ap (λ l. reply_of (list_any (denies k) past) (list_any (cancels k) past && not (list_any (takes k) past)) (ended_with past k) l) lost ∙ open_reply (list_any (denies k) past) (list_any (cancels k) past && not (list_any (takes k) past)) (ended_with past k) (is_lost past k) n
 
 -- A REPLY STAYS
 
@@ -125,7 +125,7 @@ leave_kept past c k None e n = rw e refl
 leave_kept past c k (Some a) e n =
     elim (cases_Bool (c == a.conn)) [
       | inl q ↦
-          ap (λ l. reply_of (list_any (denies k) past) (list_any (cancels k) past && not (list_any (takes k) past)) (told past k) l) (left_lost past c k a e q) ∙ lost_more (list_any (denies k) past) (list_any (cancels k) past && not (list_any (takes k) past)) (told past k) (is_lost past k) n
+          ap (λ l. reply_of (list_any (denies k) past) (list_any (cancels k) past && not (list_any (takes k) past)) (ended_with past k) l) (left_lost past c k a e q) ∙ lost_more (list_any (denies k) past) (list_any (cancels k) past && not (list_any (takes k) past)) (ended_with past k) (is_lost past k) n
       | inr q ↦ rw (e, q) refl
     ]
 
