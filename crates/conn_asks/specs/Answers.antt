@@ -10,7 +10,11 @@ use Rattle.pdu_codec.specs.declared.pdu.Body.TheVariants as bodies
 use Rattle.pdu_codec.specs.declared.pdu.BindBody.{BindBody}
 use Rattle.pdu_codec.specs.declared.pdu.BindAckBody.{BindAckBody}
 use Rattle.pdu_codec.specs.declared.pdu.ContextResult.{ContextResult}
+use Rattle.pdu_codec.specs.declared.fragments.FragmentHead.{FragmentHead}
+use Rattle.pdu_codec.specs.Constants.{first_frag, last_frag, only_frag, did_not_execute, major_version, stub_offset, least_fragment, most_fragment}
 use Rattle.pdu_codec.specs.Pdus.{pdu_octets}
+use Rattle.pdu_codec.specs.Fragments.{response_pdu}
+use Rattle.pdu_stream.specs.Fragments.{most_stub}
 use Rattle.pdu_stream.specs.Pieces.{piece_size, ArePieces}
 use Rattle.handle_model.specs.declared.entry.Said.{Said}
 use Rattle.handle_model.specs.declared.entry.Said.TheVariants.{Out, Fault}
@@ -19,19 +23,15 @@ use Rattle.conn_asks.specs.declared.events.Agreement.{Agreement}
 use Rattle.conn_asks.specs.declared.events.ConnFault.{ConnFault}
 use Rattle.conn_asks.specs.declared.events.ConnFault.TheVariants.{Nak}
 
--- FIRST_FRAG and LAST_FRAG, of a PDU that is no fragment
-abbrev pub alone : ℕ
-alone = 0x03
-
 abbrev pub answer : Caller → ℕ → Body → Pdu
 answer c flags body = record { minor = 0; flags = flags; order = c.order; call_id = c.call_id; body = body }
 
 -- ---- binds
 
--- What a bind_ack says, where the client sends fragments of max_xmit octets and takes those of max_recv: at most 4,280
--- octets either way, no more than the client takes or sends, though the server takes 1,432 at least.
+-- What a bind_ack says, where the client sends fragments of max_xmit octets and takes those of max_recv: no more than
+-- this runtime sends and takes at most, nor than the client takes or sends, though the server takes the least fragment.
 abbrev pub agreement_at : ℕ → ℕ → ℕ → Agreement
-agreement_at max_xmit max_recv group = record { max_xmit = min 4280 max_recv; max_recv = max 1432 (min 4280 max_xmit); group = group }
+agreement_at max_xmit max_recv group = record { max_xmit = min most_fragment max_recv; max_recv = max least_fragment (min most_fragment max_xmit); group = group }
 
 abbrev pub agreement_of : BindBody → ℕ → Agreement
 agreement_of b group = agreement_at b.max_xmit b.max_recv group
@@ -56,18 +56,18 @@ ack_in _ = None
 -- the sizes and the group are those of the bind_ack
 abbrev pub alter_resp : Caller → Agreement → List ContextResult → Pdu
 alter_resp c agreement results =
-    answer c alone (bodies.AlterResp (record { max_xmit = agreement.max_xmit; max_recv = agreement.max_recv; group = agreement.group; address = []; results = results }))
+    answer c only_frag (bodies.AlterResp (record { max_xmit = agreement.max_xmit; max_recv = agreement.max_recv; group = agreement.group; address = []; results = results }))
 
 -- a refusal, with the version of the protocol that the server knows, 5.0
 abbrev pub bind_nak : Caller → ℕ → Pdu
-bind_nak c reason = answer c alone (bodies.BindNak (record { reason = reason; versions = record { major = 5; minor = 0 } ∷ [] }))
+bind_nak c reason = answer c only_frag (bodies.BindNak (record { reason = reason; versions = record { major = major_version; minor = 0 } ∷ [] }))
 
 -- ---- faults
 
--- FIRST_FRAG and LAST_FRAG, and DID_NOT_EXECUTE where the call didn't run
+-- those of an only fragment, and DID_NOT_EXECUTE where the call didn't run
 abbrev pub fault_flags : Bool → ℕ
-fault_flags true = 0x03
-fault_flags false = 0x23
+fault_flags true = only_frag
+fault_flags false = only_frag + did_not_execute
 
 abbrev pub fault : Caller → Bool → Status → Pdu
 fault c executed status = answer c (fault_flags executed) (bodies.Fault (record { alloc_hint = 0; context = c.context; cancel_count = 0; status = status }))
@@ -88,16 +88,19 @@ closing c _ = fault c false proto_error
 
 -- FIRST_FRAG at the first fragment, LAST_FRAG at the last
 abbrev pub flags_of : Bool → Bool → ℕ
-flags_of true true = 0x03
-flags_of true false = 0x01
-flags_of false true = 0x02
-flags_of false false = 0x00
+flags_of true true = only_frag
+flags_of true false = first_frag
+flags_of false true = last_frag
+flags_of false false = 0
 
 -- A fragment of a response: its piece of the stub, and how many octets of the stub later fragments have. The last one
 -- has nothing behind it. The hint is the number of octets in it and in later ones.
+abbrev pub response_head : Caller → Bool → List ℕ → ℕ → FragmentHead
+response_head c first piece later =
+    record { flags = flags_of first (later == 0); order = c.order; call_id = c.call_id; alloc_hint = length piece + later; context = c.context }
+
 abbrev pub response_fragment : Caller → Bool → List ℕ → ℕ → Pdu
-response_fragment c first piece later =
-    answer c (flags_of first (later == 0)) (bodies.Response (record { alloc_hint = length piece + later; context = c.context; cancel_count = 0; stub = piece }))
+response_fragment c first piece later = response_pdu (response_head c first piece later) piece
 
 -- how many octets some pieces have
 abbrev pub octets_in : List (List ℕ) → ℕ
@@ -109,16 +112,16 @@ unfoldable pub response_octets : Caller → Bool → List (List ℕ) → List �
 response_octets c first [] = []
 response_octets c first (piece ∷ later) = pdu_octets (response_fragment c first piece (octets_in later)) ++ response_octets c false later
 
--- The octets are a response with the stub, in fragments of at most so many octets, 24 of them in front of the stub.
+-- The octets are a response with the stub, in fragments of at most so many octets.
 abbrev pub IsResponse : Caller → ℕ → List ℕ → List ℕ → Type 0
 IsResponse c most stub octets =
-    (pieces : List (List ℕ)) × ArePieces (piece_size most 24) stub pieces × (octets ≡ response_octets c true pieces)
+    (pieces : List (List ℕ)) × ArePieces (piece_size most stub_offset) stub pieces × (octets ≡ response_octets c true pieces)
 
--- a response has at most 16 MiB of stub data
+-- a response has no more stub data than a request may have
 abbrev pub FitsStub : Option Said → Type 0
 FitsStub None = ⊤
 FitsStub (Some (Fault status)) = ⊤
-FitsStub (Some (Out stub)) = length stub ≤ 2 ^ 24
+FitsStub (Some (Out stub)) = length stub ≤ most_stub
 
 -- What a call's end says is answered, unless the client wants no answer.
 abbrev pub Replies : Caller → ℕ → Bool → Bool → Option Said → List ℕ → Type 0

@@ -5,6 +5,7 @@ use Rattle.pdu_codec.specs.declared.pdu.Pdu.{Pdu}
 use Rattle.pdu_codec.specs.declared.pdu.Body.{Body}
 use Rattle.pdu_codec.specs.declared.pdu.Body.TheVariants as bodies
 use Rattle.pdu_codec.specs.declared.pdu.Element.{Element}
+use Rattle.pdu_codec.specs.Constants.{least_fragment}
 use Rattle.pdu_stream.specs.declared.joined.Joined.{Joined}
 use Rattle.pdu_stream.specs.declared.joined.JoinFault.{JoinFault}
 use Rattle.pdu_stream.specs.declared.joined.JoinFault.TheVariants.{Memory}
@@ -64,6 +65,6 @@ elements_in _ = []
 
 -- What is asked can be answered: as many elements as a PDU's count tells, and fragments that are long enough.
 abbrev pub IsAnswerable : Ask → Type 0
-IsAnswerable (Bind c flags b) = (length b.elements < 256) × (1432 ≤ b.max_recv)
+IsAnswerable (Bind c flags b) = (length b.elements < 256) × (least_fragment ≤ b.max_recv)
 IsAnswerable (Alter c b) = length b.elements < 256
 IsAnswerable _ = ⊤

@@ -1,9 +1,7 @@
 -- What the PDUs that a server takes ask (C706, "Connection-oriented RPC PDUs" and the protocol machines). What a PDU
 -- asks follows from those before it, which are listed with the newest first.
-use Rattle.std.specs.Prelude.{◌≡◌, ◌≢◌, ℕ, ◌==◌, nat_lt, Bool, true, false, Option, Some, None, if◌then◌else◌, List, [], ◌∷◌, ◌++◌, take, drop, slice_index, reverse}
-use Rattle.std.specs.Int.{w32}
+use Rattle.std.specs.Prelude.{◌≡◌, ◌≢◌, ℕ, ◌==◌, nat_lt, Bool, true, false, Option, Some, None, if◌then◌else◌, List, [], ◌∷◌, ◌++◌, reverse}
 use Rattle.std.specs.List.{list_any}
-use Rattle.rpc_base.specs.Fields.{number_of}
 use Rattle.pdu_codec.specs.declared.pdu.Pdu.{Pdu}
 use Rattle.pdu_codec.specs.declared.pdu.Body.{Body}
 use Rattle.pdu_codec.specs.declared.pdu.Body.TheVariants as bodies
@@ -13,7 +11,8 @@ use Rattle.pdu_codec.specs.declared.pdu.AlterBody.{AlterBody}
 use Rattle.pdu_codec.specs.declared.pdu.Element.{Element}
 use Rattle.pdu_codec.specs.declared.fault.PduFault.{PduFault}
 use Rattle.pdu_codec.specs.declared.fault.PduFault.TheVariants as pdus
-use Rattle.pdu_codec.specs.Faults.{kind_at, length_order}
+use Rattle.pdu_codec.specs.Constants.{bind_type, least_fragment}
+use Rattle.pdu_codec.specs.Faults.{kind_at, raw_head_of}
 use Rattle.pdu_stream.specs.declared.joined.Joined.{Joined}
 use Rattle.pdu_stream.specs.declared.joined.JoinFault.TheVariants.{Memory}
 use Rattle.pdu_stream.specs.Fragments.{Fragment, is_last, with_fragment, IsTaken, IsJoinFault}
@@ -76,7 +75,7 @@ caller_of_fragment f = record { order = f.order; call_id = f.call_id; context = 
 -- a bind, given whether one came before
 abbrev pub of_bind : Bool → Caller → ℕ → BindBody → Ask
 of_bind true c flags b = Broken c Rebound
-of_bind false c flags b = if nat_lt b.max_recv 1432 then Broken c (Nak 0) else Bind c flags b
+of_bind false c flags b = if nat_lt b.max_recv least_fragment then Broken c (Nak 0) else Bind c flags b
 
 abbrev pub of_alter : Bool → Caller → AlterBody → Ask
 of_alter true c b = Alter c b
@@ -119,9 +118,7 @@ pub record Asks (past : List Pdu) (p : Pdu) (ask : Option Ask) : Type 0 where
 
 -- the caller, as the header says that stands in front
 abbrev pub caller_at : List ℕ → Caller
-caller_at octets =
-    let order = length_order (slice_index octets 4) in
-    record { order = order; call_id = number_of order w32 (take 4 (drop 12 octets)); context = 0 }
+caller_at octets = let head = raw_head_of octets in record { order = head.order; call_id = head.call_id; context = 0 }
 
 abbrev pub nak_reason : PduFault → ℕ
 nak_reason pdus.Version = 4
@@ -129,7 +126,7 @@ nak_reason _ = 0
 
 -- a bind that is none is refused; else the fault stands for itself
 abbrev pub broken_by : List ℕ → PduFault → ConnFault
-broken_by octets fault = if kind_at octets == 11 then Nak (nak_reason fault) else conn.Pdu fault
+broken_by octets fault = if kind_at octets == bind_type then Nak (nak_reason fault) else conn.Pdu fault
 
 -- a fault of the octets, if there is one
 abbrev pub broken_end : List ℕ → Option PduFault → List Ask

@@ -9,6 +9,7 @@ use Rattle.pdu_codec.specs.declared.pdu.BindAckBody.{BindAckBody}
 use Rattle.pdu_codec.specs.declared.pdu.ContextResult.{ContextResult}
 use Rattle.pdu_codec.specs.declared.fault.PduFault.{PduFault}
 use Rattle.pdu_codec.specs.Pdus.{IsPdu, AreSpelled, pdu_octets}
+use Rattle.pdu_codec.specs.Constants.{co_cancel_type, orphaned_type, only_frag, header_size, least_fragment}
 use Rattle.pdu_codec.specs.Faults.{kind_at}
 use Rattle.pdu_stream.specs.declared.joined.Joined.{Joined}
 use Rattle.pdu_stream.specs.Cuts.{IsNext, IsStop, IsPartial}
@@ -24,7 +25,7 @@ use Rattle.conn_asks.specs.declared.events.Act.TheVariants as acts
 use Rattle.conn_asks.specs.declared.events.Waits.{Waits}
 use Rattle.conn_asks.specs.declared.events.Waits.TheVariants.{Nothing, Group, Call, Over, Failed}
 use Rattle.conn_asks.specs.Asks.{Asks, offered, caller_at, broken_by}
-use Rattle.conn_asks.specs.Answers.{alone, agreement_of, agreement_with, bind_ack, alter_resp, bind_nak, closing, refusal, Replies}
+use Rattle.conn_asks.specs.Answers.{agreement_of, agreement_with, bind_ack, alter_resp, bind_nak, closing, refusal, Replies}
 
 -- A state of a connection: the interfaces that are served; the PDUs that it took, the newest first; the octets that
 -- came behind them; what it waits for; and what its bind_ack said, once there was one.
@@ -37,7 +38,7 @@ pub record ConnState : Type 0 where
 
 -- what is agreed before there is a bind_ack
 abbrev pub no_agreement : Agreement
-no_agreement = record { max_xmit = 1432; max_recv = 1432; group = 0 }
+no_agreement = record { max_xmit = least_fragment; max_recv = least_fragment; group = 0 }
 
 -- nothing came
 abbrev pub at_start : List SyntaxId → ConnState
@@ -98,7 +99,7 @@ is_calling_off _ = false
 
 -- the PTYPE of a co_cancel or an orphaned
 abbrev pub calls_off_by : ℕ → Bool
-calls_off_by kind = kind == 18 || kind == 19
+calls_off_by kind = kind == co_cancel_type || kind == orphaned_type
 
 -- Each PDU may be taken where nothing is waited for, and a co_cancel or an orphaned while a call is unanswered.
 abbrev pub MayCome : Waits → Body → Type 0
@@ -196,7 +197,7 @@ WaitsBehind (acts.Close octets why) waits = waits ≡ Over
 -- whose header isn't that of a co_cancel or an orphaned.
 abbrev pub MustWait : Waits → List ℕ → Type 0
 MustWait (Group c ack) rest = ⊤
-MustWait (Call c maybe) rest = (16 ≤ length rest) × (calls_off_by (kind_at rest) ≡ false)
+MustWait (Call c maybe) rest = (header_size ≤ length rest) × (calls_off_by (kind_at rest) ≡ false)
 MustWait _ rest = ⊥
 
 -- THE SERVER'S DECISIONS
@@ -204,7 +205,7 @@ MustWait _ rest = ⊥
 -- The bind is answered by a bind_ack with the group's id, and PDUs are taken again.
 abbrev pub BoundAt : Waits → ConnState → ℕ → List ℕ → ConnState → Type 0
 BoundAt (Group c ack) m group octets n =
-    (octets ≡ pdu_octets (bind_ack c alone (agreement_with ack group) ack.results)) × (n ≡ record m { waits = Nothing; agreement = agreement_with ack group })
+    (octets ≡ pdu_octets (bind_ack c only_frag (agreement_with ack group) ack.results)) × (n ≡ record m { waits = Nothing; agreement = agreement_with ack group })
 BoundAt _ m group octets n = ⊥
 
 -- The bind is refused for a reason, and the connection is closed.

@@ -5,14 +5,11 @@ ghost use Rattle.conn_asks.specs.Answers as spec;
 
 use crate::{Agreement, Caller, ConnFault};
 use pdu_codec::{
-    AlterRespBody, BindAckBody, BindNakBody, Body, FaultBody, Pdu, Results, Version, Versions,
-    flags, write_pdu,
+    AlterRespBody, BindAckBody, BindNakBody, Body, FaultBody, LEAST_FRAGMENT, MAJOR_VERSION,
+    MOST_FRAGMENT, Pdu, Results, Version, Versions, flags, write_pdu,
 };
 use rpc_base::{Items, NoMemory, Octets, Status};
 use std::alloc::Global;
-
-/// The flags of a PDU that is no fragment.
-pub const ALONE: u8 = flags::FIRST_FRAG | flags::LAST_FRAG;
 
 /// A PDU to the caller.
 pub(crate) fn answer(caller: Caller, flags: u8, body: Body) -> Pdu
@@ -42,8 +39,8 @@ pub fn agreement(max_xmit: u16, max_recv: u16) -> Agreement
     ensures { result ≡ spec.agreement_at max_xmit max_recv 0 }
 {
     Agreement {
-        max_xmit: max_recv.min(4280),
-        max_recv: max_xmit.min(4280).max(1432),
+        max_xmit: max_recv.min(MOST_FRAGMENT),
+        max_recv: max_xmit.min(MOST_FRAGMENT).max(LEAST_FRAGMENT),
         group: 0,
     }
 }
@@ -65,7 +62,10 @@ pub fn alter_resp(
         address: Octets::new(alloc),
         results,
     };
-    written(alloc, &answer(caller, ALONE, Body::AlterResp(body)))
+    written(
+        alloc,
+        &answer(caller, flags::ONLY_FRAG, Body::AlterResp(body)),
+    )
 }
 
 /// The octets of a bind_nak.
@@ -73,9 +73,15 @@ pub fn bind_nak(alloc: Global, caller: Caller, reason: u16) -> Result<Octets, No
     ensures { IfOk result (λ octets. octets ≡ pdu_octets (spec.bind_nak caller reason)) }
 {
     let mut versions = Items::new(alloc);
-    versions.push(Version { major: 5, minor: 0 })?;
+    versions.push(Version {
+        major: MAJOR_VERSION,
+        minor: 0,
+    })?;
     let body = BindNakBody { reason, versions };
-    written(alloc, &answer(caller, ALONE, Body::BindNak(body)))
+    written(
+        alloc,
+        &answer(caller, flags::ONLY_FRAG, Body::BindNak(body)),
+    )
 }
 
 /// The octets of a fault, of a call that was executed or of one that wasn't.
@@ -87,7 +93,11 @@ pub fn fault(
 ) -> Result<Octets, NoMemory>
     ensures { IfOk result (λ octets. octets ≡ pdu_octets (spec.fault caller executed status)) }
 {
-    let flags = if executed { 0x03 } else { 0x23 };
+    let flags = if executed {
+        flags::ONLY_FRAG
+    } else {
+        flags::ONLY_FRAG | flags::DID_NOT_EXECUTE
+    };
     let body = FaultBody {
         alloc_hint: 0,
         context: caller.context,

@@ -1,16 +1,15 @@
 //! What a PDU asks.
 ghost use Rattle.std.specs.Prelude.{◌≡◌, ◌<◌, ◌+◌, ◌≤◌, length, IfOk, IfSome};
-ghost use Rattle.pdu_codec.specs.Faults.{length_order};
+ghost use Rattle.pdu_codec.specs.Constants.{header_size};
 ghost use Rattle.conn_asks.specs.Asks as spec;
 ghost use Rattle.conn_asks.specs.Asking.{FindsRequest, Finds, IsAnswerable};
 
 use crate::{Ask, Caller, ConnFault};
-use pdu_codec::{AlterBody, BindBody, Body, Pdu, PduFault, RequestBody};
+use pdu_codec::{
+    AlterBody, BindBody, Body, LEAST_FRAGMENT, Pdu, PduFault, RequestBody, ptypes, raw_head,
+};
 use pdu_stream::{JoinFault, Joiner};
-use rpc_base::{NoMemory, Order, get_u32};
-
-/// The least that a client has to take in one fragment, in octets.
-const LEAST_RECV: u16 = 1432;
+use rpc_base::NoMemory;
 
 fn of_bind(bound: bool, caller: Caller, flags: u8, body: BindBody) -> Ask
     ensures ask { result ≡ spec.of_bind bound caller flags body }
@@ -18,7 +17,7 @@ fn of_bind(bound: bool, caller: Caller, flags: u8, body: BindBody) -> Ask
 {
     if bound {
         Ask::Broken(caller, ConnFault::Rebound)
-    } else if body.max_recv < LEAST_RECV {
+    } else if body.max_recv < LEAST_FRAGMENT {
         Ask::Broken(caller, ConnFault::Nak(0))
     } else {
         Ask::Bind(caller, flags, body)
@@ -113,17 +112,6 @@ pub fn ask(
     }
 }
 
-/// The order of the numbers of a header whose data representation begins with this octet.
-fn order_at(octet: u8) -> Order
-    ensures { result ≡ length_order octet }
-{
-    if octet / 16 == 0 {
-        Order::Big
-    } else {
-        Order::Little
-    }
-}
-
 fn reason(fault: PduFault) -> u16
     ensures { result ≡ spec.nak_reason fault }
 {
@@ -135,16 +123,16 @@ fn reason(fault: PduFault) -> u16
 
 /// Whom octets with that fault have to be answered, and what breaks the protocol.
 pub fn broken(octets: &[u8], fault: PduFault) -> (Caller, ConnFault)
-    requires { 16 ≤ length octets.now }
+    requires { header_size ≤ length octets.now }
     ensures { result ≡ (spec.caller_at octets.now, spec.broken_by octets.now fault) }
 {
-    let order = order_at(octets[4]);
+    let head = raw_head(octets);
     let caller = Caller {
-        order,
-        call_id: get_u32(order, octets, 12),
+        order: head.order,
+        call_id: head.call_id,
         context: 0,
     };
-    let why = if octets[2] == 11 {
+    let why = if head.kind == ptypes::BIND {
         ConnFault::Nak(reason(fault))
     } else {
         ConnFault::Pdu(fault)

@@ -7,10 +7,7 @@ mod asking;
 mod events;
 mod replies;
 
-pub use answers::{ALONE, agreement, alter_resp, bind_ack, bind_nak, closing, fault, refusal};
+pub use answers::{agreement, alter_resp, bind_ack, bind_nak, closing, fault, refusal};
 pub use asking::{ask, broken};
 pub use events::{Act, Agreement, Ask, Caller, ConnFault, Waits};
 pub use replies::reply;
-
-#[cfg(test)]
-mod tests;

@@ -1,9 +1,10 @@
 -- A call is called off.
 use Rattle.std.proofs.Common.{◌≡◌, ℕ, ◌<◌, ◌≤◌, Bool, true, false, nat_eq, List, [], ◌∷◌, ◌++◌, length, slice_index, Option, Some, None, Ok, inl, refl, sym, ap, subst, ◌∙◌, arith, length-append}
-use Rattle.std.specs.Prelude.{◌==◌, ◌||◌, ◌&&◌, not, nat_le, if◌then◌else◌}
+use Rattle.std.specs.Prelude.{◌||◌, ◌&&◌, not, nat_le, if◌then◌else◌}
 use Rattle.std.specs.Bool.{OnTrue}
 use Rattle.std.proofs.lemmas.List.{get_or_append_left}
 use Rattle.std.proofs.lemmas.Bool.{le-leb, leb-true}
+use Rattle.pdu_codec.specs.Constants.{header_size}
 use Rattle.pdu_codec.specs.declared.pdu.Pdu.{Pdu}
 use Rattle.pdu_codec.specs.declared.pdu.Body.{Body}
 use Rattle.pdu_codec.specs.declared.pdu.Body.TheVariants as bodies
@@ -30,7 +31,7 @@ use Rattle.conn_core.proofs.Heard.{keeps_more, fine, same_Ok}
 
 -- ---- which PDUs call off
 
-off_kind : (body : Body) → (kind_of body == 18 || kind_of body == 19) ≡ is_calling_off body
+off_kind : (body : Body) → calls_off_by (kind_of body) ≡ is_calling_off body
 off_kind (bodies.Request b) = refl
 off_kind (bodies.Response b) = refl
 off_kind (bodies.Fault b) = refl
@@ -50,12 +51,12 @@ kind_next : (rest others : List ℕ) (p : Pdu) → IsNext rest p others → kind
 kind_next rest others p next =
     ap kind_at next.2 ∙ (index_front next.0 others 2 (omega (arith, pdu_long p next.0 next.1)) ∙ (pdu_says p next.0 next.1).kind)
 
-long_next : (rest others : List ℕ) (p : Pdu) → IsNext rest p others → 16 ≤ length rest
+long_next : (rest others : List ℕ) (p : Pdu) → IsNext rest p others → header_size ≤ length rest
 long_next rest others p next = omega (arith, ap length next.2, length-append next.0 others, pdu_long p next.0 next.1)
 
 pub off_next : (rest others : List ℕ) (p : Pdu) → IsNext rest p others → calls_off rest ≡ is_calling_off p.body
 off_next rest others p next =
-    rw (le-leb 16 (length rest) (long_next rest others p next), kind_next rest others p next) (off_kind p.body)
+    rw (le-leb header_size (length rest) (long_next rest others p next), kind_next rest others p next) (off_kind p.body)
 
 -- ---- while a call is unanswered
 
@@ -90,8 +91,8 @@ both false b h = absurd (cc (h))
 -- a header that stands in front stays, whatever comes behind it
 held_up : (rest more others : List ℕ) (p : Pdu) → holds_up rest ≡ true → IsNext (rest ++ more) p others → is_calling_off p.body ≡ false
 held_up rest more others p h next =
-    let b = both (nat_le 16 (length rest)) (calls_off_by (kind_at rest)) h in
-    let long : 16 ≤ length rest = leb-true 16 (length rest) b.0 in
+    let b = both (nat_le header_size (length rest)) (calls_off_by (kind_at rest)) h in
+    let long : header_size ≤ length rest = leb-true header_size (length rest) b.0 in
     let kind : kind_at rest ≡ kind_of p.body = sym (index_front rest more 2 (omega (arith, long))) ∙ kind_next (rest ++ more) others p next in
     sym (off_kind p.body) ∙ (ap calls_off_by (sym kind) ∙ b.1)
 

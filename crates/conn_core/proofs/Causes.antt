@@ -2,6 +2,7 @@
 use Rattle.std.proofs.Common.{◌≡◌, ℕ, ◌<◌, ◌≤◌, ◌⊎◌, inl, inr, List, ◌++◌, length, Option, Some, None, Result, Ok, Err, ap, subst, arith, length-append}
 use Rattle.std.specs.Prelude.{OnOk, OnErr}
 use Rattle.rpc_base.specs.declared.fault.NoMemory.{NoMemory}
+use Rattle.pdu_codec.specs.Constants.{header_size}
 use Rattle.pdu_codec.specs.declared.pdu.Pdu.{Pdu}
 use Rattle.pdu_codec.specs.declared.fault.PduFault.{PduFault}
 use Rattle.pdu_codec.specs.declared.fault.PduFault.TheVariants as faults
@@ -43,11 +44,11 @@ no_next_partial rest others p part next =
     not_remains p next.0 others None next.1 (subst (λ (t : List ℕ). IsPartial t) next.2 part)
 
 -- a header stands where octets stop
-long_by : (rest : List ℕ) (f : PduFault) → StopsBy rest f → 16 ≤ length rest
+long_by : (rest : List ℕ) (f : PduFault) → StopsBy rest f → header_size ≤ length rest
 long_by rest f (by_head h) = h.0
 long_by rest f (by_body f_is whole more e fault) = omega (arith, ap length e, length-append whole more, fault.0)
 
-pub stop_long : (rest : List ℕ) (f : PduFault) → IsStop rest f → 16 ≤ length rest
+pub stop_long : (rest : List ℕ) (f : PduFault) → IsStop rest f → header_size ≤ length rest
 stop_long rest f stop = long_by rest f (stops_by rest f stop)
 
 pub next_shorter : (rest others : List ℕ) (p : Pdu) → IsNext rest p others → length others < length rest

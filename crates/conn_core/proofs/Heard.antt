@@ -2,6 +2,7 @@
 use Rattle.std.proofs.Common.{◌≡◌, ℕ, Bool, true, false, nat_lt, List, [], reverse, Option, Some, None, Ok, refl, sym, ap, subst, ◌∙◌, arith}
 use Rattle.std.specs.Prelude.{◌||◌, if◌then◌else◌, ⊤}
 use Rattle.std.proofs.lemmas.Option.{none-some, same_Some}
+use Rattle.pdu_codec.specs.Constants.{least_fragment}
 use Rattle.pdu_codec.specs.declared.pdu.Pdu.{Pdu}
 use Rattle.pdu_codec.specs.declared.pdu.Body.{Body}
 use Rattle.pdu_codec.specs.declared.pdu.Body.TheVariants as bodies
@@ -80,7 +81,7 @@ offers_bind c flags b false = refl
 
 offers_of_bind : (bound : Bool) (c : Caller) (flags : ℕ) (b : BindBody) → Offers (of_bind bound c flags b) (bodies.Bind b)
 offers_of_bind true c flags b = tt
-offers_of_bind false c flags b = offers_bind c flags b (nat_lt b.max_recv 1432)
+offers_of_bind false c flags b = offers_bind c flags b (nat_lt b.max_recv least_fragment)
 
 offers_of_alter : (bound : Bool) (c : Caller) (b : AlterBody) → Offers (of_alter bound c b) (bodies.Alter b)
 offers_of_alter true c b = refl
@@ -144,13 +145,13 @@ no_call j ask not e = absurd (cc (ap is_call e, not))
 call_broken : (j : Joined) (c : Caller) (x : ConnFault) → Call j ≡ Broken c x → ⊥
 call_broken j c x e = no_call j (Broken c x) refl e
 
-bind_no_call : (bound q : Bool) (c : Caller) (flags : ℕ) (b : BindBody) → nat_lt b.max_recv 1432 ≡ q → is_call (of_bind bound c flags b) ≡ false
+bind_no_call : (bound q : Bool) (c : Caller) (flags : ℕ) (b : BindBody) → nat_lt b.max_recv least_fragment ≡ q → is_call (of_bind bound c flags b) ≡ false
 bind_no_call true q c flags b e = refl
 bind_no_call false true c flags b e = rw e refl
 bind_no_call false false c flags b e = rw e refl
 
 call_bind : (bound : Bool) (c : Caller) (flags : ℕ) (b : BindBody) (j : Joined) → Call j ≡ of_bind bound c flags b → ⊥
-call_bind bound c flags b j e = no_call j (of_bind bound c flags b) (bind_no_call bound (nat_lt b.max_recv 1432) c flags b refl) e
+call_bind bound c flags b j e = no_call j (of_bind bound c flags b) (bind_no_call bound (nat_lt b.max_recv least_fragment) c flags b refl) e
 
 alter_no_call : (bound : Bool) (c : Caller) (b : AlterBody) → is_call (of_alter bound c b) ≡ false
 alter_no_call true c b = refl

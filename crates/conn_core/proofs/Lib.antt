@@ -6,4 +6,4 @@ pub mod Hearing
 pub mod Passing
 pub mod CalledOff
 pub mod Waiting
-pub mod Leaving
+pub mod Skipping

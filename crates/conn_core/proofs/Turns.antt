@@ -2,6 +2,7 @@
 use Rattle.std.proofs.Common.{◌≡◌, ℕ, Bool, false, List, [], ◌∷◌, length, Option, None, Ok, refl, sym, ap, subst, ◌∙◌, arith, length-append}
 use Rattle.rpc_base.specs.declared.identifiers.SyntaxId.{SyntaxId}
 use Rattle.pdu_codec.specs.declared.pdu.BindAckBody.{BindAckBody}
+use Rattle.pdu_codec.specs.Constants.{only_frag}
 use Rattle.pdu_codec.specs.Pdus.{pdu_octets}
 use Rattle.pdu_stream.specs.Runs.{IsJoining}
 use Rattle.presentation.specs.Offers.{contexts_after}
@@ -11,7 +12,7 @@ use Rattle.conn_asks.specs.declared.events.Agreement.{Agreement}
 use Rattle.conn_asks.specs.declared.events.Waits.{Waits}
 use Rattle.conn_asks.specs.declared.events.Waits.TheVariants.{Nothing, Group, Call, Over, Failed}
 use Rattle.conn_asks.specs.Asks.{offered}
-use Rattle.conn_asks.specs.Answers.{alone, agreement_with, bind_ack, bind_nak, Replies}
+use Rattle.conn_asks.specs.Answers.{agreement_with, bind_ack, bind_nak, Replies}
 use Rattle.conn_asks.specs.States.{ConnState, at_start, Bound, BoundAt, Refused, RefusedAt, Replied, RepliedAt}
 use Rattle.conn_core.specs.Fields.{ConnFields, KeepsState, Knows, IsAt}
 
@@ -55,7 +56,7 @@ pub keeps_call : (c : Caller) (maybe : Bool) (w : Waits) (t : ConnFields) (m : C
 keeps_call c maybe w t m is k = (subst (λ (x : Waits). Knows x t m) is k).0
 
 pub bound_turn : (t : ConnFields) (m : ConnState) (c : Caller) (ack : BindAckBody) (group : ℕ) (octets : List ℕ) → IsAt t m → t.waits ≡ Group c ack
-    → octets ≡ pdu_octets (bind_ack c alone (agreement_with ack group) ack.results)
+    → octets ≡ pdu_octets (bind_ack c only_frag (agreement_with ack group) ack.results)
     → (n : ConnState) × Bound m group (Ok octets) n × IsAt (record t { waits = Nothing; agreement = agreement_with ack group }) n
 bound_turn t m c ack group octets at waits written =
     let w : m.waits ≡ Group c ack = sym at.waits ∙ waits in

@@ -1,5 +1,5 @@
 -- What is waited for behind an act, and what has to wait.
-use Rattle.std.proofs.Common.{◌≡◌, ℕ, ◌≤◌, Bool, true, false, List, ◌++◌, length, Option, Some, None, Result, Ok, Err, sym, ap, subst, ◌∙◌}
+use Rattle.std.proofs.Common.{◌≡◌, ℕ, Bool, true, false, List, Option, Some, None, Result, Ok, Err, sym, ap, subst}
 use Rattle.std.specs.Prelude.{if◌then◌else◌}
 use Rattle.rpc_base.specs.declared.fault.NoMemory.{NoMemory}
 use Rattle.rpc_base.specs.declared.identifiers.SyntaxId.{SyntaxId}
@@ -8,7 +8,6 @@ use Rattle.pdu_codec.specs.declared.pdu.Body.{Body}
 use Rattle.pdu_codec.specs.declared.pdu.Body.TheVariants as bodies
 use Rattle.pdu_codec.specs.declared.fault.PduFault.{PduFault}
 use Rattle.pdu_stream.specs.declared.joined.Joined.{Joined}
-use Rattle.pdu_stream.specs.Cuts.{IsNext}
 use Rattle.presentation.specs.declared.verdict.Accepted.{Accepted}
 use Rattle.presentation.specs.Offers.{interface_of}
 use Rattle.conn_asks.specs.declared.events.Agreement.{Agreement}

@@ -1,6 +1,7 @@
 -- What a connection keeps of what came, and in which state it is.
-use Rattle.std.specs.Prelude.{◌≡◌, ℕ, ◌≤◌, Bool, Option, Some, None, Ok, List, [], length, reverse, ◌⊎◌, ⊤}
+use Rattle.std.specs.Prelude.{◌≡◌, ℕ, ◌≤◌, Bool, Option, Some, None, Ok, List, [], reverse, ◌⊎◌, ⊤}
 use Rattle.pdu_codec.specs.declared.fault.PduFault.{PduFault}
+use Rattle.pdu_codec.specs.Constants.{least_fragment, most_fragment}
 use Rattle.pdu_codec.specs.declared.fault.PduFault.TheVariants.{Memory}
 use Rattle.pdu_stream.specs.declared.joined.Joined.{Joined}
 use Rattle.pdu_stream.specs.Cuts.{Fed, IsStop}
@@ -60,7 +61,7 @@ IsCallOf id waits = (c : Caller) × (maybe : Bool) × (waits ≡ Call c maybe) �
 
 -- fragments of a size that may be sent
 abbrev pub IsWide : ℕ → Type 0
-IsWide most = (1432 ≤ most) × (most ≤ 4280)
+IsWide most = (least_fragment ≤ most) × (most ≤ most_fragment)
 
 -- a bind_ack that waits for its group can be written
 abbrev pub CanBind : Waits → Type 0

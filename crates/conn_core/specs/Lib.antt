@@ -1,4 +1,4 @@
 pub mod Fields
 pub mod Doing
 pub mod Steps
-pub mod Left
+pub mod Uncut

@@ -6,6 +6,7 @@ use Rattle.pdu_codec.specs.declared.pdu.Body.{Body}
 use Rattle.pdu_codec.specs.declared.pdu.Body.TheVariants as bodies
 use Rattle.pdu_codec.specs.declared.fault.PduFault.{PduFault}
 use Rattle.pdu_codec.specs.Pdus.{IsPdu, AreSpelled, pdu_octets}
+use Rattle.pdu_codec.specs.Constants.{header_size}
 use Rattle.pdu_codec.specs.Faults.{kind_at}
 use Rattle.pdu_stream.specs.Cuts.{IsStop}
 use Rattle.conn_asks.specs.declared.events.Ask.{Ask}
@@ -85,11 +86,11 @@ Stops rest fault (Err _) old new = new ≡ old
 
 -- a header stands in front, with the PTYPE of a co_cancel or an orphaned
 abbrev pub calls_off : List ℕ → Bool
-calls_off octets = nat_le 16 (length octets) && calls_off_by (kind_at octets)
+calls_off octets = nat_le header_size (length octets) && calls_off_by (kind_at octets)
 
 -- a header stands in front, with another PTYPE
 abbrev pub holds_up : List ℕ → Bool
-holds_up octets = nat_le 16 (length octets) && not (calls_off_by (kind_at octets))
+holds_up octets = nat_le header_size (length octets) && not (calls_off_by (kind_at octets))
 
 abbrev pub act_with : ℕ → Body → Act
 act_with id bodies.CoCancel = Cancel id

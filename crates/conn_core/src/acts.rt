@@ -1,5 +1,6 @@
 //! What is done at what a PDU asks.
 ghost use Rattle.std.specs.Prelude.{◌≡◌, ℕ, ◌<◌, ◌≤◌, length, IfOk};
+ghost use Rattle.pdu_codec.specs.Constants.{least_fragment};
 ghost use Rattle.presentation.specs.Offers.{interface_of};
 ghost use Rattle.conn_asks.specs.States.{ActsOnCall};
 ghost use Rattle.conn_asks.specs.declared.events.Ask.TheVariants as asks;
@@ -28,7 +29,7 @@ fn bind(
     body: BindBody,
 ) -> Result<Option<Done>, NoMemory>
     requires few { length body.elements < 256 }
-    requires wide { 1432 ≤ body.max_recv }
+    requires wide { least_fragment ≤ body.max_recv }
     ensures acts { (flags : ℕ) → ActsWith contexts.old agreement_now (asks.Bind caller flags body) result contexts.new }
     ensures can { CanWait result }
 {

@@ -5,10 +5,11 @@ ghost use Rattle.std.specs.Option.{option_copied};
 ghost use Rattle.conn_asks.specs.Answers.{FitsStub};
 ghost use Rattle.conn_asks.specs.States.{ConnState as AState, at_start, with_octets, Goes, IsStuck, WaitsBehind, MustWait, IsGrouping, Bound, Refused, IsCalling, Replied};
 
-use crate::left::left;
-use crate::off::holds_up;
-use conn_asks::{ALONE, Act, Agreement, Waits, bind_ack, bind_nak, reply};
+use crate::called_off::holds_up;
+use crate::uncut::uncut;
+use conn_asks::{Act, Agreement, Waits, bind_ack, bind_nak, reply};
 use handle_model::Said;
+use pdu_codec::{LEAST_FRAGMENT, flags};
 use pdu_stream::{Feed, Joiner};
 use presentation::Contexts;
 use rpc_base::{NoMemory, Octets, SyntaxId};
@@ -56,8 +57,8 @@ impl Conn {
             contexts: Contexts::new(alloc, ids)?,
             waits: Waits::Nothing,
             agreement: Agreement {
-                max_xmit: 1432,
-                max_recv: 1432,
+                max_xmit: LEAST_FRAGMENT,
+                max_recv: LEAST_FRAGMENT,
                 group: 0,
             },
             alloc,
@@ -130,7 +131,7 @@ impl Conn {
             max_recv: ack.max_recv,
             group,
         };
-        match bind_ack(self.alloc, caller, ALONE, ack, group) {
+        match bind_ack(self.alloc, caller, flags::ONLY_FRAG, ack, group) {
             Ok(octets) => {
                 self.agreement = agreement;
                 self.waits = Waits::Nothing;
@@ -180,6 +181,6 @@ impl Conn {
     pub fn rest(self) -> Result<usize, NoMemory>
         ensures { (m : AState) → IsAt self m → IfOk result (LeavesUncut m.rest) }
     {
-        left(self.feed)
+        uncut(self.feed)
     }
 }

@@ -3,10 +3,10 @@
 #![tactic(auto)]
 
 mod acts;
+mod called_off;
 mod conn;
-mod left;
 mod next;
-mod off;
+mod uncut;
 
 pub use conn::Conn;
 pub use conn_asks::{Act, ConnFault};

@@ -1,11 +1,9 @@
 -- What happens on a connection, one thing after the other.
 use Rattle.std.specs.Prelude.{◌≡◌, ℕ, Bool, Option, Some, None, Ok, List, [], ◌∷◌, ◌++◌}
-use Rattle.rpc_base.specs.declared.identifiers.SyntaxId.{SyntaxId}
-use Rattle.rpc_base.specs.Fields.{IsOctets}
 use Rattle.handle_model.specs.declared.entry.Said.{Said}
 use Rattle.conn_asks.specs.declared.events.Act.{Act}
 use Rattle.conn_asks.specs.declared.events.Act.TheVariants as acts
-use Rattle.conn_asks.specs.States.{ConnState, at_start, with_octets, Goes, IsStuck, BoundAt, RefusedAt, RepliedAt}
+use Rattle.conn_asks.specs.States.{ConnState, with_octets, Goes, IsStuck, BoundAt, RefusedAt, RepliedAt}
 
 -- What the server decides: the group of a bind; why a bind is refused; or how a call ended, where it wasn't dropped, and
 -- whether it was executed.

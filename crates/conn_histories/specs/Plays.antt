@@ -1,9 +1,10 @@
 -- What is done and answered on a connection at what its octets ask: each ask has its piece, in order.
-use Rattle.std.specs.Prelude.{◌≡◌, ℕ, Bool, Option, Some, None, List, [], ◌∷◌, ◌++◌, ◌⊎◌}
+use Rattle.std.specs.Prelude.{◌≡◌, ℕ, Bool, Option, Some, None, List, [], ◌∷◌, ◌++◌}
 use Rattle.rpc_base.specs.declared.identifiers.SyntaxId.{SyntaxId}
 use Rattle.pdu_codec.specs.declared.pdu.Element.{Element}
 use Rattle.pdu_codec.specs.declared.pdu.ContextResult.{ContextResult}
 use Rattle.pdu_codec.specs.declared.pdu.BindAckBody.{BindAckBody}
+use Rattle.pdu_codec.specs.Constants.{only_frag}
 use Rattle.pdu_codec.specs.Pdus.{pdu_octets}
 use Rattle.pdu_stream.specs.declared.joined.Joined.{Joined}
 use Rattle.presentation.specs.declared.verdict.Accepted.{Accepted}
@@ -13,9 +14,8 @@ use Rattle.conn_asks.specs.declared.events.Agreement.{Agreement}
 use Rattle.conn_asks.specs.declared.events.Ask.{Ask}
 use Rattle.conn_asks.specs.declared.events.Ask.TheVariants as asks
 use Rattle.conn_asks.specs.declared.events.Act.TheVariants as acts
-use Rattle.conn_asks.specs.declared.events.Waits.TheVariants.{Nothing, Over}
-use Rattle.conn_asks.specs.Answers.{alone, agreement_of, agreement_with, bind_ack, alter_resp, bind_nak, closing, refusal, Replies}
-use Rattle.conn_asks.specs.States.{ConnState, no_agreement, at_start, ready_ack, caller_of}
+use Rattle.conn_asks.specs.Answers.{agreement_of, agreement_with, bind_ack, alter_resp, bind_nak, closing, refusal, Replies}
+use Rattle.conn_asks.specs.States.{no_agreement, ready_ack, caller_of}
 use Rattle.conn_histories.specs.Histories.{Event}
 use Rattle.conn_histories.specs.Histories.Event.{Did, Decided}
 use Rattle.conn_histories.specs.Histories.Decision.{ToGroup, RefuseGroup, Reply}
@@ -45,7 +45,7 @@ results k elements = results_after k.ids k.accepted elements
 abbrev pub Binds : Caller → BindAckBody → (Agreement → List Event → Type 0) → List Ask → List Event → Type 0
 Binds c ack Then more [] = more ≡ []
 Binds c ack Then more (Decided (ToGroup group) octets ∷ later) =
-    (octets ≡ pdu_octets (bind_ack c alone (agreement_with ack group) ack.results)) × Then (agreement_with ack group) later
+    (octets ≡ pdu_octets (bind_ack c only_frag (agreement_with ack group) ack.results)) × Then (agreement_with ack group) later
 Binds c ack Then more (Decided (RefuseGroup reason) octets ∷ later) =
     (octets ≡ pdu_octets (bind_nak c reason)) × (later ≡ []) × (more ≡ [])
 Binds c ack Then more _ = ⊥

@@ -5,7 +5,6 @@ use Rattle.rpc_base.specs.declared.identifiers.SyntaxId.{SyntaxId}
 use Rattle.pdu_codec.specs.declared.pdu.Pdu.{Pdu}
 use Rattle.pdu_codec.specs.declared.pdu.Body.{Body}
 use Rattle.pdu_codec.specs.declared.pdu.Body.TheVariants as bodies
-use Rattle.pdu_codec.specs.declared.pdu.RequestBody.{RequestBody}
 use Rattle.pdu_stream.specs.declared.joined.Joined.{Joined}
 use Rattle.pdu_stream.specs.Fragments.{Fragment, is_in_order, is_last, joined_of, with_fragment}
 use Rattle.presentation.specs.declared.verdict.Accepted.{Accepted}
@@ -18,15 +17,15 @@ use Rattle.conn_asks.specs.declared.events.Act.{Act}
 use Rattle.conn_asks.specs.declared.events.Act.TheVariants as acts
 use Rattle.conn_asks.specs.declared.events.Waits.{Waits}
 use Rattle.conn_asks.specs.declared.events.Waits.TheVariants.{Nothing, Group, Call, Over, Failed}
-use Rattle.conn_asks.specs.Asks.{Asks, AsksWith, called, called_behind, is_bound, is_called, request_fragment}
-use Rattle.conn_asks.specs.States.{ConnState, at_start, accepted, caller_of, ActsOnCall, IsCalling, IsGrouping, DoesWith, is_calling_off, MayCome, TakesPdu, Skips, SkipsAll, ActsAt, Acts, Goes, WaitsBehind}
-use Rattle.conn_histories.specs.Histories.{Decision, Event, AnswersDecision, Lives}
+use Rattle.conn_asks.specs.Asks.{Asks, AsksWith, called, called_behind, is_bound, request_fragment}
+use Rattle.conn_asks.specs.States.{ConnState, at_start, accepted, caller_of, ActsOnCall, IsGrouping, DoesWith, is_calling_off, MayCome, TakesPdu, SkipsAll, ActsAt, Acts, Goes, WaitsBehind}
+use Rattle.conn_histories.specs.Histories.{Decision, Event, Lives}
 use Rattle.conn_histories.specs.Histories.Decision.{ToGroup, RefuseGroup, Reply}
 use Rattle.conn_histories.specs.Histories.Event.{Came, Paused, Did, Decided}
 use Rattle.conn_laws.specs.Serving.{IsCallOff}
-use Rattle.conn_laws.proofs.Calls.{Called, called_by}
+use Rattle.conn_laws.proofs.Calls.{called_by}
 use Rattle.conn_laws.proofs.Decided.{AnswersAt, at_waits, skips_keep}
-use Rattle.conn_laws.proofs.Passing.{IsOff, IsLasting, Done, done_by, off_asked}
+use Rattle.conn_laws.proofs.Passing.{IsOff, Done, done_by, off_asked}
 use Rattle.conn_laws.proofs.Passing.Done.{calls_off, lasts}
 
 -- ---- which call was asked last

@@ -2,6 +2,7 @@
 use Rattle.std.proofs.Common.{◌≡◌, ℕ, Bool, true, false, List, [], ◌∷◌, Option, Some, None, refl, sym, ap, subst, ◌∙◌}
 use Rattle.handle_model.specs.declared.entry.Said.{Said}
 use Rattle.handle_model.specs.declared.entry.Said.TheVariants.{Out, Fault}
+use Rattle.pdu_codec.specs.Constants.{stub_offset}
 use Rattle.pdu_codec.specs.declared.pdu.Pdu.{Pdu}
 use Rattle.pdu_codec.specs.declared.pdu.BindAckBody.{BindAckBody}
 use Rattle.pdu_stream.specs.Pieces.{piece_size}
@@ -59,7 +60,7 @@ one_reply c most true executed said a b h k = h ∙ sym k
 one_reply c most false executed None a b h k = h ∙ sym k
 one_reply c most false executed (Some (Fault status)) a b h k = h ∙ sym k
 one_reply c most false executed (Some (Out stub)) a b h k =
-    h.2 ∙ ap (response_octets c true) (one_cutting (piece_size most 24) stub h.0 k.0 h.1 k.1) ∙ sym k.2
+    h.2 ∙ ap (response_octets c true) (one_cutting (piece_size most stub_offset) stub h.0 k.0 h.1 k.1) ∙ sym k.2
 
 abbrev Same : List ℕ → List ℕ → ConnState → ConnState → Type 0
 Same a b n k = (a ≡ b) × (n ≡ k)

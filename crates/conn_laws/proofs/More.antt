@@ -1,6 +1,7 @@
 -- Further octets come behind.
 use Rattle.std.proofs.Common.{◌≡◌, ℕ, ◌<◌, ◌≤◌, inl, inr, List, [], ◌∷◌, ◌++◌, length, take, drop, slice_index, Option, Some, None, Ok, refl, ap, subst, ◌∙◌, append_assoc, arith, length-append}
 use Rattle.std.proofs.lemmas.List.{get_or_append_left, take-append-le, drop-append-le, length-drop}
+use Rattle.pdu_codec.specs.Constants.{header_size}
 use Rattle.pdu_codec.specs.declared.pdu.Pdu.{Pdu}
 use Rattle.pdu_codec.specs.declared.fault.PduFault.{PduFault}
 use Rattle.pdu_codec.specs.Pdus.{pdu_octets}
@@ -33,24 +34,24 @@ skips_append m (p ∷ ps) qs n k all later = (all.0, all.1, skips_append all.0 p
 
 -- ---- a fault's header
 
-pub long_by : (rest : List ℕ) (f : PduFault) → StopsBy rest f → 16 ≤ length rest
+pub long_by : (rest : List ℕ) (f : PduFault) → StopsBy rest f → header_size ≤ length rest
 long_by rest f (by_head h) = h.0
 long_by rest f (by_body f_is whole more e fault) = omega (arith, ap length e, length-append whole more, fault.0)
 
-index_more : (rest more : List ℕ) (i : ℕ) → i < 16 → 16 ≤ length rest → slice_index (rest ++ more) i ≡ slice_index rest i
+index_more : (rest more : List ℕ) (i : ℕ) → i < header_size → header_size ≤ length rest → slice_index (rest ++ more) i ≡ slice_index rest i
 index_more rest more i lt long = get_or_append_left rest more 0 i (omega (arith, lt, long))
 
-id_more : (rest more : List ℕ) → 16 ≤ length rest → take 4 (drop 12 (rest ++ more)) ≡ take 4 (drop 12 rest)
+id_more : (rest more : List ℕ) → header_size ≤ length rest → take 4 (drop 12 (rest ++ more)) ≡ take 4 (drop 12 rest)
 id_more rest more long =
     rw (drop-append-le 12 rest more (omega (arith, long))) (take-append-le 4 (drop 12 rest) more (omega (arith, length-drop 12 rest, long)))
 
-pub caller_more : (rest more : List ℕ) → 16 ≤ length rest → caller_at (rest ++ more) ≡ caller_at rest
+pub caller_more : (rest more : List ℕ) → header_size ≤ length rest → caller_at (rest ++ more) ≡ caller_at rest
 caller_more rest more long = rw (index_more rest more 4 (omega arith) long, id_more rest more long) refl
 
-pub broken_more : (rest more : List ℕ) (f : PduFault) → 16 ≤ length rest → broken_by (rest ++ more) f ≡ broken_by rest f
+pub broken_more : (rest more : List ℕ) (f : PduFault) → header_size ≤ length rest → broken_by (rest ++ more) f ≡ broken_by rest f
 broken_more rest more f long = rw (index_more rest more 2 (omega arith) long) refl
 
-close_more : (rest more : List ℕ) (f : PduFault) → 16 ≤ length rest
+close_more : (rest more : List ℕ) (f : PduFault) → header_size ≤ length rest
     → acts.Close (pdu_octets (closing (caller_at rest) (broken_by rest f))) (broken_by rest f)
     ≡ acts.Close (pdu_octets (closing (caller_at (rest ++ more)) (broken_by (rest ++ more) f))) (broken_by (rest ++ more) f)
 close_more rest more f long = rw (caller_more rest more long, broken_more rest more f long) refl
@@ -61,7 +62,7 @@ acts_more m n act more (inl a) =
     inl (a.0, record { takes = takes_more m n a.0 more s.takes; ask = s.ask; asks = s.asks; does = s.does })
 acts_more m n act more (inr a) =
     let s = a.1 in
-    let long : 16 ≤ length m.rest = long_by m.rest a.0 (stops_by m.rest a.0 s.stops) in
+    let long : header_size ≤ length m.rest = long_by m.rest a.0 (stops_by m.rest a.0 s.stops) in
     inr (
       a.0,
       record {

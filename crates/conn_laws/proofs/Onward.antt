@@ -1,14 +1,15 @@
 -- What a longer stream asks goes on from what its front asks.
-use Rattle.std.proofs.Common.{◌≡◌, ℕ, List, [], ◌∷◌, ◌++◌, length, ◌≤◌, Option, Some, None, refl, sym, ap, subst, ◌∙◌, append_assoc, append-nil}
+use Rattle.std.proofs.Common.{◌≡◌, ℕ, List, [], ◌∷◌, ◌++◌, length, ◌≤◌, Option, Some, None, sym, ap, subst, ◌∙◌, append_assoc, append-nil}
+use Rattle.pdu_codec.specs.Constants.{header_size}
 use Rattle.pdu_codec.specs.declared.pdu.Pdu.{Pdu}
 use Rattle.pdu_codec.specs.declared.fault.PduFault.{PduFault}
 use Rattle.pdu_codec.specs.Pdus.{IsPdu, AreSpelled}
 use Rattle.pdu_stream.specs.declared.cut.Cut.{Cut}
-use Rattle.pdu_stream.specs.Cuts.{IsNext, IsStop, Remains, IsCut}
+use Rattle.pdu_stream.specs.Cuts.{IsNext, IsCut}
 use Rattle.pdu_stream.proofs.CutLaws.{one_cut, fault_stays, stops_by}
 use Rattle.conn_asks.specs.declared.events.Ask.{Ask}
 use Rattle.conn_asks.specs.declared.events.Ask.TheVariants as asks
-use Rattle.conn_asks.specs.Asks.{Asks, caller_at, broken_by, broken_end, AsksFirst, AreAsks, AreAsksOf}
+use Rattle.conn_asks.specs.Asks.{broken_end, AsksFirst, AreAsks, AreAsksOf}
 use Rattle.conn_laws.proofs.OneAsk.{one_ask}
 use Rattle.conn_laws.proofs.Asking.{asks_alike, ask_first}
 use Rattle.conn_laws.proofs.More.{long_by, caller_more, broken_more}
@@ -43,7 +44,7 @@ on_from past (p ∷ pdus) front rest a b cut spelled is h k =
     (λ x y l r. on_from (p ∷ past) pdus spelled.1 rest x y (record cut { pdus = c.later }) spelled.4 c.is_cut l r)
     (subst (λ (x : Option Ask). AsksFirst x (AreAsks (p ∷ past) pdus []) a) same h.2) there.2
 
-end_more : (rest more : List ℕ) (f : PduFault) → 16 ≤ length rest → broken_end (rest ++ more) (Some f) ≡ broken_end rest (Some f)
+end_more : (rest more : List ℕ) (f : PduFault) → header_size ≤ length rest → broken_end (rest ++ more) (Some f) ≡ broken_end rest (Some f)
 end_more rest more f long = λ i. asks.Broken (caller_more rest more long i) (broken_more rest more f long i) ∷ []
 
 by_fault : (front more : List ℕ) (pdus : List Pdu) (rest : List ℕ) (fault : Option PduFault) (a b : List Ask) (cut : Cut) → IsCut front (record { pdus = pdus; rest = rest; fault = fault }) → IsCut (front ++ more) cut

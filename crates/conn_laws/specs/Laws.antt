@@ -1,5 +1,5 @@
 -- A connection's states and the stream of its octets.
-use Rattle.std.specs.Prelude.{◌≡◌, ℕ, Option, Some, None, Ok, List, ◌++◌, length, reverse}
+use Rattle.std.specs.Prelude.{◌≡◌, ℕ, Option, Some, None, Ok, List, ◌++◌, reverse}
 use Rattle.pdu_codec.specs.Pdus.{IsPdu, AreSpelled}
 use Rattle.pdu_stream.specs.Cuts.{LeavesUncut}
 use Rattle.conn_asks.specs.declared.events.Act.{Act}

@@ -1,6 +1,7 @@
 -- What a server over a connection rests on: what may come next, what is put, and how histories and asks go on.
 use Rattle.std.specs.Prelude.{◌≡◌, ◌≢◌, ℕ, ◌≤◌, Bool, Option, Some, Ok, List, [], ◌∷◌, ◌++◌, ◌⊎◌}
 use Rattle.rpc_base.specs.declared.identifiers.SyntaxId.{SyntaxId}
+use Rattle.pdu_codec.specs.Constants.{least_fragment}
 use Rattle.pdu_codec.specs.Pdus.{pdu_octets}
 use Rattle.handle_model.specs.declared.entry.Said.{Said}
 use Rattle.conn_asks.specs.declared.events.Caller.{Caller}
@@ -71,5 +72,5 @@ AsksGoOn = (front more : List ℕ) (a b : List Ask) → AreAsksOf front a → Ar
 -- Whatever a call's end says within the limit of a stub, there are octets for it.
 abbrev pub EachReply : Type 0
 EachReply =
-    (c : Caller) (most : ℕ) (maybe executed : Bool) (said : Option Said) → 1432 ≤ most → FitsStub said
+    (c : Caller) (most : ℕ) (maybe executed : Bool) (said : Option Said) → least_fragment ≤ most → FitsStub said
     → (octets : List ℕ) × Replies c most maybe executed said octets

@@ -1,14 +1,14 @@
-use Rattle.std.proofs.Common.{◌≡◌, ◌≤◌, ◌^◌, length}
+use Rattle.std.proofs.Common.{◌-◌, suc, length}
+use Rattle.pdu_codec.specs.Constants.{stub_offset}
 use Rattle.pdu_stream.specs.Pieces.{piece_size}
-use Rattle.conn_asks.proofs.Responses.{Whole}
+use Rattle.conn_asks.proofs.Responses.{PutSoFar}
 use Rattle.conn_asks.proofs.replies.respond.Given as goal
 
-abbrev pub invariant-loop-rest : goal.invariant-loop-rest
-invariant-loop-rest l = record {
-  size : l.size ≡ piece_size l.most 24;
-  short : length l.rest ≤ 2 ^ 24;
-  whole : Whole l.caller l.size l.first l.octets.items l.stub l.rest;
+-- the first k pieces were put
+abbrev pub invariant-loop-start : goal.invariant-loop-start
+invariant-loop-start l = record {
+  put : PutSoFar l.caller (piece_size l.most stub_offset) l.k l.left l.octets.items l.stub;
 }
 
-abbrev pub decreases-loop-rest : goal.decreases-loop-rest
-decreases-loop-rest l = length l.rest
+abbrev pub decreases-loop-start : goal.decreases-loop-start
+decreases-loop-start l = suc (length l.stub) - l.k

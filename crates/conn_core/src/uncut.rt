@@ -2,14 +2,14 @@
 ghost use Rattle.std.specs.Prelude.{IfOk};
 ghost use Rattle.pdu_stream.specs.Cuts.{LeavesUncut};
 ghost use Rattle.conn_core.specs.Fields.{HasCause};
-ghost use Rattle.conn_core.specs.Left.{SkipsNext};
+ghost use Rattle.conn_core.specs.Uncut.{SkipsNext};
 
 use pdu_codec::PduFault;
 use pdu_stream::Feed;
 use rpc_base::NoMemory;
 
 /// How many octets stand behind the whole PDUs.
-pub(crate) fn left(feed: Feed) -> Result<usize, NoMemory>
+pub(crate) fn uncut(feed: Feed) -> Result<usize, NoMemory>
     requires { HasCause feed.fault feed.rest }
     ensures { IfOk result (LeavesUncut feed.rest) }
 {

@@ -8,7 +8,7 @@ use Rattle.pdu_codec.specs.Pdus.{IsPdu, AreSpelled}
 use Rattle.pdu_stream.specs.Cuts.{Fed, IsNext, GivesNext, LeavesUncut}
 use Rattle.pdu_stream.proofs.CutLaws.{spelled_append}
 use Rattle.conn_core.specs.Fields.{HasCause}
-use Rattle.conn_core.specs.Left.{SkipsNext}
+use Rattle.conn_core.specs.Uncut.{SkipsNext}
 use Rattle.conn_core.proofs.Causes.{next_shorter}
 
 pub skip_given : (old new : Fed) (given : Option Pdu) → GivesNext old (Ok given) new → SkipsNext old (Ok (is_some given)) new

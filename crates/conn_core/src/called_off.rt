@@ -1,12 +1,12 @@
 //! What may come while a call is unanswered: that it is called off.
 ghost use Rattle.std.specs.Prelude.{◌≡◌, length, ℕ};
-ghost use Rattle.conn_asks.specs.States.{ConnState as AState};
+ghost use Rattle.conn_asks.specs.States.{ConnState as AState, calls_off_by};
 ghost use Rattle.conn_core.specs.Steps as spec;
 
 use crate::Conn;
 use crate::next::Step;
 use conn_asks::Act;
-use pdu_codec::{Body, Pdu, PduFault};
+use pdu_codec::{Body, HEADER_SIZE, Pdu, PduFault, ptypes, raw_head};
 use rpc_base::NoMemory;
 
 impl Conn {
@@ -34,18 +34,25 @@ impl Conn {
     }
 }
 
+/// Whether it is the PTYPE of a co_cancel or an orphaned.
+fn is_calling_off(kind: u8) -> bool
+    ensures { result ≡ calls_off_by kind }
+{
+    matches!(kind, ptypes::CO_CANCEL | ptypes::ORPHANED)
+}
+
 /// Whether a header stands in front that has the PTYPE of a co_cancel or an orphaned.
 fn calls_off(octets: &[u8]) -> bool
     ensures { result ≡ spec.calls_off octets.now }
 {
-    octets.len() >= 16 && (octets[2] == 18 || octets[2] == 19)
+    octets.len() >= HEADER_SIZE && is_calling_off(raw_head(octets).kind)
 }
 
 /// Whether a header stands in front that has another PTYPE.
 pub(crate) fn holds_up(octets: &[u8]) -> bool
     ensures { result ≡ spec.holds_up octets.now }
 {
-    octets.len() >= 16 && !(octets[2] == 18 || octets[2] == 19)
+    octets.len() >= HEADER_SIZE && !is_calling_off(raw_head(octets).kind)
 }
 
 /// What becomes of a co_cancel or an orphaned while the call of that id is unanswered.
