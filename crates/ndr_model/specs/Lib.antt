@@ -1,0 +1,7 @@
+pub mod Same
+pub mod Places
+pub mod Part
+pub mod Stub
+pub mod Reading
+pub mod Scan
+pub mod Build

@@ -1,0 +1,31 @@
+-- Where reading stands: an index, and what was met before it.
+use Rattle.std.specs.Prelude.{ℕ, suc, List, [], ◌∷◌, Option, Some, None, ◌==◌, if◌then◌else◌}
+use Rattle.rpc_base.specs.declared.identifiers.WireHandle.{WireHandle}
+use Rattle.ndr_value.specs.Forms.{Form}
+use Rattle.ndr_value.specs.Values.{Val}
+
+-- an index, the ids of full pointers met before it with the shapes behind them, and the context handles met before it
+pub record Place : Type 0 where
+  pub at : ℕ
+  pub met : List (ℕ × Form)
+  pub wires : List WireHandle
+
+-- the same behind more octets
+abbrev pub past : Place → ℕ → Place
+past p i = record { at = i; met = p.met; wires = p.wires }
+
+-- where referents go on, with the numbers and values of the heap's items that were read
+pub record Last : Type 0 where
+  pub here : Place
+  pub items : List (ℕ × Val)
+
+abbrev pub last : Place → List (ℕ × Val) → Last
+last p xs = record { here = p; items = xs }
+
+-- the number of an id that was met, and the shape behind it
+abbrev pub look_from : ℕ → List (ℕ × Form) → ℕ → Option (ℕ × Form)
+look_from n [] id = None
+look_from n (m ∷ ms) id = if m.0 == id then Some (n, m.1) else look_from (suc n) ms id
+
+abbrev pub look : List (ℕ × Form) → ℕ → Option (ℕ × Form)
+look ms id = look_from 0 ms id

@@ -1,0 +1,7 @@
+//! NDR as a relation between values and octets, and how octets are read (C706, chapter "Transfer
+//! Syntax NDR"): definitions and their laws.
+#![tactic(auto)]
+
+mod departure;
+
+pub use departure::Departure;
