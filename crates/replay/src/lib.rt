@@ -8,8 +8,6 @@ mod play;
 mod print;
 mod probe;
 mod replaying;
-#[cfg(test)]
-mod tests;
 
 pub use laws::one_replay;
 pub use phase::{Caller, Phase, ProbeCall};

@@ -2,14 +2,14 @@
 use rpc_base::WireHandle;
 
 /// A request that is to be answered.
-#[derive(Clone, Copy, Debug, PartialEq, Eq)]
+#[derive(Clone, Copy)]
 pub struct Caller {
     pub call_id: u32,
     pub context: u16,
 }
 
 /// What a request asks of the probe.
-#[derive(Clone, Copy, Debug, PartialEq, Eq)]
+#[derive(Clone, Copy)]
 pub enum ProbeCall {
     /// `probe_open`, with the number that becomes the handle's cookie.
     Open { cookie: u32 },
@@ -18,7 +18,7 @@ pub enum ProbeCall {
 }
 
 /// How far a replay is: which line may come next, and what that line needs of the lines before it.
-#[derive(Clone, Copy, Debug, PartialEq, Eq)]
+#[derive(Clone, Copy)]
 pub enum Phase {
     /// Nothing was played.
     Begun,

@@ -13,7 +13,7 @@ use std::alloc::Global;
 use thiserror::Error;
 
 /// What a script puts on the two outputs.
-#[derive(Debug, Drop)]
+#[derive(Drop)]
 pub struct Replayed {
     /// The octets answered, a line for each PDU.
     pub out: Octets,
@@ -22,7 +22,7 @@ pub struct Replayed {
 }
 
 /// Why a text isn't replayed.
-#[derive(Clone, Copy, Debug, PartialEq, Eq, Error)]
+#[derive(Clone, Copy, Debug, Error)]
 pub enum ReplayFault {
     /// The first line that departs from the scripts, from 1.
     #[error("script line {0}")]

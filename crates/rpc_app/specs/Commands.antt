@@ -43,9 +43,9 @@ Makes Replay text out log = Replays text out log
 Makes Idl text out log = IsPrinted text out × (log ≡ [])
 
 -- the files of which it makes something
-abbrev pub Takes : Command → List ℕ → Type 0
-Takes Replay text = IsScript IsReplay text
-Takes Idl text = (tree : Ast) × IsIdl text tree × NoneBroken tree
+abbrev pub IsTextFor : Command → List ℕ → Type 0
+IsTextFor Replay text = IsScript IsReplay text
+IsTextFor Idl text = (tree : Ast) × IsIdl text tree × NoneBroken tree
 
 unfoldable pub line_refusal : ℕ → List ℕ
 line_refusal n = codes "refused: script line " ++ decimal n ++ codes "\n"

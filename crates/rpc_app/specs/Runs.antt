@@ -16,12 +16,12 @@ abbrev pub Growth : Type 1
 Growth = Option (List ℕ) → Option (List ℕ) → List ℕ → Type 0
 
 -- it has gained the text
-abbrev pub Adds : Growth
-Adds before now text = now ≡ append_known before text
+abbrev pub Gains : Growth
+Gains before now text = now ≡ append_known before text
 
 -- it has gained a front of the text
-abbrev pub AddsFront : Growth
-AddsFront before now text = (k : ℕ) × Adds before now (take k text)
+abbrev pub GainsFront : Growth
+GainsFront before now text = (k : ℕ) × Gains before now (take k text)
 
 -- These octets were loaded, no more than the limit: where the files are told, they are the file of that name.
 pub record IsLoaded (most : ℕ) (files : Option Files) (name octets : List ℕ) : Type 0 where
@@ -58,4 +58,4 @@ pub record IsRefused (grows : Growth) (command : Command) (files : Option Files)
 
 -- An output failed: each has gained a front of what was to be said of the file.
 abbrev pub IsCutShort : Command → Option Files → List ℕ → Option (List ℕ) → Option (List ℕ) → Option (List ℕ) → Option (List ℕ) → Type 0
-IsCutShort command files name out out' log log' = IsDone AddsFront command files name out out' log log' ⊎ IsRefused AddsFront command files name out out' log log'
+IsCutShort command files name out out' log log' = IsDone GainsFront command files name out out' log log' ⊎ IsRefused GainsFront command files name out out' log log'

@@ -1,7 +1,7 @@
 //! What is put on the outputs.
 ghost use Rattle.std.specs.Prelude.{◌≡◌, ◌⊎◌, ◌<◌};
 ghost use Rattle.rpc_base.specs.Causes.{Rose};
-ghost use Rattle.rpc_app.specs.Runs.{Adds, AddsFront};
+ghost use Rattle.rpc_app.specs.Runs.{Gains, GainsFront};
 
 use replay::Replayed;
 use rpc_base::{Sink, put_all};
@@ -10,9 +10,9 @@ use rpc_base::{Sink, put_all};
 pub fn refuse<S: Sink>(out: &mut S, text: &[u8], status: u8) -> u8
     requires { status < 4 }
     ensures known { (result ≡ status) ⊎ (result ≡ 4) }
-    ensures said { result ≡ status → Adds (S.written out.old) (S.written out.new) text.now }
+    ensures said { result ≡ status → Gains (S.written out.old) (S.written out.new) text.now }
     ensures failed { result ≡ 4 → Rose (S.faults out.old) (S.faults out.new) }
-    ensures front { result ≡ 4 → AddsFront (S.written out.old) (S.written out.new) text.now }
+    ensures front { result ≡ 4 → GainsFront (S.written out.old) (S.written out.new) text.now }
 {
     match put_all(out, text) {
         Ok(()) => status,
@@ -24,11 +24,11 @@ pub fn refuse<S: Sink>(out: &mut S, text: &[u8], status: u8) -> u8
 #[tactic(auto, using(crate::proofs::Sets::growing))]
 pub fn print<S: Sink, L: Sink>(made: &Replayed, out: &mut S, log: &mut L) -> u8
     ensures known { (result ≡ 0) ⊎ (result ≡ 4) }
-    ensures out { result ≡ 0 → Adds (S.written out.old) (S.written out.new) made.now.out }
-    ensures log { result ≡ 0 → Adds (L.written log.old) (L.written log.new) made.now.log }
+    ensures out { result ≡ 0 → Gains (S.written out.old) (S.written out.new) made.now.out }
+    ensures log { result ≡ 0 → Gains (L.written log.old) (L.written log.new) made.now.log }
     ensures failed { result ≡ 4 → Rose (S.faults out.old) (S.faults out.new) ⊎ Rose (L.faults log.old) (L.faults log.new) }
-    ensures front_of_out { result ≡ 4 → AddsFront (S.written out.old) (S.written out.new) made.now.out }
-    ensures front_of_log { result ≡ 4 → AddsFront (L.written log.old) (L.written log.new) made.now.log }
+    ensures front_of_out { result ≡ 4 → GainsFront (S.written out.old) (S.written out.new) made.now.out }
+    ensures front_of_log { result ≡ 4 → GainsFront (L.written log.old) (L.written log.new) made.now.log }
 {
     if put_all(out, made.out.as_slice()).is_err() {
         return 4;

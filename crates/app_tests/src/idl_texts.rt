@@ -1,37 +1,9 @@
-// The command `idl` over files and outputs in memory.
-use crate::run;
-use rpc_base::{MapShelf, Numbers, Octets, ShelfFile, ShelfFiles, VecSink};
+//! The command `idl`.
+
+use crate::outcome::{NO_FAULTS, comes_to};
+use rpc_base::NoMemory;
 use std::alloc::Global;
-use std::sync::Wait;
 use std::test::Fail;
-use std::thread::Threads;
-
-fn octets(alloc: Global, text: &str) -> Result<Octets, Fail> {
-    Ok(Octets::from_vec(text.as_bytes().to_vec(alloc)?))
-}
-
-/// The status and the two outputs, one behind the other, of `idl f`, where `f` has this text.
-fn outcome<R: Wait + Threads + Sync>(
-    rt: &R,
-    alloc: Global,
-    text: Octets,
-) -> Result<(u8, Octets), Fail> {
-    let mut files = ShelfFiles::new(alloc);
-    files.push(ShelfFile {
-        name: octets(alloc, "f")?,
-        octets: text,
-    })?;
-    let mut words = Vec::new(alloc);
-    words.push(String::from_str(alloc, "idl")?)?;
-    words.push(String::from_str(alloc, "f")?)?;
-    let mut shelf = MapShelf::new(files, Numbers::new(alloc));
-    let mut out = VecSink::new(alloc, Numbers::new(alloc));
-    let mut log = VecSink::new(alloc, Numbers::new(alloc));
-    let status = run(rt, alloc, words.as_slice(), &mut shelf, &mut out, &mut log);
-    let mut both = out.written().as_slice().to_vec(alloc)?;
-    both.extend_from_slice(log.written().as_slice())?;
-    Ok((status, Octets::from_vec(both)))
-}
 
 const PROBE: &str =
     "[uuid(5f0c7a12-3b4d-4e6f-8a90-b1c2d3e4f506), version(1.0), pointer_default(unique)]
@@ -146,117 +118,84 @@ interface all {
 }
 ";
 
-/// `void` as the type of a parameter, and behind it an unknown name.
-const TWO_BREACHES: &str =
-    "[uuid(00000000-0000-0000-0000-00000000000f)] interface x { void f([in] void *p); foo g(); }";
-
-struct Case {
-    text: &'static str,
-    status: u8,
-    out: &'static str,
-}
-
-const CASES: [Case; 14] = [
-    Case {
-        text: PROBE,
-        status: 0,
-        out: PROBE,
-    },
-    Case {
-        text: STORE,
-        status: 0,
-        out: STORE,
-    },
-    Case {
-        text: MAPPER,
-        status: 0,
-        out: MAPPER_PRINTED,
-    },
-    Case {
-        text: FORMS,
-        status: 0,
-        out: FORMS_PRINTED,
-    },
-    Case {
-        text: FORMS_PRINTED,
-        status: 0,
-        out: FORMS_PRINTED,
-    },
-    Case {
-        text: "[version(1.0)]\ninterface x {\n}\n",
-        status: 2,
-        out: "refused: check fault 3 at 25\n",
-    },
-    Case {
-        text: TWO_BREACHES,
-        status: 2,
-        out: "refused: check fault 9 at 71\n",
-    },
-    Case {
-        text: "",
-        status: 2,
-        out: "refused: idl fault 2 at 0\n",
-    },
-    Case {
-        text: "[",
-        status: 2,
-        out: "refused: idl fault 2 at 1\n",
-    },
-    Case {
-        text: "[$",
-        status: 2,
-        out: "refused: idl fault 1 at 1\n",
-    },
-    Case {
-        text: "[version(65536)]",
-        status: 2,
-        out: "refused: idl fault 3 at 9\n",
-    },
-    Case {
-        text: "[version(1.0)] interface i { } ;",
-        status: 2,
-        out: "refused: idl fault 2 at 31\n",
-    },
-    Case {
-        text: "[version(1.0)] interface int { }",
-        status: 2,
-        out: "refused: idl fault 2 at 25\n",
-    },
-    Case {
-        text: "[version(1.0)] interface i { /* }",
-        status: 2,
-        out: "refused: idl fault 1 at 29\n",
-    },
+/// Texts, and their canonical texts.
+const PRINTED: [(&str, &str); 5] = [
+    (PROBE, PROBE),
+    (STORE, STORE),
+    (MAPPER, MAPPER_PRINTED),
+    (FORMS, FORMS_PRINTED),
+    (FORMS_PRINTED, FORMS_PRINTED),
 ];
 
+/// Refusals, and the texts in angle brackets that are refused so. In the second one `void` is the type of a parameter,
+/// and behind it stands an unknown name.
+const REFUSED: &str = "check fault 3 at 25 <[version(1.0)] interface x { } >
+check fault 9 at 71 <[uuid(00000000-0000-0000-0000-00000000000f)] interface x { void f([in] void *p); foo g(); }>
+idl fault 2 at 0 <>
+idl fault 2 at 1 <[>
+idl fault 1 at 1 <[$>
+idl fault 3 at 9 <[version(65536)]>
+idl fault 2 at 31 <[version(1.0)] interface i { } ;>
+idl fault 2 at 25 <[version(1.0)] interface int { }>
+idl fault 1 at 29 <[version(1.0)] interface i { /* }>
+";
+
+/// Whether a text is printed so.
+fn is_printed(alloc: Global, text: &[u8], printed: &str) -> Result<bool, NoMemory> {
+    let wanted = format!(in alloc; "0\n{printed}=>\n")?;
+    Ok(comes_to(alloc, "idl f", text, NO_FAULTS, wanted.as_bytes()))
+}
+
+/// Whether a text is refused so.
+fn is_refused(alloc: Global, text: &[u8], refusal: &str) -> Result<bool, NoMemory> {
+    let wanted = format!(in alloc; "2\nrefused: {refusal}\n=>\n")?;
+    Ok(comes_to(alloc, "idl f", text, NO_FAULTS, wanted.as_bytes()))
+}
+
+/// Whether the text of a row is refused as it says.
+fn row_is_refused(alloc: Global, row: &str) -> Result<bool, NoMemory> {
+    let Some((refusal, rest)) = row.split_once(" <") else {
+        return Ok(false);
+    };
+    let Some(text) = rest.strip_suffix(">") else {
+        return Ok(false);
+    };
+    is_refused(alloc, text.as_bytes(), refusal)
+}
+
 #[test]
-fn interface_texts_are_printed_or_refused(rt: HostRuntime) -> Result<(), Fail> {
-    for case in &CASES {
-        let (status, out) = outcome(&rt, rt.alloc(), octets(rt.alloc(), case.text)?)?;
-        assert_eq!(rt; status, case.status, "{}", case.text);
-        assert_eq!(rt; out.as_slice(), case.out.as_bytes(), "{}", case.text);
+fn interface_texts_are_printed(rt: HostRuntime) -> Result<(), Fail> {
+    for (text, printed) in PRINTED {
+        assert!(rt; is_printed(rt.alloc(), text.as_bytes(), printed)?, "{text}");
+    }
+    Ok(())
+}
+
+#[test]
+fn other_texts_are_refused(rt: HostRuntime) -> Result<(), Fail> {
+    for row in REFUSED.lines() {
+        assert!(rt; row_is_refused(rt.alloc(), row)?, "{row}");
     }
     Ok(())
 }
 
 /// The probe's text behind so many spaces.
-fn behind_spaces(alloc: Global, count: usize) -> Result<Octets, Fail> {
+fn behind_spaces(alloc: Global, count: usize) -> Result<Vec<u8>, NoMemory> {
     let mut text = Vec::new(alloc);
     for _ in 0..count {
         text.push(b' ')?;
     }
     text.extend_from_slice(PROBE.as_bytes())?;
-    Ok(Octets::from_vec(text))
+    Ok(text)
 }
 
 #[test]
 fn a_text_has_at_most_one_mebioctet(rt: HostRuntime) -> Result<(), Fail> {
+    let alloc = rt.alloc();
     let most = 1_048_576 - PROBE.len();
-    let (status, out) = outcome(&rt, rt.alloc(), behind_spaces(rt.alloc(), most)?)?;
-    assert_eq!(rt; status, 0);
-    assert_eq!(rt; out.as_slice(), PROBE.as_bytes());
-    let (status, out) = outcome(&rt, rt.alloc(), behind_spaces(rt.alloc(), most + 1)?)?;
-    assert_eq!(rt; status, 2);
-    assert_eq!(rt; out.as_slice(), b"refused: file too long\n".as_slice());
+    let text = behind_spaces(alloc, most)?;
+    assert!(rt; is_printed(alloc, text.as_slice(), PROBE)?);
+    let text = behind_spaces(alloc, most + 1)?;
+    assert!(rt; is_refused(alloc, text.as_slice(), "file too long")?);
     Ok(())
 }

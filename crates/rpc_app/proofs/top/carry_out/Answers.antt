@@ -1,5 +1,5 @@
 use Rattle.rpc_app.proofs.Made.{not_taken}
-use Rattle.rpc_app.proofs.top.obey.Goals as goal
+use Rattle.rpc_app.proofs.top.carry_out.Goals as goal
 
 pub returns-in-Ok-make-clause-not_taken : goal.returns-in-Ok-make-clause-not_taken
 returns-in-Ok-make-clause-not_taken g c = λ octets told no e.

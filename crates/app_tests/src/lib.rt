@@ -1,0 +1,11 @@
+//! The commands over files and outputs in memory, and scripts that depart at each of their lines.
+#![tactic(auto)]
+
+#[cfg(test)]
+mod departures;
+#[cfg(test)]
+mod idl_texts;
+#[cfg(test)]
+mod outcome;
+#[cfg(test)]
+mod scripts;
