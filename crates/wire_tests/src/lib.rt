@@ -1,0 +1,14 @@
+//! PDUs, streams of them, requests in fragments and presentation contexts, octet for octet: tables of what comes
+//! and what is answered.
+#![tactic(auto)]
+
+#[cfg(test)]
+mod contexts;
+#[cfg(test)]
+mod octets;
+#[cfg(test)]
+mod pdus;
+#[cfg(test)]
+mod rows;
+#[cfg(test)]
+mod streams;
