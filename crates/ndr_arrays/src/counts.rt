@@ -1,7 +1,7 @@
 //! The words in front of an array's elements.
-ghost use Rattle.std.specs.Prelude.{◌≡◌, ◌<◌, ◌≤◌, ◌+◌, ℕ, length, IfOk, Result};
+ghost use Rattle.std.specs.Prelude.{◌≡◌, ◌<◌, ◌≤◌, ◌+◌, ℕ, length, IfOk, Result, Ok};
 ghost use Rattle.ndr_scalars.specs.Scalars.{up};
-ghost use Rattle.ndr_arrays.specs.Counted.{word_at, most_at, within_most, actual_at, counts_at};
+ghost use Rattle.ndr_arrays.specs.Counted.{word_at, most_at, within_most, actual_at, counts_at, HasCounts};
 
 use ndr_scalars::read_word;
 use ndr_value::ArrayKind;
@@ -83,6 +83,22 @@ pub(crate) fn offset_and_count(
 /// before their gap. `moved` is a max_count that stood in front of the outermost structure. It takes
 /// no memory.
 pub fn read_counts(
+    kind: &ArrayKind,
+    order: Order,
+    octets: &[u8],
+    at: usize,
+    moved: Option<u32>,
+) -> Result<(Counts, usize), CountFault>
+    // What is read stands there, and what stands there is read.
+    ensures found { IfOk result (λ x. HasCounts order octets.now moved kind.now x.0 at x.1) }
+    ensures only { (c : _) (j : ℕ) → HasCounts order octets.now moved kind.now c at j → result ≡ Ok (c, j) }
+    // Which departure it is.
+    ensures exact { result ≡ counts_at order octets.now kind.now moved at }
+{
+    all_counts(kind, order, octets, at, moved)
+}
+
+fn all_counts(
     kind: &ArrayKind,
     order: Order,
     octets: &[u8],

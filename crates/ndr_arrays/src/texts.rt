@@ -1,6 +1,6 @@
 //! Texts.
-ghost use Rattle.std.specs.Prelude.{◌≡◌, ◌+◌, ◌-◌, ◌≤◌, ◌==◌, ℕ, List, length, take, drop, position, IfOk, MatchResult, Result, Ok, Err};
-ghost use Rattle.ndr_arrays.specs.Texts.{limit_at, counted_at, in_text, cells_at, before_nul, text_in, text_at};
+ghost use Rattle.std.specs.Prelude.{◌≡◌, ◌+◌, ◌-◌, ◌≤◌, ◌==◌, ℕ, List, length, take, drop, position, IfOk, IsOkAnd, MatchResult, Result, Ok, Err};
+ghost use Rattle.ndr_arrays.specs.Texts.{limit_at, counted_at, in_text, cells_at, before_nul, text_in, text_at, IsText};
 
 use crate::counts::{CountFault, Counts, max_count, offset_and_count};
 use rpc_base::Order;
@@ -82,6 +82,22 @@ fn head(cells: &[u8], place: usize) -> Result<&[u8], TextFault>
 /// is the size of its array where that is fixed, `moved` a max_count that stood in front of the
 /// outermost structure. It takes no memory.
 pub fn read_text(
+    size: Option<u32>,
+    order: Order,
+    octets: &[u8],
+    at: usize,
+    moved: Option<u32>,
+) -> Result<(&[u8], usize), TextFault>
+    // What is read stands there, and what stands there is read.
+    ensures found { IfOk result (λ x. IsText order octets.now size moved x.0.now at x.1) }
+    ensures only { (text : List ℕ) (j : ℕ) → IsText order octets.now size moved text at j → IsOkAnd result (λ x. (x.0.now ≡ text) × (x.1 ≡ j)) }
+    // Which departure it is.
+    ensures exact { MatchResult result (λ x. text_at order octets.now size moved at ≡ Ok (x.0.now, x.1)) (λ e. text_at order octets.now size moved at ≡ Err e) }
+{
+    text_from(size, order, octets, at, moved)
+}
+
+fn text_from(
     size: Option<u32>,
     order: Order,
     octets: &[u8],

@@ -5,3 +5,4 @@ pub mod Stub
 pub mod Reading
 pub mod Scan
 pub mod Build
+pub mod Laws

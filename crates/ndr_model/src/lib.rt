@@ -3,5 +3,7 @@
 #![tactic(auto)]
 
 mod departure;
+mod laws;
 
 pub use departure::Departure;
+pub use laws::read_values_stand;
