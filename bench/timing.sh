@@ -25,8 +25,9 @@ least() { # STATUS COMMAND..
     echo "$best"
 }
 
-# A time in a line, and how it stands to the one before it where there is one.
+# A time in a line, and how it stands to the one before it where there is one. No time ends the script.
 show() { # WHAT MICROSECONDS [MICROSECONDS]
+    [ -n "$2" ] || return 1
     awk -v what="$1" -v now="$2" -v before="${3-}" 'BEGIN {
         printf "%-24s %9.3f s", what, now / 1e6
         if (before != "") printf ", %.2f times the one before", now / before
