@@ -2,13 +2,13 @@
 use Rattle.std.proofs.Common.{◌≡◌, ℕ, ◌<◌, Bool, true, false, eqb, cond, ◌&&◌, not, List, [], ◌∷◌, refl, ap, sym, ◌∙◌, subst, inl, inr, Option, None, Some}
 use Rattle.std.specs.Prelude.{◌⊎◌}
 use Rattle.std.proofs.lemmas.Bool.{eq-eqb}
-use Rattle.ebnf.specs.Ebnf.{Ebnf, Sign, has, Takes}
+use Rattle.ebnf.specs.Ebnf.{Ebnf, Terminal, has, Matches}
 use Rattle.ebnf.specs.Ebnf.Ebnf.{One, Seq, Alt, Opt, Many, Within}
-use Rattle.ebnf.specs.Ebnf.Takes.{one, seq, left, right, none, some, stop, more, within}
+use Rattle.ebnf.specs.Ebnf.Matches.{one, seq, left, right, none, some, stop, more, within}
 use Rattle.ebnf.specs.Machine.{null, joined, or_else, onto, after, Next}
 use Rattle.ebnf.specs.Checks.{first, carry, apart, decides}
-use Rattle.ebnf.specs.Stacks.{TakesAll, Apart}
-use Rattle.ebnf.proofs.Sound.{and_both, cond_is, joined_is, or_is, takes_join}
+use Rattle.ebnf.specs.Stacks.{MatchesAll, Apart}
+use Rattle.ebnf.proofs.Sound.{and_both, cond_is, joined_is, or_is, matches_join}
 use Rattle.ebnf.proofs.Sets.{has_either, has_left, has_right, has_cond, has_given, are_apart, or_left}
 
 not_false : (a : Bool) → not a ≡ true → a ≡ true → ⊥
@@ -72,14 +72,14 @@ module _ (body : ℕ → Ebnf) where
         | inr p ↦ absurd (ap' k (first_carries a k n (after_first a k p.0 p.1)) h)
       ]
 
-  abbrev pub Begun : Ebnf → List Sign → List Sign → Sign → List Sign → Type 0
-  Begun g ts rest k ks = ((null g ≡ true) × (ts ≡ rest)) ⊎ ((t : Next) × (after body g k.class ≡ Some t) × TakesAll body t.wanted ks rest × (k.size < t.limit))
+  abbrev pub Begun : Ebnf → List Terminal → List Terminal → Terminal → List Terminal → Type 0
+  Begun g ts rest k ks = ((null g ≡ true) × (ts ≡ rest)) ⊎ ((t : Next) × (after body g k.class ≡ Some t) × MatchesAll body t.wanted ks rest × (k.size < t.limit))
 
-  pub begins : {g : Ebnf} {ts rest : List Sign} → Takes body g ts rest → (k : Sign) (ks : List Sign) → ts ≡ k ∷ ks → decides body g ≡ true → Begun g ts rest k ks
+  pub begins : {g : Ebnf} {ts rest : List Terminal} → Matches body g ts rest → (k : Terminal) (ks : List Terminal) → ts ≡ k ∷ ks → decides body g ≡ true → Begun g ts rest k ks
   begins (one cs m j us e l) k ks eq d =
       let same : j ≡ k = cc in
-      let h : has k.class cs ≡ true = subst (λ (v : Sign). has v.class cs ≡ true) same e in
-      let n : k.size < m = subst (λ (v : Sign). v.size < m) same l in
+      let h : has k.class cs ≡ true = subst (λ (v : Terminal). has v.class cs ≡ true) same e in
+      let n : k.size < m = subst (λ (v : Terminal). v.size < m) same l in
       inr (record { limit = m; wanted = [] }, cond_true (has k.class cs) (record { limit = m; wanted = [] }) h, cc, n)
   begins (seq {a = a} {b = b} {ts = ts} {mid = mid} {rest = rest} p q) k ks eq d =
       let da = and_both (decides body a) (decides body b && apart (carry a) (first b)) d in
@@ -92,7 +92,7 @@ module _ (body : ℕ → Ebnf) where
               let to : after body (Seq a b) k.class ≡ Some y.0 = ap (λ o. joined o (null a) (b ∷ []) (after body b k.class)) no ∙ (ap (λ n. joined None n (b ∷ []) (after body b k.class)) x.0 ∙ y.1) in
               inr (y.0, to, y.2, y.3)
         ]
-        | inr x ↦ inr (onto x.0 (b ∷ []), ap (λ o. joined o (null a) (b ∷ []) (after body b k.class)) x.1, takes_join body x.0.wanted (b ∷ []) ks mid rest x.2 (rest, q, refl), x.3)
+        | inr x ↦ inr (onto x.0 (b ∷ []), ap (λ o. joined o (null a) (b ∷ []) (after body b k.class)) x.1, matches_join body x.0.wanted (b ∷ []) ks mid rest x.2 (rest, q, refl), x.3)
       ]
   begins (left {a = a} b p) k ks eq d =
       let da = and_both (decides body a) (decides body b && (apart (first a) (first b) && (not (null a) && not (null b)))) d in
@@ -126,13 +126,13 @@ module _ (body : ℕ → Ebnf) where
       let dn = and_both (not (null a)) (apart (carry a) (first a)) da.1 in
       elim (begins p k ks eq da.0) [
         | inl x ↦ absurd (not_false (null a) dn.0 x.0)
-        | inr x ↦ inr (onto x.0 (Many a ∷ []), ap (λ o. joined o false (Many a ∷ []) None) x.1, takes_join body x.0.wanted (Many a ∷ []) ks mid rest x.2 (rest, q, refl), x.3)
+        | inr x ↦ inr (onto x.0 (Many a ∷ []), ap (λ o. joined o false (Many a ∷ []) None) x.1, matches_join body x.0.wanted (Many a ∷ []) ks mid rest x.2 (rest, q, refl), x.3)
       ]
   begins (within o r c m j {ts = us} {mid = mid} {rest = rest} i l p q) k ks eq d =
       let same : j ≡ k = cc in
       let tail : us ≡ ks = cc in
       let next : Next = record { limit = m; wanted = body r ∷ One (c ∷ []) m ∷ [] } in
-      let all : TakesAll body (body r ∷ One (c ∷ []) m ∷ []) us rest = (mid, p, (rest, q, refl)) in
-      let n : k.size < m = subst (λ (v : Sign). v.size < m) same l in
-      let h : k.class ≡ o = subst (λ (v : Sign). v.class ≡ o) same i in
-      inr (next, cond_true (eqb k.class o) next (eq-eqb k.class o h), subst (λ (v : List Sign). TakesAll body (body r ∷ One (c ∷ []) m ∷ []) v rest) tail all, n)
+      let all : MatchesAll body (body r ∷ One (c ∷ []) m ∷ []) us rest = (mid, p, (rest, q, refl)) in
+      let n : k.size < m = subst (λ (v : Terminal). v.size < m) same l in
+      let h : k.class ≡ o = subst (λ (v : Terminal). v.class ≡ o) same i in
+      inr (next, cond_true (eqb k.class o) next (eq-eqb k.class o h), subst (λ (v : List Terminal). MatchesAll body (body r ∷ One (c ∷ []) m ∷ []) v rest) tail all, n)

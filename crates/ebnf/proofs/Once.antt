@@ -2,13 +2,13 @@
 use Rattle.std.proofs.Common.{◌≡◌, ℕ, ◌<◌, Bool, true, false, cond, ◌&&◌, not, List, [], ◌∷◌, refl, ap, sym, ◌∙◌, subst, inl, inr, Option, None, Some, nat_lt}
 use Rattle.std.specs.Prelude.{◌⊎◌, Result, Ok}
 use Rattle.std.proofs.lemmas.Bool.{lt-ltb}
-use Rattle.ebnf.specs.Ebnf.{Ebnf, Sign, has, Takes}
-use Rattle.ebnf.specs.Ebnf.Takes.{one, seq, left, right, none, some, stop, more, within}
+use Rattle.ebnf.specs.Ebnf.{Ebnf, Terminal, has, Matches}
+use Rattle.ebnf.specs.Ebnf.Matches.{one, seq, left, right, none, some, stop, more, within}
 use Rattle.ebnf.specs.Machine.{null, nulls, joined, onto, after, after_all, Next, Stuck, ended, sized, go}
 use Rattle.ebnf.specs.Checks.{first, carry, apart, decides, firsts, carries}
-use Rattle.ebnf.specs.Stacks.{TakesAll, Good}
+use Rattle.ebnf.specs.Stacks.{MatchesAll, Good}
 use Rattle.ebnf.specs.Laws.{EndsIn}
-use Rattle.ebnf.proofs.Sound.{and_both, joined_is, takes_join}
+use Rattle.ebnf.proofs.Sound.{and_both, joined_is, matches_join}
 use Rattle.ebnf.proofs.Sets.{has_either, has_left, has_right, has_cond, has_given}
 use Rattle.ebnf.proofs.Complete.{begins, passed, first_carries}
 use Rattle.ebnf.proofs.Stacks.{all_good, all_first, after_good, carries_join}
@@ -31,7 +31,7 @@ all_carry (g ∷ s) c n h =
     ]
 
 module _ (body : ℕ → Ebnf) where
-  nothing : {g : Ebnf} {ts rest : List Sign} → Takes body g ts rest → ts ≡ [] → decides body g ≡ true → (null g ≡ true) × (rest ≡ [])
+  nothing : {g : Ebnf} {ts rest : List Terminal} → Matches body g ts rest → ts ≡ [] → decides body g ≡ true → (null g ≡ true) × (rest ≡ [])
   nothing (one cs m j us e l) i d = cc
   nothing (seq {a = a} {b = b} p q) i d =
       let da = and_both (decides body a) (decides body b && apart (carry a) (first b)) d in
@@ -59,25 +59,25 @@ module _ (body : ℕ → Ebnf) where
       absurd (not_both (null a) dn.0 (nothing p i da.0).0)
   nothing (within o r c m j e l p q) i d = cc
 
-  pub all_nothing : (s : List Ebnf) (rest : List Sign) → Good body s → TakesAll body s [] rest → (nulls s ≡ true) × (rest ≡ [])
+  pub all_nothing : (s : List Ebnf) (rest : List Terminal) → Good body s → MatchesAll body s [] rest → (nulls s ≡ true) × (rest ≡ [])
   all_nothing [] rest h a = (refl, sym a)
   all_nothing (g ∷ s) rest h a =
       let u = nothing a.1 refl h.0 in
-      let v = all_nothing s rest h.2 (subst (λ (x : List Sign). TakesAll body s x rest) u.1 a.2) in
+      let v = all_nothing s rest h.2 (subst (λ (x : List Terminal). MatchesAll body s x rest) u.1 a.2) in
       (and_both_true (null g) (nulls s) u.0 v.0, v.1)
 
-  all_begun : (s : List Ebnf) (k : Sign) (ks rest : List Sign) → Good body s → TakesAll body s (k ∷ ks) rest → ((nulls s ≡ true) × (k ∷ ks ≡ rest)) ⊎ ((t : Next) × (after_all body s k.class ≡ Some t) × TakesAll body t.wanted ks rest × (k.size < t.limit))
+  all_begun : (s : List Ebnf) (k : Terminal) (ks rest : List Terminal) → Good body s → MatchesAll body s (k ∷ ks) rest → ((nulls s ≡ true) × (k ∷ ks ≡ rest)) ⊎ ((t : Next) × (after_all body s k.class ≡ Some t) × MatchesAll body t.wanted ks rest × (k.size < t.limit))
   all_begun [] k ks rest h a = inl (refl, a)
   all_begun (g ∷ s) k ks rest h a =
       elim (begins body a.1 k ks refl h.0) [
-        | inl p ↦ elim (all_begun s k ks rest h.2 (subst (λ (v : List Sign). TakesAll body s v rest) (sym p.1) a.2)) [
+        | inl p ↦ elim (all_begun s k ks rest h.2 (subst (λ (v : List Terminal). MatchesAll body s v rest) (sym p.1) a.2)) [
           | inl q ↦ inl (and_both_true (null g) (nulls s) p.0 q.0, q.1)
           | inr i ↦
               let no = passed body g k.class (firsts s) p.0 h.1 (all_first body s k.class i.0 i.1) in
               let to : after_all body (g ∷ s) k.class ≡ Some i.0 = ap (λ o. joined o (null g) s (after_all body s k.class)) no ∙ (ap (λ n. joined None n s (after_all body s k.class)) p.0 ∙ i.1) in
               inr (i.0, to, i.2, i.3)
         ]
-        | inr p ↦ inr (onto p.0 s, ap (λ o. joined o (null g) s (after_all body s k.class)) p.1, takes_join body p.0.wanted s ks a.0 rest p.2 a.2, p.3)
+        | inr p ↦ inr (onto p.0 s, ap (λ o. joined o (null g) s (after_all body s k.class)) p.1, matches_join body p.0.wanted s ks a.0 rest p.2 a.2, p.3)
       ]
 
   module _ (rules : (r : ℕ) → decides body (body r) ≡ true) where
@@ -94,26 +94,26 @@ module _ (body : ℕ → Ebnf) where
           | inr p ↦ has_left c (carries s) (cond (nulls s) (carry g) []) (carries_on s k t c h.2 p.2 i)
         ]
 
-    ends_on : (s : List Ebnf) (k : ℕ) (t : Next) (rest : List Sign) → Good body s → after_all body s k ≡ Some t → EndsIn s rest → EndsIn t.wanted rest
+    ends_on : (s : List Ebnf) (k : ℕ) (t : Next) (rest : List Terminal) → Good body s → after_all body s k ≡ Some t → EndsIn s rest → EndsIn t.wanted rest
     ends_on s k t [] h e n = tt
     ends_on s k t (j ∷ rest) h e n = λ i. n (carries_on s k t j.class h e i)
 
-    abbrev At : List Ebnf → Sign → List Sign → Option Next → Result (List Sign) Stuck
-    At s k ks o = elim o as (λ _. Result (List Sign) Stuck) [ Some t ↦ sized (nat_lt k.size t.limit) (go body t.wanted ks) (k ∷ ks) | None ↦ ended (nulls s) (k ∷ ks) ]
+    abbrev At : List Ebnf → Terminal → List Terminal → Option Next → Result (List Terminal) Stuck
+    At s k ks o = elim o as (λ _. Result (List Terminal) Stuck) [ Some t ↦ sized (nat_lt k.size t.limit) (go body t.wanted ks) (k ∷ ks) | None ↦ ended (nulls s) (k ∷ ks) ]
 
-    over : (s : List Ebnf) (k : Sign) (ks : List Sign) (o : Option Next) → after_all body s k.class ≡ o → nulls s ≡ true → EndsIn s (k ∷ ks) → At s k ks o ≡ Ok (k ∷ ks)
+    over : (s : List Ebnf) (k : Terminal) (ks : List Terminal) (o : Option Next) → after_all body s k.class ≡ o → nulls s ≡ true → EndsIn s (k ∷ ks) → At s k ks o ≡ Ok (k ∷ ks)
     over s k ks (Some t) e n f = absurd (f (all_carry s k.class n (all_first body s k.class t e)))
     over s k ks None e n f = ap (λ b. ended b (k ∷ ks)) n
 
     -- what is taken, with nothing behind it that would carry it on, is what the machine goes along
-    pub go_complete : (s : List Ebnf) (ts rest : List Sign) → Good body s → TakesAll body s ts rest → EndsIn s rest → go body s ts ≡ Ok rest
+    pub go_complete : (s : List Ebnf) (ts rest : List Terminal) → Good body s → MatchesAll body s ts rest → EndsIn s rest → go body s ts ≡ Ok rest
     unfolding go
     go_complete s [] rest h a f =
         let p = all_nothing s rest h a in
-        ap (λ b. ended b []) p.0 ∙ ap (λ (x : List Sign). Ok x) (sym p.1)
+        ap (λ b. ended b []) p.0 ∙ ap (λ (x : List Terminal). Ok x) (sym p.1)
     go_complete s (k ∷ ks) rest h a f =
         elim (all_begun s k ks rest h a) [
-          | inl p ↦ over s k ks (after_all body s k.class) refl p.0 (subst (EndsIn s) (sym p.1) f) ∙ ap (λ (x : List Sign). Ok x) p.1
+          | inl p ↦ over s k ks (after_all body s k.class) refl p.0 (subst (EndsIn s) (sym p.1) f) ∙ ap (λ (x : List Terminal). Ok x) p.1
           | inr p ↦
               ap (At s k ks) p.1
               ∙ (ap (λ b. sized b (go body p.0.wanted ks) (k ∷ ks)) (lt-ltb k.size p.0.limit p.3)
@@ -121,5 +121,5 @@ module _ (body : ℕ → Ebnf) where
         ]
 
     -- so a front is taken in one way
-    pub one_way : (s : List Ebnf) (ts r q : List Sign) → Good body s → TakesAll body s ts r → TakesAll body s ts q → EndsIn s r → EndsIn s q → r ≡ q
+    pub one_way : (s : List Ebnf) (ts r q : List Terminal) → Good body s → MatchesAll body s ts r → MatchesAll body s ts q → EndsIn s r → EndsIn s q → r ≡ q
     one_way s ts r q h a b f g = let e = go_complete s ts r h a f in let i = go_complete s ts q h b g in cc

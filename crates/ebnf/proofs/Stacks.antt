@@ -1,12 +1,12 @@
 -- Stacks of grammars that one token decides stay so.
 use Rattle.std.proofs.Common.{◌≡◌, ℕ, ◌<◌, Bool, true, false, eqb, cond, ◌&&◌, not, List, [], ◌∷◌, ◌++◌, refl, ap, sym, ◌∙◌, subst, inl, inr, None, Some}
 use Rattle.std.specs.Prelude.{◌⊎◌}
-use Rattle.ebnf.specs.Ebnf.{Ebnf, Sign, has}
+use Rattle.ebnf.specs.Ebnf.{Ebnf, Terminal, has}
 use Rattle.ebnf.specs.Ebnf.Ebnf.{One, Seq, Alt, Opt, Many, Within}
 use Rattle.ebnf.specs.Machine.{null, nulls, joined, onto, after, after_all, Next}
 use Rattle.ebnf.specs.Checks.{first, carry, apart, decides, firsts, carries}
-use Rattle.ebnf.specs.Stacks.{TakesAll, Good, Apart}
-use Rattle.ebnf.proofs.Sound.{and_both, cond_is, joined_is, or_is, takes_join}
+use Rattle.ebnf.specs.Stacks.{MatchesAll, Good, Apart}
+use Rattle.ebnf.proofs.Sound.{and_both, cond_is, joined_is, or_is, matches_join}
 use Rattle.ebnf.proofs.Joins.{nulls-append}
 use Rattle.ebnf.proofs.Sets.{has_either, has_left, has_right, has_cond, has_given, are_apart}
 use Rattle.ebnf.proofs.Complete.{begins, passed, after_first}
@@ -130,14 +130,14 @@ module _ (body : ℕ → Ebnf) where
       ]
 
   -- what takes a token and all behind it, the machine takes there
-  pub all_begins : (s : List Ebnf) (k : Sign) (ks : List Sign) → Good body s → TakesAll body s (k ∷ ks) [] → (t : Next) × (after_all body s k.class ≡ Some t) × TakesAll body t.wanted ks [] × (k.size < t.limit)
+  pub all_begins : (s : List Ebnf) (k : Terminal) (ks : List Terminal) → Good body s → MatchesAll body s (k ∷ ks) [] → (t : Next) × (after_all body s k.class ≡ Some t) × MatchesAll body t.wanted ks [] × (k.size < t.limit)
   all_begins [] k ks h a = cc
   all_begins (g ∷ s) k ks h a =
       elim (begins body a.1 k ks refl h.0) [
         | inl p ↦
-            let i = all_begins s k ks h.2 (subst (λ (v : List Sign). TakesAll body s v []) (sym p.1) a.2) in
+            let i = all_begins s k ks h.2 (subst (λ (v : List Terminal). MatchesAll body s v []) (sym p.1) a.2) in
             let no = passed body g k.class (firsts s) p.0 h.1 (all_first s k.class i.0 i.1) in
             let to : after_all body (g ∷ s) k.class ≡ Some i.0 = ap (λ o. joined o (null g) s (after_all body s k.class)) no ∙ (ap (λ n. joined None n s (after_all body s k.class)) p.0 ∙ i.1) in
             (i.0, to, i.2, i.3)
-        | inr p ↦ (onto p.0 s, ap (λ o. joined o (null g) s (after_all body s k.class)) p.1, takes_join body p.0.wanted s ks a.0 [] p.2 a.2, p.3)
+        | inr p ↦ (onto p.0 s, ap (λ o. joined o (null g) s (after_all body s k.class)) p.1, matches_join body p.0.wanted s ks a.0 [] p.2 a.2, p.3)
       ]

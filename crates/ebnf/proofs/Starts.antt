@@ -2,7 +2,7 @@
 use Rattle.std.proofs.Common.{◌≡◌, ℕ, Bool, true, false, eqb, cond, ◌&&◌, ◌||◌, List, [], ◌∷◌, refl, ap, sym, ◌∙◌, Option, None, Some}
 use Rattle.std.proofs.Math.Bool.{or-false}
 use Rattle.std.proofs.lemmas.List.Folds.{list_any-append}
-use Rattle.ebnf.specs.Ebnf.{Ebnf, Sign, has}
+use Rattle.ebnf.specs.Ebnf.{Ebnf, Terminal, has}
 use Rattle.ebnf.specs.Ebnf.Ebnf.{One, Seq, Alt, Opt, Many, Within}
 use Rattle.ebnf.specs.Machine.{null, joined, or_else, after, there, Next, starts}
 use Rattle.ebnf.specs.Checks.{first, heads}
@@ -40,6 +40,6 @@ module _ (body : ℕ → Ebnf) where
   there_first (Many a) k = there_joined (after body a k) false (Many a ∷ []) None ∙ (or-false (there (after body a k)) ∙ there_first a k)
   there_first (Within o r c m) k = there_cond (eqb k o) (record { limit = m; wanted = body r ∷ One (c ∷ []) m ∷ [] }) ∙ sym (or-false (eqb k o))
 
-  pub starts_first : (g : Ebnf) (ks : List Sign) → starts body g ks ≡ heads (first g) ks
+  pub starts_first : (g : Ebnf) (ks : List Terminal) → starts body g ks ≡ heads (first g) ks
   starts_first g [] = refl
   starts_first g (k ∷ ks) = there_first g k.class

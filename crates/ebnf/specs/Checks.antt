@@ -1,7 +1,7 @@
 -- The tests by which one token decides.
 use Rattle.std.specs.Prelude.{ℕ, Bool, true, false, nat_lt, cond, not, ◌&&◌, List, [], ◌∷◌, ◌++◌}
 use Rattle.std.specs.List.{list_all}
-use Rattle.ebnf.specs.Ebnf.{Ebnf, Sign, has}
+use Rattle.ebnf.specs.Ebnf.{Ebnf, Terminal, has}
 use Rattle.ebnf.specs.Ebnf.Ebnf.{One, Seq, Alt, Opt, Many, Within}
 use Rattle.ebnf.specs.Machine.{null, nulls}
 
@@ -59,6 +59,6 @@ fulls [] = true
 fulls (g ∷ s) = full g && fulls s
 
 -- is the next token of one of these classes?
-abbrev pub heads : List ℕ → List Sign → Bool
+abbrev pub heads : List ℕ → List Terminal → Bool
 heads cs [] = false
 heads cs (k ∷ ks) = has k.class cs

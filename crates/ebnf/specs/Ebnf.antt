@@ -1,8 +1,8 @@
--- Grammars as values, and what they take. A token is seen as a sign: a class, and a size that a grammar may bound.
+-- Grammars as values, and what they take. A token is seen as a terminal: a class, and a size that a grammar may bound.
 use Rattle.std.specs.Prelude.{◌≡◌, ℕ, ◌<◌, Bool, true, eqb, List, [], ◌∷◌}
 use Rattle.std.specs.List.{list_any}
 
-pub record Sign : Type 0 where
+pub record Terminal : Type 0 where
   pub class : ℕ
   pub size : ℕ
 
@@ -19,13 +19,13 @@ pub data Ebnf : Type 0 where
   Within : ℕ → ℕ → ℕ → ℕ → Ebnf  -- an opening token of a size below the limit, what a rule has, a closing token
 
 -- From ts the grammar takes a front, and leaves rest. The rules' bodies are given.
-pub data Takes (body : ℕ → Ebnf) : Ebnf → List Sign → List Sign → Type 0 where
-  one : (cs : List ℕ) (m : ℕ) (k : Sign) (ts : List Sign) → has k.class cs ≡ true → k.size < m → Takes body (One cs m) (k ∷ ts) ts
-  seq : {a b : Ebnf} {ts mid rest : List Sign} → Takes body a ts mid → Takes body b mid rest → Takes body (Seq a b) ts rest
-  left : {a : Ebnf} (b : Ebnf) {ts rest : List Sign} → Takes body a ts rest → Takes body (Alt a b) ts rest
-  right : (a : Ebnf) {b : Ebnf} {ts rest : List Sign} → Takes body b ts rest → Takes body (Alt a b) ts rest
-  none : (a : Ebnf) (ts : List Sign) → Takes body (Opt a) ts ts
-  some : {a : Ebnf} {ts rest : List Sign} → Takes body a ts rest → Takes body (Opt a) ts rest
-  stop : (a : Ebnf) (ts : List Sign) → Takes body (Many a) ts ts
-  more : {a : Ebnf} {ts mid rest : List Sign} → Takes body a ts mid → Takes body (Many a) mid rest → Takes body (Many a) ts rest
-  within : (o r c m : ℕ) (k : Sign) {ts mid rest : List Sign} → k.class ≡ o → k.size < m → Takes body (body r) ts mid → Takes body (One (c ∷ []) m) mid rest → Takes body (Within o r c m) (k ∷ ts) rest
+pub data Matches (body : ℕ → Ebnf) : Ebnf → List Terminal → List Terminal → Type 0 where
+  one : (cs : List ℕ) (m : ℕ) (k : Terminal) (ts : List Terminal) → has k.class cs ≡ true → k.size < m → Matches body (One cs m) (k ∷ ts) ts
+  seq : {a b : Ebnf} {ts mid rest : List Terminal} → Matches body a ts mid → Matches body b mid rest → Matches body (Seq a b) ts rest
+  left : {a : Ebnf} (b : Ebnf) {ts rest : List Terminal} → Matches body a ts rest → Matches body (Alt a b) ts rest
+  right : (a : Ebnf) {b : Ebnf} {ts rest : List Terminal} → Matches body b ts rest → Matches body (Alt a b) ts rest
+  none : (a : Ebnf) (ts : List Terminal) → Matches body (Opt a) ts ts
+  some : {a : Ebnf} {ts rest : List Terminal} → Matches body a ts rest → Matches body (Opt a) ts rest
+  stop : (a : Ebnf) (ts : List Terminal) → Matches body (Many a) ts ts
+  more : {a : Ebnf} {ts mid rest : List Terminal} → Matches body a ts mid → Matches body (Many a) mid rest → Matches body (Many a) ts rest
+  within : (o r c m : ℕ) (k : Terminal) {ts mid rest : List Terminal} → k.class ≡ o → k.size < m → Matches body (body r) ts mid → Matches body (One (c ∷ []) m) mid rest → Matches body (Within o r c m) (k ∷ ts) rest

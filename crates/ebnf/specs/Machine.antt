@@ -1,6 +1,6 @@
 -- The machine that goes along a grammar, a token at a time, by what is still wanted.
 use Rattle.std.specs.Prelude.{ℕ, Bool, true, false, eqb, nat_lt, if◌then◌else◌, cond, ◌&&◌, List, [], ◌∷◌, ◌++◌, Option, None, Some, Result, Ok, Err}
-use Rattle.ebnf.specs.Ebnf.{Ebnf, Sign, has}
+use Rattle.ebnf.specs.Ebnf.{Ebnf, Terminal, has}
 use Rattle.ebnf.specs.Ebnf.Ebnf.{One, Seq, Alt, Opt, Many, Within}
 
 abbrev pub null : Ebnf → Bool
@@ -49,20 +49,20 @@ nulls (g ∷ s) = null g && nulls s
 -- where it stopped, and whether the token's size alone is at fault
 pub record Stuck : Type 0 where
   pub odd : Bool
-  pub rest : List Sign
+  pub rest : List Terminal
 
 abbrev pub there : Option Next → Bool
 there None = false
 there (Some t) = true
 
-abbrev pub ended : Bool → List Sign → Result (List Sign) Stuck
+abbrev pub ended : Bool → List Terminal → Result (List Terminal) Stuck
 ended n ks = if n then Ok ks else Err (record { odd = false; rest = ks })
 
-abbrev pub sized : Bool → Result (List Sign) Stuck → List Sign → Result (List Sign) Stuck
+abbrev pub sized : Bool → Result (List Terminal) Stuck → List Terminal → Result (List Terminal) Stuck
 sized b r ks = if b then r else Err (record { odd = true; rest = ks })
 
 -- goes along what is wanted as far as the tokens do
-unfoldable pub go : (ℕ → Ebnf) → List Ebnf → List Sign → Result (List Sign) Stuck
+unfoldable pub go : (ℕ → Ebnf) → List Ebnf → List Terminal → Result (List Terminal) Stuck
 go body s [] = ended (nulls s) []
 go body s (k ∷ ks) = elim (after_all body s k.class) [
   | Some t ↦ sized (nat_lt k.size t.limit) (go body t.wanted ks) (k ∷ ks)
@@ -70,21 +70,21 @@ go body s (k ∷ ks) = elim (after_all body s k.class) [
 ]
 
 -- along one grammar
-unfoldable pub parse : (ℕ → Ebnf) → Ebnf → List Sign → Result (List Sign) Stuck
+unfoldable pub parse : (ℕ → Ebnf) → Ebnf → List Terminal → Result (List Terminal) Stuck
 parse body g ks = go body (g ∷ []) ks
 
 -- the first answer, and from what it leaves the second
 infixl 10 ◌>>=◌
-abbrev pub ◌>>=◌ : Result (List Sign) Stuck → (List Sign → Result (List Sign) Stuck) → Result (List Sign) Stuck
+abbrev pub ◌>>=◌ : Result (List Terminal) Stuck → (List Terminal → Result (List Terminal) Stuck) → Result (List Terminal) Stuck
 (Ok ks) >>= f = f ks
 (Err e) >>= f = Err e
 
 -- the next token, if it is of these classes, and its size below the limit
-abbrev pub token : List ℕ → ℕ → List Sign → Result (List Sign) Stuck
+abbrev pub token : List ℕ → ℕ → List Terminal → Result (List Terminal) Stuck
 token cs m [] = Err (record { odd = false; rest = [] })
 token cs m (k ∷ ks) = if has k.class cs then sized (nat_lt k.size m) (Ok ks) (k ∷ ks) else Err (record { odd = false; rest = k ∷ ks })
 
 -- does it begin with the next token's class?
-abbrev pub starts : (ℕ → Ebnf) → Ebnf → List Sign → Bool
+abbrev pub starts : (ℕ → Ebnf) → Ebnf → List Terminal → Bool
 starts body g [] = false
 starts body g (k ∷ ks) = there (after body g k.class)

@@ -3,7 +3,7 @@ ghost use Rattle.std.specs.Prelude.{◌≡◌, IfOk};
 ghost use Rattle.idl_forms.specs.Forms.{Same};
 ghost use Rattle.idl_rules.specs.Broken.{NoneBroken};
 
-use idl_copy::copy_tree;
+use idl_forms::copy_tree;
 use idl_same::same_trees_break_the_same_rules;
 use idl_tree::Ast;
 use rpc_base::NoMemory;

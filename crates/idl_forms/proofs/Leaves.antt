@@ -10,7 +10,7 @@ use Rattle.idl_tokens.specs.declared.marks.Mark.TheVariants as marks
 use Rattle.idl_tokens.specs.declared.marks.Bracket.{Bracket}
 use Rattle.idl_tokens.specs.declared.marks.Bracket.TheVariants as brackets
 use Rattle.idl_tokens.specs.declared.kinds.Kind.TheVariants as kinds
-use Rattle.idl_tokens.specs.Signs.{of_word, of_mark, opening}
+use Rattle.idl_tokens.specs.Terminals.{of_word, of_mark, opening, number_class, text_class}
 use Rattle.uuid.specs.declared.Uuid.{Uuid}
 use Rattle.idl_tree.specs.declared.leaf.Ident.{Ident}
 use Rattle.idl_tree.specs.declared.leaf.Num.{Num}
@@ -32,6 +32,7 @@ use Rattle.idl_forms.specs.Forms.{if_there, ident_form, num_form, ref_form, size
 use Rattle.idl_forms.proofs.Stream.{has_itself, Seen, class, heads}
 use Rattle.idl_forms.proofs.Readers.{mapped, both, behind, upto, split, single, flag, maybe, loop, listed, maybe_listed, at_place}
 use Rattle.idl_forms.proofs.Reading.{Reads, heads_append, heads_placed, reads_as, reads_any, reads_right, reads_fewer, reads_mapped, reads_both, reads_then, behind_word, upto_mark, inside, split_yes, split_no, split_none, reads_single, reads_bad, flag_word, flag_mark, maybe_none, maybe_some, reads_placed, reads_loop, reads_listed, reads_maybe_listed}
+use Rattle.idl_tree.specs.Grammar.{name_classes}
 
 -- ---- what tokens hold
 
@@ -76,16 +77,16 @@ as_num_of p = record { at = p.0; minus = p.1.0; value = p.1.1 }
 
 -- with its minus, or alone
 abbrev pub a_num : List Seen → Num × List Seen
-a_num = mapped as_num_of (at_place (both (flag 55) a_value))
+a_num = mapped as_num_of (at_place (both (flag (of_mark marks.Minus)) a_value))
 
 abbrev pk_by : ℕ → Pk
-pk_by c = if eqb c 6 then pks.Ref else (if eqb c 7 then pks.Unique else pks.Ptr)
+pk_by c = if eqb c (of_word words.Ref) then pks.Ref else (if eqb c (of_word words.Unique) then pks.Unique else pks.Ptr)
 
 abbrev pub a_pk : List Seen → Pk × List Seen
 a_pk = single (λ s. pk_by (class s.what)) pks.Ref
 
 abbrev size_by : ℕ → ℕ
-size_by c = if eqb c 31 then 1 else (if eqb c 32 then 2 else (if eqb c 33 then 4 else 8))
+size_by c = if eqb c (of_word words.Small) then 1 else (if eqb c (of_word words.Short) then 2 else (if eqb c (of_word words.Long) then 4 else 8))
 
 abbrev an_int_size : List Seen → ℕ × List Seen
 an_int_size = single (λ s. size_by (class s.what)) 0
@@ -95,19 +96,19 @@ as_base u None = bases.Char u
 as_base u (Some p) = bases.Int u p.0 p.1
 
 abbrev an_int : List Seen → Base × List Seen
-an_int = mapped (λ p. as_base p.0 p.1) (both (flag 29) (split (30 ∷ []) (a_token None) (mapped Some (both an_int_size (flag 35)))))
+an_int = mapped (λ p. as_base p.0 p.1) (both (flag (of_word words.Unsigned)) (split (of_word words.Char ∷ []) (a_token None) (mapped Some (both an_int_size (flag (of_word words.Int))))))
 
 abbrev pub a_base : List Seen → Base × List Seen
-a_base = split (27 ∷ []) (a_token bases.Boolean) (split (28 ∷ []) (a_token bases.Byte) an_int)
+a_base = split (of_word words.Boolean ∷ []) (a_token bases.Boolean) (split (of_word words.Byte ∷ []) (a_token bases.Byte) an_int)
 
 abbrev a_size : List Seen → ArraySize × List Seen
-a_size = split (71 ∷ 55 ∷ []) (mapped sizes.Number a_num) (split (70 ∷ []) (mapped sizes.Named a_name) (mapped (λ star. if star then sizes.Star else sizes.Empty) (flag 53)))
+a_size = split (number_class ∷ of_mark marks.Minus ∷ []) (mapped sizes.Number a_num) (split name_classes (mapped sizes.Named a_name) (mapped (λ star. if star then sizes.Star else sizes.Empty) (flag (of_mark marks.Star))))
 
 abbrev an_array : List Seen → Option ArraySize × List Seen
-an_array = maybe (60 ∷ []) (behind (upto a_size))
+an_array = maybe (opening brackets.Square ∷ []) (behind (upto a_size))
 
 abbrev stars : ℕ → List Seen → ℕ × List Seen
-stars n = mapped length (loop n (53 ∷ []) (a_token zero))
+stars n = mapped length (loop n (of_mark marks.Star ∷ []) (a_token zero))
 
 abbrev as_dtor : ℕ × (Ident × Option ArraySize) → Dtor
 as_dtor p = record { stars = p.0; name = p.1.0; array = p.1.1 }
@@ -116,10 +117,10 @@ abbrev pub a_dtor : ℕ → List Seen → Dtor × List Seen
 a_dtor n = mapped as_dtor (both (stars n) (both a_name an_array))
 
 abbrev pub a_ref : List Seen → SizeRef × List Seen
-a_ref = split (71 ∷ 55 ∷ []) (mapped refs.Number a_num) (mapped (λ p. refs.Named p.0 p.1) (both (flag 53) a_name))
+a_ref = split (number_class ∷ of_mark marks.Minus ∷ []) (mapped refs.Number a_num) (mapped (λ p. refs.Named p.0 p.1) (both (flag (of_mark marks.Star)) a_name))
 
 abbrev a_label_kind : List Seen → LabelKind × List Seen
-a_label_kind = split (41 ∷ []) (behind (a_token labels.Default)) (behind (upto (split (71 ∷ 55 ∷ []) (mapped labels.Number a_num) (mapped labels.Named a_name))))
+a_label_kind = split (of_word words.Default ∷ []) (behind (a_token labels.Default)) (behind (upto (split (number_class ∷ of_mark marks.Minus ∷ []) (mapped labels.Number a_num) (mapped labels.Named a_name))))
 
 abbrev as_label : ℕ × LabelKind → Label
 as_label p = record { at = p.0; what = p.1 }
@@ -128,7 +129,7 @@ abbrev pub a_label : List Seen → Label × List Seen
 a_label = mapped as_label (at_place a_label_kind)
 
 abbrev pub a_tag : List Seen → Option Ident × List Seen
-a_tag = maybe (70 ∷ []) a_name
+a_tag = maybe name_classes a_name
 
 -- ---- first tokens
 
@@ -152,37 +153,37 @@ pub open_heads : (b : Bracket) (ps : Pieces) → heads (opening b ∷ []) (withi
 unfolding open_pieces
 open_heads b ps = has_itself (opening b)
 
-num_heads : (n : Num) → heads (71 ∷ 55 ∷ []) (num_pieces n) ≡ true
+num_heads : (n : Num) → heads (number_class ∷ of_mark marks.Minus ∷ []) (num_pieces n) ≡ true
 unfolding num_pieces number_pieces mark_pieces
-num_heads n = elim n.minus as (λ b. heads (71 ∷ 55 ∷ []) (cond b (placed n.at (mark_pieces marks.Minus) ++ alone (kinds.Number (Some n.value)) ∷ []) (number_pieces n.at n.value)) ≡ true) [ true ↦ refl | false ↦ refl ]
+num_heads n = elim n.minus as (λ b. heads (number_class ∷ of_mark marks.Minus ∷ []) (cond b (placed n.at (mark_pieces marks.Minus) ++ alone (kinds.Number (Some n.value)) ∷ []) (number_pieces n.at n.value)) ≡ true) [ true ↦ refl | false ↦ refl ]
 
-pub ident_heads : (i : Ident) → heads (70 ∷ []) (ident_pieces i) ≡ true
+pub ident_heads : (i : Ident) → heads name_classes (ident_pieces i) ≡ true
 unfolding ident_pieces
 ident_heads i = refl
 
-pub text_heads : (t : List ℕ) → heads (72 ∷ []) (text_pieces t) ≡ true
+pub text_heads : (t : List ℕ) → heads (text_class ∷ []) (text_pieces t) ≡ true
 unfolding text_pieces
 text_heads t = refl
 
-label_kind_heads : (k : LabelKind) → heads (40 ∷ 41 ∷ []) (label_kind_pieces k) ≡ true
+label_kind_heads : (k : LabelKind) → heads (of_word words.Case ∷ of_word words.Default ∷ []) (label_kind_pieces k) ≡ true
 unfolding label_kind_pieces word_pieces
 label_kind_heads (labels.Number n) = refl
 label_kind_heads (labels.Named i) = refl
 label_kind_heads labels.Default = refl
 
-pub label_heads : (l : Label) → heads (40 ∷ 41 ∷ []) (label_pieces l) ≡ true
+pub label_heads : (l : Label) → heads (of_word words.Case ∷ of_word words.Default ∷ []) (label_pieces l) ≡ true
 unfolding label_pieces
-label_heads l = heads_placed (40 ∷ 41 ∷ []) l.at (label_kind_pieces l.what) (label_kind_heads l.what)
+label_heads l = heads_placed (of_word words.Case ∷ of_word words.Default ∷ []) l.at (label_kind_pieces l.what) (label_kind_heads l.what)
 
 -- behind stars a name
-pub dtor_heads : (d : Dtor) → heads (53 ∷ 70 ∷ []) (dtor_pieces d) ≡ true
+pub dtor_heads : (d : Dtor) → heads (of_mark marks.Star ∷ name_classes) (dtor_pieces d) ≡ true
 unfolding dtor_pieces star_pieces mark_pieces ident_pieces
-dtor_heads d = elim d.stars as (λ n. heads (53 ∷ 70 ∷ []) (star_pieces n ++ (ident_pieces d.name ++ array_pieces d.array)) ≡ true) [ zero ↦ refl | suc n ↦ refl ]
+dtor_heads d = elim d.stars as (λ n. heads (of_mark marks.Star ∷ name_classes) (star_pieces n ++ (ident_pieces d.name ++ array_pieces d.array)) ≡ true) [ zero ↦ refl | suc n ↦ refl ]
 
-pub dtors_heads : (ds : List Dtor) → heads (53 ∷ 70 ∷ []) (dtors_pieces ds) ≡ true
+pub dtors_heads : (ds : List Dtor) → heads (of_mark marks.Star ∷ name_classes) (dtors_pieces ds) ≡ true
 unfolding dtors_pieces
 dtors_heads [] = refl
-dtors_heads (d ∷ ds) = heads_append (53 ∷ 70 ∷ []) (dtor_pieces d) _ (dtor_heads d)
+dtors_heads (d ∷ ds) = heads_append (of_mark marks.Star ∷ name_classes) (dtor_pieces d) _ (dtor_heads d)
 
 pick : (P : Pieces → Type 0) (b : Bool) (x y : Pieces) → P x → P y → P (cond b x y)
 pick P true x y p q = p
@@ -192,30 +193,30 @@ int_case : (P : Pieces → Type 0) → P (word_pieces words.Small) → P (word_p
 unfolding int_size_pieces
 int_case P s1 s2 s4 s8 bad n = pick P (eqb n 1) _ _ s1 (pick P (eqb n 2) _ _ s2 (pick P (eqb n 4) _ _ s4 (pick P (eqb n 8) _ _ s8 bad)))
 
-int_heads : (n : ℕ) → heads (31 ∷ 32 ∷ 33 ∷ 34 ∷ []) (int_size_pieces n) ≡ true
+int_heads : (n : ℕ) → heads (of_word words.Small ∷ of_word words.Short ∷ of_word words.Long ∷ of_word words.Hyper ∷ []) (int_size_pieces n) ≡ true
 unfolding word_pieces
-int_heads n = int_case (λ ps. heads (31 ∷ 32 ∷ 33 ∷ 34 ∷ []) ps ≡ true) refl refl refl refl refl n
+int_heads n = int_case (λ ps. heads (of_word words.Small ∷ of_word words.Short ∷ of_word words.Long ∷ of_word words.Hyper ∷ []) ps ≡ true) refl refl refl refl refl n
 
-pub base_heads : (b : Base) → heads (27 ∷ 28 ∷ 29 ∷ 30 ∷ 31 ∷ 32 ∷ 33 ∷ 34 ∷ []) (base_pieces b) ≡ true
+pub base_heads : (b : Base) → heads (of_word words.Boolean ∷ of_word words.Byte ∷ of_word words.Unsigned ∷ of_word words.Char ∷ of_word words.Small ∷ of_word words.Short ∷ of_word words.Long ∷ of_word words.Hyper ∷ []) (base_pieces b) ≡ true
 unfolding base_pieces if_word word_pieces
 base_heads bases.Boolean = refl
 base_heads bases.Byte = refl
 base_heads (bases.Char true) = refl
 base_heads (bases.Char false) = refl
 base_heads (bases.Int true size w) = refl
-base_heads (bases.Int false size w) = heads_append (27 ∷ 28 ∷ 29 ∷ 30 ∷ 31 ∷ 32 ∷ 33 ∷ 34 ∷ []) (int_size_pieces size) _ (int_case (λ ps. heads (27 ∷ 28 ∷ 29 ∷ 30 ∷ 31 ∷ 32 ∷ 33 ∷ 34 ∷ []) ps ≡ true) refl refl refl refl refl size)
+base_heads (bases.Int false size w) = heads_append (of_word words.Boolean ∷ of_word words.Byte ∷ of_word words.Unsigned ∷ of_word words.Char ∷ of_word words.Small ∷ of_word words.Short ∷ of_word words.Long ∷ of_word words.Hyper ∷ []) (int_size_pieces size) _ (int_case (λ ps. heads (of_word words.Boolean ∷ of_word words.Byte ∷ of_word words.Unsigned ∷ of_word words.Char ∷ of_word words.Small ∷ of_word words.Short ∷ of_word words.Long ∷ of_word words.Hyper ∷ []) ps ≡ true) refl refl refl refl refl size)
 
-char_heads : (u : Bool) → heads (29 ∷ 30 ∷ []) (if_word u words.Unsigned ++ word_pieces words.Char) ≡ true
+char_heads : (u : Bool) → heads (of_word words.Unsigned ∷ of_word words.Char ∷ []) (if_word u words.Unsigned ++ word_pieces words.Char) ≡ true
 unfolding if_word word_pieces
 char_heads true = refl
 char_heads false = refl
 
-whole_int_heads : (u : Bool) (size : ℕ) (w : Bool) → heads (29 ∷ 31 ∷ 32 ∷ 33 ∷ 34 ∷ []) (if_word u words.Unsigned ++ (int_size_pieces size ++ if_word w words.Int)) ≡ true
+whole_int_heads : (u : Bool) (size : ℕ) (w : Bool) → heads (of_word words.Unsigned ∷ of_word words.Small ∷ of_word words.Short ∷ of_word words.Long ∷ of_word words.Hyper ∷ []) (if_word u words.Unsigned ++ (int_size_pieces size ++ if_word w words.Int)) ≡ true
 unfolding if_word word_pieces
 whole_int_heads true size w = refl
-whole_int_heads false size w = heads_append (29 ∷ 31 ∷ 32 ∷ 33 ∷ 34 ∷ []) (int_size_pieces size) _ (int_case (λ ps. heads (29 ∷ 31 ∷ 32 ∷ 33 ∷ 34 ∷ []) ps ≡ true) refl refl refl refl refl size)
+whole_int_heads false size w = heads_append (of_word words.Unsigned ∷ of_word words.Small ∷ of_word words.Short ∷ of_word words.Long ∷ of_word words.Hyper ∷ []) (int_size_pieces size) _ (int_case (λ ps. heads (of_word words.Unsigned ∷ of_word words.Small ∷ of_word words.Short ∷ of_word words.Long ∷ of_word words.Hyper ∷ []) ps ≡ true) refl refl refl refl refl size)
 
-starred_heads : (star : Bool) (i : Ident) → heads (53 ∷ 70 ∷ []) (if_mark star marks.Star ++ ident_pieces i) ≡ true
+starred_heads : (star : Bool) (i : Ident) → heads (of_mark marks.Star ∷ name_classes) (if_mark star marks.Star ++ ident_pieces i) ≡ true
 unfolding if_mark mark_pieces ident_pieces
 starred_heads true i = refl
 starred_heads false i = refl
@@ -264,8 +265,8 @@ module _ {f : ℕ → ℕ} where
 
   num_of : {n : ℕ} (at : ℕ) (b : Bool) (v : ℕ) → Reads f n [] a_num (num_pieces (record { at = at; minus = b; value = v })) (record { at = f at; minus = b; value = v })
   unfolding num_pieces number_pieces mark_pieces if_mark
-  num_of at true v = reads_mapped as_num_of (reads_placed (55 ∷ []) at refl (reads_both (71 ∷ []) refl refl (flag_mark true marks.Minus) (reads_value v)))
-  num_of at false v = reads_mapped as_num_of (reads_placed (71 ∷ []) at refl (reads_both (71 ∷ []) refl refl (flag_mark false marks.Minus) (reads_value v)))
+  num_of at true v = reads_mapped as_num_of (reads_placed (of_mark marks.Minus ∷ []) at refl (reads_both (number_class ∷ []) refl refl (flag_mark true marks.Minus) (reads_value v)))
+  num_of at false v = reads_mapped as_num_of (reads_placed (number_class ∷ []) at refl (reads_both (number_class ∷ []) refl refl (flag_mark false marks.Minus) (reads_value v)))
 
   pub reads_num : {n : ℕ} (x : Num) → Reads f n [] a_num (num_pieces x) (num_form f x)
   reads_num x = num_of x.at x.minus x.value
@@ -295,72 +296,72 @@ module _ {f : ℕ → ℕ} where
   reads_int_size size = int_size_of size (eqb size 1) (eqb size 2) (eqb size 4) (eqb size 8) refl refl refl refl
 
   -- a spec's base type may be followed by anything but "int"
-  pub reads_base : {n : ℕ} (b : Base) → Reads f n (35 ∷ []) a_base (base_pieces b) b
+  pub reads_base : {n : ℕ} (b : Base) → Reads f n (of_word words.Int ∷ []) a_base (base_pieces b) b
   unfolding base_pieces
-  reads_base bases.Boolean = split_yes (27 ∷ []) _ (word_heads words.Boolean) (reads_any (35 ∷ []) (word_as bases.Boolean words.Boolean))
-  reads_base bases.Byte = split_no (27 ∷ []) (28 ∷ []) _ (word_heads words.Byte) refl (split_yes (28 ∷ []) _ (word_heads words.Byte) (reads_any (35 ∷ []) (word_as bases.Byte words.Byte)))
+  reads_base bases.Boolean = split_yes (of_word words.Boolean ∷ []) _ (word_heads words.Boolean) (reads_any (of_word words.Int ∷ []) (word_as bases.Boolean words.Boolean))
+  reads_base bases.Byte = split_no (of_word words.Boolean ∷ []) (of_word words.Byte ∷ []) _ (word_heads words.Byte) refl (split_yes (of_word words.Byte ∷ []) _ (word_heads words.Byte) (reads_any (of_word words.Int ∷ []) (word_as bases.Byte words.Byte)))
   reads_base (bases.Char u) =
-      split_no (27 ∷ []) (29 ∷ 30 ∷ []) _ (char_heads u) refl (split_no (28 ∷ []) (29 ∷ 30 ∷ []) _ (char_heads u) refl
-      (reads_mapped (λ p. as_base p.0 p.1) (reads_both (30 ∷ []) (word_heads words.Char) refl (flag_word u words.Unsigned) (split_yes (30 ∷ []) _ (word_heads words.Char) (reads_any (35 ∷ []) (word_as None words.Char))))))
+      split_no (of_word words.Boolean ∷ []) (of_word words.Unsigned ∷ of_word words.Char ∷ []) _ (char_heads u) refl (split_no (of_word words.Byte ∷ []) (of_word words.Unsigned ∷ of_word words.Char ∷ []) _ (char_heads u) refl
+      (reads_mapped (λ p. as_base p.0 p.1) (reads_both (of_word words.Char ∷ []) (word_heads words.Char) refl (flag_word u words.Unsigned) (split_yes (of_word words.Char ∷ []) _ (word_heads words.Char) (reads_any (of_word words.Int ∷ []) (word_as None words.Char))))))
   reads_base (bases.Int u size w) =
-      let ints : List ℕ = 31 ∷ 32 ∷ 33 ∷ 34 ∷ [] in
+      let ints : List ℕ = of_word words.Small ∷ of_word words.Short ∷ of_word words.Long ∷ of_word words.Hyper ∷ [] in
       let sized : heads ints (int_size_pieces size ++ if_word w words.Int) ≡ true = heads_append ints (int_size_pieces size) (if_word w words.Int) (int_heads size) in
-      split_no (27 ∷ []) (29 ∷ ints) _ (whole_int_heads u size w) refl (split_no (28 ∷ []) (29 ∷ ints) _ (whole_int_heads u size w) refl
-      (reads_mapped (λ p. as_base p.0 p.1) (reads_both ints sized refl (flag_word u words.Unsigned) (split_no (30 ∷ []) ints _ sized refl (reads_mapped Some (reads_then (reads_int_size size) (flag_word w words.Int)))))))
+      split_no (of_word words.Boolean ∷ []) (of_word words.Unsigned ∷ ints) _ (whole_int_heads u size w) refl (split_no (of_word words.Byte ∷ []) (of_word words.Unsigned ∷ ints) _ (whole_int_heads u size w) refl
+      (reads_mapped (λ p. as_base p.0 p.1) (reads_both ints sized refl (flag_word u words.Unsigned) (split_no (of_word words.Char ∷ []) ints _ sized refl (reads_mapped Some (reads_then (reads_int_size size) (flag_word w words.Int)))))))
 
   -- ---- declarators and sizes
 
-  reads_size : {n : ℕ} (s : ArraySize) → Reads f n (71 ∷ 55 ∷ 70 ∷ 53 ∷ []) a_size (size_pieces s) (size_form f s)
+  reads_size : {n : ℕ} (s : ArraySize) → Reads f n (number_class ∷ of_mark marks.Minus ∷ (name_classes ++ (of_mark marks.Star ∷ []))) a_size (size_pieces s) (size_form f s)
   unfolding size_pieces if_mark
-  reads_size sizes.Empty = split_none (71 ∷ 55 ∷ []) _ (split_none (70 ∷ []) _ (reads_mapped (λ star. if star then sizes.Star else sizes.Empty) (flag_mark false marks.Star)))
-  reads_size (sizes.Number n) = split_yes (71 ∷ 55 ∷ []) _ (num_heads n) (reads_any _ (reads_mapped sizes.Number (reads_num n)))
-  reads_size (sizes.Named i) = split_no (71 ∷ 55 ∷ []) (70 ∷ []) _ (ident_heads i) refl (split_yes (70 ∷ []) _ (ident_heads i) (reads_any _ (reads_mapped sizes.Named (reads_name i))))
-  reads_size sizes.Star = split_no (71 ∷ 55 ∷ []) (53 ∷ []) _ (mark_heads marks.Star) refl (split_no (70 ∷ []) (53 ∷ []) _ (mark_heads marks.Star) refl
-      (reads_right (71 ∷ 55 ∷ 70 ∷ []) (reads_mapped (λ star. if star then sizes.Star else sizes.Empty) (flag_mark true marks.Star))))
+  reads_size sizes.Empty = split_none (number_class ∷ of_mark marks.Minus ∷ []) _ (split_none name_classes _ (reads_mapped (λ star. if star then sizes.Star else sizes.Empty) (flag_mark false marks.Star)))
+  reads_size (sizes.Number n) = split_yes (number_class ∷ of_mark marks.Minus ∷ []) _ (num_heads n) (reads_any _ (reads_mapped sizes.Number (reads_num n)))
+  reads_size (sizes.Named i) = split_no (number_class ∷ of_mark marks.Minus ∷ []) name_classes _ (ident_heads i) refl (split_yes name_classes _ (ident_heads i) (reads_any _ (reads_mapped sizes.Named (reads_name i))))
+  reads_size sizes.Star = split_no (number_class ∷ of_mark marks.Minus ∷ []) (of_mark marks.Star ∷ []) _ (mark_heads marks.Star) refl (split_no name_classes (of_mark marks.Star ∷ []) _ (mark_heads marks.Star) refl
+      (reads_right (number_class ∷ of_mark marks.Minus ∷ name_classes) (reads_mapped (λ star. if star then sizes.Star else sizes.Empty) (flag_mark true marks.Star))))
 
-  reads_array : {n : ℕ} (a : Option ArraySize) → Reads f n (60 ∷ []) an_array (array_pieces a) (if_there (size_form f) a)
+  reads_array : {n : ℕ} (a : Option ArraySize) → Reads f n (opening brackets.Square ∷ []) an_array (array_pieces a) (if_there (size_form f) a)
   unfolding array_pieces
-  reads_array None = maybe_none (60 ∷ []) _
-  reads_array (Some s) = maybe_some (60 ∷ []) (open_heads brackets.Square (size_pieces s)) (reads_any (60 ∷ []) (reads_fewer (inside brackets.Square refl (reads_size s))))
+  reads_array None = maybe_none (opening brackets.Square ∷ []) _
+  reads_array (Some s) = maybe_some (opening brackets.Square ∷ []) (open_heads brackets.Square (size_pieces s)) (reads_any (opening brackets.Square ∷ []) (reads_fewer (inside brackets.Square refl (reads_size s))))
 
-  reads_stars : (n stars' : ℕ) → Reads f n (53 ∷ []) (stars n) (star_pieces stars') stars'
+  reads_stars : (n stars' : ℕ) → Reads f n (of_mark marks.Star ∷ []) (stars n) (star_pieces stars') stars'
   reads_stars n stars' =
-      reads_as (star_list stars') (sym (zeros_length stars')) (reads_mapped length (reads_loop (λ (x : ℕ). mark_pieces marks.Star) (λ (x : ℕ). zero) n (53 ∷ []) [] (a_token zero) (λ x. mark_heads marks.Star) refl (λ x. mark_as zero marks.Star) (zeros stars')))
+      reads_as (star_list stars') (sym (zeros_length stars')) (reads_mapped length (reads_loop (λ (x : ℕ). mark_pieces marks.Star) (λ (x : ℕ). zero) n (of_mark marks.Star ∷ []) [] (a_token zero) (λ x. mark_heads marks.Star) refl (λ x. mark_as zero marks.Star) (zeros stars')))
 
-  pub reads_dtor : (n : ℕ) (d : Dtor) → Reads f n (60 ∷ []) (a_dtor n) (dtor_pieces d) (dtor_form f d)
+  pub reads_dtor : (n : ℕ) (d : Dtor) → Reads f n (opening brackets.Square ∷ []) (a_dtor n) (dtor_pieces d) (dtor_form f d)
   unfolding dtor_pieces
-  reads_dtor n d = reads_mapped as_dtor (reads_both (70 ∷ []) (heads_append (70 ∷ []) (ident_pieces d.name) (array_pieces d.array) (ident_heads d.name)) refl (reads_stars n d.stars) (reads_then (reads_name d.name) (reads_array d.array)))
+  reads_dtor n d = reads_mapped as_dtor (reads_both name_classes (heads_append name_classes (ident_pieces d.name) (array_pieces d.array) (ident_heads d.name)) refl (reads_stars n d.stars) (reads_then (reads_name d.name) (reads_array d.array)))
 
-  pub reads_dtors : (n : ℕ) (ds : List Dtor) → Reads f n (50 ∷ 60 ∷ []) (listed n (a_dtor n)) (dtors_pieces ds) (map (dtor_form f) ds)
+  pub reads_dtors : (n : ℕ) (ds : List Dtor) → Reads f n (of_mark marks.Comma ∷ opening brackets.Square ∷ []) (listed n (a_dtor n)) (dtors_pieces ds) (map (dtor_form f) ds)
   unfolding dtors_pieces
   reads_dtors n [] = reads_bad
-  reads_dtors n (d ∷ ds) = reads_listed dtor_pieces (dtor_form f) n (60 ∷ []) (a_dtor n) refl (reads_dtor n) d ds
+  reads_dtors n (d ∷ ds) = reads_listed dtor_pieces (dtor_form f) n (opening brackets.Square ∷ []) (a_dtor n) refl (reads_dtor n) d ds
 
-  pub reads_names : (n : ℕ) (is : List Ident) → Reads f n (70 ∷ 50 ∷ []) (maybe_listed (70 ∷ []) n a_name) (names_pieces is) (map (ident_form f) is)
+  pub reads_names : (n : ℕ) (is : List Ident) → Reads f n (name_classes ++ (of_mark marks.Comma ∷ [])) (maybe_listed name_classes n a_name) (names_pieces is) (map (ident_form f) is)
   unfolding names_pieces
-  reads_names n is = reads_maybe_listed ident_pieces (ident_form f) n [] a_name refl reads_name (70 ∷ []) ident_heads is
+  reads_names n is = reads_maybe_listed ident_pieces (ident_form f) n [] a_name refl reads_name name_classes ident_heads is
 
-  pub reads_tag : {n : ℕ} (o : Option Ident) → Reads f n (70 ∷ []) a_tag (if_ident o) (if_there (ident_form f) o)
+  pub reads_tag : {n : ℕ} (o : Option Ident) → Reads f n name_classes a_tag (if_ident o) (if_there (ident_form f) o)
   unfolding if_ident
-  reads_tag None = maybe_none (70 ∷ []) _
-  reads_tag (Some i) = maybe_some (70 ∷ []) (ident_heads i) (reads_any (70 ∷ []) (reads_name i))
+  reads_tag None = maybe_none name_classes _
+  reads_tag (Some i) = maybe_some name_classes (ident_heads i) (reads_any name_classes (reads_name i))
 
   -- ---- attributes' sizes, and labels
 
-  pub reads_starred : {n : ℕ} (star : Bool) (i : Ident) → Reads f n [] (both (flag 53) a_name) (if_mark star marks.Star ++ ident_pieces i) (star, ident_form f i)
-  reads_starred star i = reads_both (70 ∷ []) (ident_heads i) refl (flag_mark star marks.Star) (reads_name i)
+  pub reads_starred : {n : ℕ} (star : Bool) (i : Ident) → Reads f n [] (both (flag (of_mark marks.Star)) a_name) (if_mark star marks.Star ++ ident_pieces i) (star, ident_form f i)
+  reads_starred star i = reads_both name_classes (ident_heads i) refl (flag_mark star marks.Star) (reads_name i)
 
   pub reads_ref : {n : ℕ} (r : SizeRef) → Reads f n [] a_ref (ref_pieces r) (ref_form f r)
   unfolding ref_pieces
-  reads_ref (refs.Named star i) = split_no (71 ∷ 55 ∷ []) (53 ∷ 70 ∷ []) _ (starred_heads star i) refl (reads_mapped (λ p. refs.Named p.0 p.1) (reads_starred star i))
-  reads_ref (refs.Number n) = split_yes (71 ∷ 55 ∷ []) _ (num_heads n) (reads_mapped refs.Number (reads_num n))
+  reads_ref (refs.Named star i) = split_no (number_class ∷ of_mark marks.Minus ∷ []) (of_mark marks.Star ∷ name_classes) _ (starred_heads star i) refl (reads_mapped (λ p. refs.Named p.0 p.1) (reads_starred star i))
+  reads_ref (refs.Number n) = split_yes (number_class ∷ of_mark marks.Minus ∷ []) _ (num_heads n) (reads_mapped refs.Number (reads_num n))
 
   reads_label_kind : {n : ℕ} (k : LabelKind) → Reads f n [] a_label_kind (label_kind_pieces k) (label_kind_form f k)
   unfolding label_kind_pieces
-  reads_label_kind (labels.Number n) = split_no (41 ∷ []) (40 ∷ []) _ (word_then words.Case _) refl (behind_word words.Case (upto_mark marks.Colon refl (split_yes (71 ∷ 55 ∷ []) _ (num_heads n) (reads_mapped labels.Number (reads_num n)))))
-  reads_label_kind (labels.Named i) = split_no (41 ∷ []) (40 ∷ []) _ (word_then words.Case _) refl (behind_word words.Case (upto_mark marks.Colon refl (split_no (71 ∷ 55 ∷ []) (70 ∷ []) _ (ident_heads i) refl (reads_mapped labels.Named (reads_name i)))))
-  reads_label_kind labels.Default = split_yes (41 ∷ []) _ (word_then words.Default _) (behind_word words.Default (mark_as labels.Default marks.Colon))
+  reads_label_kind (labels.Number n) = split_no (of_word words.Default ∷ []) (of_word words.Case ∷ []) _ (word_then words.Case _) refl (behind_word words.Case (upto_mark marks.Colon refl (split_yes (number_class ∷ of_mark marks.Minus ∷ []) _ (num_heads n) (reads_mapped labels.Number (reads_num n)))))
+  reads_label_kind (labels.Named i) = split_no (of_word words.Default ∷ []) (of_word words.Case ∷ []) _ (word_then words.Case _) refl (behind_word words.Case (upto_mark marks.Colon refl (split_no (number_class ∷ of_mark marks.Minus ∷ []) name_classes _ (ident_heads i) refl (reads_mapped labels.Named (reads_name i)))))
+  reads_label_kind labels.Default = split_yes (of_word words.Default ∷ []) _ (word_then words.Default _) (behind_word words.Default (mark_as labels.Default marks.Colon))
 
   pub reads_label : {n : ℕ} (l : Label) → Reads f n [] a_label (label_pieces l) (label_form f l)
   unfolding label_pieces
-  reads_label l = reads_mapped as_label (reads_placed (40 ∷ 41 ∷ []) l.at (label_kind_heads l.what) (reads_label_kind l.what))
+  reads_label l = reads_mapped as_label (reads_placed (of_word words.Case ∷ of_word words.Default ∷ []) l.at (label_kind_heads l.what) (reads_label_kind l.what))

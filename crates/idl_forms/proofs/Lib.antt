@@ -7,3 +7,4 @@ pub mod OwnWord
 pub mod Decls
 pub mod Taken
 pub mod Top
+pub mod Made

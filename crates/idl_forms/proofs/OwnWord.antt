@@ -20,27 +20,29 @@ use Rattle.idl_forms.proofs.Stream.{Seen, head, tail, Clean, Shown, heads, shown
 use Rattle.idl_forms.proofs.Reading.{heads_append, heads_placed}
 use Rattle.idl_forms.proofs.Leaves.{open_heads, dtor_heads}
 use Rattle.idl_forms.proofs.Specs.{member_firsts, other_firsts, kind_begins, typed_heads}
+use Rattle.idl_tokens.specs.Terminals.{of_word, of_mark, opening, name_class}
+use Rattle.idl_tree.specs.Grammar.{name_classes}
 
 -- Is "void" the list's own word? Not where it is the type of a first parameter: then a declarator follows, and its name is
 -- followed by neither a star nor another name.
 abbrev pub own_word_on : ℕ → ℕ → Bool
-own_word_on second third = if eqb second 53 then false else (if eqb second 70 then has third (53 ∷ 70 ∷ []) else true)
+own_word_on second third = if eqb second (of_mark marks.Star) then false else (if eqb second name_class then has third (of_mark marks.Star ∷ name_classes) else true)
 
 abbrev pub has_own_word : List Seen → Bool
-has_own_word ss = eqb (head ss) 11 && own_word_on (head (tail ss)) (head (tail (tail ss)))
+has_own_word ss = eqb (head ss) (of_word words.Void) && own_word_on (head (tail ss)) (head (tail (tail ss)))
 
 -- what may not follow the parameters
 abbrev pub params_off : List ℕ
-params_off = 53 ∷ (member_firsts ++ (50 ∷ 60 ∷ []))
+params_off = of_mark marks.Star ∷ (member_firsts ++ (of_mark marks.Comma ∷ opening brackets.Square ∷ []))
 
-own_quiet : (c d : ℕ) → has c (53 ∷ 70 ∷ []) ≡ false → own_word_on c d ≡ true
-own_quiet c d e = if_false (eqb c 53) _ _ (off_first (eqb c 53) _ e) ∙ if_false (eqb c 70) _ _ (off_first (eqb c 70) _ (off_rest (eqb c 53) _ e))
+own_quiet : (c d : ℕ) → has c (of_mark marks.Star ∷ name_classes) ≡ false → own_word_on c d ≡ true
+own_quiet c d e = if_false (eqb c (of_mark marks.Star)) _ _ (off_first (eqb c (of_mark marks.Star)) _ e) ∙ if_false (eqb c name_class) _ _ (off_first (eqb c name_class) _ (off_rest (eqb c (of_mark marks.Star)) _ e))
 
 own_other : (c d : ℕ) → has c other_firsts ≡ true → own_word_on c d ≡ true
-own_other c d e = own_quiet c d (not_among c other_firsts (53 ∷ 70 ∷ []) refl e)
+own_other c d e = own_quiet c d (not_among c other_firsts (of_mark marks.Star ∷ name_classes) refl e)
 
-no_word : (c : ℕ) (b : Bool) → has c (11 ∷ []) ≡ false → (eqb c 11 && b) ≡ false
-no_word c b e = ap (λ v. v && b) (off_first (eqb c 11) _ e)
+no_word : (c : ℕ) (b : Bool) → has c (of_word words.Void ∷ []) ≡ false → (eqb c (of_word words.Void) && b) ≡ false
+no_word c b e = ap (λ v. v && b) (off_first (eqb c (of_word words.Void)) _ e)
 
 pub param_heads : (p : ParamNode) → heads member_firsts (param_pieces p) ≡ true
 unfolding param_pieces
@@ -48,15 +50,15 @@ param_heads p = typed_heads p.attrs.items p.spec (dtor_pieces p.dtor)
 
 module _ (f : ℕ → ℕ) where
   -- a name alone, and "void"
-  name_alone : (i : Ident) (ss rest : List Seen) → Shown f (ident_pieces i) ss rest → (head ss ≡ 70) × (tail ss ≡ rest)
+  name_alone : (i : Ident) (ss rest : List Seen) → Shown f (ident_pieces i) ss rest → (head ss ≡ name_class) × (tail ss ≡ rest)
   unfolding ident_pieces
   name_alone i ss rest h = ends f (record { what = Of (kinds.Name i.text); places = i.at ∷ [] }) ss rest h
 
-  placed_name : (at : ℕ) (i : Ident) (ss rest : List Seen) → Shown f (placed at (ident_pieces i)) ss rest → (head ss ≡ 70) × (tail ss ≡ rest)
+  placed_name : (at : ℕ) (i : Ident) (ss rest : List Seen) → Shown f (placed at (ident_pieces i)) ss rest → (head ss ≡ name_class) × (tail ss ≡ rest)
   unfolding ident_pieces
   placed_name at i ss rest h = ends f (record { what = Of (kinds.Name i.text); places = at ∷ i.at ∷ [] }) ss rest h
 
-  placed_void : (at : ℕ) (ss rest : List Seen) → Shown f (placed at (word_pieces words.Void)) ss rest → (head ss ≡ 11) × (tail ss ≡ rest)
+  placed_void : (at : ℕ) (ss rest : List Seen) → Shown f (placed at (word_pieces words.Void)) ss rest → (head ss ≡ of_word words.Void) × (tail ss ≡ rest)
   unfolding word_pieces
   placed_void at ss rest h = ends f (record { what = Of (kinds.Word words.Void); places = at ∷ [] }) ss rest h
 
@@ -65,7 +67,7 @@ module _ (f : ℕ → ℕ) where
   -- behind it a parameter
   own_then : (as' : List Attr) (s : Spec) (d : Dtor) (more : Pieces) (ss rest : List Seen) → Clean ss → Shown f ((attrs_pieces as' ++ (spec_pieces s ++ dtor_pieces d)) ++ more) ss rest → own_word_on (head ss) (head (tail ss)) ≡ true
   unfolding open_pieces ident_pieces word_pieces
-  own_then (a ∷ as') s d more ss rest c h = ap (λ v. own_word_on v (head (tail ss))) (head_is 60 ss (shown_heads f (60 ∷ []) ((attrs_pieces (a ∷ as') ++ (spec_pieces s ++ dtor_pieces d)) ++ more) ss rest refl h c).0)
+  own_then (a ∷ as') s d more ss rest c h = ap (λ v. own_word_on v (head (tail ss))) (head_is (opening brackets.Square) ss (shown_heads f (opening brackets.Square ∷ []) ((attrs_pieces (a ∷ as') ++ (spec_pieces s ++ dtor_pieces d)) ++ more) ss rest refl h c).0)
   own_then [] s d more ss rest c h =
       let cut = shown_cut f (spec_pieces s ++ dtor_pieces d) more ss rest h in
       let two = shown_cut f (spec_pieces s) (dtor_pieces d) ss cut.0 cut.1 in
@@ -74,8 +76,8 @@ module _ (f : ℕ → ℕ) where
         | inr q ↦ elim q [
           | inl i ↦
               let one = placed_name s.at i.0 ss two.0 (subst (λ (ps : Pieces). Shown f (placed s.at ps) ss two.0) i.1 two.1) in
-              let behind : has (head two.0) (53 ∷ 70 ∷ []) ≡ true = (shown_heads f (53 ∷ 70 ∷ []) (dtor_pieces d) two.0 cut.0 (dtor_heads d) two.2 (shown_clean f (spec_pieces s) ss two.0 two.1 c)).0 in
-              ap (λ v. own_word_on v (head (tail ss))) one.0 ∙ (ap (λ v. has (head v) (53 ∷ 70 ∷ [])) one.1 ∙ behind)
+              let behind : has (head two.0) (of_mark marks.Star ∷ name_classes) ≡ true = (shown_heads f (of_mark marks.Star ∷ name_classes) (dtor_pieces d) two.0 cut.0 (dtor_heads d) two.2 (shown_clean f (spec_pieces s) ss two.0 two.1 c)).0 in
+              ap (λ v. own_word_on v (head (tail ss))) one.0 ∙ (ap (λ v. has (head v) (of_mark marks.Star ∷ name_classes)) one.1 ∙ behind)
           | inr e ↦
               let one = placed_void s.at ss two.0 (subst (λ (ps : Pieces). Shown f (placed s.at ps) ss two.0) e two.1) in
               ap (λ v. own_word_on v (head (tail ss))) one.0
@@ -83,53 +85,53 @@ module _ (f : ℕ → ℕ) where
       ]
 
   -- no star or name stands behind an array's place
-  array_then : (o : Option ArraySize) (more : Pieces) (ss rest : List Seen) → Clean ss → ((us : List Seen) → Clean us → Shown f more us rest → has (head us) (53 ∷ 70 ∷ []) ≡ false) → Shown f (array_pieces o ++ more) ss rest → has (head ss) (53 ∷ 70 ∷ []) ≡ false
+  array_then : (o : Option ArraySize) (more : Pieces) (ss rest : List Seen) → Clean ss → ((us : List Seen) → Clean us → Shown f more us rest → has (head us) (of_mark marks.Star ∷ name_classes) ≡ false) → Shown f (array_pieces o ++ more) ss rest → has (head ss) (of_mark marks.Star ∷ name_classes) ≡ false
   unfolding array_pieces
   array_then None more ss rest c quiet h = quiet ss c h
-  array_then (Some size) more ss rest c quiet h = not_among (head ss) (60 ∷ []) (53 ∷ 70 ∷ []) refl (shown_heads f (60 ∷ []) (within brackets.Square (size_pieces size) ++ more) ss rest (heads_append (60 ∷ []) (within brackets.Square (size_pieces size)) more (open_heads brackets.Square (size_pieces size))) h c).0
+  array_then (Some size) more ss rest c quiet h = not_among (head ss) (opening brackets.Square ∷ []) (of_mark marks.Star ∷ name_classes) refl (shown_heads f (opening brackets.Square ∷ []) (within brackets.Square (size_pieces size) ++ more) ss rest (heads_append (opening brackets.Square ∷ []) (within brackets.Square (size_pieces size)) more (open_heads brackets.Square (size_pieces size))) h c).0
 
   -- behind a type "void" a declarator
-  not_own_dtor : (stars' : ℕ) (i : Ident) (o : Option ArraySize) (more : Pieces) (ss rest : List Seen) → Clean ss → ((us : List Seen) → Clean us → Shown f more us rest → has (head us) (53 ∷ 70 ∷ []) ≡ false)
+  not_own_dtor : (stars' : ℕ) (i : Ident) (o : Option ArraySize) (more : Pieces) (ss rest : List Seen) → Clean ss → ((us : List Seen) → Clean us → Shown f more us rest → has (head us) (of_mark marks.Star ∷ name_classes) ≡ false)
       → Shown f ((star_pieces stars' ++ (ident_pieces i ++ array_pieces o)) ++ more) ss rest → own_word_on (head ss) (head (tail ss)) ≡ false
   unfolding star_pieces ident_pieces mark_pieces
-  not_own_dtor (suc stars') i o more ss rest c quiet h = ap (λ v. own_word_on v (head (tail ss))) (head_is 53 ss (shown_heads f (53 ∷ []) ((star_pieces (suc stars') ++ (ident_pieces i ++ array_pieces o)) ++ more) ss rest refl h c).0)
+  not_own_dtor (suc stars') i o more ss rest c quiet h = ap (λ v. own_word_on v (head (tail ss))) (head_is (of_mark marks.Star) ss (shown_heads f (of_mark marks.Star ∷ []) ((star_pieces (suc stars') ++ (ident_pieces i ++ array_pieces o)) ++ more) ss rest refl h c).0)
   not_own_dtor zero i o more ss rest c quiet h =
       let cut = shown_cut f (ident_pieces i) (array_pieces o ++ more) ss rest h in
       let one = name_alone i ss cut.0 cut.1 in
-      let behind : has (head cut.0) (53 ∷ 70 ∷ []) ≡ false = array_then o more cut.0 rest (shown_clean f (ident_pieces i) ss cut.0 cut.1 c) quiet cut.2 in
-      ap (λ v. own_word_on v (head (tail ss))) one.0 ∙ (ap (λ v. has (head v) (53 ∷ 70 ∷ [])) one.1 ∙ behind)
+      let behind : has (head cut.0) (of_mark marks.Star ∷ name_classes) ≡ false = array_then o more cut.0 rest (shown_clean f (ident_pieces i) ss cut.0 cut.1 c) quiet cut.2 in
+      ap (λ v. own_word_on v (head (tail ss))) one.0 ∙ (ap (λ v. has (head v) (of_mark marks.Star ∷ name_classes)) one.1 ∙ behind)
 
   -- a parameter first
-  not_own : (as' : List Attr) (s : Spec) (d : Dtor) (more : Pieces) (ss rest : List Seen) → Clean ss → ((us : List Seen) → Clean us → Shown f more us rest → has (head us) (53 ∷ 70 ∷ []) ≡ false)
+  not_own : (as' : List Attr) (s : Spec) (d : Dtor) (more : Pieces) (ss rest : List Seen) → Clean ss → ((us : List Seen) → Clean us → Shown f more us rest → has (head us) (of_mark marks.Star ∷ name_classes) ≡ false)
       → Shown f ((attrs_pieces as' ++ (spec_pieces s ++ dtor_pieces d)) ++ more) ss rest → has_own_word ss ≡ false
   unfolding open_pieces ident_pieces word_pieces dtor_pieces
-  not_own (a ∷ as') s d more ss rest c quiet h = ap (λ v. eqb v 11 && own_word_on (head (tail ss)) (head (tail (tail ss)))) (head_is 60 ss (shown_heads f (60 ∷ []) ((attrs_pieces (a ∷ as') ++ (spec_pieces s ++ dtor_pieces d)) ++ more) ss rest refl h c).0)
+  not_own (a ∷ as') s d more ss rest c quiet h = ap (λ v. eqb v (of_word words.Void) && own_word_on (head (tail ss)) (head (tail (tail ss)))) (head_is (opening brackets.Square) ss (shown_heads f (opening brackets.Square ∷ []) ((attrs_pieces (a ∷ as') ++ (spec_pieces s ++ dtor_pieces d)) ++ more) ss rest refl h c).0)
   not_own [] s d more ss rest c quiet h =
       let two = shown_cut f (spec_pieces s) (dtor_pieces d ++ more) ss rest (subst (λ (ps : Pieces). Shown f ps ss rest) (append_assoc (spec_pieces s) (dtor_pieces d) more) h) in
       elim (kind_begins s.what) [
-        | inl e ↦ no_word (head ss) _ (not_among (head ss) other_firsts (11 ∷ []) refl (shown_heads f other_firsts (spec_pieces s) ss two.0 (heads_placed other_firsts s.at (kind_pieces s.what) e) two.1 c).0)
+        | inl e ↦ no_word (head ss) _ (not_among (head ss) other_firsts (of_word words.Void ∷ []) refl (shown_heads f other_firsts (spec_pieces s) ss two.0 (heads_placed other_firsts s.at (kind_pieces s.what) e) two.1 c).0)
         | inr q ↦ elim q [
           | inl i ↦
               let one = placed_name s.at i.0 ss two.0 (subst (λ (ps : Pieces). Shown f (placed s.at ps) ss two.0) i.1 two.1) in
-              ap (λ v. eqb v 11 && own_word_on (head (tail ss)) (head (tail (tail ss)))) one.0
+              ap (λ v. eqb v (of_word words.Void) && own_word_on (head (tail ss)) (head (tail (tail ss)))) one.0
           | inr e ↦
               let one = placed_void s.at ss two.0 (subst (λ (ps : Pieces). Shown f (placed s.at ps) ss two.0) e two.1) in
               let behind = not_own_dtor d.stars d.name d.array more two.0 rest (shown_clean f (spec_pieces s) ss two.0 two.1 c) quiet two.2 in
-              ap (λ v. eqb v 11 && own_word_on (head (tail ss)) (head (tail (tail ss)))) one.0 ∙ (ap (λ v. own_word_on (head v) (head (tail v))) one.1 ∙ behind)
+              ap (λ v. eqb v (of_word words.Void) && own_word_on (head (tail ss)) (head (tail (tail ss)))) one.0 ∙ (ap (λ v. own_word_on (head v) (head (tail v))) one.1 ∙ behind)
         ]
       ]
 
-  further : (ps : List ParamNode) (rest : List Seen) → has (head rest) (53 ∷ 70 ∷ []) ≡ false → (us : List Seen) → Clean us → Shown f (flat_map (λ y. mark_pieces marks.Comma ++ param_pieces y) ps) us rest → has (head us) (53 ∷ 70 ∷ []) ≡ false
+  further : (ps : List ParamNode) (rest : List Seen) → has (head rest) (of_mark marks.Star ∷ name_classes) ≡ false → (us : List Seen) → Clean us → Shown f (flat_map (λ y. mark_pieces marks.Comma ++ param_pieces y) ps) us rest → has (head us) (of_mark marks.Star ∷ name_classes) ≡ false
   unfolding mark_pieces
-  further [] rest o us c h = subst (λ (v : List Seen). has (head v) (53 ∷ 70 ∷ []) ≡ false) (sym h) o
-  further (p ∷ ps) rest o us c h = not_among (head us) (50 ∷ []) (53 ∷ 70 ∷ []) refl (shown_heads f (50 ∷ []) (flat_map (λ y. mark_pieces marks.Comma ++ param_pieces y) (p ∷ ps)) us rest refl h c).0
+  further [] rest o us c h = subst (λ (v : List Seen). has (head v) (of_mark marks.Star ∷ name_classes) ≡ false) (sym h) o
+  further (p ∷ ps) rest o us c h = not_among (head us) (of_mark marks.Comma ∷ []) (of_mark marks.Star ∷ name_classes) refl (shown_heads f (of_mark marks.Comma ∷ []) (flat_map (λ y. mark_pieces marks.Comma ++ param_pieces y) (p ∷ ps)) us rest refl h c).0
 
   pub is_own : (ps : List ParamNode) (ss rest : List Seen) → Clean ss → has (head rest) params_off ≡ false → Shown f (commas param_pieces ps) ss rest → own_word_on (head ss) (head (tail ss)) ≡ true
   unfolding param_pieces
-  is_own [] ss rest c o h = subst (λ (v : List Seen). own_word_on (head v) (head (tail v)) ≡ true) (sym h) (own_quiet (head rest) (head (tail rest)) (off_fewer (head rest) (53 ∷ 70 ∷ []) params_off refl o))
+  is_own [] ss rest c o h = subst (λ (v : List Seen). own_word_on (head v) (head (tail v)) ≡ true) (sym h) (own_quiet (head rest) (head (tail rest)) (off_fewer (head rest) (of_mark marks.Star ∷ name_classes) params_off refl o))
   is_own (p ∷ ps) ss rest c o h = own_then p.attrs.items p.spec p.dtor _ ss rest c h
 
   pub is_not_own : (ps : List ParamNode) (ss rest : List Seen) → Clean ss → has (head rest) params_off ≡ false → Shown f (commas param_pieces ps) ss rest → has_own_word ss ≡ false
   unfolding param_pieces
-  is_not_own [] ss rest c o h = subst (λ (v : List Seen). has_own_word v ≡ false) (sym h) (no_word (head rest) _ (off_fewer (head rest) (11 ∷ []) params_off refl o))
-  is_not_own (p ∷ ps) ss rest c o h = not_own p.attrs.items p.spec p.dtor _ ss rest c (further ps rest (off_fewer (head rest) (53 ∷ 70 ∷ []) params_off refl o)) h
+  is_not_own [] ss rest c o h = subst (λ (v : List Seen). has_own_word v ≡ false) (sym h) (no_word (head rest) _ (off_fewer (head rest) (of_word words.Void ∷ []) params_off refl o))
+  is_not_own (p ∷ ps) ss rest c o h = not_own p.attrs.items p.spec p.dtor _ ss rest c (further ps rest (off_fewer (head rest) (of_mark marks.Star ∷ name_classes) params_off refl o)) h

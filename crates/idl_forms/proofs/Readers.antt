@@ -2,6 +2,9 @@
 use Rattle.std.specs.Prelude.{ℕ, zero, suc, Bool, true, false, eqb, List, [], ◌∷◌, Option, Some, None, if◌then◌else◌}
 use Rattle.ebnf.specs.Ebnf.{has}
 use Rattle.idl_forms.proofs.Stream.{Seen, head, tail, place}
+use Rattle.idl_tokens.specs.Terminals.{of_mark, opening}
+use Rattle.idl_tokens.specs.declared.marks.Mark.TheVariants as marks
+use Rattle.idl_tokens.specs.declared.marks.Bracket.TheVariants as brackets
 
 unfoldable pub mapped : {A B : Type 0} → (A → B) → (List Seen → A × List Seen) → List Seen → B × List Seen
 mapped g d ss = (g (d ss).0, (d ss).1)
@@ -30,7 +33,7 @@ loop (suc k) cs d ss = if has (head ss) cs then ((d ss).0 ∷ (loop k cs d (d ss
 
 -- a list by commas of one or more
 unfoldable pub listed : {A : Type 0} → ℕ → (List Seen → A × List Seen) → List Seen → List A × List Seen
-listed n d = mapped (λ p. p.0 ∷ p.1) (both d (loop n (50 ∷ []) (behind d)))
+listed n d = mapped (λ p. p.0 ∷ p.1) (both d (loop n (of_mark marks.Comma ∷ []) (behind d)))
 
 -- one of none or more, whose items begin with these classes
 unfoldable pub maybe_listed : {A : Type 0} → List ℕ → ℕ → (List Seen → A × List Seen) → List Seen → List A × List Seen
@@ -38,7 +41,7 @@ maybe_listed cs n d ss = if has (head ss) cs then listed n d ss else ([], ss)
 
 -- one in square brackets, if they are there
 unfoldable pub squares : {A : Type 0} → ℕ → (List Seen → A × List Seen) → List Seen → List A × List Seen
-squares n d ss = if has (head ss) (60 ∷ []) then behind (upto (listed n d)) ss else ([], ss)
+squares n d ss = if has (head ss) (opening brackets.Square ∷ []) then behind (upto (listed n d)) ss else ([], ss)
 
 -- a part and its place
 unfoldable pub at_place : {A : Type 0} → (List Seen → A × List Seen) → List Seen → (ℕ × A) × List Seen

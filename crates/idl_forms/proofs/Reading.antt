@@ -12,7 +12,7 @@ use Rattle.idl_tokens.specs.declared.marks.Mark.TheVariants as marks
 use Rattle.idl_tokens.specs.declared.marks.Bracket.{Bracket}
 use Rattle.idl_tokens.specs.declared.marks.Bracket.TheVariants as brackets
 use Rattle.idl_tokens.specs.declared.kinds.Kind.TheVariants as kinds
-use Rattle.idl_tokens.specs.Signs.{of_word, of_mark, closing}
+use Rattle.idl_tokens.specs.Terminals.{of_word, of_mark, closing, opening, bad_class}
 use Rattle.idl_tree.specs.Pieces.{Piece, Pieces, alone, placed, word_pieces, mark_pieces, open_pieces, shut_pieces, if_word, if_mark, within, commas}
 use Rattle.idl_tree.specs.Trees.{in_squares}
 use Rattle.idl_forms.proofs.Stream.{Seen, bare, AllAt, head, tail, place, class, Clean, Shown, heads, if_true, if_false, head_is, off_left, off_right, not_among, ends, shown_cut, shown_length, shown_clean, shown_heads, shown_placed}
@@ -22,8 +22,8 @@ use Rattle.idl_forms.proofs.Readers.{mapped, both, split, single, behind, upto, 
 pub record Reads (f : ℕ → ℕ) {M : Type 0} (n : ℕ) (off : List ℕ) (d : List Seen → M × List Seen) (ps : Pieces) (m : M) : Type 0 where
   pub read : (ss rest : List Seen) → length ss ≤ n → Clean ss → has (head rest) off ≡ false → Shown f ps ss rest → d ss ≡ (m, rest)
 
-wider : (c : ℕ) (ds cs : List ℕ) → has c (0 ∷ cs) ≡ true → has c (0 ∷ (ds ++ cs)) ≡ true
-wider c ds cs e = elim (has_either c (0 ∷ []) cs e) [ inl h ↦ has_left c (0 ∷ []) (ds ++ cs) h | inr h ↦ has_right c (0 ∷ []) (ds ++ cs) (has_right c ds cs h) ]
+wider : (c : ℕ) (ds cs : List ℕ) → has c (bad_class ∷ cs) ≡ true → has c (bad_class ∷ (ds ++ cs)) ≡ true
+wider c ds cs e = elim (has_either c (bad_class ∷ []) cs e) [ inl h ↦ has_left c (bad_class ∷ []) (ds ++ cs) h | inr h ↦ has_right c (bad_class ∷ []) (ds ++ cs) (has_right c ds cs h) ]
 
 pub heads_append : (cs : List ℕ) (ps qs : Pieces) → heads cs ps ≡ true → heads cs (ps ++ qs) ≡ true
 heads_append cs [] qs e = cc
@@ -35,7 +35,7 @@ heads_placed cs at (p ∷ ps) e = e
 
 pub heads_left : (cs ds : List ℕ) (ps : Pieces) → heads cs ps ≡ true → heads (cs ++ ds) ps ≡ true
 heads_left cs ds [] e = cc
-heads_left cs ds (p ∷ ps) e = has_left (class p.what) (0 ∷ cs) ds e
+heads_left cs ds (p ∷ ps) e = has_left (class p.what) (bad_class ∷ cs) ds e
 
 pub heads_right : (ds cs : List ℕ) (ps : Pieces) → heads cs ps ≡ true → heads (ds ++ cs) ps ≡ true
 heads_right ds cs [] e = cc
@@ -248,36 +248,36 @@ module _ {f : ℕ → ℕ} where
     pub reads_loop : (xs : List X) → Reads f n (cs ++ off) (loop n cs d) (flat_map p xs) (map m xs)
     reads_loop xs = record { read = λ ss rest l c o h. in_loop n xs ss rest l l c o h }
 
-  module _ {X A : Type 0} (p : X → Pieces) (m : X → A) (n : ℕ) (off : List ℕ) (d : List Seen → A × List Seen) (far : apart (50 ∷ []) off ≡ true) (each : (x : X) → Reads f n off d (p x) (m x)) where
+  module _ {X A : Type 0} (p : X → Pieces) (m : X → A) (n : ℕ) (off : List ℕ) (d : List Seen → A × List Seen) (far : apart (of_mark marks.Comma ∷ []) off ≡ true) (each : (x : X) → Reads f n off d (p x) (m x)) where
     abbrev comma_then : X → Pieces
     comma_then x = mark_pieces marks.Comma ++ p x
 
-    comma_first : (x : X) → heads (50 ∷ []) (comma_then x) ≡ true
+    comma_first : (x : X) → heads (of_mark marks.Comma ∷ []) (comma_then x) ≡ true
     unfolding mark_pieces
     comma_first x = refl
 
     comma_each : (x : X) → Reads f n off (behind d) (comma_then x) (m x)
     comma_each x = behind_mark marks.Comma (each x)
 
-    pub reads_listed : (x : X) (xs : List X) → Reads f n (50 ∷ off) (listed n d) (commas p (x ∷ xs)) (m x ∷ map m xs)
+    pub reads_listed : (x : X) (xs : List X) → Reads f n (of_mark marks.Comma ∷ off) (listed n d) (commas p (x ∷ xs)) (m x ∷ map m xs)
     unfolding listed
     reads_listed x xs =
-        reads_mapped (λ v. v.0 ∷ v.1) (next n (50 ∷ off) off d (loop n (50 ∷ []) (behind d)) (p x) (flat_map comma_then xs) (m x) (map m xs)
-        (next_off comma_then m n (50 ∷ []) off (behind d) comma_first far comma_each xs) (each x) (reads_loop comma_then m n (50 ∷ []) off (behind d) comma_first far comma_each xs))
+        reads_mapped (λ v. v.0 ∷ v.1) (next n (of_mark marks.Comma ∷ off) off d (loop n (of_mark marks.Comma ∷ []) (behind d)) (p x) (flat_map comma_then xs) (m x) (map m xs)
+        (next_off comma_then m n (of_mark marks.Comma ∷ []) off (behind d) comma_first far comma_each xs) (each x) (reads_loop comma_then m n (of_mark marks.Comma ∷ []) off (behind d) comma_first far comma_each xs))
 
-    pub reads_squares : (xs : List X) → has 63 off ≡ false → Reads f n (60 ∷ []) (squares n d) (in_squares p xs) (map m xs)
+    pub reads_squares : (xs : List X) → has (closing brackets.Square) off ≡ false → Reads f n (opening brackets.Square ∷ []) (squares n d) (in_squares p xs) (map m xs)
     unfolding squares open_pieces
-    reads_squares [] e = record { read = λ ss rest l k o h. if_false (has (head ss) (60 ∷ [])) _ _ (subst (λ (v : List Seen). has (head v) (60 ∷ []) ≡ false) (sym h) o) ∙ ap (λ v. ([], v)) h }
+    reads_squares [] e = record { read = λ ss rest l k o h. if_false (has (head ss) (opening brackets.Square ∷ [])) _ _ (subst (λ (v : List Seen). has (head v) (opening brackets.Square ∷ []) ≡ false) (sym h) o) ∙ ap (λ v. ([], v)) h }
     reads_squares (x ∷ xs) e =
         let r : Reads f n [] (behind (upto (listed n d))) (within brackets.Square (commas p (x ∷ xs))) (m x ∷ map m xs) = reads_fewer (inside brackets.Square e (reads_listed x xs)) in
-        record { read = λ ss rest l k o h. if_true (has (head ss) (60 ∷ [])) _ _ (shown_heads f (60 ∷ []) (within brackets.Square (commas p (x ∷ xs))) ss rest refl h k).0 ∙ r.read ss rest l k refl h }
+        record { read = λ ss rest l k o h. if_true (has (head ss) (opening brackets.Square ∷ [])) _ _ (shown_heads f (opening brackets.Square ∷ []) (within brackets.Square (commas p (x ∷ xs))) ss rest refl h k).0 ∙ r.read ss rest l k refl h }
 
-    pub reads_maybe_listed : (cs : List ℕ) → ((x : X) → heads cs (p x) ≡ true) → (xs : List X) → Reads f n (cs ++ (50 ∷ off)) (maybe_listed cs n d) (commas p xs) (map m xs)
+    pub reads_maybe_listed : (cs : List ℕ) → ((x : X) → heads cs (p x) ≡ true) → (xs : List X) → Reads f n (cs ++ (of_mark marks.Comma ∷ off)) (maybe_listed cs n d) (commas p xs) (map m xs)
     unfolding maybe_listed
-    reads_maybe_listed cs starts [] = record { read = λ ss rest l k o h. if_false (has (head ss) cs) _ _ (subst (λ (v : List Seen). has (head v) cs ≡ false) (sym h) (off_left (head rest) cs (50 ∷ off) o)) ∙ ap (λ v. ([], v)) h }
+    reads_maybe_listed cs starts [] = record { read = λ ss rest l k o h. if_false (has (head ss) cs) _ _ (subst (λ (v : List Seen). has (head v) cs ≡ false) (sym h) (off_left (head rest) cs (of_mark marks.Comma ∷ off) o)) ∙ ap (λ v. ([], v)) h }
     reads_maybe_listed cs starts (x ∷ xs) =
         record {
           read = λ ss rest l k o h.
               if_true (has (head ss) cs) _ _ (shown_heads f cs (commas p (x ∷ xs)) ss rest (heads_append cs (p x) (flat_map comma_then xs) (starts x)) h k).0
-              ∙ (reads_listed x xs).read ss rest l k (off_right (head rest) cs (50 ∷ off) o) h;
+              ∙ (reads_listed x xs).read ss rest l k (off_right (head rest) cs (of_mark marks.Comma ∷ off) o) h;
         }

@@ -31,29 +31,31 @@ use Rattle.idl_forms.proofs.Readers.{mapped, both, behind, upto, chosen, split, 
 use Rattle.idl_forms.proofs.Reading.{Reads, heads_append, heads_placed, heads_left, heads_right, reads_as, reads_any, reads_left, reads_right, reads_fewer, reads_mapped, reads_both, reads_then, behind_word, upto_mark, inside, reads_chosen, split_yes, split_no, reads_bad, maybe_none, maybe_some, reads_placed, reads_loop, reads_squares}
 use Rattle.idl_forms.proofs.Leaves.{a_name, a_token, a_pk, a_base, a_dtor, a_ref, a_label, a_tag, word_then, word_heads, mark_heads, open_heads, ident_heads, label_heads, dtors_heads, base_heads, reads_name, word_as, mark_as, reads_pk, reads_base, reads_dtors, reads_names, reads_tag, reads_starred, reads_ref, reads_label}
 use Rattle.idl_forms.proofs.Readers.{flag}
+use Rattle.idl_tokens.specs.Terminals.{of_word, of_mark, opening}
+use Rattle.idl_tree.specs.Grammar.{name_classes}
 
 -- ---- what each may begin with
 
 abbrev base_firsts : List ℕ
-base_firsts = 27 ∷ 28 ∷ 29 ∷ 30 ∷ 31 ∷ 32 ∷ 33 ∷ 34 ∷ []
+base_firsts = of_word words.Boolean ∷ of_word words.Byte ∷ of_word words.Unsigned ∷ of_word words.Char ∷ of_word words.Small ∷ of_word words.Short ∷ of_word words.Long ∷ of_word words.Hyper ∷ []
 
 abbrev pub spec_firsts : List ℕ
-spec_firsts = 36 ∷ 37 ∷ 39 ∷ 11 ∷ 70 ∷ 25 ∷ 26 ∷ base_firsts
+spec_firsts = of_word words.Struct ∷ of_word words.Union ∷ of_word words.Enum ∷ of_word words.Void ∷ (name_classes ++ (of_word words.HandleT ∷ of_word words.ErrorStatusT ∷ base_firsts))
 
 -- `[`, or a spec
 abbrev pub member_firsts : List ℕ
-member_firsts = 60 ∷ spec_firsts
+member_firsts = opening brackets.Square ∷ spec_firsts
 
 abbrev arm_firsts : List ℕ
-arm_firsts = 40 ∷ 41 ∷ 51 ∷ member_firsts
+arm_firsts = of_word words.Case ∷ of_word words.Default ∷ of_mark marks.Semicolon ∷ member_firsts
 
 abbrev attr_firsts : List ℕ
-attr_firsts = 6 ∷ 7 ∷ 8 ∷ 12 ∷ 13 ∷ 14 ∷ 15 ∷ 16 ∷ 17 ∷ 18 ∷ 19 ∷ 20 ∷ 21 ∷ 22 ∷ 23 ∷ 24 ∷ []
+attr_firsts = of_word words.Ref ∷ of_word words.Unique ∷ of_word words.Ptr ∷ of_word words.In ∷ of_word words.Out ∷ of_word words.String ∷ of_word words.Idempotent ∷ of_word words.Maybe ∷ of_word words.ContextHandle ∷ of_word words.ContextHandleSerialize ∷ of_word words.ContextHandleNoserialize ∷ of_word words.SizeIs ∷ of_word words.MaxIs ∷ of_word words.LengthIs ∷ of_word words.SwitchIs ∷ of_word words.SwitchType ∷ []
 
 abbrev pk_class : Pk → ℕ
-pk_class pks.Ref = 6
-pk_class pks.Unique = 7
-pk_class pks.Ptr = 8
+pk_class pks.Ref = of_word words.Ref
+pk_class pks.Unique = of_word words.Unique
+pk_class pks.Ptr = of_word words.Ptr
 
 -- ---- how each is read, where kinds of spec are read so
 
@@ -68,19 +70,19 @@ sized_by g = behind (behind (upto (mapped g a_ref)))
 
 abbrev attr_kind_on : Kinds → ℕ → List Seen → AttrKindForm × List Seen
 attr_kind_on k c =
-    if eqb c 12 then a_token OfIn
-    else if eqb c 13 then a_token OfOut
-    else if eqb c 14 then a_token OfText
-    else if eqb c 15 then a_token OfIdempotent
-    else if eqb c 16 then a_token OfMaybe
-    else if eqb c 17 then a_token OfContext
-    else if eqb c 18 then a_token OfSerialize
-    else if eqb c 19 then a_token OfNoserialize
-    else if eqb c 20 then sized_by OfSizeIs
-    else if eqb c 21 then sized_by OfMaxIs
-    else if eqb c 22 then sized_by OfLengthIs
-    else if eqb c 23 then behind (behind (upto (mapped (λ p. OfSwitchIs p.0 p.1) (both (flag 53) a_name))))
-    else if eqb c 24 then behind (behind (upto (mapped OfSwitchType (spec_by k))))
+    if eqb c (of_word words.In) then a_token OfIn
+    else if eqb c (of_word words.Out) then a_token OfOut
+    else if eqb c (of_word words.String) then a_token OfText
+    else if eqb c (of_word words.Idempotent) then a_token OfIdempotent
+    else if eqb c (of_word words.Maybe) then a_token OfMaybe
+    else if eqb c (of_word words.ContextHandle) then a_token OfContext
+    else if eqb c (of_word words.ContextHandleSerialize) then a_token OfSerialize
+    else if eqb c (of_word words.ContextHandleNoserialize) then a_token OfNoserialize
+    else if eqb c (of_word words.SizeIs) then sized_by OfSizeIs
+    else if eqb c (of_word words.MaxIs) then sized_by OfMaxIs
+    else if eqb c (of_word words.LengthIs) then sized_by OfLengthIs
+    else if eqb c (of_word words.SwitchIs) then behind (behind (upto (mapped (λ p. OfSwitchIs p.0 p.1) (both (flag (of_mark marks.Star)) a_name))))
+    else if eqb c (of_word words.SwitchType) then behind (behind (upto (mapped OfSwitchType (spec_by k))))
     else mapped OfPointer a_pk
 
 abbrev attr_by : Kinds → List Seen → AttrForm × List Seen
@@ -105,25 +107,25 @@ abbrev as_arm : List Label × Option MemberForm → ArmForm
 as_arm p = arm_of p.0 p.1
 
 abbrev arm_by : ℕ → Kinds → List Seen → ArmForm × List Seen
-arm_by n k = mapped as_arm (both (loop n (40 ∷ 41 ∷ []) a_label) (split (51 ∷ []) (a_token None) (mapped Some (member_by n k))))
+arm_by n k = mapped as_arm (both (loop n (of_word words.Case ∷ of_word words.Default ∷ []) a_label) (split (of_mark marks.Semicolon ∷ []) (a_token None) (mapped Some (member_by n k))))
 
 abbrev struct_by : ℕ → Kinds → List Seen → KindForm × List Seen
-struct_by n k = behind (mapped (λ p. struct_form p.0 p.1) (both a_tag (maybe (62 ∷ []) (behind (upto (loop n member_firsts (member_by n k)))))))
+struct_by n k = behind (mapped (λ p. struct_form p.0 p.1) (both a_tag (maybe (opening brackets.Curly ∷ []) (behind (upto (loop n member_firsts (member_by n k)))))))
 
 abbrev union_by : ℕ → Kinds → List Seen → KindForm × List Seen
-union_by n k = behind (mapped (λ p. union_form p.0 p.1.0 p.1.1) (both a_tag (both (maybe (38 ∷ []) (switch_by k)) (behind (upto (loop n arm_firsts (arm_by n k)))))))
+union_by n k = behind (mapped (λ p. union_form p.0 p.1.0 p.1.1) (both a_tag (both (maybe (of_word words.Switch ∷ []) (switch_by k)) (behind (upto (loop n arm_firsts (arm_by n k)))))))
 
 abbrev enum_by : ℕ → List Seen → KindForm × List Seen
-enum_by n = behind (mapped (λ p. OfEnum p.0 p.1) (both a_tag (behind (upto (maybe_listed (70 ∷ []) n a_name)))))
+enum_by n = behind (mapped (λ p. OfEnum p.0 p.1) (both a_tag (behind (upto (maybe_listed name_classes n a_name)))))
 
 abbrev kind_on : ℕ → Kinds → ℕ → List Seen → KindForm × List Seen
 kind_on n k c =
-    if eqb c 36 then struct_by n k
-    else if eqb c 37 then union_by n k
-    else if eqb c 39 then enum_by n
-    else if eqb c 11 then a_token OfVoid
-    else if eqb c 25 then a_token OfHandle
-    else if eqb c 26 then a_token OfStatus
+    if eqb c (of_word words.Struct) then struct_by n k
+    else if eqb c (of_word words.Union) then union_by n k
+    else if eqb c (of_word words.Enum) then enum_by n
+    else if eqb c (of_word words.Void) then a_token OfVoid
+    else if eqb c (of_word words.HandleT) then a_token OfHandle
+    else if eqb c (of_word words.ErrorStatusT) then a_token OfStatus
     else mapped OfName a_name
 
 abbrev kind_by : ℕ → Kinds → List Seen → KindForm × List Seen
@@ -138,7 +140,7 @@ kind_within (suc n) = kind_by n (kind_within n)
 
 kind_step_heads : (s : open_.SpecKind-F Pieces Pieces Pieces Pieces Pieces Pieces Pieces) → heads spec_firsts (kind_step s) ≡ true
 unfolding word_pieces ident_pieces
-kind_step_heads (open_.Base b) = heads_right (36 ∷ 37 ∷ 39 ∷ 11 ∷ 70 ∷ 25 ∷ 26 ∷ []) base_firsts (base_pieces b) (base_heads b)
+kind_step_heads (open_.Base b) = heads_right (of_word words.Struct ∷ of_word words.Union ∷ of_word words.Enum ∷ of_word words.Void ∷ (name_classes ++ (of_word words.HandleT ∷ of_word words.ErrorStatusT ∷ []))) base_firsts (base_pieces b) (base_heads b)
 kind_step_heads (open_.Named i) = refl
 kind_step_heads open_.Void = refl
 kind_step_heads open_.HandleT = refl
@@ -153,7 +155,7 @@ kind_heads x = subst (λ (v : SpecKind). heads spec_firsts (kind_pieces v) ≡ t
 
 -- what begins with neither a name nor "void"
 abbrev pub other_firsts : List ℕ
-other_firsts = 36 ∷ 37 ∷ 39 ∷ 25 ∷ 26 ∷ base_firsts
+other_firsts = of_word words.Struct ∷ of_word words.Union ∷ of_word words.Enum ∷ of_word words.HandleT ∷ of_word words.ErrorStatusT ∷ base_firsts
 
 -- a spec begins so, or is a name or "void" alone
 abbrev pub BeginsSpec : Pieces → Type 0
@@ -161,7 +163,7 @@ BeginsSpec ps = (heads other_firsts ps ≡ true) ⊎ (((i : Ident) × (ps ≡ id
 
 step_begins : (s : open_.SpecKind-F Pieces Pieces Pieces Pieces Pieces Pieces Pieces) → BeginsSpec (kind_step s)
 unfolding word_pieces
-step_begins (open_.Base b) = inl (heads_right (36 ∷ 37 ∷ 39 ∷ 25 ∷ 26 ∷ []) base_firsts (base_pieces b) (base_heads b))
+step_begins (open_.Base b) = inl (heads_right (of_word words.Struct ∷ of_word words.Union ∷ of_word words.Enum ∷ of_word words.HandleT ∷ of_word words.ErrorStatusT ∷ []) base_firsts (base_pieces b) (base_heads b))
 step_begins (open_.Named i) = inr (inl (i, refl))
 step_begins open_.Void = inr (inr refl)
 step_begins open_.HandleT = inl refl
@@ -208,25 +210,25 @@ spec_heads s = heads_placed spec_firsts s.at (kind_pieces s.what) (kind_heads s.
 -- attributes, and a spec
 pub typed_heads : (as' : List Attr) (s : Spec) (ps : Pieces) → heads member_firsts (attrs_pieces as' ++ (spec_pieces s ++ ps)) ≡ true
 unfolding open_pieces
-typed_heads [] s ps = heads_append member_firsts (spec_pieces s) ps (heads_right (60 ∷ []) spec_firsts (spec_pieces s) (spec_heads s))
+typed_heads [] s ps = heads_append member_firsts (spec_pieces s) ps (heads_right (opening brackets.Square ∷ []) spec_firsts (spec_pieces s) (spec_heads s))
 typed_heads (a ∷ as') s ps = refl
 
 member_heads : (m : Member) → heads member_firsts (member_pieces m) ≡ true
 member_heads m = let o = views.out-Member m in typed_heads o.attrs.items o.spec (dtors_pieces o.dtors.items ++ mark_pieces marks.Semicolon)
 
-arm_member_heads : (o : Option Member) → heads (51 ∷ member_firsts) (arm_member_pieces o) ≡ true
+arm_member_heads : (o : Option Member) → heads (of_mark marks.Semicolon ∷ member_firsts) (arm_member_pieces o) ≡ true
 unfolding mark_pieces
 arm_member_heads None = refl
-arm_member_heads (Some m) = heads_right (51 ∷ []) member_firsts (member_pieces m) (member_heads m)
+arm_member_heads (Some m) = heads_right (of_mark marks.Semicolon ∷ []) member_firsts (member_pieces m) (member_heads m)
 
 arm_heads_of : (ls : List Label) (o : Option Member) → heads arm_firsts (flat_map label_pieces ls ++ arm_member_pieces o) ≡ true
-arm_heads_of [] o = heads_right (40 ∷ 41 ∷ []) (51 ∷ member_firsts) (arm_member_pieces o) (arm_member_heads o)
-arm_heads_of (l ∷ ls) o = heads_append arm_firsts (label_pieces l ++ flat_map label_pieces ls) (arm_member_pieces o) (heads_append arm_firsts (label_pieces l) (flat_map label_pieces ls) (heads_left (40 ∷ 41 ∷ []) (51 ∷ member_firsts) (label_pieces l) (label_heads l)))
+arm_heads_of [] o = heads_right (of_word words.Case ∷ of_word words.Default ∷ []) (of_mark marks.Semicolon ∷ member_firsts) (arm_member_pieces o) (arm_member_heads o)
+arm_heads_of (l ∷ ls) o = heads_append arm_firsts (label_pieces l ++ flat_map label_pieces ls) (arm_member_pieces o) (heads_append arm_firsts (label_pieces l) (flat_map label_pieces ls) (heads_left (of_word words.Case ∷ of_word words.Default ∷ []) (of_mark marks.Semicolon ∷ member_firsts) (label_pieces l) (label_heads l)))
 
 arm_heads : (a : ArmNode) → heads arm_firsts (arm_pieces a) ≡ true
 arm_heads a = let o = views.out-ArmNode a in arm_heads_of o.labels.items o.member
 
-switch_heads : (s : Switch) → heads (38 ∷ []) (switch_pieces s) ≡ true
+switch_heads : (s : Switch) → heads (of_word words.Switch ∷ []) (switch_pieces s) ≡ true
 switch_heads s = word_then words.Switch _
 
 -- ---- each is read off its tokens
@@ -253,8 +255,8 @@ unfolding views.roll-SpecKind denote.Hole.Carrier.roll
 switched_at tag s arms = union_some tag s arms
 
 module _ {f : ℕ → ℕ} where
-  module _ (n : ℕ) (k : List Seen → KindForm × List Seen) (kinds' : (x : SpecKind) → Reads f n (35 ∷ 62 ∷ []) k (kind_pieces x) (kind_form f x)) where
-    pub reads_spec : (s : Spec) → Reads f n (35 ∷ 62 ∷ []) (spec_by k) (spec_pieces s) (spec_form f s)
+  module _ (n : ℕ) (k : List Seen → KindForm × List Seen) (kinds' : (x : SpecKind) → Reads f n (of_word words.Int ∷ opening brackets.Curly ∷ []) k (kind_pieces x) (kind_form f x)) where
+    pub reads_spec : (s : Spec) → Reads f n (of_word words.Int ∷ opening brackets.Curly ∷ []) (spec_by k) (spec_pieces s) (spec_form f s)
     reads_spec s = reads_as refl (fold_out-Spec AttrKindForm KindForm ArmForm AttrForm MemberForm SpecForm SwitchForm (attr_kind_layer f) (kind_layer f) (arm_layer f) (attr_layer f) (member_layer f) (spec_layer f) (switch_layer f) s)
         (reads_mapped (λ p. a_spec p.0 p.1) (reads_placed spec_firsts s.at (kind_heads s.what) (kinds' s.what)))
 
@@ -265,25 +267,25 @@ module _ {f : ℕ → ℕ} where
     of_attr o e same c starts r = reads_as e same (reads_chosen (attr_kind_on k) c starts r)
 
     pointer : (p : Pk) → Reads f n [] (chosen (attr_kind_on k)) (pk_pieces p) (OfPointer p)
-    pointer pks.Ref = reads_chosen (attr_kind_on k) 6 (pk_heads pks.Ref) (reads_mapped OfPointer (reads_pk pks.Ref))
-    pointer pks.Unique = reads_chosen (attr_kind_on k) 7 (pk_heads pks.Unique) (reads_mapped OfPointer (reads_pk pks.Unique))
-    pointer pks.Ptr = reads_chosen (attr_kind_on k) 8 (pk_heads pks.Ptr) (reads_mapped OfPointer (reads_pk pks.Ptr))
+    pointer pks.Ref = reads_chosen (attr_kind_on k) (of_word words.Ref) (pk_heads pks.Ref) (reads_mapped OfPointer (reads_pk pks.Ref))
+    pointer pks.Unique = reads_chosen (attr_kind_on k) (of_word words.Unique) (pk_heads pks.Unique) (reads_mapped OfPointer (reads_pk pks.Unique))
+    pointer pks.Ptr = reads_chosen (attr_kind_on k) (of_word words.Ptr) (pk_heads pks.Ptr) (reads_mapped OfPointer (reads_pk pks.Ptr))
 
     attr_roll : (o : open_.AttrKind-F AttrKind SpecKind ArmNode Attr Member Spec Switch) → Reads f n [] (chosen (attr_kind_on k)) (attr_kind_pieces (views.roll-AttrKind o)) (attr_kind_form f (views.roll-AttrKind o))
-    attr_roll open_.In = of_attr open_.In (fold-roll-AttrKind Pieces Pieces Pieces Pieces Pieces Pieces Pieces attr_kind_step kind_step arm_step attr_step member_step spec_step switch_step open_.In) (fold-roll-AttrKind AttrKindForm KindForm ArmForm AttrForm MemberForm SpecForm SwitchForm (attr_kind_layer f) (kind_layer f) (arm_layer f) (attr_layer f) (member_layer f) (spec_layer f) (switch_layer f) open_.In) 12 (word_heads words.In) (word_as OfIn words.In)
-    attr_roll open_.Out = of_attr open_.Out (fold-roll-AttrKind Pieces Pieces Pieces Pieces Pieces Pieces Pieces attr_kind_step kind_step arm_step attr_step member_step spec_step switch_step open_.Out) (fold-roll-AttrKind AttrKindForm KindForm ArmForm AttrForm MemberForm SpecForm SwitchForm (attr_kind_layer f) (kind_layer f) (arm_layer f) (attr_layer f) (member_layer f) (spec_layer f) (switch_layer f) open_.Out) 13 (word_heads words.Out) (word_as OfOut words.Out)
+    attr_roll open_.In = of_attr open_.In (fold-roll-AttrKind Pieces Pieces Pieces Pieces Pieces Pieces Pieces attr_kind_step kind_step arm_step attr_step member_step spec_step switch_step open_.In) (fold-roll-AttrKind AttrKindForm KindForm ArmForm AttrForm MemberForm SpecForm SwitchForm (attr_kind_layer f) (kind_layer f) (arm_layer f) (attr_layer f) (member_layer f) (spec_layer f) (switch_layer f) open_.In) (of_word words.In) (word_heads words.In) (word_as OfIn words.In)
+    attr_roll open_.Out = of_attr open_.Out (fold-roll-AttrKind Pieces Pieces Pieces Pieces Pieces Pieces Pieces attr_kind_step kind_step arm_step attr_step member_step spec_step switch_step open_.Out) (fold-roll-AttrKind AttrKindForm KindForm ArmForm AttrForm MemberForm SpecForm SwitchForm (attr_kind_layer f) (kind_layer f) (arm_layer f) (attr_layer f) (member_layer f) (spec_layer f) (switch_layer f) open_.Out) (of_word words.Out) (word_heads words.Out) (word_as OfOut words.Out)
     attr_roll (open_.Pointer p) = reads_as (fold-roll-AttrKind Pieces Pieces Pieces Pieces Pieces Pieces Pieces attr_kind_step kind_step arm_step attr_step member_step spec_step switch_step (open_.Pointer p)) (fold-roll-AttrKind AttrKindForm KindForm ArmForm AttrForm MemberForm SpecForm SwitchForm (attr_kind_layer f) (kind_layer f) (arm_layer f) (attr_layer f) (member_layer f) (spec_layer f) (switch_layer f) (open_.Pointer p)) (pointer p)
-    attr_roll open_.Text = of_attr open_.Text (fold-roll-AttrKind Pieces Pieces Pieces Pieces Pieces Pieces Pieces attr_kind_step kind_step arm_step attr_step member_step spec_step switch_step open_.Text) (fold-roll-AttrKind AttrKindForm KindForm ArmForm AttrForm MemberForm SpecForm SwitchForm (attr_kind_layer f) (kind_layer f) (arm_layer f) (attr_layer f) (member_layer f) (spec_layer f) (switch_layer f) open_.Text) 14 (word_heads words.String) (word_as OfText words.String)
-    attr_roll open_.Idempotent = of_attr open_.Idempotent (fold-roll-AttrKind Pieces Pieces Pieces Pieces Pieces Pieces Pieces attr_kind_step kind_step arm_step attr_step member_step spec_step switch_step open_.Idempotent) (fold-roll-AttrKind AttrKindForm KindForm ArmForm AttrForm MemberForm SpecForm SwitchForm (attr_kind_layer f) (kind_layer f) (arm_layer f) (attr_layer f) (member_layer f) (spec_layer f) (switch_layer f) open_.Idempotent) 15 (word_heads words.Idempotent) (word_as OfIdempotent words.Idempotent)
-    attr_roll open_.Maybe = of_attr open_.Maybe (fold-roll-AttrKind Pieces Pieces Pieces Pieces Pieces Pieces Pieces attr_kind_step kind_step arm_step attr_step member_step spec_step switch_step open_.Maybe) (fold-roll-AttrKind AttrKindForm KindForm ArmForm AttrForm MemberForm SpecForm SwitchForm (attr_kind_layer f) (kind_layer f) (arm_layer f) (attr_layer f) (member_layer f) (spec_layer f) (switch_layer f) open_.Maybe) 16 (word_heads words.Maybe) (word_as OfMaybe words.Maybe)
-    attr_roll open_.Handle = of_attr open_.Handle (fold-roll-AttrKind Pieces Pieces Pieces Pieces Pieces Pieces Pieces attr_kind_step kind_step arm_step attr_step member_step spec_step switch_step open_.Handle) (fold-roll-AttrKind AttrKindForm KindForm ArmForm AttrForm MemberForm SpecForm SwitchForm (attr_kind_layer f) (kind_layer f) (arm_layer f) (attr_layer f) (member_layer f) (spec_layer f) (switch_layer f) open_.Handle) 17 (word_heads words.ContextHandle) (word_as OfContext words.ContextHandle)
-    attr_roll open_.HandleSerialize = of_attr open_.HandleSerialize (fold-roll-AttrKind Pieces Pieces Pieces Pieces Pieces Pieces Pieces attr_kind_step kind_step arm_step attr_step member_step spec_step switch_step open_.HandleSerialize) (fold-roll-AttrKind AttrKindForm KindForm ArmForm AttrForm MemberForm SpecForm SwitchForm (attr_kind_layer f) (kind_layer f) (arm_layer f) (attr_layer f) (member_layer f) (spec_layer f) (switch_layer f) open_.HandleSerialize) 18 (word_heads words.ContextHandleSerialize) (word_as OfSerialize words.ContextHandleSerialize)
-    attr_roll open_.HandleNoserialize = of_attr open_.HandleNoserialize (fold-roll-AttrKind Pieces Pieces Pieces Pieces Pieces Pieces Pieces attr_kind_step kind_step arm_step attr_step member_step spec_step switch_step open_.HandleNoserialize) (fold-roll-AttrKind AttrKindForm KindForm ArmForm AttrForm MemberForm SpecForm SwitchForm (attr_kind_layer f) (kind_layer f) (arm_layer f) (attr_layer f) (member_layer f) (spec_layer f) (switch_layer f) open_.HandleNoserialize) 19 (word_heads words.ContextHandleNoserialize) (word_as OfNoserialize words.ContextHandleNoserialize)
-    attr_roll (open_.SizeIs r) = of_attr (open_.SizeIs r) (fold-roll-AttrKind Pieces Pieces Pieces Pieces Pieces Pieces Pieces attr_kind_step kind_step arm_step attr_step member_step spec_step switch_step (open_.SizeIs r)) (fold-roll-AttrKind AttrKindForm KindForm ArmForm AttrForm MemberForm SpecForm SwitchForm (attr_kind_layer f) (kind_layer f) (arm_layer f) (attr_layer f) (member_layer f) (spec_layer f) (switch_layer f) (open_.SizeIs r)) 20 (word_then words.SizeIs _) (behind_word words.SizeIs (reads_fewer (inside brackets.Round refl (reads_mapped OfSizeIs (reads_ref r)))))
-    attr_roll (open_.MaxIs r) = of_attr (open_.MaxIs r) (fold-roll-AttrKind Pieces Pieces Pieces Pieces Pieces Pieces Pieces attr_kind_step kind_step arm_step attr_step member_step spec_step switch_step (open_.MaxIs r)) (fold-roll-AttrKind AttrKindForm KindForm ArmForm AttrForm MemberForm SpecForm SwitchForm (attr_kind_layer f) (kind_layer f) (arm_layer f) (attr_layer f) (member_layer f) (spec_layer f) (switch_layer f) (open_.MaxIs r)) 21 (word_then words.MaxIs _) (behind_word words.MaxIs (reads_fewer (inside brackets.Round refl (reads_mapped OfMaxIs (reads_ref r)))))
-    attr_roll (open_.LengthIs r) = of_attr (open_.LengthIs r) (fold-roll-AttrKind Pieces Pieces Pieces Pieces Pieces Pieces Pieces attr_kind_step kind_step arm_step attr_step member_step spec_step switch_step (open_.LengthIs r)) (fold-roll-AttrKind AttrKindForm KindForm ArmForm AttrForm MemberForm SpecForm SwitchForm (attr_kind_layer f) (kind_layer f) (arm_layer f) (attr_layer f) (member_layer f) (spec_layer f) (switch_layer f) (open_.LengthIs r)) 22 (word_then words.LengthIs _) (behind_word words.LengthIs (reads_fewer (inside brackets.Round refl (reads_mapped OfLengthIs (reads_ref r)))))
-    attr_roll (open_.SwitchIs star i) = of_attr (open_.SwitchIs star i) (fold-roll-AttrKind Pieces Pieces Pieces Pieces Pieces Pieces Pieces attr_kind_step kind_step arm_step attr_step member_step spec_step switch_step (open_.SwitchIs star i)) (fold-roll-AttrKind AttrKindForm KindForm ArmForm AttrForm MemberForm SpecForm SwitchForm (attr_kind_layer f) (kind_layer f) (arm_layer f) (attr_layer f) (member_layer f) (spec_layer f) (switch_layer f) (open_.SwitchIs star i)) 23 (word_then words.SwitchIs _) (behind_word words.SwitchIs (reads_fewer (inside brackets.Round refl (reads_mapped (λ p. OfSwitchIs p.0 p.1) (reads_starred star i)))))
-    attr_roll (open_.SwitchType b) = of_attr (open_.SwitchType b) (switch_type_at b) (fold-roll-AttrKind AttrKindForm KindForm ArmForm AttrForm MemberForm SpecForm SwitchForm (attr_kind_layer f) (kind_layer f) (arm_layer f) (attr_layer f) (member_layer f) (spec_layer f) (switch_layer f) (open_.SwitchType b)) 24 (word_then words.SwitchType _) (behind_word words.SwitchType (reads_fewer (inside brackets.Round refl (reads_mapped OfSwitchType (reads_spec b.value)))))
+    attr_roll open_.Text = of_attr open_.Text (fold-roll-AttrKind Pieces Pieces Pieces Pieces Pieces Pieces Pieces attr_kind_step kind_step arm_step attr_step member_step spec_step switch_step open_.Text) (fold-roll-AttrKind AttrKindForm KindForm ArmForm AttrForm MemberForm SpecForm SwitchForm (attr_kind_layer f) (kind_layer f) (arm_layer f) (attr_layer f) (member_layer f) (spec_layer f) (switch_layer f) open_.Text) (of_word words.String) (word_heads words.String) (word_as OfText words.String)
+    attr_roll open_.Idempotent = of_attr open_.Idempotent (fold-roll-AttrKind Pieces Pieces Pieces Pieces Pieces Pieces Pieces attr_kind_step kind_step arm_step attr_step member_step spec_step switch_step open_.Idempotent) (fold-roll-AttrKind AttrKindForm KindForm ArmForm AttrForm MemberForm SpecForm SwitchForm (attr_kind_layer f) (kind_layer f) (arm_layer f) (attr_layer f) (member_layer f) (spec_layer f) (switch_layer f) open_.Idempotent) (of_word words.Idempotent) (word_heads words.Idempotent) (word_as OfIdempotent words.Idempotent)
+    attr_roll open_.Maybe = of_attr open_.Maybe (fold-roll-AttrKind Pieces Pieces Pieces Pieces Pieces Pieces Pieces attr_kind_step kind_step arm_step attr_step member_step spec_step switch_step open_.Maybe) (fold-roll-AttrKind AttrKindForm KindForm ArmForm AttrForm MemberForm SpecForm SwitchForm (attr_kind_layer f) (kind_layer f) (arm_layer f) (attr_layer f) (member_layer f) (spec_layer f) (switch_layer f) open_.Maybe) (of_word words.Maybe) (word_heads words.Maybe) (word_as OfMaybe words.Maybe)
+    attr_roll open_.Handle = of_attr open_.Handle (fold-roll-AttrKind Pieces Pieces Pieces Pieces Pieces Pieces Pieces attr_kind_step kind_step arm_step attr_step member_step spec_step switch_step open_.Handle) (fold-roll-AttrKind AttrKindForm KindForm ArmForm AttrForm MemberForm SpecForm SwitchForm (attr_kind_layer f) (kind_layer f) (arm_layer f) (attr_layer f) (member_layer f) (spec_layer f) (switch_layer f) open_.Handle) (of_word words.ContextHandle) (word_heads words.ContextHandle) (word_as OfContext words.ContextHandle)
+    attr_roll open_.HandleSerialize = of_attr open_.HandleSerialize (fold-roll-AttrKind Pieces Pieces Pieces Pieces Pieces Pieces Pieces attr_kind_step kind_step arm_step attr_step member_step spec_step switch_step open_.HandleSerialize) (fold-roll-AttrKind AttrKindForm KindForm ArmForm AttrForm MemberForm SpecForm SwitchForm (attr_kind_layer f) (kind_layer f) (arm_layer f) (attr_layer f) (member_layer f) (spec_layer f) (switch_layer f) open_.HandleSerialize) (of_word words.ContextHandleSerialize) (word_heads words.ContextHandleSerialize) (word_as OfSerialize words.ContextHandleSerialize)
+    attr_roll open_.HandleNoserialize = of_attr open_.HandleNoserialize (fold-roll-AttrKind Pieces Pieces Pieces Pieces Pieces Pieces Pieces attr_kind_step kind_step arm_step attr_step member_step spec_step switch_step open_.HandleNoserialize) (fold-roll-AttrKind AttrKindForm KindForm ArmForm AttrForm MemberForm SpecForm SwitchForm (attr_kind_layer f) (kind_layer f) (arm_layer f) (attr_layer f) (member_layer f) (spec_layer f) (switch_layer f) open_.HandleNoserialize) (of_word words.ContextHandleNoserialize) (word_heads words.ContextHandleNoserialize) (word_as OfNoserialize words.ContextHandleNoserialize)
+    attr_roll (open_.SizeIs r) = of_attr (open_.SizeIs r) (fold-roll-AttrKind Pieces Pieces Pieces Pieces Pieces Pieces Pieces attr_kind_step kind_step arm_step attr_step member_step spec_step switch_step (open_.SizeIs r)) (fold-roll-AttrKind AttrKindForm KindForm ArmForm AttrForm MemberForm SpecForm SwitchForm (attr_kind_layer f) (kind_layer f) (arm_layer f) (attr_layer f) (member_layer f) (spec_layer f) (switch_layer f) (open_.SizeIs r)) (of_word words.SizeIs) (word_then words.SizeIs _) (behind_word words.SizeIs (reads_fewer (inside brackets.Round refl (reads_mapped OfSizeIs (reads_ref r)))))
+    attr_roll (open_.MaxIs r) = of_attr (open_.MaxIs r) (fold-roll-AttrKind Pieces Pieces Pieces Pieces Pieces Pieces Pieces attr_kind_step kind_step arm_step attr_step member_step spec_step switch_step (open_.MaxIs r)) (fold-roll-AttrKind AttrKindForm KindForm ArmForm AttrForm MemberForm SpecForm SwitchForm (attr_kind_layer f) (kind_layer f) (arm_layer f) (attr_layer f) (member_layer f) (spec_layer f) (switch_layer f) (open_.MaxIs r)) (of_word words.MaxIs) (word_then words.MaxIs _) (behind_word words.MaxIs (reads_fewer (inside brackets.Round refl (reads_mapped OfMaxIs (reads_ref r)))))
+    attr_roll (open_.LengthIs r) = of_attr (open_.LengthIs r) (fold-roll-AttrKind Pieces Pieces Pieces Pieces Pieces Pieces Pieces attr_kind_step kind_step arm_step attr_step member_step spec_step switch_step (open_.LengthIs r)) (fold-roll-AttrKind AttrKindForm KindForm ArmForm AttrForm MemberForm SpecForm SwitchForm (attr_kind_layer f) (kind_layer f) (arm_layer f) (attr_layer f) (member_layer f) (spec_layer f) (switch_layer f) (open_.LengthIs r)) (of_word words.LengthIs) (word_then words.LengthIs _) (behind_word words.LengthIs (reads_fewer (inside brackets.Round refl (reads_mapped OfLengthIs (reads_ref r)))))
+    attr_roll (open_.SwitchIs star i) = of_attr (open_.SwitchIs star i) (fold-roll-AttrKind Pieces Pieces Pieces Pieces Pieces Pieces Pieces attr_kind_step kind_step arm_step attr_step member_step spec_step switch_step (open_.SwitchIs star i)) (fold-roll-AttrKind AttrKindForm KindForm ArmForm AttrForm MemberForm SpecForm SwitchForm (attr_kind_layer f) (kind_layer f) (arm_layer f) (attr_layer f) (member_layer f) (spec_layer f) (switch_layer f) (open_.SwitchIs star i)) (of_word words.SwitchIs) (word_then words.SwitchIs _) (behind_word words.SwitchIs (reads_fewer (inside brackets.Round refl (reads_mapped (λ p. OfSwitchIs p.0 p.1) (reads_starred star i)))))
+    attr_roll (open_.SwitchType b) = of_attr (open_.SwitchType b) (switch_type_at b) (fold-roll-AttrKind AttrKindForm KindForm ArmForm AttrForm MemberForm SpecForm SwitchForm (attr_kind_layer f) (kind_layer f) (arm_layer f) (attr_layer f) (member_layer f) (spec_layer f) (switch_layer f) (open_.SwitchType b)) (of_word words.SwitchType) (word_then words.SwitchType _) (behind_word words.SwitchType (reads_fewer (inside brackets.Round refl (reads_mapped OfSwitchType (reads_spec b.value)))))
 
     reads_attr_kind : (x : AttrKind) → Reads f n [] (chosen (attr_kind_on k)) (attr_kind_pieces x) (attr_kind_form f x)
     reads_attr_kind x = subst (λ (v : AttrKind). Reads f n [] (chosen (attr_kind_on k)) (attr_kind_pieces v) (attr_kind_form f v)) (views.roll-out-AttrKind x) (attr_roll (views.out-AttrKind x))
@@ -292,7 +294,7 @@ module _ {f : ℕ → ℕ} where
     reads_attr a = reads_as refl (fold_out-Attr AttrKindForm KindForm ArmForm AttrForm MemberForm SpecForm SwitchForm (attr_kind_layer f) (kind_layer f) (arm_layer f) (attr_layer f) (member_layer f) (spec_layer f) (switch_layer f) a)
         (reads_mapped (λ p. an_attr p.0 p.1) (reads_placed attr_firsts a.at (attr_kind_heads a.what) (reads_attr_kind a.what)))
 
-    pub reads_attrs : (as' : List Attr) → Reads f n (60 ∷ []) (attrs_by n k) (attrs_pieces as') (attrs_form f as')
+    pub reads_attrs : (as' : List Attr) → Reads f n (opening brackets.Square ∷ []) (attrs_by n k) (attrs_pieces as') (attrs_form f as')
     reads_attrs as' = reads_mapped attr_forms (reads_squares attr_pieces (attr_form f) n [] (attr_by k) refl reads_attr as' refl)
 
     -- ---- members and arms
@@ -303,31 +305,31 @@ module _ {f : ℕ → ℕ} where
         let ds = dtors_pieces o.dtors.items ++ mark_pieces marks.Semicolon in
         reads_as refl (fold_out-Member AttrKindForm KindForm ArmForm AttrForm MemberForm SpecForm SwitchForm (attr_kind_layer f) (kind_layer f) (arm_layer f) (attr_layer f) (member_layer f) (spec_layer f) (switch_layer f) m)
         (reads_mapped as_member (reads_both spec_firsts (heads_append spec_firsts (spec_pieces o.spec) ds (spec_heads o.spec)) refl (reads_attrs o.attrs.items)
-        (reads_both (53 ∷ 70 ∷ []) (heads_append (53 ∷ 70 ∷ []) (dtors_pieces o.dtors.items) (mark_pieces marks.Semicolon) (dtors_heads o.dtors.items)) refl (reads_spec o.spec) (upto_mark marks.Semicolon refl (reads_dtors n o.dtors.items)))))
+        (reads_both (of_mark marks.Star ∷ name_classes) (heads_append (of_mark marks.Star ∷ name_classes) (dtors_pieces o.dtors.items) (mark_pieces marks.Semicolon) (dtors_heads o.dtors.items)) refl (reads_spec o.spec) (upto_mark marks.Semicolon refl (reads_dtors n o.dtors.items)))))
 
-    reads_arm_member : (o : Option Member) → Reads f n [] (split (51 ∷ []) (a_token None) (mapped Some (member_by n k))) (arm_member_pieces o) (if_there (member_form f) o)
-    reads_arm_member None = split_yes (51 ∷ []) _ (mark_heads marks.Semicolon) (mark_as None marks.Semicolon)
-    reads_arm_member (Some m) = split_no (51 ∷ []) member_firsts _ (member_heads m) refl (reads_mapped Some (reads_member m))
+    reads_arm_member : (o : Option Member) → Reads f n [] (split (of_mark marks.Semicolon ∷ []) (a_token None) (mapped Some (member_by n k))) (arm_member_pieces o) (if_there (member_form f) o)
+    reads_arm_member None = split_yes (of_mark marks.Semicolon ∷ []) _ (mark_heads marks.Semicolon) (mark_as None marks.Semicolon)
+    reads_arm_member (Some m) = split_no (of_mark marks.Semicolon ∷ []) member_firsts _ (member_heads m) refl (reads_mapped Some (reads_member m))
 
     reads_arm : (a : ArmNode) → Reads f n [] (arm_by n k) (arm_pieces a) (arm_form f a)
     reads_arm a =
         let o = views.out-ArmNode a in
         reads_as refl (arm_form_is f a)
-        (reads_mapped as_arm (reads_both (51 ∷ member_firsts) (arm_member_heads o.member) refl (reads_loop label_pieces (label_form f) n (40 ∷ 41 ∷ []) [] a_label label_heads refl reads_label o.labels.items) (reads_arm_member o.member)))
+        (reads_mapped as_arm (reads_both (of_mark marks.Semicolon ∷ member_firsts) (arm_member_heads o.member) refl (reads_loop label_pieces (label_form f) n (of_word words.Case ∷ of_word words.Default ∷ []) [] a_label label_heads refl reads_label o.labels.items) (reads_arm_member o.member)))
 
     -- ---- kinds of spec
 
-    reads_switch : (s : Switch) → Reads f (suc n) (70 ∷ []) (switch_by k) (switch_pieces s) (switch_form f s)
+    reads_switch : (s : Switch) → Reads f (suc n) name_classes (switch_by k) (switch_pieces s) (switch_form f s)
     reads_switch s =
         let o = views.out-Switch s in
         reads_as refl (fold_out-Switch AttrKindForm KindForm ArmForm AttrForm MemberForm SpecForm SwitchForm (attr_kind_layer f) (kind_layer f) (arm_layer f) (attr_layer f) (member_layer f) (spec_layer f) (switch_layer f) s)
-        (behind_word words.Switch (reads_mapped as_switch (reads_then (inside brackets.Round refl (reads_both (70 ∷ []) (ident_heads o.name) refl (reads_spec o.spec.value) (reads_name o.name))) (reads_tag o.body))))
+        (behind_word words.Switch (reads_mapped as_switch (reads_then (inside brackets.Round refl (reads_both name_classes (ident_heads o.name) refl (reads_spec o.spec.value) (reads_name o.name))) (reads_tag o.body))))
 
     -- a structure's tag alone
-    tag_alone : (tag : Option Ident) → Reads f (suc n) (35 ∷ 62 ∷ []) (both a_tag (maybe (62 ∷ []) (behind (upto (loop n member_firsts (member_by n k)))))) (tag_pieces tag) (if_there (ident_form f) tag, None)
+    tag_alone : (tag : Option Ident) → Reads f (suc n) (of_word words.Int ∷ opening brackets.Curly ∷ []) (both a_tag (maybe (opening brackets.Curly ∷ []) (behind (upto (loop n member_firsts (member_by n k)))))) (tag_pieces tag) (if_there (ident_form f) tag, None)
     unfolding tag_pieces
     tag_alone None = reads_bad
-    tag_alone (Some i) = reads_as (sym (append-nil (ident_pieces i))) refl (reads_then (maybe_some (70 ∷ []) (ident_heads i) (reads_name i)) (reads_right (35 ∷ []) (maybe_none (62 ∷ []) _)))
+    tag_alone (Some i) = reads_as (sym (append-nil (ident_pieces i))) refl (reads_then (maybe_some name_classes (ident_heads i) (reads_name i)) (reads_right (of_word words.Int ∷ []) (maybe_none (opening brackets.Curly ∷ []) _)))
 
     members_in : (ms : List Member) → Reads f (suc n) [] (behind (upto (loop n member_firsts (member_by n k)))) (within brackets.Curly (flat_map member_pieces ms)) (map (member_form f) ms)
     members_in ms = inside brackets.Curly refl (reads_loop member_pieces (member_form f) n member_firsts [] (member_by n k) member_heads refl reads_member ms)
@@ -336,27 +338,27 @@ module _ {f : ℕ → ℕ} where
     arms_in as' = inside brackets.Curly refl (reads_loop arm_pieces (arm_form f) n arm_firsts [] (arm_by n k) arm_heads refl reads_arm as')
 
     of_kind : (o : open_.SpecKind-F AttrKind SpecKind ArmNode Attr Member Spec Switch) {ps : Pieces} {a : KindForm} → kind_pieces (views.roll-SpecKind o) ≡ ps → kind_form f (views.roll-SpecKind o) ≡ a
-        → (c : ℕ) → heads (c ∷ []) ps ≡ true → apart (c ∷ []) base_firsts ≡ true → Reads f (suc n) (35 ∷ 62 ∷ []) (kind_on n k c) ps a → Reads f (suc n) (35 ∷ 62 ∷ []) (kind_by n k) (kind_pieces (views.roll-SpecKind o)) (kind_form f (views.roll-SpecKind o))
+        → (c : ℕ) → heads (c ∷ []) ps ≡ true → apart (c ∷ []) base_firsts ≡ true → Reads f (suc n) (of_word words.Int ∷ opening brackets.Curly ∷ []) (kind_on n k c) ps a → Reads f (suc n) (of_word words.Int ∷ opening brackets.Curly ∷ []) (kind_by n k) (kind_pieces (views.roll-SpecKind o)) (kind_form f (views.roll-SpecKind o))
     of_kind o e same c starts far r = reads_as e same (split_no base_firsts (c ∷ []) _ starts far (reads_chosen (kind_on n k) c starts r))
 
-    kind_roll : (o : open_.SpecKind-F AttrKind SpecKind ArmNode Attr Member Spec Switch) → Reads f (suc n) (35 ∷ 62 ∷ []) (kind_by n k) (kind_pieces (views.roll-SpecKind o)) (kind_form f (views.roll-SpecKind o))
-    kind_roll (open_.Base b) = reads_as (fold-roll-SpecKind Pieces Pieces Pieces Pieces Pieces Pieces Pieces attr_kind_step kind_step arm_step attr_step member_step spec_step switch_step (open_.Base b)) (fold-roll-SpecKind AttrKindForm KindForm ArmForm AttrForm MemberForm SpecForm SwitchForm (attr_kind_layer f) (kind_layer f) (arm_layer f) (attr_layer f) (member_layer f) (spec_layer f) (switch_layer f) (open_.Base b)) (split_yes base_firsts _ (base_heads b) (reads_mapped OfBase (reads_left (62 ∷ []) (reads_base b))))
+    kind_roll : (o : open_.SpecKind-F AttrKind SpecKind ArmNode Attr Member Spec Switch) → Reads f (suc n) (of_word words.Int ∷ opening brackets.Curly ∷ []) (kind_by n k) (kind_pieces (views.roll-SpecKind o)) (kind_form f (views.roll-SpecKind o))
+    kind_roll (open_.Base b) = reads_as (fold-roll-SpecKind Pieces Pieces Pieces Pieces Pieces Pieces Pieces attr_kind_step kind_step arm_step attr_step member_step spec_step switch_step (open_.Base b)) (fold-roll-SpecKind AttrKindForm KindForm ArmForm AttrForm MemberForm SpecForm SwitchForm (attr_kind_layer f) (kind_layer f) (arm_layer f) (attr_layer f) (member_layer f) (spec_layer f) (switch_layer f) (open_.Base b)) (split_yes base_firsts _ (base_heads b) (reads_mapped OfBase (reads_left (opening brackets.Curly ∷ []) (reads_base b))))
     kind_roll (open_.Named i) = of_kind (open_.Named i) (fold-roll-SpecKind Pieces Pieces Pieces Pieces Pieces Pieces Pieces attr_kind_step kind_step arm_step attr_step member_step spec_step switch_step (open_.Named i)) (fold-roll-SpecKind AttrKindForm KindForm ArmForm AttrForm MemberForm SpecForm SwitchForm (attr_kind_layer f) (kind_layer f) (arm_layer f) (attr_layer f) (member_layer f) (spec_layer f) (switch_layer f) (open_.Named i)) 70 (ident_heads i) refl (reads_any _ (reads_mapped OfName (reads_name i)))
-    kind_roll open_.Void = of_kind open_.Void (fold-roll-SpecKind Pieces Pieces Pieces Pieces Pieces Pieces Pieces attr_kind_step kind_step arm_step attr_step member_step spec_step switch_step open_.Void) (fold-roll-SpecKind AttrKindForm KindForm ArmForm AttrForm MemberForm SpecForm SwitchForm (attr_kind_layer f) (kind_layer f) (arm_layer f) (attr_layer f) (member_layer f) (spec_layer f) (switch_layer f) open_.Void) 11 (word_heads words.Void) refl (reads_any _ (word_as OfVoid words.Void))
-    kind_roll open_.HandleT = of_kind open_.HandleT (fold-roll-SpecKind Pieces Pieces Pieces Pieces Pieces Pieces Pieces attr_kind_step kind_step arm_step attr_step member_step spec_step switch_step open_.HandleT) (fold-roll-SpecKind AttrKindForm KindForm ArmForm AttrForm MemberForm SpecForm SwitchForm (attr_kind_layer f) (kind_layer f) (arm_layer f) (attr_layer f) (member_layer f) (spec_layer f) (switch_layer f) open_.HandleT) 25 (word_heads words.HandleT) refl (reads_any _ (word_as OfHandle words.HandleT))
-    kind_roll open_.ErrorStatus = of_kind open_.ErrorStatus (fold-roll-SpecKind Pieces Pieces Pieces Pieces Pieces Pieces Pieces attr_kind_step kind_step arm_step attr_step member_step spec_step switch_step open_.ErrorStatus) (fold-roll-SpecKind AttrKindForm KindForm ArmForm AttrForm MemberForm SpecForm SwitchForm (attr_kind_layer f) (kind_layer f) (arm_layer f) (attr_layer f) (member_layer f) (spec_layer f) (switch_layer f) open_.ErrorStatus) 26 (word_heads words.ErrorStatusT) refl (reads_any _ (word_as OfStatus words.ErrorStatusT))
-    kind_roll (open_.Struct tag None) = of_kind (open_.Struct tag None) (fold-roll-SpecKind Pieces Pieces Pieces Pieces Pieces Pieces Pieces attr_kind_step kind_step arm_step attr_step member_step spec_step switch_step (open_.Struct tag None)) (fold-roll-SpecKind AttrKindForm KindForm ArmForm AttrForm MemberForm SpecForm SwitchForm (attr_kind_layer f) (kind_layer f) (arm_layer f) (attr_layer f) (member_layer f) (spec_layer f) (switch_layer f) (open_.Struct tag None)) 36 (word_then words.Struct _) refl (behind_word words.Struct (reads_mapped (λ p. struct_form p.0 p.1) (tag_alone tag)))
-    kind_roll (open_.Struct tag (Some ms)) = of_kind (open_.Struct tag (Some ms)) (struct_at tag ms) (fold-roll-SpecKind AttrKindForm KindForm ArmForm AttrForm MemberForm SpecForm SwitchForm (attr_kind_layer f) (kind_layer f) (arm_layer f) (attr_layer f) (member_layer f) (spec_layer f) (switch_layer f) (open_.Struct tag (Some ms))) 36 (word_then words.Struct _) refl
-        (behind_word words.Struct (reads_mapped (λ p. struct_form p.0 p.1) (reads_both (62 ∷ []) (open_heads brackets.Curly _) refl (reads_tag tag) (maybe_some (62 ∷ []) (open_heads brackets.Curly _) (reads_any _ (members_in ms.items))))))
-    kind_roll (open_.Union tag None arms) = of_kind (open_.Union tag None arms) (union_at tag arms) (fold-roll-SpecKind AttrKindForm KindForm ArmForm AttrForm MemberForm SpecForm SwitchForm (attr_kind_layer f) (kind_layer f) (arm_layer f) (attr_layer f) (member_layer f) (spec_layer f) (switch_layer f) (open_.Union tag None arms)) 37 (word_then words.Union _) refl
-        (behind_word words.Union (reads_mapped (λ p. union_form p.0 p.1.0 p.1.1) (reads_both (62 ∷ []) (open_heads brackets.Curly _) refl (reads_tag tag) (reads_both (62 ∷ []) (open_heads brackets.Curly _) refl (maybe_none (38 ∷ []) (switch_by k)) (reads_any _ (arms_in arms.items))))))
-    kind_roll (open_.Union tag (Some s) arms) = of_kind (open_.Union tag (Some s) arms) (switched_at tag s arms) (fold-roll-SpecKind AttrKindForm KindForm ArmForm AttrForm MemberForm SpecForm SwitchForm (attr_kind_layer f) (kind_layer f) (arm_layer f) (attr_layer f) (member_layer f) (spec_layer f) (switch_layer f) (open_.Union tag (Some s) arms)) 37 (word_then words.Union _) refl
-        (behind_word words.Union (reads_mapped (λ p. union_form p.0 p.1.0 p.1.1) (reads_both (38 ∷ []) (heads_append (38 ∷ []) (switch_pieces s) _ (switch_heads s)) refl (reads_tag tag)
-        (reads_both (62 ∷ []) (open_heads brackets.Curly _) refl (maybe_some (38 ∷ []) (switch_heads s) (reads_switch s)) (reads_any _ (arms_in arms.items))))))
-    kind_roll (open_.Enum tag names) = of_kind (open_.Enum tag names) (fold-roll-SpecKind Pieces Pieces Pieces Pieces Pieces Pieces Pieces attr_kind_step kind_step arm_step attr_step member_step spec_step switch_step (open_.Enum tag names)) (fold-roll-SpecKind AttrKindForm KindForm ArmForm AttrForm MemberForm SpecForm SwitchForm (attr_kind_layer f) (kind_layer f) (arm_layer f) (attr_layer f) (member_layer f) (spec_layer f) (switch_layer f) (open_.Enum tag names)) 39 (word_then words.Enum _) refl
-        (behind_word words.Enum (reads_mapped (λ p. OfEnum p.0 p.1) (reads_both (62 ∷ []) (open_heads brackets.Curly _) refl (reads_tag tag) (reads_any _ (inside brackets.Curly refl (reads_names n names.items))))))
+    kind_roll open_.Void = of_kind open_.Void (fold-roll-SpecKind Pieces Pieces Pieces Pieces Pieces Pieces Pieces attr_kind_step kind_step arm_step attr_step member_step spec_step switch_step open_.Void) (fold-roll-SpecKind AttrKindForm KindForm ArmForm AttrForm MemberForm SpecForm SwitchForm (attr_kind_layer f) (kind_layer f) (arm_layer f) (attr_layer f) (member_layer f) (spec_layer f) (switch_layer f) open_.Void) (of_word words.Void) (word_heads words.Void) refl (reads_any _ (word_as OfVoid words.Void))
+    kind_roll open_.HandleT = of_kind open_.HandleT (fold-roll-SpecKind Pieces Pieces Pieces Pieces Pieces Pieces Pieces attr_kind_step kind_step arm_step attr_step member_step spec_step switch_step open_.HandleT) (fold-roll-SpecKind AttrKindForm KindForm ArmForm AttrForm MemberForm SpecForm SwitchForm (attr_kind_layer f) (kind_layer f) (arm_layer f) (attr_layer f) (member_layer f) (spec_layer f) (switch_layer f) open_.HandleT) (of_word words.HandleT) (word_heads words.HandleT) refl (reads_any _ (word_as OfHandle words.HandleT))
+    kind_roll open_.ErrorStatus = of_kind open_.ErrorStatus (fold-roll-SpecKind Pieces Pieces Pieces Pieces Pieces Pieces Pieces attr_kind_step kind_step arm_step attr_step member_step spec_step switch_step open_.ErrorStatus) (fold-roll-SpecKind AttrKindForm KindForm ArmForm AttrForm MemberForm SpecForm SwitchForm (attr_kind_layer f) (kind_layer f) (arm_layer f) (attr_layer f) (member_layer f) (spec_layer f) (switch_layer f) open_.ErrorStatus) (of_word words.ErrorStatusT) (word_heads words.ErrorStatusT) refl (reads_any _ (word_as OfStatus words.ErrorStatusT))
+    kind_roll (open_.Struct tag None) = of_kind (open_.Struct tag None) (fold-roll-SpecKind Pieces Pieces Pieces Pieces Pieces Pieces Pieces attr_kind_step kind_step arm_step attr_step member_step spec_step switch_step (open_.Struct tag None)) (fold-roll-SpecKind AttrKindForm KindForm ArmForm AttrForm MemberForm SpecForm SwitchForm (attr_kind_layer f) (kind_layer f) (arm_layer f) (attr_layer f) (member_layer f) (spec_layer f) (switch_layer f) (open_.Struct tag None)) (of_word words.Struct) (word_then words.Struct _) refl (behind_word words.Struct (reads_mapped (λ p. struct_form p.0 p.1) (tag_alone tag)))
+    kind_roll (open_.Struct tag (Some ms)) = of_kind (open_.Struct tag (Some ms)) (struct_at tag ms) (fold-roll-SpecKind AttrKindForm KindForm ArmForm AttrForm MemberForm SpecForm SwitchForm (attr_kind_layer f) (kind_layer f) (arm_layer f) (attr_layer f) (member_layer f) (spec_layer f) (switch_layer f) (open_.Struct tag (Some ms))) (of_word words.Struct) (word_then words.Struct _) refl
+        (behind_word words.Struct (reads_mapped (λ p. struct_form p.0 p.1) (reads_both (opening brackets.Curly ∷ []) (open_heads brackets.Curly _) refl (reads_tag tag) (maybe_some (opening brackets.Curly ∷ []) (open_heads brackets.Curly _) (reads_any _ (members_in ms.items))))))
+    kind_roll (open_.Union tag None arms) = of_kind (open_.Union tag None arms) (union_at tag arms) (fold-roll-SpecKind AttrKindForm KindForm ArmForm AttrForm MemberForm SpecForm SwitchForm (attr_kind_layer f) (kind_layer f) (arm_layer f) (attr_layer f) (member_layer f) (spec_layer f) (switch_layer f) (open_.Union tag None arms)) (of_word words.Union) (word_then words.Union _) refl
+        (behind_word words.Union (reads_mapped (λ p. union_form p.0 p.1.0 p.1.1) (reads_both (opening brackets.Curly ∷ []) (open_heads brackets.Curly _) refl (reads_tag tag) (reads_both (opening brackets.Curly ∷ []) (open_heads brackets.Curly _) refl (maybe_none (of_word words.Switch ∷ []) (switch_by k)) (reads_any _ (arms_in arms.items))))))
+    kind_roll (open_.Union tag (Some s) arms) = of_kind (open_.Union tag (Some s) arms) (switched_at tag s arms) (fold-roll-SpecKind AttrKindForm KindForm ArmForm AttrForm MemberForm SpecForm SwitchForm (attr_kind_layer f) (kind_layer f) (arm_layer f) (attr_layer f) (member_layer f) (spec_layer f) (switch_layer f) (open_.Union tag (Some s) arms)) (of_word words.Union) (word_then words.Union _) refl
+        (behind_word words.Union (reads_mapped (λ p. union_form p.0 p.1.0 p.1.1) (reads_both (of_word words.Switch ∷ []) (heads_append (of_word words.Switch ∷ []) (switch_pieces s) _ (switch_heads s)) refl (reads_tag tag)
+        (reads_both (opening brackets.Curly ∷ []) (open_heads brackets.Curly _) refl (maybe_some (of_word words.Switch ∷ []) (switch_heads s) (reads_switch s)) (reads_any _ (arms_in arms.items))))))
+    kind_roll (open_.Enum tag names) = of_kind (open_.Enum tag names) (fold-roll-SpecKind Pieces Pieces Pieces Pieces Pieces Pieces Pieces attr_kind_step kind_step arm_step attr_step member_step spec_step switch_step (open_.Enum tag names)) (fold-roll-SpecKind AttrKindForm KindForm ArmForm AttrForm MemberForm SpecForm SwitchForm (attr_kind_layer f) (kind_layer f) (arm_layer f) (attr_layer f) (member_layer f) (spec_layer f) (switch_layer f) (open_.Enum tag names)) (of_word words.Enum) (word_then words.Enum _) refl
+        (behind_word words.Enum (reads_mapped (λ p. OfEnum p.0 p.1) (reads_both (opening brackets.Curly ∷ []) (open_heads brackets.Curly _) refl (reads_tag tag) (reads_any _ (inside brackets.Curly refl (reads_names n names.items))))))
 
-  pub reads_kind : (n : ℕ) (x : SpecKind) → Reads f n (35 ∷ 62 ∷ []) (kind_within n) (kind_pieces x) (kind_form f x)
+  pub reads_kind : (n : ℕ) (x : SpecKind) → Reads f n (of_word words.Int ∷ opening brackets.Curly ∷ []) (kind_within n) (kind_pieces x) (kind_form f x)
   unfolding kind_within
   reads_kind zero x = record { read = λ ss rest l c o h. let p = shown_heads f spec_firsts (kind_pieces x) ss rest (kind_heads x) h c in let q = p.1 in absurd (omega arith) }
-  reads_kind (suc n) x = subst (λ (v : SpecKind). Reads f (suc n) (35 ∷ 62 ∷ []) (kind_by n (kind_within n)) (kind_pieces v) (kind_form f v)) (views.roll-out-SpecKind x) (kind_roll n (kind_within n) (reads_kind n) (views.out-SpecKind x))
+  reads_kind (suc n) x = subst (λ (v : SpecKind). Reads f (suc n) (of_word words.Int ∷ opening brackets.Curly ∷ []) (kind_by n (kind_within n)) (kind_pieces v) (kind_form f v)) (views.roll-out-SpecKind x) (kind_roll n (kind_within n) (reads_kind n) (views.out-SpecKind x))

@@ -10,7 +10,7 @@ use Rattle.ebnf.proofs.Sets.{are_apart, has_either, has_left, has_right, or_left
 use Rattle.idl_tokens.specs.declared.kinds.Kind.{Kind}
 use Rattle.idl_tokens.specs.declared.kinds.Kind.TheVariants as kinds
 use Rattle.idl_tokens.specs.declared.kinds.Token.{Token}
-use Rattle.idl_tokens.specs.Signs.{sign, opening}
+use Rattle.idl_tokens.specs.Terminals.{terminal, opening, bad_class}
 use Rattle.idl_tree.specs.Pieces.{What, Of, Opens, Piece, Pieces, Stands, AreAt, Front, placed}
 
 -- ---- what is seen of a token: not its level
@@ -24,16 +24,20 @@ bare (Of k) = without_level k
 bare (Opens b) = Opens b
 
 abbrev pub class : What → ℕ
-class (Of k) = (sign k).class
+class (Of k) = (terminal k).class
 class (Opens b) = opening b
 
 pub record Seen : Type 0 where
   pub what : What
   pub at : ℕ
 
+-- no token's class
+abbrev no_class : ℕ
+no_class = 99
+
 -- the first one's class; behind the end no class
 abbrev pub head : List Seen → ℕ
-head [] = 99
+head [] = no_class
 head (s ∷ ss) = class s.what
 
 abbrev pub place : List Seen → ℕ
@@ -47,7 +51,7 @@ tail (s ∷ ss) = ss
 -- none is what no grammar takes
 abbrev pub Clean : List Seen → Type 0
 Clean [] = Unit {0}
-Clean (s ∷ ss) = (class s.what ≡ 0 → ⊥) × Clean ss
+Clean (s ∷ ss) = (class s.what ≡ bad_class → ⊥) × Clean ss
 
 -- each place is moved
 abbrev pub seen : (ℕ → ℕ) → List Token → List Seen
@@ -67,9 +71,9 @@ Shown f (p ∷ ps) (s ∷ ss) rest = (s.what ≡ bare p.what) × AllAt f s.at p.
 -- they begin with a token of these classes
 abbrev pub heads : List ℕ → Pieces → Bool
 heads cs [] = false
-heads cs (p ∷ ps) = has (class p.what) (0 ∷ cs)
+heads cs (p ∷ ps) = has (class p.what) (bad_class ∷ cs)
 
-pub without_level_class : (k : Kind) → class (without_level k) ≡ (sign k).class
+pub without_level_class : (k : Kind) → class (without_level k) ≡ (terminal k).class
 without_level_class (kinds.Open b level) = refl
 without_level_class (kinds.Word w) = refl
 without_level_class (kinds.Name t) = refl
@@ -135,8 +139,8 @@ off_fewer c (x ∷ xs) ys e o =
       | inr k ↦ let no = off_fewer c xs ys p.1 o in cc
     ])
 
-pub has_itself : (c : ℕ) → has c (0 ∷ c ∷ []) ≡ true
-has_itself c = has_right c (0 ∷ []) (c ∷ []) (or_left (eqb c c) false (eq-eqb c c refl))
+pub has_itself : (c : ℕ) → has c (bad_class ∷ c ∷ []) ≡ true
+has_itself c = has_right c (bad_class ∷ []) (c ∷ []) (or_left (eqb c c) false (eq-eqb c c refl))
 
 module _ (f : ℕ → ℕ) where
   stands : (k : Kind) (w : What) → Stands k w → without_level k ≡ bare w
@@ -173,7 +177,7 @@ module _ (f : ℕ → ℕ) where
   shown_heads cs (p ∷ ps) (s ∷ ss) rest e h c =
       let same : class p.what ≡ class s.what = sym (ap class h.0 ∙ bare_class p.what) in
       let l = shown_length ps ss rest h.2 in
-      (or_right (eqb (class s.what) 0) (has (class s.what) cs) (λ z. c.0 (eqb-true (class s.what) 0 z)) (subst (λ (v : ℕ). has v (0 ∷ cs) ≡ true) same e), omega arith)
+      (or_right (eqb (class s.what) 0) (has (class s.what) cs) (λ z. c.0 (eqb-true (class s.what) 0 z)) (subst (λ (v : ℕ). has v (bad_class ∷ cs) ≡ true) same e), omega arith)
 
   -- a token alone
   pub ends : (p : Piece) (ss rest : List Seen) → Shown f (p ∷ []) ss rest → (head ss ≡ class p.what) × (tail ss ≡ rest)

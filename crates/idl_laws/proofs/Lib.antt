@@ -1,3 +1,4 @@
 pub mod Swap
 pub mod Same
 pub mod Once
+pub mod Again

@@ -1,19 +1,19 @@
 -- A text departs from the grammar once.
 use Rattle.std.proofs.Common.{◌≡◌, Bool, true, false, List, [], ◌∷◌, ◌++◌, refl, ap, sym, ◌∙◌, subst, inl, inr, append_assoc}
 use Rattle.std.specs.Prelude.{◌⊎◌}
-use Rattle.ebnf.specs.Ebnf.{Sign, Takes}
+use Rattle.ebnf.specs.Ebnf.{Terminal, Matches}
 use Rattle.idl_tokens.specs.declared.kinds.Token.{Token}
-use Rattle.idl_tokens.specs.Signs.{sign, signs}
+use Rattle.idl_tokens.specs.Terminals.{terminal, terminals}
 use Rattle.idl_tree.specs.Grammar.{rule, file}
 use Rattle.idl_tree.specs.Idl.{BeginsText, FirstDeparture, least}
 
 -- what is before what begins a text begins one too
-prefix_begins : (a b : List Sign) → BeginsText (a ++ b) → BeginsText a
-prefix_begins a b t = (b ++ t.0, subst (λ (x : List Sign). Takes rule file x []) (append_assoc a b t.0) t.1)
+prefix_begins : (a b : List Terminal) → BeginsText (a ++ b) → BeginsText a
+prefix_begins a b t = (b ++ t.0, subst (λ (x : List Terminal). Matches rule file x []) (append_assoc a b t.0) t.1)
 
-signs_append : (a b : List Token) → signs (a ++ b) ≡ signs a ++ signs b
-signs_append [] b = refl
-signs_append (t ∷ a) b = ap (λ x. sign t.kind ∷ x) (signs_append a b)
+terminals_append : (a b : List Token) → terminals (a ++ b) ≡ terminals a ++ terminals b
+terminals_append [] b = refl
+terminals_append (t ∷ a) b = ap (λ x. terminal t.kind ∷ x) (terminals_append a b)
 
 -- of two ways to cut a list in front of a token, one is not behind the other, or they are the same
 record Behind (a b : List Token) (s : Token) : Type 0 where
@@ -38,8 +38,8 @@ cuts (x ∷ a) (y ∷ b) s t u v e =
 -- a departure is not behind another
 never : (tokens : List Token) (s t : Token) (o p : Bool) (d : FirstDeparture tokens s o) (e : FirstDeparture tokens t p) → Behind d.before e.before s → ⊥
 never tokens s t o p d e h =
-    let all : signs e.before ≡ (signs d.before ++ sign s.kind ∷ []) ++ signs h.more = ap signs h.is ∙ (signs_append d.before (s ∷ h.more) ∙ sym (append_assoc (signs d.before) (sign s.kind ∷ []) (signs h.more))) in
-    d.no_further (prefix_begins (signs d.before ++ sign s.kind ∷ []) (signs h.more) (subst (λ (x : List Sign). BeginsText x) all e.begins))
+    let all : terminals e.before ≡ (terminals d.before ++ terminal s.kind ∷ []) ++ terminals h.more = ap terminals h.is ∙ (terminals_append d.before (s ∷ h.more) ∙ sym (append_assoc (terminals d.before) (terminal s.kind ∷ []) (terminals h.more))) in
+    d.no_further (prefix_begins (terminals d.before ++ terminal s.kind ∷ []) (terminals h.more) (subst (λ (x : List Terminal). BeginsText x) all e.begins))
 
 true_same : (o p : Bool) → ((o ≡ true) → (p ≡ true)) → ((p ≡ true) → (o ≡ true)) → o ≡ p
 true_same true p a b = sym (a refl)
@@ -50,7 +50,7 @@ pub departs_once : (tokens : List Token) (s t : Token) (o p : Bool) → FirstDep
 departs_once tokens s t o p d e =
     elim (cuts d.before e.before s t d.behind e.behind (sym d.cut ∙ e.cut)) [
       | inl q ↦
-          let move : signs d.before ++ least (sign s.kind) ∷ [] ≡ signs e.before ++ least (sign t.kind) ∷ [] = ap (λ x. signs x ++ least (sign s.kind) ∷ []) q.0 ∙ ap (λ (x : Token). signs e.before ++ least (sign x.kind) ∷ []) q.1 in
+          let move : terminals d.before ++ least (terminal s.kind) ∷ [] ≡ terminals e.before ++ least (terminal t.kind) ∷ [] = ap (λ x. terminals x ++ least (terminal s.kind) ∷ []) q.0 ∙ ap (λ (x : Token). terminals e.before ++ least (terminal x.kind) ∷ []) q.1 in
           (q.1, true_same o p (λ h. e.smaller.1 (subst BeginsText move (d.smaller.0 h))) (λ h. d.smaller.1 (subst BeginsText (sym move) (e.smaller.0 h))))
       | inr q ↦ elim q [
         | inl h ↦ absurd (never tokens s t o p d e h)
@@ -58,7 +58,7 @@ departs_once tokens s t o p d e =
       ]
     ]
 
-pub no_departure : (tokens : List Token) (t : Token) (o : Bool) → Takes rule file (signs tokens) [] → FirstDeparture tokens t o → ⊥
+pub no_departure : (tokens : List Token) (t : Token) (o : Bool) → Matches rule file (terminals tokens) [] → FirstDeparture tokens t o → ⊥
 no_departure tokens t o h d =
-    let all : signs tokens ≡ (signs d.before ++ sign t.kind ∷ []) ++ signs d.behind = ap signs d.cut ∙ (signs_append d.before (t ∷ d.behind) ∙ sym (append_assoc (signs d.before) (sign t.kind ∷ []) (signs d.behind))) in
-    d.no_further (signs d.behind, subst (λ (x : List Sign). Takes rule file x []) all h)
+    let all : terminals tokens ≡ (terminals d.before ++ terminal t.kind ∷ []) ++ terminals d.behind = ap terminals d.cut ∙ (terminals_append d.before (t ∷ d.behind) ∙ sym (append_assoc (terminals d.before) (terminal t.kind ∷ []) (terminals d.behind))) in
+    d.no_further (terminals d.behind, subst (λ (x : List Terminal). Matches rule file x []) all h)

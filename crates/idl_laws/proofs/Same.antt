@@ -1,9 +1,9 @@
 -- What takes the same, whatever brackets hold.
 use Rattle.std.proofs.Common.{ℕ, Bool, true, false, eqb, List, []}
 use Rattle.std.specs.Prelude.{◌↔◌, if◌then◌else◌}
-use Rattle.ebnf.specs.Ebnf.{Ebnf, Sign, Takes}
+use Rattle.ebnf.specs.Ebnf.{Ebnf, Terminal, Matches}
 use Rattle.ebnf.specs.Ebnf.Ebnf.{Seq, Alt, Opt, Many}
-use Rattle.ebnf.specs.Ebnf.Takes.{seq, left, right, none, some, stop, more}
+use Rattle.ebnf.specs.Ebnf.Matches.{seq, left, right, none, some, stop, more}
 use Rattle.idl_tokens.specs.declared.words.Word.TheVariants as words
 use Rattle.idl_tokens.specs.declared.marks.Mark.TheVariants as marks
 use Rattle.idl_tree.specs.Grammar.{◌⨟◌, ◌∣◌, a_word, a_mark, a_name, a_text, a_uuid, listed, pk, signed, sizeable, base, array_size, dtor, dtors, body, struct_rest, union_body, union_rest, enum_body, enum_rest, typed, plain, spec, spec_but_void, size_ref, star_name, attr, attrs, member, members, label, arm, arms, param, param_but_void, more_params, params, op_rest, lone_or_op, const_decl, typedef_decl, decl, version, file_attr, file, rule}
@@ -12,7 +12,7 @@ use Rattle.idl_laws.proofs.Swap.{swapped}
 
 module _ (f : ℕ → Ebnf) where
   abbrev To : Ebnf → Ebnf → Type 0
-  To a b = (ts rest : List Sign) → Takes f a ts rest → Takes f b ts rest
+  To a b = (ts rest : List Terminal) → Matches f a ts rest → Matches f b ts rest
 
   id : (a : Ebnf) → To a a
   id a ts rest p = p
@@ -181,7 +181,7 @@ module _ (f : ℕ → Ebnf) where
     tagged_back : To (Seq (Seq W A) M) (Seq W (Alt (Seq A (Alt M O)) (Seq P O)))
     tagged_back ts rest (seq (seq w a) m) = seq w (left _ (seq a (left _ m)))
 
-    behind : (ts rest : List Sign) {mid next : List Sign} → Takes f W ts mid → Takes f (Alt A P) mid next → Takes f O next rest → Takes f (Seq W (Alt (Seq A (Alt M O)) (Seq P O))) ts rest
+    behind : (ts rest : List Terminal) {mid next : List Terminal} → Matches f W ts mid → Matches f (Alt A P) mid next → Matches f O next rest → Matches f (Seq W (Alt (Seq A (Alt M O)) (Seq P O))) ts rest
     behind ts rest w (left _ a) o = seq w (left _ (seq a (right _ o)))
     behind ts rest w (right _ p) o = seq w (right _ (seq p o))
 
@@ -245,15 +245,15 @@ module _ (f : ℕ → Ebnf) where
     abbrev Specs : Ebnf
     Specs = Alt R1 (Alt R2 (Alt R3 P))
 
-    first_of : (ts rest : List Sign) → Takes f (Alt (Seq T1 M) (Seq R1 O)) ts rest → Takes f (Alt (Seq Tags M) (Seq Specs O)) ts rest
+    first_of : (ts rest : List Terminal) → Matches f (Alt (Seq T1 M) (Seq R1 O)) ts rest → Matches f (Alt (Seq Tags M) (Seq Specs O)) ts rest
     first_of ts rest (left _ (seq t m)) = left _ (seq (left _ t) m)
     first_of ts rest (right _ (seq r o)) = right _ (seq (left _ r) o)
 
-    second_of : (ts rest : List Sign) → Takes f (Alt (Seq T2 M) (Seq R2 O)) ts rest → Takes f (Alt (Seq Tags M) (Seq Specs O)) ts rest
+    second_of : (ts rest : List Terminal) → Matches f (Alt (Seq T2 M) (Seq R2 O)) ts rest → Matches f (Alt (Seq Tags M) (Seq Specs O)) ts rest
     second_of ts rest (left _ (seq t m)) = left _ (seq (right _ (left _ t)) m)
     second_of ts rest (right _ (seq r o)) = right _ (seq (right _ (left _ r)) o)
 
-    third_of : (ts rest : List Sign) → Takes f (Alt (Seq T3 M) (Seq R3 O)) ts rest → Takes f (Alt (Seq Tags M) (Seq Specs O)) ts rest
+    third_of : (ts rest : List Terminal) → Matches f (Alt (Seq T3 M) (Seq R3 O)) ts rest → Matches f (Alt (Seq Tags M) (Seq Specs O)) ts rest
     third_of ts rest (left _ (seq t m)) = left _ (seq (right _ (right _ t)) m)
     third_of ts rest (right _ (seq r o)) = right _ (seq (right _ (right _ (left _ r))) o)
 
@@ -330,5 +330,5 @@ module _ (f : ℕ → Ebnf) where
       let Q : ℕ → Bool = λ n. eqb r n in
       by_rule (Q 1) _ _ _ _ (id array_size) (by_rule (Q 2) _ _ _ _ (to_seq _ _ _ _ back_member (to_many _ _ back_member)) (by_rule (Q 3) _ _ _ _ (id (listed file_attr)) (by_rule (Q 4) _ _ _ _ (id a_uuid) (by_rule (Q 5) _ _ _ _ (id version) (by_rule (Q 6) _ _ _ _ (id pk) (by_rule (Q 7) _ _ _ _ (id (listed a_text)) (by_rule (Q 8) _ _ _ _ (to_many _ _ back_decl) (by_rule (Q 9) _ _ _ _ (id (listed attr)) (by_rule (Q 10) _ _ _ _ (id size_ref) (by_rule (Q 11) _ _ _ _ (id star_name) (by_rule (Q 12) _ _ _ _ back_spec (by_rule (Q 13) _ _ _ _ back_params (by_rule (Q 14) _ _ _ _ (to_seq _ _ _ _ back_spec (id a_name)) (by_rule (Q 15) _ _ _ _ (to_seq _ _ _ _ back_arm (to_many _ _ back_arm)) (id (listed a_name))))))))))))))))
 
-pub as_written : (ks : List Sign) → Takes rule file ks [] ↔ Takes written_rule file ks []
+pub as_written : (ks : List Terminal) → Matches rule file ks [] ↔ Matches written_rule file ks []
 as_written ks = ((λ p. swapped rule written_rule (to_rules rule) file ks [] p), (λ p. swapped written_rule rule (back_rules written_rule) file ks [] p))

@@ -1,10 +1,10 @@
 -- Rules that take the same may stand for one another.
 use Rattle.std.proofs.Common.{ℕ, zero, suc, ◌≤◌, ◌<◌, List, length, arith}
-use Rattle.ebnf.specs.Ebnf.{Ebnf, Sign, Takes}
-use Rattle.ebnf.specs.Ebnf.Takes.{one, seq, left, right, none, some, stop, more, within}
+use Rattle.ebnf.specs.Ebnf.{Ebnf, Terminal, Matches}
+use Rattle.ebnf.specs.Ebnf.Matches.{one, seq, left, right, none, some, stop, more, within}
 
 module _ (body : ℕ → Ebnf) where
-  pub shorter : {g : Ebnf} {ts rest : List Sign} → Takes body g ts rest → length rest ≤ length ts
+  pub shorter : {g : Ebnf} {ts rest : List Terminal} → Matches body g ts rest → length rest ≤ length ts
   shorter (one cs m k ts e l) = omega arith
   shorter (seq p q) = let a = shorter p in let b = shorter q in omega arith
   shorter (left b p) = shorter p
@@ -15,11 +15,11 @@ module _ (body : ℕ → Ebnf) where
   shorter (more p q) = let a = shorter p in let b = shorter q in omega arith
   shorter (within o r c m k i l p q) = let a = shorter p in let b = shorter q in omega arith
 
-module _ (f g : ℕ → Ebnf) (to : (r : ℕ) (ts rest : List Sign) → Takes f (f r) ts rest → Takes f (g r) ts rest) where
+module _ (f g : ℕ → Ebnf) (to : (r : ℕ) (ts rest : List Terminal) → Matches f (f r) ts rest → Matches f (g r) ts rest) where
   abbrev Below : ℕ → Type 0
-  Below n = (a : Ebnf) (ts rest : List Sign) → length ts < n → Takes f a ts rest → Takes g a ts rest
+  Below n = (a : Ebnf) (ts rest : List Terminal) → length ts < n → Matches f a ts rest → Matches g a ts rest
 
-  inside : (n : ℕ) → Below n → {a : Ebnf} {ts rest : List Sign} → Takes f a ts rest → length ts ≤ n → Takes g a ts rest
+  inside : (n : ℕ) → Below n → {a : Ebnf} {ts rest : List Terminal} → Matches f a ts rest → length ts ≤ n → Matches g a ts rest
   inside n ih (one cs m k ts e l) h = one cs m k ts e l
   inside n ih (seq p q) h = let a = shorter f p in seq (inside n ih p h) (inside n ih q (omega arith))
   inside n ih (left b p) h = left b (inside n ih p h)
@@ -36,5 +36,5 @@ module _ (f g : ℕ → Ebnf) (to : (r : ℕ) (ts rest : List Sign) → Takes f 
   below zero a ts rest l p = absurd (omega arith)
   below (suc n) a ts rest l p = inside n (below n) p (omega arith)
 
-  pub swapped : (a : Ebnf) (ts rest : List Sign) → Takes f a ts rest → Takes g a ts rest
+  pub swapped : (a : Ebnf) (ts rest : List Terminal) → Matches f a ts rest → Matches g a ts rest
   swapped a ts rest p = inside (length ts) (below (length ts)) p (omega arith)

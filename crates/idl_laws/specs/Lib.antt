@@ -1,2 +1,3 @@
 pub mod AsWritten
 pub mod Laws
+pub mod Printed

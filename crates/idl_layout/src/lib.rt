@@ -9,6 +9,3 @@ mod sorts;
 pub use laws::printed_text_has_the_same_kinds;
 pub use page::Page;
 pub use sorts::Sort;
-
-#[cfg(test)]
-mod tests;

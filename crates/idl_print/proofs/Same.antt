@@ -3,14 +3,14 @@ use Rattle.std.proofs.Common.{◌≡◌, ◌≢◌, ℕ, ◌<◌, ◌^◌, Bool,
 use Rattle.std.proofs.lemmas.Bool.{false≢true, eq-eqb}
 use Rattle.std.proofs.lemmas.Bool.Decides.{nat_tests}
 use Rattle.std.specs.Prelude.{if◌then◌else◌}
-use Rattle.ebnf.specs.Ebnf.{Ebnf, Sign, Takes, has}
+use Rattle.ebnf.specs.Ebnf.{Ebnf, Terminal, Matches, has}
 use Rattle.ebnf.specs.Ebnf.Ebnf.{One, Seq, Alt, Opt, Many, Within}
-use Rattle.ebnf.specs.Ebnf.Takes.{one, seq, left, right, none, some, stop, more, within}
+use Rattle.ebnf.specs.Ebnf.Matches.{one, seq, left, right, none, some, stop, more, within}
 use Rattle.ebnf.proofs.Sets.{or_left}
 use Rattle.idl_tokens.specs.declared.kinds.Kind.{Kind}
 use Rattle.idl_tokens.specs.declared.kinds.Kind.TheVariants as kinds
 use Rattle.idl_tokens.specs.declared.kinds.Token.{Token}
-use Rattle.idl_tokens.specs.Signs.{sign, signs}
+use Rattle.idl_tokens.specs.Terminals.{terminal, terminals, bad_class}
 use Rattle.idl_tokens.specs.Tokens.{AreTokens}
 use Rattle.idl_tokens.proofs.Once.{cut_once}
 use Rattle.idl_layout.specs.declared.sorts.Sort.{Sort}
@@ -89,16 +89,16 @@ canonical tree ts h =
 
 -- ---- what the grammar takes has a spelling
 
-abbrev Fine : Sign → Type 0
-Fine k = (k.class ≢ 0) × (k.size < 2 ^ 64)
+abbrev Fine : Terminal → Type 0
+Fine k = (k.class ≢ bad_class) × (k.size < 2 ^ 64)
 
-abbrev AreFine : List Sign → Type 0
+abbrev AreFine : List Terminal → Type 0
 AreFine [] = Unit {0}
 AreFine (k ∷ ks) = Fine k × AreFine ks
 
 -- it takes no token that is none, and no number that doesn't fit 64 bits
 abbrev bounded_one : List ℕ → ℕ → Bool
-bounded_one cs m = not (has 0 cs) && not (nat_lt (2 ^ 64) m)
+bounded_one cs m = not (has bad_class cs) && not (nat_lt (2 ^ 64) m)
 
 abbrev bounded : Ebnf → Bool
 bounded (One cs m) = bounded_one cs m
@@ -134,12 +134,12 @@ no false h = refl
 under : (m s : ℕ) → nat_lt (2 ^ 64) m ≡ false → s < m → s < 2 ^ 64
 under m s h l = grind (arith, nat_tests)
 
-one_fine : (cs : List ℕ) (m : ℕ) (k : Sign) → bounded_one cs m ≡ true → has k.class cs ≡ true → k.size < m → Fine k
+one_fine : (cs : List ℕ) (m : ℕ) (k : Terminal) → bounded_one cs m ≡ true → has k.class cs ≡ true → k.size < m → Fine k
 one_fine cs m k b h l =
-    let parts = both (not (has 0 cs)) (not (nat_lt (2 ^ 64) m)) b in
-    (λ e. false≢true (sym (no (has 0 cs) parts.0) ∙ ap (λ (x : ℕ). has x cs) (sym e) ∙ h), under m k.size (no (nat_lt (2 ^ 64) m) parts.1) l)
+    let parts = both (not (has bad_class cs)) (not (nat_lt (2 ^ 64) m)) b in
+    (λ e. false≢true (sym (no (has bad_class cs) parts.0) ∙ ap (λ (x : ℕ). has x cs) (sym e) ∙ h), under m k.size (no (nat_lt (2 ^ 64) m) parts.1) l)
 
-fine : {g : Ebnf} {ts rest : List Sign} → Takes rule g ts rest → bounded g ≡ true → AreFine rest → AreFine ts
+fine : {g : Ebnf} {ts rest : List Terminal} → Matches rule g ts rest → bounded g ≡ true → AreFine rest → AreFine ts
 fine (one cs m k ts e l) b f = (one_fine cs m k b e l, f)
 fine (seq {a = x} {b = y} p q) b f = let parts = both (bounded x) (bounded y) b in fine p parts.0 (fine q parts.1 f)
 fine (left {a = x} y p) b f = fine p (both (bounded x) (bounded y) b).0 f
@@ -153,7 +153,7 @@ fine (within o r c m k i l p q) b f =
     let is_one : has k.class (o ∷ []) ≡ true = or_left (eqb k.class o) false (eq-eqb k.class o i) in
     (one_fine (o ∷ []) m k parts.0 is_one l, fine p (rules_bounded r) (fine q parts.1 f))
 
-has_text : (k : Kind) → Fine (sign k) → HasText k
+has_text : (k : Kind) → Fine (terminal k) → HasText k
 has_text (kinds.Word word) f = tt
 has_text (kinds.Name name) f = tt
 has_text (kinds.Number (Some value)) f = tt
@@ -166,7 +166,7 @@ has_text (kinds.Shut bracket) f = tt
 has_text kinds.End f = tt
 has_text kinds.Bad f = absurd (f.0 refl)
 
-have_texts : (ts : List Token) → AreFine (signs ts) → HaveTexts (kinds_of ts)
+have_texts : (ts : List Token) → AreFine (terminals ts) → HaveTexts (kinds_of ts)
 have_texts [] f = tt
 have_texts (t ∷ ts) f = (has_text t.kind f.0, have_texts ts f.1)
 
@@ -178,29 +178,29 @@ same_kinds text tree ts cut is =
     let found = layout_again text ts cut (have_texts ts (fine is.taken file_bounded tt)) in
     (found.0, subst (λ (x : List ℕ). AreTokens x found.0) (sym (canonical tree ts is.spelled)) found.1, found.2)
 
-signs_are : (ts : List Token) → signs ts ≡ map sign (kinds_of ts)
-signs_are [] = refl
-signs_are (t ∷ ts) = ap (λ (x : List Sign). sign t.kind ∷ x) (signs_are ts)
+terminals_are : (ts : List Token) → terminals ts ≡ map terminal (kinds_of ts)
+terminals_are [] = refl
+terminals_are (t ∷ ts) = ap (λ (x : List Terminal). terminal t.kind ∷ x) (terminals_are ts)
 
-signs_join : (ts us : List Token) → signs (ts ++ us) ≡ signs ts ++ signs us
-signs_join [] us = refl
-signs_join (t ∷ ts) us = ap (λ (x : List Sign). sign t.kind ∷ x) (signs_join ts us)
+terminals_join : (ts us : List Token) → terminals (ts ++ us) ≡ terminals ts ++ terminals us
+terminals_join [] us = refl
+terminals_join (t ∷ ts) us = ap (λ (x : List Terminal). terminal t.kind ∷ x) (terminals_join ts us)
 
 pub of_grammar : (text : List ℕ) (tree : Ast) → IsIdl text tree
-    → (us : List Token) × AreTokens (canonical_text tree) us × Takes rule file (signs us) []
+    → (us : List Token) × AreTokens (canonical_text tree) us × Matches rule file (terminals us) []
 of_grammar text tree h =
     let found = same_kinds text tree h.tokens h.cut h.tree_is in
-    let same : signs h.tokens ≡ signs found.0 = signs_are h.tokens ∙ ap (map sign) (sym found.2) ∙ sym (signs_are found.0) in
-    (found.0, found.1, subst (λ (x : List Sign). Takes rule file x []) same h.tree_is.taken)
+    let same : terminals h.tokens ≡ terminals found.0 = terminals_are h.tokens ∙ ap (map terminal) (sym found.2) ∙ sym (terminals_are found.0) in
+    (found.0, found.1, subst (λ (x : List Terminal). Matches rule file x []) same h.tree_is.taken)
 
 pub departs_nowhere : (text : List ℕ) (tree : Ast) (us : List Token) (token : Token) (oversized : Bool) → IsIdl text tree → AreTokens (canonical_text tree) us
     → FirstDeparture us token oversized → ⊥
 departs_nowhere text tree us token oversized h cut d =
     let found = of_grammar text tree h in
     let same : found.0 ≡ us = cut_once found.1 cut in
-    let e : signs found.0 ≡ (signs d.before ++ sign token.kind ∷ []) ++ signs d.behind =
-    ap signs (same ∙ d.cut) ∙ signs_join d.before (token ∷ d.behind) ∙ sym (append_assoc (signs d.before) (sign token.kind ∷ []) (signs d.behind)) in
-    d.no_further (signs d.behind, subst (λ (x : List Sign). Takes rule file x []) e found.2)
+    let e : terminals found.0 ≡ (terminals d.before ++ terminal token.kind ∷ []) ++ terminals d.behind =
+    ap terminals (same ∙ d.cut) ∙ terminals_join d.before (token ∷ d.behind) ∙ sym (append_assoc (terminals d.before) (terminal token.kind ∷ []) (terminals d.behind)) in
+    d.no_further (terminals d.behind, subst (λ (x : List Terminal). Matches rule file x []) e found.2)
 
 pub spell_the_same : (text : List ℕ) (tree other : Ast) → (a : IsIdl text tree) → (b : IsIdl (canonical_text tree) other) → kinds_of b.tokens ≡ kinds_of a.tokens
 spell_the_same text tree other a b =

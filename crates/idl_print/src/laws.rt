@@ -1,8 +1,8 @@
 //! The laws of canonical texts.
 ghost use Rattle.std.specs.Prelude.{◌≡◌, ℕ, Bool, List, []};
-ghost use Rattle.ebnf.specs.Ebnf.{Takes};
+ghost use Rattle.ebnf.specs.Ebnf.{Matches};
 ghost use Rattle.idl_tokens.specs.declared.kinds.Token.{Token};
-ghost use Rattle.idl_tokens.specs.Signs.{signs};
+ghost use Rattle.idl_tokens.specs.Terminals.{terminals};
 ghost use Rattle.idl_tokens.specs.Tokens.{AreTokens};
 ghost use Rattle.idl_layout.specs.Layout.{kinds_of};
 ghost use Rattle.idl_tree.specs.declared.declaration.Ast.{Ast};
@@ -19,7 +19,7 @@ pub fn canonical_text_has_the_same_kinds()
 /// The canonical text of a text's tree is of the grammar.
 pub fn canonical_text_is_of_the_grammar()
     ensures { (text : List ℕ) (tree : Ast) → IsIdl text tree
-        → (us : List Token) × AreTokens (canonical_text tree) us × Takes rule file (signs us) [] }
+        → (us : List Token) × AreTokens (canonical_text tree) us × Matches rule file (terminals us) [] }
 {}
 
 /// So it departs from the grammar nowhere.

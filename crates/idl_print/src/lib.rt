@@ -15,6 +15,3 @@ pub use laws::{
     canonical_text_is_of_the_grammar, trees_of_the_canonical_text_spell_the_same,
 };
 pub use print::print_idl;
-
-#[cfg(test)]
-mod tests;

@@ -6,7 +6,7 @@ use Rattle.ebnf.specs.Machine.{parse}
 use Rattle.idl_tokens.specs.declared.kinds.Kind.{Kind}
 use Rattle.idl_tokens.specs.declared.kinds.Kind.TheVariants as kinds
 use Rattle.idl_tokens.specs.declared.kinds.Token.{Token}
-use Rattle.idl_tokens.specs.Signs.{sign, signs}
+use Rattle.idl_tokens.specs.Terminals.{terminal, terminals}
 use Rattle.idl_tokens.specs.Tokens.{AreTokens}
 use Rattle.idl_tokens.specs.Laws.{EndsOnce}
 use Rattle.idl_tree.specs.Grammar.{rule, file}
@@ -18,7 +18,7 @@ use Rattle.idl_reader.specs.Causes.{IsNumber, IsOpening, Refuses, IsCause, IsCal
 use Rattle.idl_reader.proofs.Top.{first_departure, stands_there, oversized_kind, not_taken, is_tree}
 
 -- what has a size is a number or opens a bracket
-pub sized_told : (k : Kind) → 0 < (sign k).size → IsNumber k ⊎ IsOpening k
+pub sized_told : (k : Kind) → 0 < (terminal k).size → IsNumber k ⊎ IsOpening k
 sized_told (kinds.Word w) l = absurd (omega arith)
 sized_told (kinds.Name text) l = absurd (omega arith)
 sized_told (kinds.Number n) l = inl (n, refl)
@@ -35,10 +35,10 @@ pub ruleset calling = (sized_told)
 positive : (n : ℕ) → (n ≡ 0 → ⊥) → 0 < n
 positive n h = grind arith
 
-pub has_size : (tokens rest : List Token) (token : Token) (odd : Bool) → EndsOnce tokens → parse rule file (signs tokens) ≡ Err (record { odd = odd; rest = signs rest }) → token ≡ get_or tokens (length tokens - length rest) token → odd ≡ true → 0 < (sign token.kind).size
+pub has_size : (tokens rest : List Token) (token : Token) (odd : Bool) → EndsOnce tokens → parse rule file (terminals tokens) ≡ Err (record { odd = odd; rest = terminals rest }) → token ≡ get_or tokens (length tokens - length rest) token → odd ≡ true → 0 < (terminal token.kind).size
 has_size tokens rest token odd o e g t =
     let d = first_departure tokens rest token odd o e g in
-    positive (sign token.kind).size (oversized_kind tokens token (subst (λ (b : Bool). FirstDeparture tokens token b) t d))
+    positive (terminal token.kind).size (oversized_kind tokens token (subst (λ (b : Bool). FirstDeparture tokens token b) t d))
 
 called : (tokens : List Token) (token : Token) (odd : Bool) (f : IdlFault) → FirstDeparture tokens token odd → IsCalled odd token f → Refuses tokens f
 called tokens token odd (BadToken at) d c = record { token = token; oversized = odd; first = d; place = c.0; kind_is = c.1 }
@@ -47,11 +47,11 @@ called tokens token odd (TooLarge at) d c = record { token = token; oversized = 
 called tokens token odd (TooDeep at) d c = record { token = token; oversized = odd; first = d; place = c.0; kind_is = (c.1, c.2) }
 called tokens token odd Memory d c = absurd c
 
-pub refuses : (tokens rest : List Token) (token : Token) (odd : Bool) (f : IdlFault) → EndsOnce tokens → parse rule file (signs tokens) ≡ Err (record { odd = odd; rest = signs rest }) → token ≡ get_or tokens (length tokens - length rest) token → IsCalled odd token f → Refuses tokens f
+pub refuses : (tokens rest : List Token) (token : Token) (odd : Bool) (f : IdlFault) → EndsOnce tokens → parse rule file (terminals tokens) ≡ Err (record { odd = odd; rest = terminals rest }) → token ≡ get_or tokens (length tokens - length rest) token → IsCalled odd token f → Refuses tokens f
 refuses tokens rest token odd f o e g c = called tokens token odd f (first_departure tokens rest token odd o e g) c
 
-pub no_tree : (tokens rest : List Token) (odd : Bool) → parse rule file (signs tokens) ≡ Err (record { odd = odd; rest = signs rest }) → (tree : Ast) → IsTree tokens tree → ⊥
-no_tree tokens rest odd e tree t = not_taken tokens (record { odd = odd; rest = signs rest }) e t.taken
+pub no_tree : (tokens rest : List Token) (odd : Bool) → parse rule file (terminals tokens) ≡ Err (record { odd = odd; rest = terminals rest }) → (tree : Ast) → IsTree tokens tree → ⊥
+no_tree tokens rest odd e tree t = not_taken tokens (record { odd = odd; rest = terminals rest }) e t.taken
 
 pub ruleset reading = (is_tree, stands_there, has_size, refuses, no_tree)
 

@@ -1,10 +1,11 @@
 -- A class that a grammar lacks the machine never passes.
 use Rattle.std.proofs.Common.{◌≡◌, ℕ, Bool, true, false, eqb, nat_lt, cond, ◌&&◌, ◌||◌, not, List, [], ◌∷◌, ◌++◌, refl, ap, ◌∙◌, subst, inl, inr, Option, None, Some}
 use Rattle.std.specs.Prelude.{Result, Ok, Err}
-use Rattle.ebnf.specs.Ebnf.{Ebnf, Sign, has}
+use Rattle.ebnf.specs.Ebnf.{Ebnf, Terminal, has}
 use Rattle.ebnf.specs.Ebnf.Ebnf.{One, Seq, Alt, Opt, Many, Within}
 use Rattle.ebnf.specs.Machine.{null, nulls, joined, or_else, after, after_all, Next, Stuck, ended, sized, go}
 use Rattle.ebnf.proofs.Sound.{and_both, cond_is, joined_is, or_is}
+use Rattle.idl_tokens.specs.Terminals.{closing}
 
 -- no token of the class is in it, but in its brackets
 abbrev pub lacks : ℕ → Ebnf → Bool
@@ -48,13 +49,13 @@ or_none (Some t) p e f = cc
 or_none None p e f = f
 
 -- the last token is of the class
-abbrev pub LastIs : ℕ → List Sign → Type 0
+abbrev pub LastIs : ℕ → List Terminal → Type 0
 LastIs c [] = ⊥
 LastIs c (k ∷ []) = k.class ≡ c
 LastIs c (k ∷ j ∷ ks) = LastIs c (j ∷ ks)
 
 -- what the machine leaves, or where it stops
-abbrev pub LeavesSome : Result (List Sign) Stuck → Type 0
+abbrev pub LeavesSome : Result (List Terminal) Stuck → Type 0
 LeavesSome (Ok rest) = rest ≡ [] → ⊥
 LeavesSome (Err x) = x.rest ≡ [] → ⊥
 
@@ -116,27 +117,27 @@ module _ (body : ℕ → Ebnf) where
           | inr q ↦ all_lacks s k t p.1 q.2
         ]
 
-    abbrev At : List Ebnf → Sign → List Sign → Option Next → Result (List Sign) Stuck
-    At s k ks o = elim o as (λ _. Result (List Sign) Stuck) [ Some t ↦ sized (nat_lt k.size t.limit) (go body t.wanted ks) (k ∷ ks) | None ↦ ended (nulls s) (k ∷ ks) ]
+    abbrev At : List Ebnf → Terminal → List Terminal → Option Next → Result (List Terminal) Stuck
+    At s k ks o = elim o as (λ _. Result (List Terminal) Stuck) [ Some t ↦ sized (nat_lt k.size t.limit) (go body t.wanted ks) (k ∷ ks) | None ↦ ended (nulls s) (k ∷ ks) ]
 
-    ended_leaves : (n : Bool) (k : Sign) (ks : List Sign) → LeavesSome (ended n (k ∷ ks))
+    ended_leaves : (n : Bool) (k : Terminal) (ks : List Terminal) → LeavesSome (ended n (k ∷ ks))
     ended_leaves true k ks = λ e. cc
     ended_leaves false k ks = λ e. cc
 
-    sized_leaves : (b : Bool) (r : Result (List Sign) Stuck) (k : Sign) (ks : List Sign) → LeavesSome r → LeavesSome (sized b r (k ∷ ks))
+    sized_leaves : (b : Bool) (r : Result (List Terminal) Stuck) (k : Terminal) (ks : List Terminal) → LeavesSome r → LeavesSome (sized b r (k ∷ ks))
     sized_leaves true r k ks h = h
     sized_leaves false r k ks h = λ e. cc
 
-    on_leaves : (s : List Ebnf) (k j : Sign) (ks : List Sign) → ((t : List Ebnf) → all_lack c t ≡ true → LeavesSome (go body t (j ∷ ks))) → (o : Option Next) → after_all body s k.class ≡ o → all_lack c s ≡ true → LeavesSome (At s k (j ∷ ks) o)
+    on_leaves : (s : List Ebnf) (k j : Terminal) (ks : List Terminal) → ((t : List Ebnf) → all_lack c t ≡ true → LeavesSome (go body t (j ∷ ks))) → (o : Option Next) → after_all body s k.class ≡ o → all_lack c s ≡ true → LeavesSome (At s k (j ∷ ks) o)
     on_leaves s k j ks ih (Some t) i e = sized_leaves (nat_lt k.size t.limit) (go body t.wanted (j ∷ ks)) k (j ∷ ks) (ih t.wanted (all_lacks s k.class t e i))
     on_leaves s k j ks ih None i e = ended_leaves (nulls s) k (j ∷ ks)
 
-    last_leaves : (s : List Ebnf) (k : Sign) (o : Option Next) → after_all body s k.class ≡ o → o ≡ None → LeavesSome (At s k [] o)
+    last_leaves : (s : List Ebnf) (k : Terminal) (o : Option Next) → after_all body s k.class ≡ o → o ≡ None → LeavesSome (At s k [] o)
     last_leaves s k (Some t) i e = cc
     last_leaves s k None i e = ended_leaves (nulls s) k []
 
     -- it never passes the class, so where that ends the tokens, some are left
-    pub go_leaves : (s : List Ebnf) (ks : List Sign) → all_lack c s ≡ true → LastIs c ks → LeavesSome (go body s ks)
+    pub go_leaves : (s : List Ebnf) (ks : List Terminal) → all_lack c s ≡ true → LastIs c ks → LeavesSome (go body s ks)
     unfolding go
     go_leaves s [] e l = absurd l
     go_leaves s (k ∷ []) e l = last_leaves s k (after_all body s k.class) refl (ap (after_all body s) l ∙ all_none c s e)

@@ -3,23 +3,23 @@ ghost use Rattle.std.specs.Prelude.{◌≡◌, ℕ, ◌^◌, ◌<◌, ◌≤◌,
 ghost use Rattle.idl_tokens.specs.declared.kinds.Token.{Token};
 ghost use Rattle.idl_tokens.specs.declared.marks.Mark.TheVariants as marks;
 ghost use Rattle.idl_tokens.specs.declared.marks.Bracket.TheVariants as brackets;
-ghost use Rattle.idl_tokens.specs.Signs.{signs};
+ghost use Rattle.idl_tokens.specs.Terminals.{terminals, of_mark};
 ghost use Rattle.idl_tree.specs.Pieces.{Written, mark_pieces, num_pieces, text_pieces, commas, within};
 ghost use Rattle.idl_tree.specs.Files.{minor_pieces, file_attr_kind_pieces, file_attr_pieces};
-ghost use Rattle.idl_types.specs.Reads.{Gives};
-ghost use Rattle.idl_types.specs.Along.{if_next};
+ghost use Rattle.idl_parts.specs.Reads.{Gives};
+ghost use Rattle.idl_parts.specs.Along.{if_next};
 ghost use Rattle.idl_reader.specs.Along.{minor_at, version_at, comma_text_at, texts_at, uuid_attr_at, version_attr_at, default_attr_at, endpoint_attr_at, file_attr_at, comma_file_attr_at, file_attrs_at};
 
+use idl_parts::{Stop, is_mark, is_word, mark, number, open, pk, place, shut, text, uuid, word};
 use idl_tokens::{Bracket, Mark, Token, Word};
 use idl_tree::{FileAttr, FileAttrKind, Num};
-use idl_types::{Stop, is_mark, is_word, mark, number, open, pk, place, shut, text, uuid, word};
 use rpc_base::Octets;
 use std::alloc::Global;
 
 /// Reads a dot and the minor number of a version, if they stand there.
 #[tactic(auto, using(idl_tree::proofs::Writing::writing), unfolding(crate::specs::Along::minor_at, idl_tree::specs::Files::minor_pieces))]
 fn minor(tokens: &[Token]) -> Result<(Option<Num>, &[Token]), Stop<'_>>
-    ensures along { Gives (λ p. p.1.now) result (if_next 56 minor_at (signs tokens.now)) }
+    ensures along { Gives (λ p. p.1.now) result (if_next (of_mark marks.Dot) minor_at (terminals tokens.now)) }
     ensures written { IfOk result (λ p. Written (minor_pieces p.0) tokens.now p.1.now) }
     ensures shorter { IfOk result (λ p. length p.1.now ≤ length tokens.now) }
 {
@@ -35,7 +35,7 @@ fn minor(tokens: &[Token]) -> Result<(Option<Num>, &[Token]), Stop<'_>>
 /// Reads a version.
 #[tactic(auto, using(idl_tree::proofs::Writing::writing), unfolding(crate::specs::Along::version_at))]
 fn version(tokens: &[Token]) -> Result<(Num, Option<Num>, &[Token]), Stop<'_>>
-    ensures along { Gives (λ p. p.2.now) result (version_at (signs tokens.now)) }
+    ensures along { Gives (λ p. p.2.now) result (version_at (terminals tokens.now)) }
     ensures written { IfOk result (λ p. Written (num_pieces p.0 ++ minor_pieces p.1) tokens.now p.2.now) }
     ensures shorter { IfOk result (λ p. length p.2.now < length tokens.now) }
 {
@@ -47,7 +47,7 @@ fn version(tokens: &[Token]) -> Result<(Num, Option<Num>, &[Token]), Stop<'_>>
 /// Reads a comma and a string.
 #[tactic(auto, using(idl_tree::proofs::Writing::writing), unfolding(crate::specs::Along::comma_text_at))]
 fn comma_text(alloc: Global, tokens: &[Token]) -> Result<(Octets, &[Token]), Stop<'_>>
-    ensures along { Gives (λ p. p.1.now) result (comma_text_at (signs tokens.now)) }
+    ensures along { Gives (λ p. p.1.now) result (comma_text_at (terminals tokens.now)) }
     ensures written { IfOk result (λ p. Written (mark_pieces marks.Comma ++ text_pieces p.0) tokens.now p.1.now) }
     ensures shorter { IfOk result (λ p. length p.1.now < length tokens.now) }
 {
@@ -59,7 +59,7 @@ fn comma_text(alloc: Global, tokens: &[Token]) -> Result<(Octets, &[Token]), Sto
 /// Reads strings with commas between them.
 #[tactic(auto, using(crate::proofs::Loops::texts), unfolding(crate::specs::Along::texts_at))]
 fn texts(alloc: Global, tokens: &[Token]) -> Result<(Vec<Octets>, &[Token]), Stop<'_>>
-    ensures along { Gives (λ p. p.1.now) result (texts_at (signs tokens.now)) }
+    ensures along { Gives (λ p. p.1.now) result (texts_at (terminals tokens.now)) }
     ensures written { IfOk result (λ p. Written (commas text_pieces p.0.items) tokens.now p.1.now) }
     ensures shorter { IfOk result (λ p. length p.1.now < length tokens.now) }
 {
@@ -78,7 +78,7 @@ fn texts(alloc: Global, tokens: &[Token]) -> Result<(Vec<Octets>, &[Token]), Sto
 /// Reads the attribute `uuid`.
 #[tactic(auto, using(idl_tree::proofs::Writing::writing), unfolding(crate::specs::Along::uuid_attr_at, idl_tree::specs::Files::file_attr_kind_pieces))]
 fn uuid_attr(tokens: &[Token]) -> Result<(FileAttrKind, &[Token]), Stop<'_>>
-    ensures along { Gives (λ p. p.1.now) result (uuid_attr_at (signs tokens.now)) }
+    ensures along { Gives (λ p. p.1.now) result (uuid_attr_at (terminals tokens.now)) }
     ensures written { IfOk result (λ p. Written (file_attr_kind_pieces p.0) tokens.now p.1.now) }
     ensures shorter { IfOk result (λ p. length p.1.now < length tokens.now) }
 {
@@ -96,7 +96,7 @@ fn uuid_attr(tokens: &[Token]) -> Result<(FileAttrKind, &[Token]), Stop<'_>>
 /// Reads the attribute `version`.
 #[tactic(auto, using(idl_tree::proofs::Writing::writing), unfolding(crate::specs::Along::version_attr_at, idl_tree::specs::Files::file_attr_kind_pieces))]
 fn version_attr(tokens: &[Token]) -> Result<(FileAttrKind, &[Token]), Stop<'_>>
-    ensures along { Gives (λ p. p.1.now) result (version_attr_at (signs tokens.now)) }
+    ensures along { Gives (λ p. p.1.now) result (version_attr_at (terminals tokens.now)) }
     ensures written { IfOk result (λ p. Written (file_attr_kind_pieces p.0) tokens.now p.1.now) }
     ensures shorter { IfOk result (λ p. length p.1.now < length tokens.now) }
 {
@@ -110,7 +110,7 @@ fn version_attr(tokens: &[Token]) -> Result<(FileAttrKind, &[Token]), Stop<'_>>
 /// Reads the attribute `pointer_default`.
 #[tactic(auto, using(idl_tree::proofs::Writing::writing), unfolding(crate::specs::Along::default_attr_at, idl_tree::specs::Files::file_attr_kind_pieces))]
 fn default_attr(tokens: &[Token]) -> Result<(FileAttrKind, &[Token]), Stop<'_>>
-    ensures along { Gives (λ p. p.1.now) result (default_attr_at (signs tokens.now)) }
+    ensures along { Gives (λ p. p.1.now) result (default_attr_at (terminals tokens.now)) }
     ensures written { IfOk result (λ p. Written (file_attr_kind_pieces p.0) tokens.now p.1.now) }
     ensures shorter { IfOk result (λ p. length p.1.now < length tokens.now) }
 {
@@ -124,7 +124,7 @@ fn default_attr(tokens: &[Token]) -> Result<(FileAttrKind, &[Token]), Stop<'_>>
 /// Reads the attribute `endpoint`.
 #[tactic(auto, using(idl_tree::proofs::Writing::writing), unfolding(crate::specs::Along::endpoint_attr_at, idl_tree::specs::Files::file_attr_kind_pieces))]
 fn endpoint_attr(alloc: Global, tokens: &[Token]) -> Result<(FileAttrKind, &[Token]), Stop<'_>>
-    ensures along { Gives (λ p. p.1.now) result (endpoint_attr_at (signs tokens.now)) }
+    ensures along { Gives (λ p. p.1.now) result (endpoint_attr_at (terminals tokens.now)) }
     ensures written { IfOk result (λ p. Written (file_attr_kind_pieces p.0) tokens.now p.1.now) }
     ensures shorter { IfOk result (λ p. length p.1.now < length tokens.now) }
 {
@@ -138,7 +138,7 @@ fn endpoint_attr(alloc: Global, tokens: &[Token]) -> Result<(FileAttrKind, &[Tok
 /// Reads an attribute of the interface up to what it says.
 #[tactic(auto, unfolding(crate::specs::Along::file_attr_at))]
 fn file_attr_kind(alloc: Global, tokens: &[Token]) -> Result<(FileAttrKind, &[Token]), Stop<'_>>
-    ensures along { Gives (λ p. p.1.now) result (file_attr_at (signs tokens.now)) }
+    ensures along { Gives (λ p. p.1.now) result (file_attr_at (terminals tokens.now)) }
     ensures written { IfOk result (λ p. Written (file_attr_kind_pieces p.0) tokens.now p.1.now) }
     ensures shorter { IfOk result (λ p. length p.1.now < length tokens.now) }
 {
@@ -156,7 +156,7 @@ fn file_attr_kind(alloc: Global, tokens: &[Token]) -> Result<(FileAttrKind, &[To
 /// Reads an attribute of the interface.
 #[tactic(auto, using(idl_tree::proofs::Writing::writing), unfolding(idl_tree::specs::Files::file_attr_pieces))]
 fn file_attr(alloc: Global, tokens: &[Token]) -> Result<(FileAttr, &[Token]), Stop<'_>>
-    ensures along { Gives (λ p. p.1.now) result (file_attr_at (signs tokens.now)) }
+    ensures along { Gives (λ p. p.1.now) result (file_attr_at (terminals tokens.now)) }
     ensures written { IfOk result (λ p. Written (file_attr_pieces p.0) tokens.now p.1.now) }
     ensures shorter { IfOk result (λ p. length p.1.now < length tokens.now) }
 {
@@ -168,7 +168,7 @@ fn file_attr(alloc: Global, tokens: &[Token]) -> Result<(FileAttr, &[Token]), St
 /// Reads a comma and an attribute of the interface.
 #[tactic(auto, using(idl_tree::proofs::Writing::writing), unfolding(crate::specs::Along::comma_file_attr_at))]
 fn comma_file_attr(alloc: Global, tokens: &[Token]) -> Result<(FileAttr, &[Token]), Stop<'_>>
-    ensures along { Gives (λ p. p.1.now) result (comma_file_attr_at (signs tokens.now)) }
+    ensures along { Gives (λ p. p.1.now) result (comma_file_attr_at (terminals tokens.now)) }
     ensures written { IfOk result (λ p. Written (mark_pieces marks.Comma ++ file_attr_pieces p.0) tokens.now p.1.now) }
     ensures shorter { IfOk result (λ p. length p.1.now < length tokens.now) }
 {
@@ -180,7 +180,7 @@ fn comma_file_attr(alloc: Global, tokens: &[Token]) -> Result<(FileAttr, &[Token
 /// Reads the attributes of the interface, in their brackets.
 #[tactic(auto, using(crate::proofs::Loops::file_attrs), unfolding(crate::specs::Along::file_attrs_at, crate::specs::Along::file_attr_list_at))]
 pub fn file_attrs(alloc: Global, tokens: &[Token]) -> Result<(Vec<FileAttr>, &[Token]), Stop<'_>>
-    ensures along { Gives (λ p. p.1.now) result (file_attrs_at (signs tokens.now)) }
+    ensures along { Gives (λ p. p.1.now) result (file_attrs_at (terminals tokens.now)) }
     ensures written { IfOk result (λ p. Written (within brackets.Square (commas file_attr_pieces p.0.items)) tokens.now p.1.now) }
     ensures shorter { IfOk result (λ p. length p.1.now < length tokens.now) }
 {

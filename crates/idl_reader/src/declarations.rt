@@ -4,26 +4,26 @@ ghost use Rattle.std.specs.List.{flat_map};
 ghost use Rattle.ebnf.specs.Checks.{heads};
 ghost use Rattle.idl_tokens.specs.declared.kinds.Token.{Token};
 ghost use Rattle.idl_tokens.specs.declared.marks.Bracket.TheVariants as brackets;
-ghost use Rattle.idl_tokens.specs.Signs.{signs};
+ghost use Rattle.idl_tokens.specs.Terminals.{terminals};
 ghost use Rattle.idl_tree.specs.Pieces.{Written, within};
 ghost use Rattle.idl_tree.specs.Trees.{attrs_pieces};
 ghost use Rattle.idl_tree.specs.Files.{decl_kind_pieces, decl_pieces};
-ghost use Rattle.idl_types.specs.Reads.{Gives};
+ghost use Rattle.idl_parts.specs.Reads.{Gives};
 ghost use Rattle.idl_reader.specs.Along.{is_tagged as has_tag_next, lone_or_op_at, const_decl_at, typedef_decl_at, decl_at, decl_start, decl_body_at};
 
 use crate::operations::op_rest;
-use idl_tokens::{Bracket, Mark, Token, Word};
-use idl_tree::{Attr, Decl, DeclKind};
-use idl_types::{
-    Stop, attrs, base, dtors, is_mark, is_next, is_word, mark, name, open, place, shut, signed,
-    spec, word,
+use idl_parts::{
+    Stop, base, dtors, is_mark, is_next, is_word, mark, name, open, place, shut, signed, word,
 };
+use idl_tokens::{Bracket, Mark, Token, Word, class};
+use idl_tree::{Attr, Decl, DeclKind};
+use idl_types::{attrs, spec};
 use std::alloc::Global;
 
 /// Reads a constant.
 #[tactic(auto, using(idl_tree::proofs::Writing::writing), unfolding(crate::specs::Along::const_decl_at, idl_tree::specs::Files::decl_kind_pieces))]
 fn const_decl(alloc: Global, tokens: &[Token]) -> Result<(DeclKind, &[Token]), Stop<'_>>
-    ensures along { Gives (λ p. p.1.now) result (const_decl_at (signs tokens.now)) }
+    ensures along { Gives (λ p. p.1.now) result (const_decl_at (terminals tokens.now)) }
     ensures written { IfOk result (λ p. Written (decl_kind_pieces p.0) tokens.now p.1.now) }
     ensures shorter { IfOk result (λ p. length p.1.now < length tokens.now) }
 {
@@ -39,7 +39,7 @@ fn const_decl(alloc: Global, tokens: &[Token]) -> Result<(DeclKind, &[Token]), S
 /// Reads a typedef.
 #[tactic(auto, using(idl_tree::proofs::Writing::writing), unfolding(crate::specs::Along::typedef_decl_at, idl_tree::specs::Files::decl_kind_pieces))]
 fn typedef_decl(alloc: Global, tokens: &[Token]) -> Result<(DeclKind, &[Token]), Stop<'_>>
-    ensures along { Gives (λ p. p.1.now) result (typedef_decl_at (signs tokens.now)) }
+    ensures along { Gives (λ p. p.1.now) result (typedef_decl_at (terminals tokens.now)) }
     ensures written { IfOk result (λ p. Written (decl_kind_pieces p.0) tokens.now p.1.now) }
     ensures shorter { IfOk result (λ p. length p.1.now < length tokens.now) }
 {
@@ -53,12 +53,12 @@ fn typedef_decl(alloc: Global, tokens: &[Token]) -> Result<(DeclKind, &[Token]),
 
 /// Whether a structure, union or enum and its tag come next.
 fn is_tagged(tokens: &[Token]) -> bool
-    ensures { result ≡ has_tag_next (signs tokens.now) }
+    ensures { result ≡ has_tag_next (terminals tokens.now) }
 {
     match tokens.split_first() {
         None => false,
-        // `struct`, `union` or `enum`, and a name
-        Some((_, rest)) => is_next(tokens, &[36, 37, 39]) && is_next(rest, &[70]),
+        Some((_, rest)) => is_next(tokens, &[class::STRUCT, class::UNION, class::ENUM])
+            && is_next(rest, &[class::NAME]),
     }
 }
 
@@ -69,7 +69,7 @@ fn lone_or_op(
     attrs: Vec<Attr>,
     tokens: &[Token],
 ) -> Result<(DeclKind, &[Token]), Stop<'_>>
-    ensures along { Gives (λ p. p.1.now) result (lone_or_op_at (signs tokens.now)) }
+    ensures along { Gives (λ p. p.1.now) result (lone_or_op_at (terminals tokens.now)) }
     ensures written { IfOk result (λ p. (before : List Token) → Written (attrs_pieces attrs.items) before tokens.now → Written (decl_kind_pieces p.0) before p.1.now) }
     ensures shorter { IfOk result (λ p. length p.1.now < length tokens.now) }
 {
@@ -96,7 +96,7 @@ fn lone_or_op(
 /// Reads a declaration up to what it says.
 #[tactic(auto, using(idl_tree::proofs::Writing::writing), unfolding(crate::specs::Along::decl_at))]
 fn decl_kind(alloc: Global, tokens: &[Token]) -> Result<(DeclKind, &[Token]), Stop<'_>>
-    ensures along { Gives (λ p. p.1.now) result (decl_at (signs tokens.now)) }
+    ensures along { Gives (λ p. p.1.now) result (decl_at (terminals tokens.now)) }
     ensures written { IfOk result (λ p. Written (decl_kind_pieces p.0) tokens.now p.1.now) }
     ensures shorter { IfOk result (λ p. length p.1.now < length tokens.now) }
 {
@@ -114,7 +114,7 @@ fn decl_kind(alloc: Global, tokens: &[Token]) -> Result<(DeclKind, &[Token]), St
 /// Reads a declaration.
 #[tactic(auto, using(idl_tree::proofs::Writing::writing), unfolding(idl_tree::specs::Files::decl_pieces))]
 fn decl(alloc: Global, tokens: &[Token]) -> Result<(Decl, &[Token]), Stop<'_>>
-    ensures along { Gives (λ p. p.1.now) result (decl_at (signs tokens.now)) }
+    ensures along { Gives (λ p. p.1.now) result (decl_at (terminals tokens.now)) }
     ensures written { IfOk result (λ p. Written (decl_pieces p.0) tokens.now p.1.now) }
     ensures shorter { IfOk result (λ p. length p.1.now < length tokens.now) }
 {
@@ -125,13 +125,29 @@ fn decl(alloc: Global, tokens: &[Token]) -> Result<(Decl, &[Token]), Stop<'_>>
 
 /// Whether a declaration may begin here.
 fn starts_decl(tokens: &[Token]) -> bool
-    ensures { result ≡ heads decl_start (signs tokens.now) }
+    ensures { result ≡ heads decl_start (terminals tokens.now) }
 {
-    // `const`, `typedef`, `[`, the words and the names that a spec begins with
     is_next(
         tokens,
         &[
-            9, 10, 60, 36, 37, 39, 11, 70, 25, 26, 27, 28, 29, 30, 31, 32, 33, 34,
+            class::CONST,
+            class::TYPEDEF,
+            class::OPEN_SQUARE,
+            class::STRUCT,
+            class::UNION,
+            class::ENUM,
+            class::VOID,
+            class::NAME,
+            class::HANDLE_T,
+            class::ERROR_STATUS_T,
+            class::BOOLEAN,
+            class::BYTE,
+            class::UNSIGNED,
+            class::CHAR,
+            class::SMALL,
+            class::SHORT,
+            class::LONG,
+            class::HYPER,
         ],
     )
 }
@@ -139,7 +155,7 @@ fn starts_decl(tokens: &[Token]) -> bool
 /// Reads the declarations of the interface, in their brackets.
 #[tactic(auto, using(crate::proofs::Loops::decls), unfolding(crate::specs::Along::decl_body_at))]
 pub fn decls(alloc: Global, tokens: &[Token]) -> Result<(Vec<Decl>, &[Token]), Stop<'_>>
-    ensures along { Gives (λ p. p.1.now) result (decl_body_at (signs tokens.now)) }
+    ensures along { Gives (λ p. p.1.now) result (decl_body_at (terminals tokens.now)) }
     ensures written { IfOk result (λ p. Written (within brackets.Curly (flat_map decl_pieces p.0.items)) tokens.now p.1.now) }
     ensures shorter { IfOk result (λ p. length p.1.now < length tokens.now) }
 {

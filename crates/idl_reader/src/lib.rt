@@ -11,6 +11,3 @@ mod read;
 
 pub use fault::IdlFault;
 pub use read::read_idl;
-
-#[cfg(test)]
-mod tests;

@@ -4,25 +4,24 @@ ghost use Rattle.ebnf.specs.Checks.{heads};
 ghost use Rattle.idl_tokens.specs.declared.kinds.Token.{Token};
 ghost use Rattle.idl_tokens.specs.declared.marks.Mark.TheVariants as marks;
 ghost use Rattle.idl_tokens.specs.declared.marks.Bracket.TheVariants as brackets;
-ghost use Rattle.idl_tokens.specs.Signs.{signs};
+ghost use Rattle.idl_tokens.specs.Terminals.{terminals};
 ghost use Rattle.idl_tree.specs.Grammar.{param as param_part};
 ghost use Rattle.idl_tree.specs.Pieces.{Written, mark_pieces, ident_pieces, commas, within};
 ghost use Rattle.idl_tree.specs.Files.{param_pieces, params_pieces};
-ghost use Rattle.idl_types.specs.Reads.{Gives};
-ghost use Rattle.idl_types.specs.Along.{more_of};
+ghost use Rattle.idl_parts.specs.Reads.{Gives};
+ghost use Rattle.idl_parts.specs.Along.{more_of};
 ghost use Rattle.idl_reader.specs.Along.{param_at, comma_param_at, params_start, void_first_at, params_at, op_rest_at};
 
-use idl_tokens::{Bracket, Mark, Token, Word};
+use idl_parts::{Stop, dtor, is_mark, is_next, is_word, mark, name, open, place, shut, word};
+use idl_tokens::{Bracket, Mark, Token, Word, class};
 use idl_tree::{Ident, ParamNode, Spec, SpecKind};
-use idl_types::{
-    Stop, attrs, dtor, is_mark, is_next, is_word, mark, name, open, place, shut, spec, word,
-};
+use idl_types::{attrs, spec};
 use std::alloc::Global;
 
 /// Reads a parameter.
 #[tactic(auto, using(idl_tree::proofs::Writing::writing), unfolding(crate::specs::Along::param_at, idl_tree::specs::Files::param_pieces))]
 fn param(alloc: Global, tokens: &[Token]) -> Result<(ParamNode, &[Token]), Stop<'_>>
-    ensures along { Gives (λ p. p.1.now) result (param_at (signs tokens.now)) }
+    ensures along { Gives (λ p. p.1.now) result (param_at (terminals tokens.now)) }
     ensures written { IfOk result (λ p. Written (param_pieces p.0) tokens.now p.1.now) }
     ensures shorter { IfOk result (λ p. length p.1.now < length tokens.now) }
 {
@@ -35,7 +34,7 @@ fn param(alloc: Global, tokens: &[Token]) -> Result<(ParamNode, &[Token]), Stop<
 /// Reads a comma and a parameter.
 #[tactic(auto, using(idl_tree::proofs::Writing::writing), unfolding(crate::specs::Along::comma_param_at))]
 fn comma_param(alloc: Global, tokens: &[Token]) -> Result<(ParamNode, &[Token]), Stop<'_>>
-    ensures along { Gives (λ p. p.1.now) result (comma_param_at (signs tokens.now)) }
+    ensures along { Gives (λ p. p.1.now) result (comma_param_at (terminals tokens.now)) }
     ensures written { IfOk result (λ p. Written (mark_pieces marks.Comma ++ param_pieces p.0) tokens.now p.1.now) }
     ensures shorter { IfOk result (λ p. length p.1.now < length tokens.now) }
 {
@@ -51,7 +50,7 @@ fn further_params(
     first: ParamNode,
     tokens: &[Token],
 ) -> Result<(Vec<ParamNode>, &[Token]), Stop<'_>>
-    ensures along { Gives (λ p. p.1.now) result (more_of param_part (signs tokens.now)) }
+    ensures along { Gives (λ p. p.1.now) result (more_of param_part (terminals tokens.now)) }
     ensures written { IfOk result (λ p. (before : List Token) → Written (param_pieces first) before tokens.now → Written (commas param_pieces p.0.items) before p.1.now) }
     ensures shorter { IfOk result (λ p. length p.1.now ≤ length tokens.now) }
 {
@@ -68,13 +67,27 @@ fn further_params(
 
 /// Whether parameters, or the word `void`, may begin here.
 fn starts_params(tokens: &[Token]) -> bool
-    ensures { result ≡ heads params_start (signs tokens.now) }
+    ensures { result ≡ heads params_start (terminals tokens.now) }
 {
-    // `[`, the words and the names that a spec begins with
     is_next(
         tokens,
         &[
-            11, 60, 36, 37, 39, 70, 25, 26, 27, 28, 29, 30, 31, 32, 33, 34,
+            class::VOID,
+            class::OPEN_SQUARE,
+            class::STRUCT,
+            class::UNION,
+            class::ENUM,
+            class::NAME,
+            class::HANDLE_T,
+            class::ERROR_STATUS_T,
+            class::BOOLEAN,
+            class::BYTE,
+            class::UNSIGNED,
+            class::CHAR,
+            class::SMALL,
+            class::SHORT,
+            class::LONG,
+            class::HYPER,
         ],
     )
 }
@@ -82,14 +95,13 @@ fn starts_params(tokens: &[Token]) -> bool
 /// Reads the word `void` alone, or parameters of which the first one begins with it.
 #[tactic(auto, using(crate::proofs::Loops::voids), unfolding(crate::specs::Along::void_first_at))]
 fn void_first(alloc: Global, tokens: &[Token]) -> Result<(bool, Vec<ParamNode>, &[Token]), Stop<'_>>
-    ensures along { Gives (λ p. p.2.now) result (void_first_at (signs tokens.now)) }
+    ensures along { Gives (λ p. p.2.now) result (void_first_at (terminals tokens.now)) }
     ensures written { IfOk result (λ p. Written (params_pieces p.0 p.1.items) tokens.now p.2.now) }
     ensures shorter { IfOk result (λ p. length p.2.now ≤ length tokens.now) }
 {
     let at = place(tokens);
     let rest = word(tokens, Word::Void)?;
-    // `*` or a name
-    if is_next(rest, &[53, 70]) {
+    if is_next(rest, &[class::STAR, class::NAME]) {
         let (dtor, rest) = dtor(alloc, rest)?;
         let spec = Spec {
             at,
@@ -110,7 +122,7 @@ fn void_first(alloc: Global, tokens: &[Token]) -> Result<(bool, Vec<ParamNode>, 
 /// Reads what stands between the brackets of an operation.
 #[tactic(auto, using(crate::proofs::Loops::voids), unfolding(crate::specs::Along::params_at))]
 fn params(alloc: Global, tokens: &[Token]) -> Result<(bool, Vec<ParamNode>, &[Token]), Stop<'_>>
-    ensures along { Gives (λ p. p.2.now) result (params_at (signs tokens.now)) }
+    ensures along { Gives (λ p. p.2.now) result (params_at (terminals tokens.now)) }
     ensures written { IfOk result (λ p. Written (params_pieces p.0 p.1.items) tokens.now p.2.now) }
     ensures shorter { IfOk result (λ p. length p.2.now ≤ length tokens.now) }
 {
@@ -132,7 +144,7 @@ pub fn op_rest(
     alloc: Global,
     tokens: &[Token],
 ) -> Result<(Ident, bool, Vec<ParamNode>, &[Token]), Stop<'_>>
-    ensures along { Gives (λ p. p.3.now) result (op_rest_at (signs tokens.now)) }
+    ensures along { Gives (λ p. p.3.now) result (op_rest_at (terminals tokens.now)) }
     ensures written { IfOk result (λ p. Written (ident_pieces p.0 ++ (within brackets.Round (params_pieces p.1 p.2.items) ++ mark_pieces marks.Semicolon)) tokens.now p.3.now) }
     ensures shorter { IfOk result (λ p. length p.3.now < length tokens.now) }
 {

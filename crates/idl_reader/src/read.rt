@@ -1,22 +1,22 @@
 //! The reader of interface texts.
 ghost use Rattle.std.specs.Prelude.{◌≡◌, ◌⊎◌, ◌<◌, IfOk, IfErr, true};
 ghost use Rattle.idl_tokens.specs.Laws.{EndsOnce};
-ghost use Rattle.idl_tokens.specs.Signs.{sign};
+ghost use Rattle.idl_tokens.specs.Terminals.{terminal};
 ghost use Rattle.idl_tree.specs.Idl.{IsTree, IsIdl};
 ghost use Rattle.idl_tree.specs.declared.declaration.Ast.{Ast};
 ghost use Rattle.idl_reader.specs.Causes.{Refuses, IsCause, IsCalled};
 
 use crate::fault::IdlFault;
 use crate::file::file;
+use idl_parts::Stop;
 use idl_tokens::{Kind, Token, tokens};
 use idl_tree::Ast;
-use idl_types::Stop;
 use std::alloc::Global;
 
 /// The fault of a departure.
 #[tactic(auto, using(crate::proofs::Causes::calling))]
 fn fault(oversized: bool, token: &Token) -> IdlFault
-    requires { oversized ≡ true → 0 < (sign token.now.kind).size }
+    requires { oversized ≡ true → 0 < (terminal token.now.kind).size }
     ensures { IsCalled oversized token.now result }
 {
     if oversized {

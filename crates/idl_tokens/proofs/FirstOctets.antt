@@ -7,7 +7,7 @@ use Rattle.std.specs.List.{starts_with}
 use Rattle.std.specs.Char.{is_ascii_digit, is_digit}
 use Rattle.idl_tokens.specs.declared.kinds.Kind.{Kind}
 use Rattle.idl_tokens.specs.declared.kinds.Kind.TheVariants as kinds
-use Rattle.idl_tokens.specs.Firsts.{IsSign}
+use Rattle.idl_tokens.specs.Firsts.{IsMarkOrBracket}
 use Rattle.idl_tokens.specs.Tokens.{Spells, IsNumberAt, IsNumeralAt, is_letter}
 
 -- a digit in radix 10 is one
@@ -25,15 +25,15 @@ by_prefix c cs value rest false digit e h = false≢true (sym digit ∙ same_dig
 pub no_number : (c : ℕ) (cs : List ℕ) (value : Option ℕ) (rest : List ℕ) → is_ascii_digit c ≡ false → IsNumberAt (c ∷ cs) value rest → ⊥
 no_number c cs value rest digit h = by_prefix c cs value rest (starts_with nat_eq (c ∷ cs) (codes "0x")) digit refl h
 
-pub no_sign : (depth c : ℕ) (cs : List ℕ) → is_letter c ≡ false → is_ascii_digit c ≡ false → c ≢ 34 → ((kind : Kind) → IsSign depth c kind → ⊥)
+pub begins_none : (depth c : ℕ) (cs : List ℕ) → is_letter c ≡ false → is_ascii_digit c ≡ false → c ≢ 34 → ((kind : Kind) → IsMarkOrBracket depth c kind → ⊥)
     → (kind : Kind) (rest : List ℕ) → Spells depth (c ∷ cs) kind rest → ⊥
-no_sign depth c cs letter digit quote none (kinds.Word word) rest h = false≢true (sym letter ∙ h.first)
-no_sign depth c cs letter digit quote none (kinds.Name name) rest h = false≢true (sym letter ∙ h.0.first)
-no_sign depth c cs letter digit quote none (kinds.Number value) rest h = no_number c cs value rest digit h
-no_sign depth c cs letter digit quote none (kinds.Text inside) rest h = let e = h.opened in quote cc
-no_sign depth c cs letter digit quote none (kinds.Uuid id) rest h = h
-no_sign depth c cs letter digit quote none (kinds.Mark mark) rest h = none (kinds.Mark mark) cc
-no_sign depth c cs letter digit quote none (kinds.Open bracket level) rest h = let e = h.0 in none (kinds.Open bracket level) (cc, h.1)
-no_sign depth c cs letter digit quote none (kinds.Shut bracket) rest h = none (kinds.Shut bracket) cc
-no_sign depth c cs letter digit quote none kinds.End rest h = h
-no_sign depth c cs letter digit quote none kinds.Bad rest h = h
+begins_none depth c cs letter digit quote none (kinds.Word word) rest h = false≢true (sym letter ∙ h.first)
+begins_none depth c cs letter digit quote none (kinds.Name name) rest h = false≢true (sym letter ∙ h.0.first)
+begins_none depth c cs letter digit quote none (kinds.Number value) rest h = no_number c cs value rest digit h
+begins_none depth c cs letter digit quote none (kinds.Text inside) rest h = let e = h.opened in quote cc
+begins_none depth c cs letter digit quote none (kinds.Uuid id) rest h = h
+begins_none depth c cs letter digit quote none (kinds.Mark mark) rest h = none (kinds.Mark mark) cc
+begins_none depth c cs letter digit quote none (kinds.Open bracket level) rest h = let e = h.0 in none (kinds.Open bracket level) (cc, h.1)
+begins_none depth c cs letter digit quote none (kinds.Shut bracket) rest h = none (kinds.Shut bracket) cc
+begins_none depth c cs letter digit quote none kinds.End rest h = h
+begins_none depth c cs letter digit quote none kinds.Bad rest h = h

@@ -5,8 +5,8 @@ use Rattle.idl_tokens.specs.declared.kinds.Kind.TheVariants as kinds
 use Rattle.idl_tokens.specs.Spellings.{mark_octet, open_octet, shut_octet}
 
 -- Where so many brackets are open, the octet is a mark or a bracket of this kind.
-abbrev pub IsSign : ℕ → ℕ → Kind → Type 0
-IsSign depth c (kinds.Mark mark) = c ≡ mark_octet mark
-IsSign depth c (kinds.Open bracket level) = (c ≡ open_octet bracket) × (level ≡ suc depth)
-IsSign depth c (kinds.Shut bracket) = c ≡ shut_octet bracket
-IsSign depth c _ = ⊥
+abbrev pub IsMarkOrBracket : ℕ → ℕ → Kind → Type 0
+IsMarkOrBracket depth c (kinds.Mark mark) = c ≡ mark_octet mark
+IsMarkOrBracket depth c (kinds.Open bracket level) = (c ≡ open_octet bracket) × (level ≡ suc depth)
+IsMarkOrBracket depth c (kinds.Shut bracket) = c ≡ shut_octet bracket
+IsMarkOrBracket depth c _ = ⊥

@@ -2,6 +2,6 @@ pub mod Contexts
 pub mod Firsts
 pub mod Laws
 pub mod Runs
-pub mod Signs
+pub mod Terminals
 pub mod Spellings
 pub mod Tokens

@@ -2,7 +2,7 @@
 ghost use Rattle.std.specs.Prelude.{◌≡◌, ◌≢◌, ◌+◌, ◌<◌, ◌^◌, ℕ, List, true, MatchOption, IfOk, length};
 ghost use Rattle.idl_tokens.specs.Tokens.{IsStringAt, IsUuidAt, Spells, is_letter as letter_test, starts};
 ghost use Rattle.idl_tokens.specs.declared.kinds.Kind.{Kind};
-ghost use Rattle.idl_tokens.specs.Firsts.{IsSign};
+ghost use Rattle.idl_tokens.specs.Firsts.{IsMarkOrBracket};
 
 use crate::numbers::number;
 use crate::runs::{Run, cut};
@@ -46,9 +46,9 @@ fn string(alloc: Global, text: &[u8]) -> Result<Option<(Octets, &[u8])>, NoMemor
 }
 
 /// The mark or bracket of that spelling.
-fn sign(octet: u8, depth: usize) -> Option<Kind>
+fn mark_or_bracket(octet: u8, depth: usize) -> Option<Kind>
     requires { depth + 1 < 2 ^ 64 }
-    ensures { MatchOption result ((kind : Kind) → IsSign depth octet kind → ⊥) (IsSign depth octet) }
+    ensures { MatchOption result ((kind : Kind) → IsMarkOrBracket depth octet kind → ⊥) (IsMarkOrBracket depth octet) }
 {
     if let Some(mark) = Mark::of_octet(octet) {
         return Some(Kind::Mark(mark));
@@ -97,7 +97,7 @@ pub fn first_token(
             None => Ok(None),
         };
     }
-    match sign(*first, depth) {
+    match mark_or_bracket(*first, depth) {
         Some(kind) => Ok(Some((kind, after))),
         None => Ok(None),
     }

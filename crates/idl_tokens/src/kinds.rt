@@ -1,8 +1,8 @@
 //! Tokens.
 ghost use Rattle.std.specs.Prelude.{◌≡◌, nat_lt};
-ghost use Rattle.idl_tokens.specs.Signs.{sign};
+ghost use Rattle.idl_tokens.specs.Terminals.{terminal};
 
-use crate::{Bracket, Mark, Word};
+use crate::{Bracket, Mark, Word, class};
 use rpc_base::Octets;
 use uuid::Uuid;
 
@@ -37,25 +37,25 @@ pub struct Token {
 impl Kind {
     /// The token's class, which the grammar tells tokens by.
     pub fn class(&self) -> u8
-        ensures { result ≡ (sign self.now).class }
+        ensures { result ≡ (terminal self.now).class }
     {
         match self {
             Kind::Word(word) => word.class(),
-            Kind::Name(_) => 70,
-            Kind::Number(_) => 71,
-            Kind::Text(_) => 72,
-            Kind::Uuid(_) => 73,
+            Kind::Name(_) => class::NAME,
+            Kind::Number(_) => class::NUMBER,
+            Kind::Text(_) => class::TEXT,
+            Kind::Uuid(_) => class::UUID,
             Kind::Mark(mark) => mark.class(),
             Kind::Open(bracket, _) => bracket.opening(),
             Kind::Shut(bracket) => bracket.closing(),
-            Kind::End => 74,
-            Kind::Bad => 0,
+            Kind::End => class::END,
+            Kind::Bad => class::BAD,
         }
     }
 
     /// Whether a number's value, or an opening bracket's level, is above `most`.
     pub fn is_over(&self, most: u64) -> bool
-        ensures { result ≡ nat_lt most (sign self.now).size }
+        ensures { result ≡ nat_lt most (terminal self.now).size }
     {
         match self {
             Kind::Number(Some(value)) => most < *value,

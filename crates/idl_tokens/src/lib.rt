@@ -1,6 +1,7 @@
 //! Tokens of the interface definition language, and the lexer (C706, "Interface Definition Language").
 #![tactic(auto)]
 
+pub mod class;
 mod firsts;
 mod gaps;
 mod kinds;
@@ -16,6 +17,3 @@ pub use laws::{places_rise, text_has_one_list_of_tokens, tokens_end_once};
 pub use lexer::tokens;
 pub use marks::{Bracket, Mark};
 pub use words::Word;
-
-#[cfg(test)]
-mod tests;

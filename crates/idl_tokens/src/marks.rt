@@ -1,9 +1,11 @@
 //! Marks and brackets.
 ghost use Rattle.std.specs.Prelude.{◌≡◌, ◌≢◌, MatchOption};
-ghost use Rattle.idl_tokens.specs.Signs.{of_mark, opening as opening_of, closing as closing_of};
+ghost use Rattle.idl_tokens.specs.Terminals.{of_mark, opening as opening_of, closing as closing_of};
 ghost use Rattle.idl_tokens.specs.Spellings.{mark_octet, open_octet, shut_octet};
 ghost use Rattle.idl_tokens.specs.declared.marks.Mark.{Mark};
 ghost use Rattle.idl_tokens.specs.declared.marks.Bracket.{Bracket};
+
+use crate::class;
 
 /// A mark that neither opens nor shuts: `,` `;` `:` `*` `=` `-` `.`
 #[derive(Clone, Copy, Debug, PartialEq, Eq)]
@@ -31,13 +33,13 @@ impl Mark {
         ensures { result ≡ of_mark self }
     {
         match self {
-            Mark::Comma => 50,
-            Mark::Semicolon => 51,
-            Mark::Colon => 52,
-            Mark::Star => 53,
-            Mark::Equals => 54,
-            Mark::Minus => 55,
-            Mark::Dot => 56,
+            Mark::Comma => class::COMMA,
+            Mark::Semicolon => class::SEMICOLON,
+            Mark::Colon => class::COLON,
+            Mark::Star => class::STAR,
+            Mark::Equals => class::EQUALS,
+            Mark::Minus => class::MINUS,
+            Mark::Dot => class::DOT,
         }
     }
 
@@ -79,9 +81,9 @@ impl Bracket {
         ensures { result ≡ opening_of self }
     {
         match self {
-            Bracket::Square => 60,
-            Bracket::Round => 61,
-            Bracket::Curly => 62,
+            Bracket::Square => class::OPEN_SQUARE,
+            Bracket::Round => class::OPEN_ROUND,
+            Bracket::Curly => class::OPEN_CURLY,
         }
     }
 
@@ -90,9 +92,9 @@ impl Bracket {
         ensures { result ≡ closing_of self }
     {
         match self {
-            Bracket::Square => 63,
-            Bracket::Round => 64,
-            Bracket::Curly => 65,
+            Bracket::Square => class::SHUT_SQUARE,
+            Bracket::Round => class::SHUT_ROUND,
+            Bracket::Curly => class::SHUT_CURLY,
         }
     }
 

@@ -1,8 +1,10 @@
 //! Reserved words.
 ghost use Rattle.std.specs.Prelude.{◌≡◌, ◌≢◌, ◌↔◌, IsTrue, MatchOption, All};
-ghost use Rattle.idl_tokens.specs.Signs.{of_word};
+ghost use Rattle.idl_tokens.specs.Terminals.{of_word};
 ghost use Rattle.idl_tokens.specs.Spellings.{word_text};
 ghost use Rattle.idl_tokens.specs.declared.words.Word.{Word};
+
+use crate::class;
 
 /// A reserved word of the interface definition language (C706, "Interface Definition Language").
 #[derive(Clone, Copy, Debug, PartialEq, Eq)]
@@ -51,52 +53,52 @@ pub enum Word {
 }
 
 impl Word {
-    /// The class of the word's tokens, from 1.
+    /// The class of the word's tokens.
     pub fn class(self) -> u8
         ensures { result ≡ of_word self }
     {
         match self {
-            Word::Interface => 1,
-            Word::Uuid => 2,
-            Word::Version => 3,
-            Word::PointerDefault => 4,
-            Word::Endpoint => 5,
-            Word::Ref => 6,
-            Word::Unique => 7,
-            Word::Ptr => 8,
-            Word::Const => 9,
-            Word::Typedef => 10,
-            Word::Void => 11,
-            Word::In => 12,
-            Word::Out => 13,
-            Word::String => 14,
-            Word::Idempotent => 15,
-            Word::Maybe => 16,
-            Word::ContextHandle => 17,
-            Word::ContextHandleSerialize => 18,
-            Word::ContextHandleNoserialize => 19,
-            Word::SizeIs => 20,
-            Word::MaxIs => 21,
-            Word::LengthIs => 22,
-            Word::SwitchIs => 23,
-            Word::SwitchType => 24,
-            Word::HandleT => 25,
-            Word::ErrorStatusT => 26,
-            Word::Boolean => 27,
-            Word::Byte => 28,
-            Word::Unsigned => 29,
-            Word::Char => 30,
-            Word::Small => 31,
-            Word::Short => 32,
-            Word::Long => 33,
-            Word::Hyper => 34,
-            Word::Int => 35,
-            Word::Struct => 36,
-            Word::Union => 37,
-            Word::Switch => 38,
-            Word::Enum => 39,
-            Word::Case => 40,
-            Word::Default => 41,
+            Word::Interface => class::INTERFACE,
+            Word::Uuid => class::UUID_WORD,
+            Word::Version => class::VERSION,
+            Word::PointerDefault => class::POINTER_DEFAULT,
+            Word::Endpoint => class::ENDPOINT,
+            Word::Ref => class::REF,
+            Word::Unique => class::UNIQUE,
+            Word::Ptr => class::PTR,
+            Word::Const => class::CONST,
+            Word::Typedef => class::TYPEDEF,
+            Word::Void => class::VOID,
+            Word::In => class::IN,
+            Word::Out => class::OUT,
+            Word::String => class::STRING,
+            Word::Idempotent => class::IDEMPOTENT,
+            Word::Maybe => class::MAYBE,
+            Word::ContextHandle => class::CONTEXT_HANDLE,
+            Word::ContextHandleSerialize => class::CONTEXT_HANDLE_SERIALIZE,
+            Word::ContextHandleNoserialize => class::CONTEXT_HANDLE_NOSERIALIZE,
+            Word::SizeIs => class::SIZE_IS,
+            Word::MaxIs => class::MAX_IS,
+            Word::LengthIs => class::LENGTH_IS,
+            Word::SwitchIs => class::SWITCH_IS,
+            Word::SwitchType => class::SWITCH_TYPE,
+            Word::HandleT => class::HANDLE_T,
+            Word::ErrorStatusT => class::ERROR_STATUS_T,
+            Word::Boolean => class::BOOLEAN,
+            Word::Byte => class::BYTE,
+            Word::Unsigned => class::UNSIGNED,
+            Word::Char => class::CHAR,
+            Word::Small => class::SMALL,
+            Word::Short => class::SHORT,
+            Word::Long => class::LONG,
+            Word::Hyper => class::HYPER,
+            Word::Int => class::INT,
+            Word::Struct => class::STRUCT,
+            Word::Union => class::UNION,
+            Word::Switch => class::SWITCH,
+            Word::Enum => class::ENUM,
+            Word::Case => class::CASE,
+            Word::Default => class::DEFAULT,
         }
     }
 

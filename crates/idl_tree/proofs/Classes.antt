@@ -9,12 +9,12 @@ use Rattle.idl_tokens.specs.declared.marks.Bracket.{Bracket}
 use Rattle.idl_tokens.specs.declared.marks.Bracket.TheVariants as brackets
 use Rattle.idl_tokens.specs.declared.kinds.Kind.{Kind}
 use Rattle.idl_tokens.specs.declared.kinds.Kind.TheVariants as kinds
-use Rattle.idl_tokens.specs.Signs.{of_word, of_mark, opening, closing, sign}
+use Rattle.idl_tokens.specs.Terminals.{of_word, of_mark, opening, closing, terminal, bad_class, name_class, number_class, text_class, uuid_class, end_class}
 use Rattle.uuid.specs.declared.Uuid.{Uuid}
 
 -- the word, mark, closing bracket or end of a class; for any other class Bad
 told : ℕ → Kind
-told c = cond (eqb c 1) (kinds.Word words.Interface) (cond (eqb c 2) (kinds.Word words.Uuid) (cond (eqb c 3) (kinds.Word words.Version) (cond (eqb c 4) (kinds.Word words.PointerDefault) (cond (eqb c 5) (kinds.Word words.Endpoint) (cond (eqb c 6) (kinds.Word words.Ref) (cond (eqb c 7) (kinds.Word words.Unique) (cond (eqb c 8) (kinds.Word words.Ptr) (cond (eqb c 9) (kinds.Word words.Const) (cond (eqb c 10) (kinds.Word words.Typedef) (cond (eqb c 11) (kinds.Word words.Void) (cond (eqb c 12) (kinds.Word words.In) (cond (eqb c 13) (kinds.Word words.Out) (cond (eqb c 14) (kinds.Word words.String) (cond (eqb c 15) (kinds.Word words.Idempotent) (cond (eqb c 16) (kinds.Word words.Maybe) (cond (eqb c 17) (kinds.Word words.ContextHandle) (cond (eqb c 18) (kinds.Word words.ContextHandleSerialize) (cond (eqb c 19) (kinds.Word words.ContextHandleNoserialize) (cond (eqb c 20) (kinds.Word words.SizeIs) (cond (eqb c 21) (kinds.Word words.MaxIs) (cond (eqb c 22) (kinds.Word words.LengthIs) (cond (eqb c 23) (kinds.Word words.SwitchIs) (cond (eqb c 24) (kinds.Word words.SwitchType) (cond (eqb c 25) (kinds.Word words.HandleT) (cond (eqb c 26) (kinds.Word words.ErrorStatusT) (cond (eqb c 27) (kinds.Word words.Boolean) (cond (eqb c 28) (kinds.Word words.Byte) (cond (eqb c 29) (kinds.Word words.Unsigned) (cond (eqb c 30) (kinds.Word words.Char) (cond (eqb c 31) (kinds.Word words.Small) (cond (eqb c 32) (kinds.Word words.Short) (cond (eqb c 33) (kinds.Word words.Long) (cond (eqb c 34) (kinds.Word words.Hyper) (cond (eqb c 35) (kinds.Word words.Int) (cond (eqb c 36) (kinds.Word words.Struct) (cond (eqb c 37) (kinds.Word words.Union) (cond (eqb c 38) (kinds.Word words.Switch) (cond (eqb c 39) (kinds.Word words.Enum) (cond (eqb c 40) (kinds.Word words.Case) (cond (eqb c 41) (kinds.Word words.Default) (cond (eqb c 50) (kinds.Mark marks.Comma) (cond (eqb c 51) (kinds.Mark marks.Semicolon) (cond (eqb c 52) (kinds.Mark marks.Colon) (cond (eqb c 53) (kinds.Mark marks.Star) (cond (eqb c 54) (kinds.Mark marks.Equals) (cond (eqb c 55) (kinds.Mark marks.Minus) (cond (eqb c 56) (kinds.Mark marks.Dot) (cond (eqb c 63) (kinds.Shut brackets.Square) (cond (eqb c 64) (kinds.Shut brackets.Round) (cond (eqb c 65) (kinds.Shut brackets.Curly) (cond (eqb c 74) kinds.End kinds.Bad)))))))))))))))))))))))))))))))))))))))))))))))))))
+told c = cond (eqb c (of_word words.Interface)) (kinds.Word words.Interface) (cond (eqb c (of_word words.Uuid)) (kinds.Word words.Uuid) (cond (eqb c (of_word words.Version)) (kinds.Word words.Version) (cond (eqb c (of_word words.PointerDefault)) (kinds.Word words.PointerDefault) (cond (eqb c (of_word words.Endpoint)) (kinds.Word words.Endpoint) (cond (eqb c (of_word words.Ref)) (kinds.Word words.Ref) (cond (eqb c (of_word words.Unique)) (kinds.Word words.Unique) (cond (eqb c (of_word words.Ptr)) (kinds.Word words.Ptr) (cond (eqb c (of_word words.Const)) (kinds.Word words.Const) (cond (eqb c (of_word words.Typedef)) (kinds.Word words.Typedef) (cond (eqb c (of_word words.Void)) (kinds.Word words.Void) (cond (eqb c (of_word words.In)) (kinds.Word words.In) (cond (eqb c (of_word words.Out)) (kinds.Word words.Out) (cond (eqb c (of_word words.String)) (kinds.Word words.String) (cond (eqb c (of_word words.Idempotent)) (kinds.Word words.Idempotent) (cond (eqb c (of_word words.Maybe)) (kinds.Word words.Maybe) (cond (eqb c (of_word words.ContextHandle)) (kinds.Word words.ContextHandle) (cond (eqb c (of_word words.ContextHandleSerialize)) (kinds.Word words.ContextHandleSerialize) (cond (eqb c (of_word words.ContextHandleNoserialize)) (kinds.Word words.ContextHandleNoserialize) (cond (eqb c (of_word words.SizeIs)) (kinds.Word words.SizeIs) (cond (eqb c (of_word words.MaxIs)) (kinds.Word words.MaxIs) (cond (eqb c (of_word words.LengthIs)) (kinds.Word words.LengthIs) (cond (eqb c (of_word words.SwitchIs)) (kinds.Word words.SwitchIs) (cond (eqb c (of_word words.SwitchType)) (kinds.Word words.SwitchType) (cond (eqb c (of_word words.HandleT)) (kinds.Word words.HandleT) (cond (eqb c (of_word words.ErrorStatusT)) (kinds.Word words.ErrorStatusT) (cond (eqb c (of_word words.Boolean)) (kinds.Word words.Boolean) (cond (eqb c (of_word words.Byte)) (kinds.Word words.Byte) (cond (eqb c (of_word words.Unsigned)) (kinds.Word words.Unsigned) (cond (eqb c (of_word words.Char)) (kinds.Word words.Char) (cond (eqb c (of_word words.Small)) (kinds.Word words.Small) (cond (eqb c (of_word words.Short)) (kinds.Word words.Short) (cond (eqb c (of_word words.Long)) (kinds.Word words.Long) (cond (eqb c (of_word words.Hyper)) (kinds.Word words.Hyper) (cond (eqb c (of_word words.Int)) (kinds.Word words.Int) (cond (eqb c (of_word words.Struct)) (kinds.Word words.Struct) (cond (eqb c (of_word words.Union)) (kinds.Word words.Union) (cond (eqb c (of_word words.Switch)) (kinds.Word words.Switch) (cond (eqb c (of_word words.Enum)) (kinds.Word words.Enum) (cond (eqb c (of_word words.Case)) (kinds.Word words.Case) (cond (eqb c (of_word words.Default)) (kinds.Word words.Default) (cond (eqb c (of_mark marks.Comma)) (kinds.Mark marks.Comma) (cond (eqb c (of_mark marks.Semicolon)) (kinds.Mark marks.Semicolon) (cond (eqb c (of_mark marks.Colon)) (kinds.Mark marks.Colon) (cond (eqb c (of_mark marks.Star)) (kinds.Mark marks.Star) (cond (eqb c (of_mark marks.Equals)) (kinds.Mark marks.Equals) (cond (eqb c (of_mark marks.Minus)) (kinds.Mark marks.Minus) (cond (eqb c (of_mark marks.Dot)) (kinds.Mark marks.Dot) (cond (eqb c (closing brackets.Square)) (kinds.Shut brackets.Square) (cond (eqb c (closing brackets.Round)) (kinds.Shut brackets.Round) (cond (eqb c (closing brackets.Curly)) (kinds.Shut brackets.Curly) (cond (eqb c end_class) kinds.End kinds.Bad)))))))))))))))))))))))))))))))))))))))))))))))))))
 
 word_back : (w : Word) → told (of_word w) ≡ kinds.Word w
 unfolding told
@@ -82,12 +82,12 @@ open_none brackets.Square = refl
 open_none brackets.Round = refl
 open_none brackets.Curly = refl
 
-others : (told 70 ≡ kinds.Bad) × (told 71 ≡ kinds.Bad) × (told 72 ≡ kinds.Bad) × (told 73 ≡ kinds.Bad) × (told 74 ≡ kinds.End) × (told 0 ≡ kinds.Bad)
+others : (told name_class ≡ kinds.Bad) × (told number_class ≡ kinds.Bad) × (told text_class ≡ kinds.Bad) × (told uuid_class ≡ kinds.Bad) × (told end_class ≡ kinds.End) × (told bad_class ≡ kinds.Bad)
 unfolding told
 others = (refl, refl, refl, refl, refl, refl)
 
 -- its class tells a kind, or tells nothing
-back : (k : Kind) → (told (sign k).class ≡ k) ⊎ (told (sign k).class ≡ kinds.Bad)
+back : (k : Kind) → (told (terminal k).class ≡ k) ⊎ (told (terminal k).class ≡ kinds.Bad)
 back (kinds.Word w) = inl (word_back w)
 back (kinds.Mark m) = inl (mark_back m)
 back (kinds.Shut b) = inl (shut_back b)
@@ -100,17 +100,17 @@ back (kinds.Uuid id) = inr others.3
 back (kinds.Open b l) = inr (open_none b)
 back kinds.Bad = inr others.5
 
-pub word_told : (k : Kind) (w : Word) → (sign k).class ≡ of_word w → k ≡ kinds.Word w
-word_told k w e = let f : told (sign k).class ≡ kinds.Word w = ap told e ∙ word_back w in elim (back k) [ inl p ↦ sym p ∙ f | inr p ↦ cc ]
+pub word_told : (k : Kind) (w : Word) → (terminal k).class ≡ of_word w → k ≡ kinds.Word w
+word_told k w e = let f : told (terminal k).class ≡ kinds.Word w = ap told e ∙ word_back w in elim (back k) [ inl p ↦ sym p ∙ f | inr p ↦ cc ]
 
-pub mark_told : (k : Kind) (m : Mark) → (sign k).class ≡ of_mark m → k ≡ kinds.Mark m
-mark_told k m e = let f : told (sign k).class ≡ kinds.Mark m = ap told e ∙ mark_back m in elim (back k) [ inl p ↦ sym p ∙ f | inr p ↦ cc ]
+pub mark_told : (k : Kind) (m : Mark) → (terminal k).class ≡ of_mark m → k ≡ kinds.Mark m
+mark_told k m e = let f : told (terminal k).class ≡ kinds.Mark m = ap told e ∙ mark_back m in elim (back k) [ inl p ↦ sym p ∙ f | inr p ↦ cc ]
 
-pub shut_told : (k : Kind) (b : Bracket) → (sign k).class ≡ closing b → k ≡ kinds.Shut b
-shut_told k b e = let f : told (sign k).class ≡ kinds.Shut b = ap told e ∙ shut_back b in elim (back k) [ inl p ↦ sym p ∙ f | inr p ↦ cc ]
+pub shut_told : (k : Kind) (b : Bracket) → (terminal k).class ≡ closing b → k ≡ kinds.Shut b
+shut_told k b e = let f : told (terminal k).class ≡ kinds.Shut b = ap told e ∙ shut_back b in elim (back k) [ inl p ↦ sym p ∙ f | inr p ↦ cc ]
 
-pub end_told : (k : Kind) → (sign k).class ≡ 74 → k ≡ kinds.End
-end_told k e = let f : told (sign k).class ≡ kinds.End = ap told e ∙ others.4 in elim (back k) [ inl p ↦ sym p ∙ f | inr p ↦ cc ]
+pub end_told : (k : Kind) → (terminal k).class ≡ end_class → k ≡ kinds.End
+end_told k e = let f : told (terminal k).class ≡ kinds.End = ap told e ∙ others.4 in elim (back k) [ inl p ↦ sym p ∙ f | inr p ↦ cc ]
 
 pub word_same : (v w : Word) → of_word v ≡ of_word w → v ≡ w
 word_same v w e = let f : kinds.Word v ≡ kinds.Word w = sym (word_back v) ∙ (ap told e ∙ word_back w) in cc
@@ -132,7 +132,7 @@ below_70 brackets.Square = omega arith
 below_70 brackets.Round = omega arith
 below_70 brackets.Curly = omega arith
 
-pub name_told : (k : Kind) → (sign k).class ≡ 70 → (text : List ℕ) × (k ≡ kinds.Name text)
+pub name_told : (k : Kind) → (terminal k).class ≡ name_class → (text : List ℕ) × (k ≡ kinds.Name text)
 name_told (kinds.Word w) e = absurd (no_word w _ e others.0)
 name_told (kinds.Mark m) e = absurd (no_mark m _ e others.0)
 name_told (kinds.Shut b) e = absurd (no_shut b _ e others.0)
@@ -145,7 +145,7 @@ name_told (kinds.Open b l) e = let a = below_70 b in absurd (omega arith)
 name_told kinds.End e = absurd (omega arith)
 name_told kinds.Bad e = absurd (omega arith)
 
-pub number_told : (k : Kind) → (sign k).class ≡ 71 → (sign k).size < 2 ^ 64 → (n : ℕ) × (k ≡ kinds.Number (Some n))
+pub number_told : (k : Kind) → (terminal k).class ≡ number_class → (terminal k).size < 2 ^ 64 → (n : ℕ) × (k ≡ kinds.Number (Some n))
 number_told (kinds.Word w) e l = absurd (no_word w _ e others.1)
 number_told (kinds.Mark m) e l = absurd (no_mark m _ e others.1)
 number_told (kinds.Shut b) e l = absurd (no_shut b _ e others.1)
@@ -158,7 +158,7 @@ number_told (kinds.Open b level) e l = let a = below_70 b in absurd (omega arith
 number_told kinds.End e l = absurd (omega arith)
 number_told kinds.Bad e l = absurd (omega arith)
 
-pub text_told : (k : Kind) → (sign k).class ≡ 72 → (text : List ℕ) × (k ≡ kinds.Text text)
+pub text_told : (k : Kind) → (terminal k).class ≡ text_class → (text : List ℕ) × (k ≡ kinds.Text text)
 text_told (kinds.Word w) e = absurd (no_word w _ e others.2)
 text_told (kinds.Mark m) e = absurd (no_mark m _ e others.2)
 text_told (kinds.Shut b) e = absurd (no_shut b _ e others.2)
@@ -171,7 +171,7 @@ text_told (kinds.Open b l) e = let a = below_70 b in absurd (omega arith)
 text_told kinds.End e = absurd (omega arith)
 text_told kinds.Bad e = absurd (omega arith)
 
-pub uuid_told : (k : Kind) → (sign k).class ≡ 73 → (id : Uuid) × (k ≡ kinds.Uuid id)
+pub uuid_told : (k : Kind) → (terminal k).class ≡ uuid_class → (id : Uuid) × (k ≡ kinds.Uuid id)
 uuid_told (kinds.Word w) e = absurd (no_word w _ e others.3)
 uuid_told (kinds.Mark m) e = absurd (no_mark m _ e others.3)
 uuid_told (kinds.Shut b) e = absurd (no_shut b _ e others.3)
@@ -185,7 +185,7 @@ uuid_told kinds.End e = absurd (omega arith)
 uuid_told kinds.Bad e = absurd (omega arith)
 
 bracket_of : ℕ → Bracket
-bracket_of c = cond (eqb c 60) brackets.Square (cond (eqb c 61) brackets.Round brackets.Curly)
+bracket_of c = cond (eqb c (opening brackets.Square)) brackets.Square (cond (eqb c (opening brackets.Round)) brackets.Round brackets.Curly)
 
 open_back : (b : Bracket) → bracket_of (opening b) ≡ b
 unfolding bracket_of
@@ -198,7 +198,7 @@ above_0 brackets.Square = omega arith
 above_0 brackets.Round = omega arith
 above_0 brackets.Curly = omega arith
 
-pub open_told : (k : Kind) (b : Bracket) → (sign k).class ≡ opening b → (level : ℕ) × (k ≡ kinds.Open b level)
+pub open_told : (k : Kind) (b : Bracket) → (terminal k).class ≡ opening b → (level : ℕ) × (k ≡ kinds.Open b level)
 open_told (kinds.Word w) b e = absurd (no_word w _ e (open_none b))
 open_told (kinds.Mark m) b e = absurd (no_mark m _ e (open_none b))
 open_told (kinds.Shut d) b e = absurd (no_shut d _ e (open_none b))

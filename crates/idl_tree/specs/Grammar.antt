@@ -8,7 +8,7 @@ use Rattle.idl_tokens.specs.declared.marks.Mark.{Mark}
 use Rattle.idl_tokens.specs.declared.marks.Mark.TheVariants as marks
 use Rattle.idl_tokens.specs.declared.marks.Bracket.{Bracket}
 use Rattle.idl_tokens.specs.declared.marks.Bracket.TheVariants as brackets
-use Rattle.idl_tokens.specs.Signs.{of_word, of_mark, opening, closing}
+use Rattle.idl_tokens.specs.Terminals.{of_word, of_mark, opening, closing, name_class, number_class, text_class, uuid_class, end_class}
 
 -- one after the other
 infixl 20 ◌⨟◌
@@ -30,25 +30,32 @@ any_word ws = One (map of_word ws) 1
 unfoldable pub a_mark : Mark → Ebnf
 a_mark m = One (of_mark m ∷ []) 1
 
+-- the classes of the tokens that may stand for a name
+abbrev pub name_classes : List ℕ
+name_classes = name_class ∷ []
+
 unfoldable pub a_name : Ebnf
-a_name = One (70 ∷ []) 1
+a_name = One name_classes 1
 
 -- a number below the limit
 unfoldable pub a_number : ℕ → Ebnf
-a_number limit = One (71 ∷ []) limit
+a_number limit = One (number_class ∷ []) limit
 
 unfoldable pub a_text : Ebnf
-a_text = One (72 ∷ []) 1
+a_text = One (text_class ∷ []) 1
 
 unfoldable pub a_uuid : Ebnf
-a_uuid = One (73 ∷ []) 1
+a_uuid = One (uuid_class ∷ []) 1
 
 unfoldable pub the_end : Ebnf
-the_end = One (74 ∷ []) 1
+the_end = One (end_class ∷ []) 1
 
 -- brackets nest to level 64
+abbrev pub level_limit : ℕ
+level_limit = 65
+
 abbrev pub in_brackets : Bracket → ℕ → Ebnf
-in_brackets b rule = Within (opening b) rule (closing b) 65
+in_brackets b rule = Within (opening b) rule (closing b) level_limit
 
 -- one, and more of them behind commas
 abbrev pub listed : Ebnf → Ebnf

@@ -1,4 +1,2 @@
-pub mod Taking
 pub mod Orders
-pub mod Parts
 pub mod Loops

@@ -10,16 +10,7 @@ use Rattle.idl_tree.specs.declared.spec.Attr.{Attr}
 use Rattle.idl_tree.specs.Pieces.{Written, within, commas, open_pieces, shut_pieces, mark_pieces}
 use Rattle.idl_tree.specs.Trees.{member_pieces, arm_pieces, attr_pieces, attrs_pieces}
 use Rattle.idl_tree.proofs.Writing.{write_join, write_none, write_placed, write_shut, write_squares, write_flat_none, write_flat_more, write_commas_one, write_commas_more}
-use Rattle.idl_types.proofs.Orders.{more_stars, more_dtors, more_names, more_labels, more_attrs, more_members, more_arms, body_law, switch_law, attrs_law, arms_law}
-use Rattle.idl_types.proofs.Parts.{stars_none, stars_more, dtors_one, dtors_more, names_one, names_more, labels_one, labels_more}
-
-pub ruleset stars = (more_stars, stars_none, stars_more)
-
-pub ruleset dtors = (more_dtors, dtors_one, dtors_more)
-
-pub ruleset names = (more_names, names_one, names_more)
-
-pub ruleset labels = (more_labels, labels_one, labels_more)
+use Rattle.idl_types.proofs.Orders.{more_attrs, more_members, more_arms, body_law, switch_law, attrs_law, arms_law}
 
 pub members_one : (m : Member) (ts mid rest : List Token) → Written (open_pieces brackets.Curly) ts mid → Written (member_pieces m) mid rest → Written (open_pieces brackets.Curly ++ flat_map member_pieces (m ∷ [])) ts rest
 members_one m ts mid rest p q = write_flat_more member_pieces (open_pieces brackets.Curly) [] m ts mid rest (write_flat_none member_pieces (open_pieces brackets.Curly) ts mid p) q

@@ -1,19 +1,6 @@
-//! Readers of the parts of an interface text: single tokens, declarators, attributes and type
-//! specs. Each reads from the front of a list of tokens, and gives what it read and what is left.
+//! Readers of type specs, and of the attributes and members that hold them.
 #![tactic(auto)]
 
-mod attribute;
-mod basic;
-mod declarator;
-mod stop;
-mod take;
 mod types;
 
-pub use basic::{base, pk, signed};
-pub use declarator::{dtor, dtors, enum_body};
-pub use stop::Stop;
-pub use take::{
-    end, is_mark, is_name, is_next, is_number, is_open, is_word, mark, mark_or_none, name,
-    name_or_none, number, open, place, shut, text, uuid, word, word_among, word_or_none,
-};
 pub use types::{attrs, spec};

@@ -1,44 +1,39 @@
 //! Readers of type specs and what they hold, which call one another. Each turn passes a bracket,
 //! and brackets nest to level 64 alone, so the recursion is bounded.
-ghost use Rattle.std.specs.Prelude.{◌≡◌, ℕ, ◌<◌, ◌≤◌, ◌++◌, List, [], ◌∷◌, IfOk, length};
+ghost use Rattle.std.specs.Prelude.{◌≡◌, ◌<◌, ◌≤◌, List, IfOk, length};
 ghost use Rattle.std.specs.List.{flat_map};
 ghost use Rattle.ebnf.specs.Machine.{parse};
 ghost use Rattle.idl_tokens.specs.declared.kinds.Token.{Token};
 ghost use Rattle.idl_tokens.specs.declared.words.Word.TheVariants as words;
-ghost use Rattle.idl_tokens.specs.declared.marks.Mark.TheVariants as marks;
 ghost use Rattle.idl_tokens.specs.declared.marks.Bracket.TheVariants as brackets;
-ghost use Rattle.idl_tokens.specs.Signs.{signs};
+ghost use Rattle.idl_tokens.specs.Terminals.{terminals};
 ghost use Rattle.ebnf.specs.Checks.{heads};
 ghost use Rattle.idl_tree.specs.Grammar.{rule, body as body_part, switch_part};
-ghost use Rattle.idl_tree.specs.Pieces.{Written, mark_pieces, word_pieces, within, open_pieces, shut_pieces};
+ghost use Rattle.idl_tree.specs.Pieces.{Written, word_pieces, within};
 ghost use Rattle.idl_tree.specs.Trees.{kind_pieces, spec_pieces, attr_pieces, attrs_pieces, member_pieces, switch_pieces, arm_pieces};
-ghost use Rattle.idl_types.specs.Reads.{Gives};
-ghost use Rattle.idl_types.specs.Along.{own_word_at, typed_at, plain_at, struct_rest_at, union_rest_at, enum_rest_at, arms_part, spec_at, attr_at, if_attrs_at, member_start, member_at, arm_at};
+ghost use Rattle.idl_parts.specs.Reads.{Gives};
+ghost use Rattle.idl_parts.specs.Along.{enum_rest_at};
+ghost use Rattle.idl_types.specs.Along.{own_word_at, typed_at, plain_at, struct_rest_at, union_rest_at, arms_part, spec_at, attr_at, if_attrs_at, member_start, member_at, arm_at};
 
-use crate::attribute::{labels, plain_attr, size_attr, switch_is};
-use crate::basic::base;
-use crate::declarator::{dtors, enum_body};
-use crate::stop::Stop;
-use crate::take::{
-    is_mark, is_name, is_next, is_open, is_word, mark, name, name_or_none, open, place, shut, word,
-    word_among,
+use idl_parts::{
+    Stop, base, dtors, enum_body, is_mark, is_name, is_next, is_open, is_word, labels, mark, name,
+    name_or_none, open, place, plain_attr, shut, size_attr, switch_is, word, word_among,
 };
-use idl_tokens::{Bracket, Mark, Token, Word};
+use idl_tokens::{Bracket, Mark, Token, Word, class};
 use idl_tree::{ArmNode, Attr, AttrKind, Member, Spec, SpecKind, Switch};
 use std::alloc::Global;
 
 /// Reads a spec that is a name, a type of its own word, or a base type.
-#[tactic(auto, using(crate::proofs::Parts::writing), unfolding(crate::specs::Along::typed_at))]
+#[tactic(auto, using(idl_parts::proofs::Parts::writing), unfolding(crate::specs::Along::typed_at))]
 fn typed(alloc: Global, tokens: &[Token]) -> Result<(SpecKind, &[Token]), Stop<'_>>
-    ensures along { Gives (λ p. p.1.now) result (typed_at (signs tokens.now)) }
+    ensures along { Gives (λ p. p.1.now) result (typed_at (terminals tokens.now)) }
     ensures written { IfOk result (λ p. Written (kind_pieces p.0) tokens.now p.1.now) }
     ensures shorter { IfOk result (λ p. length p.1.now < length tokens.now) }
 {
-    // a name, `handle_t` or `error_status_t`, and a base type
     if is_name(tokens) {
         let (name, rest) = name(alloc, tokens)?;
         Ok((SpecKind::Named(name), rest))
-    } else if is_next(tokens, &[25, 26]) {
+    } else if is_next(tokens, &[class::HANDLE_T, class::ERROR_STATUS_T]) {
         own_word(tokens)
     } else {
         let (base, rest) = base(tokens)?;
@@ -47,9 +42,9 @@ fn typed(alloc: Global, tokens: &[Token]) -> Result<(SpecKind, &[Token]), Stop<'
 }
 
 /// Reads `handle_t` or `error_status_t`.
-#[tactic(auto, using(crate::proofs::Parts::plain_attrs), unfolding(crate::specs::Along::own_word_at))]
+#[tactic(auto, using(idl_parts::proofs::Parts::plain_attrs), unfolding(crate::specs::Along::own_word_at))]
 fn own_word(tokens: &[Token]) -> Result<(SpecKind, &[Token]), Stop<'_>>
-    ensures along { Gives (λ p. p.1.now) result (own_word_at (signs tokens.now)) }
+    ensures along { Gives (λ p. p.1.now) result (own_word_at (terminals tokens.now)) }
     ensures written { IfOk result (λ p. Written (kind_pieces p.0) tokens.now p.1.now) }
     ensures shorter { IfOk result (λ p. length p.1.now < length tokens.now) }
 {
@@ -62,9 +57,9 @@ fn own_word(tokens: &[Token]) -> Result<(SpecKind, &[Token]), Stop<'_>>
 }
 
 /// Reads a spec that is no structure, union or enum.
-#[tactic(auto, using(crate::proofs::Parts::writing), unfolding(crate::specs::Along::plain_at))]
+#[tactic(auto, using(idl_parts::proofs::Parts::writing), unfolding(crate::specs::Along::plain_at))]
 fn plain(alloc: Global, tokens: &[Token]) -> Result<(SpecKind, &[Token]), Stop<'_>>
-    ensures along { Gives (λ p. p.1.now) result (plain_at (signs tokens.now)) }
+    ensures along { Gives (λ p. p.1.now) result (plain_at (terminals tokens.now)) }
     ensures written { IfOk result (λ p. Written (kind_pieces p.0) tokens.now p.1.now) }
     ensures shorter { IfOk result (λ p. length p.1.now < length tokens.now) }
 {
@@ -77,9 +72,9 @@ fn plain(alloc: Global, tokens: &[Token]) -> Result<(SpecKind, &[Token]), Stop<'
 }
 
 /// Reads an enum behind its word.
-#[tactic(auto, using(crate::proofs::Parts::writing), unfolding(crate::specs::Along::enum_rest_at))]
+#[tactic(auto, using(idl_parts::proofs::Parts::writing), unfolding(idl_parts::specs::Along::enum_rest_at))]
 fn enum_rest(alloc: Global, tokens: &[Token]) -> Result<(SpecKind, &[Token]), Stop<'_>>
-    ensures along { Gives (λ p. p.1.now) result (enum_rest_at (signs tokens.now)) }
+    ensures along { Gives (λ p. p.1.now) result (enum_rest_at (terminals tokens.now)) }
     ensures written { IfOk result (λ p. (before : List Token) → Written (word_pieces words.Enum) before tokens.now → Written (kind_pieces p.0) before p.1.now) }
     ensures shorter { IfOk result (λ p. length p.1.now < length tokens.now) }
 {
@@ -90,13 +85,27 @@ fn enum_rest(alloc: Global, tokens: &[Token]) -> Result<(SpecKind, &[Token]), St
 
 /// Whether a member may begin here.
 fn starts_member(tokens: &[Token]) -> bool
-    ensures { result ≡ heads member_start (signs tokens.now) }
+    ensures { result ≡ heads member_start (terminals tokens.now) }
 {
-    // `[`, the words and the names that a spec begins with
     is_next(
         tokens,
         &[
-            60, 36, 37, 39, 11, 70, 25, 26, 27, 28, 29, 30, 31, 32, 33, 34,
+            class::OPEN_SQUARE,
+            class::STRUCT,
+            class::UNION,
+            class::ENUM,
+            class::VOID,
+            class::NAME,
+            class::HANDLE_T,
+            class::ERROR_STATUS_T,
+            class::BOOLEAN,
+            class::BYTE,
+            class::UNSIGNED,
+            class::CHAR,
+            class::SMALL,
+            class::SHORT,
+            class::LONG,
+            class::HYPER,
         ],
     )
 }
@@ -105,7 +114,7 @@ fn starts_member(tokens: &[Token]) -> bool
 #[cycle(specs)]
 #[tactic(auto, using(crate::proofs::Loops::cycle), unfolding(crate::specs::Along::spec_at))]
 pub fn spec(alloc: Global, tokens: &[Token]) -> Result<(Spec, &[Token]), Stop<'_>>
-    ensures along { Gives (λ p. p.1.now) result (spec_at (signs tokens.now)) }
+    ensures along { Gives (λ p. p.1.now) result (spec_at (terminals tokens.now)) }
     ensures written { IfOk result (λ p. Written (spec_pieces p.0) tokens.now p.1.now) }
     ensures shorter { IfOk result (λ p. length p.1.now < length tokens.now) }
 {
@@ -132,7 +141,7 @@ pub fn spec(alloc: Global, tokens: &[Token]) -> Result<(Spec, &[Token]), Stop<'_
 #[cycle(specs)]
 #[tactic(auto, using(crate::proofs::Loops::cycle), unfolding(crate::specs::Along::struct_rest_at))]
 fn struct_rest(alloc: Global, tokens: &[Token]) -> Result<(SpecKind, &[Token]), Stop<'_>>
-    ensures along { Gives (λ p. p.1.now) result (struct_rest_at (signs tokens.now)) }
+    ensures along { Gives (λ p. p.1.now) result (struct_rest_at (terminals tokens.now)) }
     ensures written { IfOk result (λ p. (before : List Token) → Written (word_pieces words.Struct) before tokens.now → Written (kind_pieces p.0) before p.1.now) }
     ensures shorter { IfOk result (λ p. length p.1.now < length tokens.now) }
 {
@@ -172,7 +181,7 @@ fn struct_rest(alloc: Global, tokens: &[Token]) -> Result<(SpecKind, &[Token]), 
 #[cycle(specs)]
 #[tactic(auto, using(crate::proofs::Loops::members), unfolding(crate::specs::Along::body_at, crate::specs::Along::members_at))]
 fn body(alloc: Global, tokens: &[Token]) -> Result<(Vec<Member>, &[Token]), Stop<'_>>
-    ensures along { Gives (λ p. p.1.now) result (parse rule body_part (signs tokens.now)) }
+    ensures along { Gives (λ p. p.1.now) result (parse rule body_part (terminals tokens.now)) }
     ensures written { IfOk result (λ p. Written (within brackets.Curly (flat_map member_pieces p.0.items)) tokens.now p.1.now) }
     ensures shorter { IfOk result (λ p. length p.1.now < length tokens.now) }
 {
@@ -194,7 +203,7 @@ fn body(alloc: Global, tokens: &[Token]) -> Result<(Vec<Member>, &[Token]), Stop
 #[cycle(specs)]
 #[tactic(auto, using(crate::proofs::Loops::cycle), unfolding(crate::specs::Along::member_at))]
 fn member(alloc: Global, tokens: &[Token]) -> Result<(Member, &[Token]), Stop<'_>>
-    ensures along { Gives (λ p. p.1.now) result (member_at (signs tokens.now)) }
+    ensures along { Gives (λ p. p.1.now) result (member_at (terminals tokens.now)) }
     ensures written { IfOk result (λ p. Written (member_pieces p.0) tokens.now p.1.now) }
     ensures shorter { IfOk result (λ p. length p.1.now < length tokens.now) }
 {
@@ -209,7 +218,7 @@ fn member(alloc: Global, tokens: &[Token]) -> Result<(Member, &[Token]), Stop<'_
 #[cycle(specs)]
 #[tactic(auto, using(crate::proofs::Loops::attrs), unfolding(crate::specs::Along::attrs_at, crate::specs::Along::attr_list_at, crate::specs::Along::comma_attr_at))]
 pub fn attrs(alloc: Global, tokens: &[Token]) -> Result<(Vec<Attr>, &[Token]), Stop<'_>>
-    ensures along { Gives (λ p. p.1.now) result (if_attrs_at (signs tokens.now)) }
+    ensures along { Gives (λ p. p.1.now) result (if_attrs_at (terminals tokens.now)) }
     ensures written { IfOk result (λ p. Written (attrs_pieces p.0.items) tokens.now p.1.now) }
     ensures shorter { IfOk result (λ p. length p.1.now ≤ length tokens.now) }
 {
@@ -235,16 +244,30 @@ pub fn attrs(alloc: Global, tokens: &[Token]) -> Result<(Vec<Attr>, &[Token]), S
 #[cycle(specs)]
 #[tactic(auto, using(crate::proofs::Loops::cycle), unfolding(crate::specs::Along::attr_at))]
 fn attr(alloc: Global, tokens: &[Token]) -> Result<(Attr, &[Token]), Stop<'_>>
-    ensures along { Gives (λ p. p.1.now) result (attr_at (signs tokens.now)) }
+    ensures along { Gives (λ p. p.1.now) result (attr_at (terminals tokens.now)) }
     ensures written { IfOk result (λ p. Written (attr_pieces p.0) tokens.now p.1.now) }
     ensures shorter { IfOk result (λ p. length p.1.now < length tokens.now) }
 {
     let at = place(tokens);
-    // the words that are attributes alone, those that have a size, `switch_is`, and `switch_type`
-    if is_next(tokens, &[12, 13, 6, 7, 8, 14, 15, 16, 17, 18, 19]) {
+    if is_next(
+        tokens,
+        &[
+            class::IN,
+            class::OUT,
+            class::REF,
+            class::UNIQUE,
+            class::PTR,
+            class::STRING,
+            class::IDEMPOTENT,
+            class::MAYBE,
+            class::CONTEXT_HANDLE,
+            class::CONTEXT_HANDLE_SERIALIZE,
+            class::CONTEXT_HANDLE_NOSERIALIZE,
+        ],
+    ) {
         let (what, rest) = plain_attr(tokens)?;
         Ok((Attr { at, what }, rest))
-    } else if is_next(tokens, &[20, 21, 22]) {
+    } else if is_next(tokens, &[class::SIZE_IS, class::MAX_IS, class::LENGTH_IS]) {
         let (what, rest) = size_attr(alloc, tokens)?;
         Ok((Attr { at, what }, rest))
     } else if is_word(tokens, Word::SwitchIs) {
@@ -270,7 +293,7 @@ fn attr(alloc: Global, tokens: &[Token]) -> Result<(Attr, &[Token]), Stop<'_>>
 #[cycle(specs)]
 #[tactic(auto, using(crate::proofs::Loops::cycle), unfolding(crate::specs::Along::union_rest_at, crate::specs::Along::union_body_at))]
 fn union_rest(alloc: Global, tokens: &[Token]) -> Result<(SpecKind, &[Token]), Stop<'_>>
-    ensures along { Gives (λ p. p.1.now) result (union_rest_at (signs tokens.now)) }
+    ensures along { Gives (λ p. p.1.now) result (union_rest_at (terminals tokens.now)) }
     ensures written { IfOk result (λ p. (before : List Token) → Written (word_pieces words.Union) before tokens.now → Written (kind_pieces p.0) before p.1.now) }
     ensures shorter { IfOk result (λ p. length p.1.now < length tokens.now) }
 {
@@ -303,7 +326,7 @@ fn union_rest(alloc: Global, tokens: &[Token]) -> Result<(SpecKind, &[Token]), S
 #[cycle(specs)]
 #[tactic(auto, using(crate::proofs::Loops::switches), unfolding(crate::specs::Along::switch_at, crate::specs::Along::switch_type_at))]
 fn switch(alloc: Global, tokens: &[Token]) -> Result<(Switch, &[Token]), Stop<'_>>
-    ensures along { Gives (λ p. p.1.now) result (parse rule switch_part (signs tokens.now)) }
+    ensures along { Gives (λ p. p.1.now) result (parse rule switch_part (terminals tokens.now)) }
     ensures written { IfOk result (λ p. Written (switch_pieces p.0) tokens.now p.1.now) }
     ensures shorter { IfOk result (λ p. length p.1.now < length tokens.now) }
 {
@@ -321,7 +344,7 @@ fn switch(alloc: Global, tokens: &[Token]) -> Result<(Switch, &[Token]), Stop<'_
 #[cycle(specs)]
 #[tactic(auto, using(crate::proofs::Loops::arms), unfolding(crate::specs::Along::arms_at, crate::specs::Along::arm_list_at))]
 fn arms(alloc: Global, tokens: &[Token]) -> Result<(Vec<ArmNode>, &[Token]), Stop<'_>>
-    ensures along { Gives (λ p. p.1.now) result (parse rule arms_part (signs tokens.now)) }
+    ensures along { Gives (λ p. p.1.now) result (parse rule arms_part (terminals tokens.now)) }
     ensures written { IfOk result (λ p. Written (within brackets.Curly (flat_map arm_pieces p.0.items)) tokens.now p.1.now) }
     ensures shorter { IfOk result (λ p. length p.1.now < length tokens.now) }
 {
@@ -330,8 +353,7 @@ fn arms(alloc: Global, tokens: &[Token]) -> Result<(Vec<ArmNode>, &[Token]), Sto
     let mut list = Vec::new(alloc);
     list.push(first)?;
     let mut rest = rest;
-    // `case` or `default`
-    'more: while is_next(rest, &[40, 41]) {
+    'more: while is_next(rest, &[class::CASE, class::DEFAULT]) {
         let (next, after) = arm(alloc, rest)?;
         list.push(next)?;
         rest = after;
@@ -344,7 +366,7 @@ fn arms(alloc: Global, tokens: &[Token]) -> Result<(Vec<ArmNode>, &[Token]), Sto
 #[cycle(specs)]
 #[tactic(auto, using(crate::proofs::Loops::cycle), unfolding(crate::specs::Along::arm_at))]
 fn arm(alloc: Global, tokens: &[Token]) -> Result<(ArmNode, &[Token]), Stop<'_>>
-    ensures along { Gives (λ p. p.1.now) result (arm_at (signs tokens.now)) }
+    ensures along { Gives (λ p. p.1.now) result (arm_at (terminals tokens.now)) }
     ensures written { IfOk result (λ p. Written (arm_pieces p.0) tokens.now p.1.now) }
     ensures shorter { IfOk result (λ p. length p.1.now < length tokens.now) }
 {

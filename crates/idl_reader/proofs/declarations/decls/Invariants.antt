@@ -2,16 +2,17 @@ use Rattle.std.proofs.Common.{◌≡◌, ◌<◌, ◌++◌, ◌∷◌, [], lengt
 use Rattle.std.specs.List.{flat_map}
 use Rattle.ebnf.specs.Machine.{token, ◌>>=◌}
 use Rattle.idl_tokens.specs.declared.marks.Bracket.TheVariants as brackets
-use Rattle.idl_tokens.specs.Signs.{signs}
+use Rattle.idl_tokens.specs.Terminals.{terminals}
 use Rattle.idl_tree.specs.Pieces.{Written, open_pieces}
 use Rattle.idl_tree.specs.Files.{decl_pieces}
 use Rattle.idl_reader.specs.Along.{decls_at}
 use Rattle.idl_reader.proofs.declarations.decls.Given as goal
+use Rattle.idl_parts.specs.Along.{open_at}
 
 abbrev pub invariant-more : goal.invariant-more
 invariant-more l =
     Written (open_pieces brackets.Curly ++ flat_map decl_pieces l.list.items) l.tokens l.rest
-    × (decls_at (signs l.rest) ≡ (token (62 ∷ []) 65 (signs l.tokens) >>= decls_at))
+    × (decls_at (terminals l.rest) ≡ (open_at brackets.Curly (terminals l.tokens) >>= decls_at))
     × (length l.rest < length l.tokens)
 
 abbrev pub decreases-more : goal.decreases-more

@@ -1,6 +1,6 @@
 use Rattle.std.proofs.Common.{Some, None}
 use Rattle.idl_tree.proofs.Layers.{written_struct_none, written_struct_some, written_union_none, written_union_some, written_switch_type, written_member, written_switch, written_arm}
-use Rattle.idl_types.proofs.Parts.{tag_some, tag_none, tag_alone}
+use Rattle.idl_parts.proofs.Parts.{tag_some, tag_none, tag_alone}
 use Rattle.idl_types.proofs.types.+specs.Goals as goal
 
 pub struct_rest-returns-in_ok-members-clause-written : goal.struct_rest-returns-in_ok-members-clause-written

@@ -2,11 +2,12 @@ use Rattle.std.proofs.Common.{◌≡◌, ◌+◌, ◌*◌, [], ◌∷◌, ◌++�
 use Rattle.ebnf.specs.Machine.{token, ◌>>=◌}
 use Rattle.std.specs.List.{flat_map}
 use Rattle.idl_tokens.specs.declared.marks.Bracket.TheVariants as brackets
-use Rattle.idl_tokens.specs.Signs.{signs}
+use Rattle.idl_tokens.specs.Terminals.{terminals}
 use Rattle.idl_tree.specs.Grammar.{attr}
 use Rattle.idl_tree.specs.Pieces.{Written, open_pieces, commas}
 use Rattle.idl_tree.specs.Trees.{member_pieces, arm_pieces, attr_pieces}
-use Rattle.idl_types.specs.Along.{members_at, more_members_at, arm_list_at, more_arms_at, attr_list_at, more_of}
+use Rattle.idl_parts.specs.Along.{more_of, open_at}
+use Rattle.idl_types.specs.Along.{members_at, more_members_at, arm_list_at, more_arms_at, attr_list_at}
 use Rattle.idl_types.proofs.types.+specs.Given as goal
 
 abbrev pub decreases-member : goal.decreases-member
@@ -42,7 +43,7 @@ decreases-arm l = 4 * length l.tokens.now
 abbrev pub invariant-body-more : goal.invariant-body-more
 invariant-body-more l =
     Written (open_pieces brackets.Curly ++ flat_map member_pieces l.list.items) l.tokens l.rest
-    × (more_members_at (signs l.rest) ≡ (token (62 ∷ []) 65 (signs l.tokens) >>= members_at))
+    × (more_members_at (terminals l.rest) ≡ (open_at brackets.Curly (terminals l.tokens) >>= members_at))
     × (length l.rest < length l.tokens)
 
 abbrev pub decreases-body-more : goal.decreases-body-more
@@ -51,7 +52,7 @@ decreases-body-more l = length l.rest
 abbrev pub invariant-arms-more : goal.invariant-arms-more
 invariant-arms-more l =
     Written (open_pieces brackets.Curly ++ flat_map arm_pieces l.list.items) l.tokens l.rest
-    × (more_arms_at (signs l.rest) ≡ (token (62 ∷ []) 65 (signs l.tokens) >>= arm_list_at))
+    × (more_arms_at (terminals l.rest) ≡ (open_at brackets.Curly (terminals l.tokens) >>= arm_list_at))
     × (length l.rest < length l.tokens)
 
 abbrev pub decreases-arms-more : goal.decreases-arms-more
@@ -61,7 +62,7 @@ abbrev pub invariant-attrs-more : goal.invariant-attrs-more
 invariant-attrs-more l =
     (1 ≤ length l.list.items)
     × Written (open_pieces brackets.Square ++ commas attr_pieces l.list.items) l.tokens l.rest
-    × (more_of attr (signs l.rest) ≡ (token (60 ∷ []) 65 (signs l.tokens) >>= attr_list_at))
+    × (more_of attr (terminals l.rest) ≡ (open_at brackets.Square (terminals l.tokens) >>= attr_list_at))
     × (length l.rest < length l.tokens)
 
 abbrev pub decreases-attrs-more : goal.decreases-attrs-more

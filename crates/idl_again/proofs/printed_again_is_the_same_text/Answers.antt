@@ -1,5 +1,0 @@
-use Rattle.idl_again.proofs.Again.{text_again}
-use Rattle.idl_again.proofs.printed_again_is_the_same_text.Goals as goal
-
-pub returns : goal.returns
-returns c = text_again

@@ -1,5 +1,0 @@
-use Rattle.idl_again.proofs.Again.{no_fault}
-use Rattle.idl_again.proofs.printed_text_has_no_fault.Goals as goal
-
-pub returns : goal.returns
-returns c = no_fault

@@ -1,6 +1,0 @@
-use Rattle.std.proofs.Common.{◌≡◌, map, take}
-use Rattle.idl_forms.specs.Forms.{decl_form, unmoved}
-use Rattle.idl_copy.proofs.tree.decls.Given as goal
-
-abbrev pub invariant-loop-decl : goal.invariant-loop-decl
-invariant-loop-decl l = map (decl_form unmoved) l.copies.items ≡ map (decl_form unmoved) (take l.decl-index l.list)

@@ -1,5 +1,0 @@
-use Rattle.idl_copy.proofs.Made.{switch_type_made}
-use Rattle.idl_copy.proofs.types.switch_type_of.Goals as goal
-
-pub returns : goal.returns
-returns c = switch_type_made c.args.spec

@@ -1,0 +1,181 @@
+//! Copies of type specs and what they hold, which hold one another. The recursion goes as deep as
+//! the tree.
+ghost use Rattle.std.specs.Prelude.{◌≡◌, map, IfOk};
+ghost use Rattle.idl_forms.specs.Forms.{unmoved, spec_form, kind_form, member_form, switch_form, arm_form, attr_form, attr_kind_form, if_there, items_of, ident_form, struct_form, union_form, OfEnum, OfSwitchType};
+
+use crate::copied_leaves::{dtors, ident, ident_or_none, idents, labels, size_ref};
+use idl_tree::{ArmNode, Attr, AttrKind, Ident, Member, Spec, SpecKind, Switch};
+use rpc_base::NoMemory;
+use std::alloc::Global;
+
+#[cycle(copy)]
+pub fn spec_copied(spec: &Spec, alloc: Global) -> Result<Spec, NoMemory>
+    ensures { IfOk result (λ copy. spec_form unmoved copy ≡ spec_form unmoved spec.now) }
+{
+    let what = kind_copied(&spec.what, alloc)?;
+    Ok(Spec { at: spec.at, what })
+}
+
+#[cycle(copy)]
+fn kind_copied(kind: &SpecKind, alloc: Global) -> Result<SpecKind, NoMemory>
+    ensures { IfOk result (λ copy. kind_form unmoved copy ≡ kind_form unmoved kind.now) }
+{
+    match kind {
+        SpecKind::Base(base) => Ok(SpecKind::Base(*base)),
+        SpecKind::Named(name) => Ok(SpecKind::Named(ident(name, alloc)?)),
+        SpecKind::Void => Ok(SpecKind::Void),
+        SpecKind::HandleT => Ok(SpecKind::HandleT),
+        SpecKind::ErrorStatus => Ok(SpecKind::ErrorStatus),
+        SpecKind::Struct { tag, members } => {
+            let tag = ident_or_none(tag, alloc)?;
+            let members = match members {
+                None => None,
+                Some(list) => Some(members_copied(list, alloc)?),
+            };
+            Ok(struct_of(tag, members))
+        }
+        SpecKind::Union { tag, switch, arms } => {
+            let tag = ident_or_none(tag, alloc)?;
+            let switch = match switch {
+                None => None,
+                Some(switch) => Some(switch_copied(switch, alloc)?),
+            };
+            let arms = arms_copied(arms, alloc)?;
+            Ok(union_of(tag, switch, arms))
+        }
+        SpecKind::Enum { tag, names } => {
+            let tag = ident_or_none(tag, alloc)?;
+            let names = idents(names, alloc)?;
+            Ok(enum_of(tag, names))
+        }
+    }
+}
+
+// A structure of that tag and these members.
+fn struct_of(tag: Option<Ident>, members: Option<Vec<Member>>) -> SpecKind
+    ensures { kind_form unmoved result ≡ struct_form (if_there (ident_form unmoved) tag) (if_there (λ ms. map (member_form unmoved) ms.items) members) }
+{
+    SpecKind::Struct { tag, members }
+}
+
+// A union of that tag, that switch and these arms.
+fn union_of(tag: Option<Ident>, switch: Option<Switch>, arms: Vec<ArmNode>) -> SpecKind
+    ensures { kind_form unmoved result ≡ union_form (if_there (ident_form unmoved) tag) (if_there (switch_form unmoved) switch) (map (arm_form unmoved) arms.items) }
+{
+    SpecKind::Union { tag, switch, arms }
+}
+
+// An enumeration of that tag and these names.
+fn enum_of(tag: Option<Ident>, names: Vec<Ident>) -> SpecKind
+    ensures { kind_form unmoved result ≡ OfEnum (if_there (ident_form unmoved) tag) (map (ident_form unmoved) names.items) }
+{
+    SpecKind::Enum { tag, names }
+}
+
+#[cycle(copy)]
+fn members_copied(list: &[Member], alloc: Global) -> Result<Vec<Member>, NoMemory>
+    ensures { IfOk result (λ copy. map (member_form unmoved) copy.items ≡ map (member_form unmoved) list.now) }
+{
+    let mut copies = Vec::new(alloc);
+    for item in list {
+        copies.push(member_copied(item, alloc)?)?;
+    }
+    Ok(copies)
+}
+
+#[cycle(copy)]
+fn member_copied(member: &Member, alloc: Global) -> Result<Member, NoMemory>
+    ensures { IfOk result (λ copy. member_form unmoved copy ≡ member_form unmoved member.now) }
+{
+    let attrs = attrs_copied(&member.attrs, alloc)?;
+    let spec = spec_copied(&member.spec, alloc)?;
+    let dtors = dtors(&member.dtors, alloc)?;
+    Ok(Member { attrs, spec, dtors })
+}
+
+#[cycle(copy)]
+fn switch_copied(switch: &Switch, alloc: Global) -> Result<Switch, NoMemory>
+    ensures { IfOk result (λ copy. switch_form unmoved copy ≡ switch_form unmoved switch.now) }
+{
+    let spec = Box::new(alloc, spec_copied(&switch.spec, alloc)?)?;
+    let name = ident(&switch.name, alloc)?;
+    let body = ident_or_none(&switch.body, alloc)?;
+    Ok(Switch { spec, name, body })
+}
+
+#[cycle(copy)]
+fn arms_copied(list: &[ArmNode], alloc: Global) -> Result<Vec<ArmNode>, NoMemory>
+    ensures { IfOk result (λ copy. map (arm_form unmoved) copy.items ≡ map (arm_form unmoved) list.now) }
+{
+    let mut copies = Vec::new(alloc);
+    for item in list {
+        copies.push(arm_copied(item, alloc)?)?;
+    }
+    Ok(copies)
+}
+
+#[cycle(copy)]
+fn arm_copied(arm: &ArmNode, alloc: Global) -> Result<ArmNode, NoMemory>
+    ensures { IfOk result (λ copy. arm_form unmoved copy ≡ arm_form unmoved arm.now) }
+{
+    let labels = labels(&arm.labels, alloc)?;
+    let member = match &arm.member {
+        None => None,
+        Some(member) => Some(member_copied(member, alloc)?),
+    };
+    Ok(ArmNode { labels, member })
+}
+
+#[cycle(copy)]
+pub fn attrs_copied(list: &[Attr], alloc: Global) -> Result<Vec<Attr>, NoMemory>
+    ensures { IfOk result (λ copy. map (attr_form unmoved) copy.items ≡ map (attr_form unmoved) list.now) }
+{
+    let mut copies = Vec::new(alloc);
+    for item in list {
+        copies.push(attr_copied(item, alloc)?)?;
+    }
+    Ok(copies)
+}
+
+#[cycle(copy)]
+fn attr_copied(attr: &Attr, alloc: Global) -> Result<Attr, NoMemory>
+    ensures { IfOk result (λ copy. attr_form unmoved copy ≡ attr_form unmoved attr.now) }
+{
+    let what = attr_kind_copied(&attr.what, alloc)?;
+    Ok(Attr { at: attr.at, what })
+}
+
+#[cycle(copy)]
+fn attr_kind_copied(kind: &AttrKind, alloc: Global) -> Result<AttrKind, NoMemory>
+    ensures { IfOk result (λ copy. attr_kind_form unmoved copy ≡ attr_kind_form unmoved kind.now) }
+{
+    match kind {
+        AttrKind::In => Ok(AttrKind::In),
+        AttrKind::Out => Ok(AttrKind::Out),
+        AttrKind::Pointer(class) => Ok(AttrKind::Pointer(*class)),
+        AttrKind::Text => Ok(AttrKind::Text),
+        AttrKind::Idempotent => Ok(AttrKind::Idempotent),
+        AttrKind::Maybe => Ok(AttrKind::Maybe),
+        AttrKind::Handle => Ok(AttrKind::Handle),
+        AttrKind::HandleSerialize => Ok(AttrKind::HandleSerialize),
+        AttrKind::HandleNoserialize => Ok(AttrKind::HandleNoserialize),
+        AttrKind::SizeIs(size) => Ok(AttrKind::SizeIs(size_ref(size, alloc)?)),
+        AttrKind::MaxIs(size) => Ok(AttrKind::MaxIs(size_ref(size, alloc)?)),
+        AttrKind::LengthIs(size) => Ok(AttrKind::LengthIs(size_ref(size, alloc)?)),
+        AttrKind::SwitchIs { star, name } => Ok(AttrKind::SwitchIs {
+            star: *star,
+            name: ident(name, alloc)?,
+        }),
+        AttrKind::SwitchType(spec) => {
+            let spec = Box::new(alloc, spec_copied(spec, alloc)?)?;
+            Ok(switch_type_of(spec))
+        }
+    }
+}
+
+// The attribute `switch_type` of that spec.
+fn switch_type_of(spec: Box<Spec>) -> AttrKind
+    ensures { attr_kind_form unmoved result ≡ OfSwitchType (spec_form unmoved spec.value) }
+{
+    AttrKind::SwitchType(spec)
+}

@@ -1,0 +1,4 @@
+pub mod Taking
+pub mod Orders
+pub mod Parts
+pub mod Loops

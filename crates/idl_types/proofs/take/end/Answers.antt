@@ -1,5 +1,0 @@
-use Rattle.idl_types.proofs.Taking.{end_written}
-use Rattle.idl_types.proofs.take.end.Goals as goal
-
-pub returns-clause-written : goal.returns-clause-written
-returns-clause-written c = end_written _ c.in_ok-rest.field-0-0.now c.args.tokens.now c.in_ok-rest.rest.now c.in_ok-rest.ensures.taken
