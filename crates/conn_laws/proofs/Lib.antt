@@ -18,3 +18,4 @@ pub mod Along
 pub mod Closing
 pub mod Onward
 pub mod Saying
+pub mod Wide

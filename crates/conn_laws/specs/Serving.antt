@@ -13,9 +13,10 @@ use Rattle.conn_asks.specs.declared.events.Act.TheVariants.{Cancel, Orphan, Clos
 use Rattle.conn_asks.specs.declared.events.Waits.TheVariants.{Nothing, Call}
 use Rattle.conn_asks.specs.Asks.{AreAsksOf}
 use Rattle.conn_asks.specs.Answers.{closing, FitsStub, Replies}
-use Rattle.conn_asks.specs.States.{ConnState, at_start, Goes, WaitsBehind}
-use Rattle.conn_histories.specs.Histories.{Event, Happens, Lives, stream, decisions, seen, put}
+use Rattle.conn_asks.specs.States.{ConnState, at_start, IsCalling, Goes, WaitsBehind}
+use Rattle.conn_histories.specs.Histories.{Event, AnswersDecision, Happens, Lives, stream, decisions, seen, put}
 use Rattle.conn_histories.specs.Histories.Event.{Did}
+use Rattle.conn_histories.specs.Histories.Decision.{Reply}
 
 -- ---- what may come next
 
@@ -74,3 +75,9 @@ abbrev pub EachReply : Type 0
 EachReply =
     (c : Caller) (most : ℕ) (maybe executed : Bool) (said : Option Said) → least_fragment ≤ most → FitsStub said
     → (octets : List ℕ) × Replies c most maybe executed said octets
+
+-- While a call is unanswered, whatever its end says within that limit is answered.
+abbrev pub EachCallAnswered : Type 0
+EachCallAnswered =
+    (ids : List SyntaxId) (events : List Event) (m : ConnState) (said : Option Said) (executed : Bool) → Lives (at_start ids) events m → IsCalling m.waits → FitsStub said
+    → (octets : List ℕ) × (n : ConnState) × AnswersDecision m (Reply said executed) octets n

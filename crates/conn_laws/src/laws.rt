@@ -2,7 +2,7 @@
 ghost use Rattle.conn_laws.specs.Laws.{ComesOn, GoesOnInTheStream, LeavesOfAll, ActStays, SkippedBefore, OneAct};
 ghost use Rattle.conn_laws.specs.Histories.{AllHasCome, EachGoes, EachRests, OneAnswer, SameActs, SameAnswers};
 ghost use Rattle.conn_laws.specs.Played.{ActsAreAsks, OneAsking, EachAsks};
-ghost use Rattle.conn_laws.specs.Serving.{CallsStayUnanswered, OthersWhileFree, HistoriesGoOn, OneEventMore, PutInOrder, CloseIsLast, AsksGoOn, EachReply};
+ghost use Rattle.conn_laws.specs.Serving.{CallsStayUnanswered, OthersWhileFree, HistoriesGoOn, OneEventMore, PutInOrder, CloseIsLast, AsksGoOn, EachReply, EachCallAnswered};
 ghost use Rattle.conn_laws.specs.WholeRuns.{CallsAreWholeRuns, WholeRunsAreRuns};
 
 /// The PDUs that were taken and the octets behind them are what came, whatever the pieces.
@@ -137,4 +137,9 @@ pub fn asks_go_on()
 /// Whatever a call's end says within the limit of a stub, there are octets for it.
 pub fn each_reply()
     ensures { EachReply }
+{}
+
+/// While a call is unanswered, whatever its end says within the limit of a stub is answered.
+pub fn each_call_answered()
+    ensures { EachCallAnswered }
 {}
