@@ -8,8 +8,6 @@
 
 mod line;
 mod read;
-#[cfg(test)]
-mod tests;
 
 pub use line::{Line, MOST_CONNECTIONS};
 pub use read::next_line;

@@ -218,6 +218,3 @@ pub fn put_handle(order: Order, value: &WireHandle, into: &mut Vec<u8>) -> Resul
         into,
     )
 }
-
-#[cfg(test)]
-mod tests;

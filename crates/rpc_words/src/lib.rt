@@ -6,8 +6,6 @@
 
 mod cut;
 mod read;
-#[cfg(test)]
-mod tests;
 mod write;
 
 pub use cut::{cut_at, cut_line, split_words};
