@@ -1,0 +1,4 @@
+pub mod Fits
+pub mod Lines
+pub mod Lists
+pub mod Parts
