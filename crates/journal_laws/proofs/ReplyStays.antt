@@ -60,14 +60,14 @@ and_off : (a : Bool) → (a && false) ≡ false
 and_off true = refl
 and_off false = refl
 
--- what a running call is ended_with
+-- what a running call is told
 runs_reply : (home : Home) (past : List Entry) (k : ℕ) → Legal home past → runs past k ≡ true → replies past k ≡ (if is_lost past k then Dropped else Open)
 runs_reply home past k l r =
     let t = and_left (list_any (takes k) past) (not (list_any (ends k) past)) r in
     let n = not-true (list_any (ends k) past) (and_right (list_any (takes k) past) (not (list_any (ends k) past)) r) in
     rw (taken_undenied home past k l t, t, and_off (list_any (cancels k) past), says_none past k n) refl
 
--- once a call is lost, what it was ended_with stays
+-- once a call is lost, what it was told stays
 lost_more : (denied stopped : Bool) (said : Option Said) (lost : Bool) → reply_of denied stopped said lost ≢ Open → reply_of denied stopped said true ≡ reply_of denied stopped said lost
 lost_more true stopped said lost n = refl
 lost_more false true said lost n = refl

@@ -1,5 +1,5 @@
 -- The octets of items: each is above the comma and the dash.
-use Rattle.std.proofs.Common.{◌≡◌, ◌≢◌, ℕ, ◌+◌, ◌*◌, ◌/◌, ◌%◌, ◌<◌, ◌≤◌, ◌^◌, Bool, true, Option, Some, None, List, [], ◌∷◌, ◌++◌, length, refl, ap, sym, ◌∙◌, arith, All, codes, decimal}
+use Rattle.std.proofs.Common.{◌≡◌, ◌≢◌, ℕ, ◌+◌, ◌*◌, ◌/◌, ◌%◌, ◌<◌, ◌≤◌, ◌^◌, true, Option, Some, None, List, [], ◌∷◌, ◌++◌, refl, ap, sym, ◌∙◌, arith, All, codes, decimal}
 use Rattle.std.specs.Prelude.{nat_le}
 use Rattle.std.specs.Int.{to_be_bytes, w32, w64}
 use Rattle.std.specs.List.{list_all, AllByRecursion}
@@ -19,7 +19,7 @@ use Rattle.handle_model.specs.declared.entry.Outcome.{Outcome}
 use Rattle.handle_model.specs.declared.entry.Outcome.TheVariants.{Keep, Close, Issue, Nothing}
 use Rattle.handle_model.specs.declared.entry.DueItem.{DueItem}
 use Rattle.handle_text.specs.Texts.{wire_text, use_word, slot_text, outcome_text, cookie_text, due_text, list_text, tail_text}
-use Rattle.journal_reader.specs.Fits.{FitsWire, FitsSlot, FitsOutcome, FitsCookie, FitsDue}
+use Rattle.journal_reader.specs.Fits.{FitsSlot, FitsOutcome, FitsCookie, FitsDue}
 use Rattle.journal_reader.specs.Lists.{IsItemText}
 use Rattle.journal_reader.proofs.Marks.{marks_decimal}
 

@@ -1,8 +1,7 @@
 -- No line has a line feed, so a text is cut into lines in one way.
-use Rattle.std.proofs.Common.{◌≡◌, ◌≢◌, ℕ, ◌<◌, ◌^◌, List, Option, [], ◌∷◌, ◌++◌, refl, sym, ◌∙◌, ap, subst, arith, append_assoc, codes, decimal}
+use Rattle.std.proofs.Common.{◌≡◌, ◌≢◌, ℕ, List, [], ◌∷◌, ◌++◌, refl, sym, ◌∙◌, ap, subst, arith, append_assoc, codes, decimal}
 use Rattle.std.specs.List.{join_with_byte, AllByRecursion}
 use Rattle.std.proofs.lemmas.List.Elements.{All-cons, All-nil, All-append}
-use Rattle.hex.specs.Hex.{IsBytes}
 use Rattle.rpc_words.specs.Reads.{HasNo}
 use Rattle.rpc_words.specs.Words.{octets_text, hex_u32}
 use Rattle.rpc_words.proofs.Cuts.{same_cut, no_cut}
