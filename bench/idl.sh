@@ -2,7 +2,8 @@
 # Times `dcerpc idl`: interface texts of 64 KiB to 1 MiB that are read, checked and printed, with the ratio
 # of each time to the one before, a text of 1 MiB of names alone, and one that departs at its end. Then
 # texts of many parts of one shape that are read, checked and tabled (`idl_bench`), each twice as large as
-# the one before: interfaces, and texts that break a rule.
+# the one before: interfaces, texts that break a rule, and types that nest too deep. Each time is the least of
+# three; making the texts isn't counted.
 set -eu
 top=$(cd "$(dirname "$0")/.." && pwd)
 work=$(mktemp -d)
@@ -24,54 +25,40 @@ text() { # OCTETS
     }'
 }
 
-microseconds() { # FILE
-    local from to
-    from=$(date +%s%N)
-    "$program" idl "$1" >/dev/null 2>&1 || true
-    to=$(date +%s%N)
-    echo $(((to - from) / 1000))
-}
+. "$top/bench/timing.sh"
 
-"$top/dcerpc" >/dev/null || true # builds it
+build_dcerpc
 program=$top/crates/dcerpc/out/dcerpc
 before=
 for kib in 64 128 256 512 1024; do
     text $((kib * 1024)) >"$work/text"
-    time=$(microseconds "$work/text")
-    if [ -n "$before" ]; then
-        awk -v n="$kib" -v t="$time" -v b="$before" 'BEGIN { printf "%5d KiB %9.3f s, %.2f times the one before\n", n, t / 1e6, t / b }'
-    else
-        awk -v n="$kib" -v t="$time" 'BEGIN { printf "%5d KiB %9.3f s\n", n, t / 1e6 }'
-    fi
+    time=$(least 0 "$program" idl "$work/text")
+    show "$kib KiB" "$time" "$before"
     before=$time
 done
 
 text 1048570 | head -c -2 >"$work/early"
-awk -v t="$(microseconds "$work/early")" 'BEGIN { printf "1 MiB that ends too early %.3f s\n", t / 1e6 }'
+show "1 MiB that ends early" "$(least 2 "$program" idl "$work/early")"
 
 {
     printf '[version(1)]interface i{enum e{a'
     for ((n = 0; n < 65536; n++)); do printf ',a%04x_names' "$n"; done
     printf '};}'
 } | head -c 1048576 >"$work/names"
-awk -v t="$(microseconds "$work/names")" 'BEGIN { printf "65,537 names of one enum %.3f s\n", t / 1e6 }'
+show "65,537 names of one enum" "$(least 2 "$program" idl "$work/names")"
 
-(cd "$top/crates/idl_bench" && rt run >/dev/null) # builds it
+# the program is built anew where it is older than its sources
+(cd "$top/crates/idl_bench" && rt run -- stars 1 >/dev/null)
 bench=$top/crates/idl_bench/out/idl_bench
 doubled() { # SHAPE LEAST
-    local shape=$1 n from to time before=
+    local shape=$1 n time before=
     for n in $2 $(($2 * 2)) $(($2 * 4)) $(($2 * 8)); do
-        from=$(date +%s%N)
-        "$bench" "$shape" "$n" >"$work/line"
-        to=$(date +%s%N)
-        time=$(((to - from) / 1000))
-        awk -v s="$shape" -v n="$n" -v t="$time" -v b="$before" '{
-            printf "%-12s %7d %9.3f s", s, n, t / 1e6
-            if (b != "") printf ", %.2f times the one before", t / b
-            printf ": %s\n", $0
-        }' "$work/line"
+        "$bench" "$shape" "$n" >"$work/text"
+        time=$(least 0 "$bench" "$work/text")
+        show "$shape $n" "$time" "$before"
         before=$time
     done
+    "$bench" "$work/text"
 }
 doubled structures 3000
 doubled operations 1500
@@ -84,3 +71,6 @@ doubled attributes 16000
 doubled both 8000
 doubled sizes 4000
 doubled endpoints 10000
+doubled nested 3000
+doubled arrays 4000
+doubled stars 100000

@@ -25,6 +25,12 @@ pub enum Shape {
     Sizes,
     /// Attributes of the interface.
     Endpoints,
+    /// Structures that hold the one before by value.
+    Nested,
+    /// Typedefs of arrays of the one before.
+    Arrays,
+    /// Pointers of one parameter, one behind the other.
+    Stars,
 }
 
 impl Shape {
@@ -42,6 +48,9 @@ impl Shape {
             "both" => Some(Shape::Both),
             "sizes" => Some(Shape::Sizes),
             "endpoints" => Some(Shape::Endpoints),
+            "nested" => Some(Shape::Nested),
+            "arrays" => Some(Shape::Arrays),
+            "stars" => Some(Shape::Stars),
             _ => None,
         }
     }

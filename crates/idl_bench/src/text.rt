@@ -31,6 +31,9 @@ fn body(alloc: Global, text: &mut String, shape: Shape, count: u32) -> Result<()
         Shape::Both => both(alloc, text, count),
         Shape::Sizes => sizes(alloc, text, count),
         Shape::Endpoints => Ok(()),
+        Shape::Nested => nested(alloc, text, count),
+        Shape::Arrays => arrays(alloc, text, count),
+        Shape::Stars => stars(text, count),
     }
 }
 
@@ -131,4 +134,32 @@ fn sizes(alloc: Global, text: &mut String, count: u32) -> Result<(), AllocError>
         text.push_str(parameter.as_str())?;
     }
     text.push_str("[in] long z);\n")
+}
+
+fn nested(alloc: Global, text: &mut String, count: u32) -> Result<(), AllocError> {
+    text.push_str("struct t0 { long a; };\n")?;
+    for k in 0..count {
+        let next = u64::from(k) + 1;
+        let line = format!(in alloc; "struct t{next} {{ struct t{k} a; }};\n")?;
+        text.push_str(line.as_str())?;
+    }
+    Ok(())
+}
+
+fn arrays(alloc: Global, text: &mut String, count: u32) -> Result<(), AllocError> {
+    text.push_str("typedef long a0;\n")?;
+    for k in 0..count {
+        let next = u64::from(k) + 1;
+        let line = format!(in alloc; "typedef a{k} a{next}[1];\n")?;
+        text.push_str(line.as_str())?;
+    }
+    Ok(())
+}
+
+fn stars(text: &mut String, count: u32) -> Result<(), AllocError> {
+    text.push_str("void f([in] long ")?;
+    for _ in 0..count {
+        text.push_str("*")?;
+    }
+    text.push_str("a);\n")
 }

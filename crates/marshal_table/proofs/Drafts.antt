@@ -16,12 +16,12 @@ use Rattle.idl_outline.specs.Outline.{all_pointed, pointer_default}
 use Rattle.idl_outline.specs.Plain.{PSpec, PAttrs, plain_spec, plain_attrs}
 use Rattle.ndr_value.specs.Forms.{Form}
 use Rattle.table_form.specs.declared.operation.HandleUse.{HandleUse}
-use Rattle.table_form.specs.Ordered.{fits}
-use Rattle.table_form.specs.Tables.{OpForm, IsTable, param_fits, result_fits, op_fits}
-use Rattle.table_scope.specs.declared.known.Sort.{Sort}
-use Rattle.table_scope.specs.declared.known.Sort.TheVariants as sorts
+use Rattle.table_form.specs.Ordered.{is_below}
+use Rattle.table_form.specs.Tables.{OpForm, IsTable, param_below, result_below, op_below}
+use Rattle.table_scope.specs.declared.symbols.Sort.{Sort}
+use Rattle.table_scope.specs.declared.symbols.Sort.TheVariants as sorts
 use Rattle.table_scope.specs.declared.said.Terms.{Terms}
-use Rattle.table_scope.specs.Known.{Sense, Scope, handle_sense}
+use Rattle.table_scope.specs.Scopes.{Sense, Scope, handle_sense}
 use Rattle.table_scope.specs.Marks.{says, says_handle, is_serialised}
 use Rattle.table_scope.specs.Declarators.{terms, declared}
 use Rattle.table_specs.specs.Specs.{within, attrs_within, spec_at, attrs_at}
@@ -40,7 +40,7 @@ abbrev behind : Pk → Bool → PAttrs → PSpec → Scope → Sense × Scope
 behind k pointed as' s p = spec_at k pointed (attrs_at k as' p).0 s (attrs_at k as' p).1
 
 behind_sound : (far : ℕ) (k : Pk) (pointed : Bool) (as' : PAttrs) (s : PSpec) (p : Scope) → Sound far p → length p.types + (attrs_within as' + within s) ≤ far
-    → Goes far (attrs_within as' + within s) p (behind k pointed as' s p).1 × (fits (reach pointed (length (behind k pointed as' s p).1.types) far) far (behind k pointed as' s p).0.shape ≡ true)
+    → Goes far (attrs_within as' + within s) p (behind k pointed as' s p).1 × (is_below (reach pointed (length (behind k pointed as' s p).1.types) far) far (behind k pointed as' s p).0.shape ≡ true)
 behind_sound far k pointed as' s p ok room =
     let marks = attrs_sound far k as' p ok (omega (arith, room)) in
     let before = marks.0.count in
@@ -62,7 +62,7 @@ params_within [] = 0
 params_within (n ∷ ns) = param_within n + params_within ns
 
 abbrev ListedSound : ℕ → ℕ → Scope → Listed × Scope → Type 0
-ListedSound far n p q = Goes far n p q.1 × (list_all (param_fits far) q.0.0 ≡ true)
+ListedSound far n p q = Goes far n p q.1 × (list_all (param_below far) q.0.0 ≡ true)
 
 listed_any : (far n : ℕ) (p : Scope) (b : Bool) (x : Listed × Scope) → Sound far p → (b ≡ false → ListedSound far n p x) → ListedSound far (if_listed b n) p (if b then (([], []), p) else x)
 listed_any far n p true x ok h = (record { count = omega arith; sound = ok }, refl)
@@ -81,7 +81,7 @@ param_sound far k names n p ok room =
     let few = h.0.sound.few in
     let t : Terms = terms k places.Parameter true names as' in
     let f = declared_fits (length q.1.types) far t q.1.constants q.0.shape n.dtor (reach_not (n.dtor.stars == 0) (length q.1.types) far q.0.shape h.1) (reach_far (not (n.dtor.stars == 0)) (length q.1.types) far few q.0.shape h.1) in
-    (h.0, and_of (fits far far (declared t q.1.constants q.0.shape n.dtor)) true (fits_more (length q.1.types) far far few (declared t q.1.constants q.0.shape n.dtor) f) refl))
+    (h.0, and_of (is_below far far (declared t q.1.constants q.0.shape n.dtor)) true (fits_more (length q.1.types) far far few (declared t q.1.constants q.0.shape n.dtor) f) refl))
 
 params_sound : (far : ℕ) (k : Pk) (names : List Ident) (ns : List ParamNode) (p : Scope) → Sound far p → length p.types + params_within ns ≤ far → ListedSound far (params_within ns) p (params_at k names ns p)
 params_sound far k names [] p ok room = (record { count = omega arith; sound = ok }, refl)
@@ -91,7 +91,7 @@ params_sound far k names (n ∷ ns) p ok room =
     let others = params_sound far k names ns (param_at k names n p).1 first.0.sound (omega (arith, before, room)) in
     let count = others.0.count in (
       record { count = omega (arith, before, count); sound = others.0.sound },
-      all_more (param_fits far) (param_at k names n p).0.0 (params_at k names ns (param_at k names n p).1).0.0 first.1 others.1,
+      all_more (param_below far) (param_at k names n p).0.0 (params_at k names ns (param_at k names n p).1).0.0 first.1 others.1,
     )
 
 -- ---- drafts
@@ -101,13 +101,13 @@ pub record DraftSound (far : ℕ) (d : Draft) : Type 0 where
   pub few : length d.ops < 65536
   pub of_each : length d.uses ≡ length d.ops
   pub few_uses : list_all (λ us. nat_le (length us) 4) d.uses ≡ true
-  pub ops : list_all (op_fits far) d.ops ≡ true
+  pub ops : list_all (op_below far) d.ops ≡ true
 
 pub record DraftGoes (far n : ℕ) (d e : Draft) : Type 0 where
   pub count : length e.scope.types ≡ length d.scope.types + n
   pub sound : DraftSound far e
 
-result_sound : (far : ℕ) (s : Sort) (f : Form) → fits far far f ≡ true → result_fits far (sort_result s f) ≡ true
+result_sound : (far : ℕ) (s : Sort) (f : Form) → is_below far far f ≡ true → result_below far (sort_result s f) ≡ true
 result_sound far sorts.Value f e = e
 result_sound far sorts.ErrorStatus f e = e
 result_sound far sorts.Void f e = refl
@@ -126,9 +126,9 @@ record OpsSound (far : ℕ) (ops : List OpForm) (uses : List (List HandleUse)) :
   few : length ops < 65536
   of_each : length uses ≡ length ops
   few_uses : list_all (λ us. nat_le (length us) 4) uses ≡ true
-  fit : list_all (op_fits far) ops ≡ true
+  fit : list_all (op_below far) ops ≡ true
 
-kept_any : (far : ℕ) (b : Bool) (ops : List OpForm) (uses : List (List HandleUse)) (o : OpForm) (us : List HandleUse) → OpsSound far ops uses → (b ≡ true → length ops < 65535) → op_fits far o ≡ true
+kept_any : (far : ℕ) (b : Bool) (ops : List OpForm) (uses : List (List HandleUse)) (o : OpForm) (us : List HandleUse) → OpsSound far ops uses → (b ≡ true → length ops < 65535) → op_below far o ≡ true
     → OpsSound far (if b then ops ++ o ∷ [] else ops) (if b then uses ++ take 4 us ∷ [] else uses)
 kept_any far false ops uses o us ok room f = ok
 kept_any far true ops uses o us ok room f =
@@ -140,7 +140,7 @@ kept_any far true ops uses o us ok room f =
       few = omega (arith, less, more);
       of_each = omega (arith, same, more, longer);
       few_uses = all_more (λ (x : List HandleUse). nat_le (length x) 4) uses (take 4 us ∷ []) ok.few_uses (and_of (nat_le (length (take 4 us)) 4) true (four_at_most us) refl);
-      fit = all_more (op_fits far) ops (o ∷ []) ok.fit (and_of (op_fits far o) true f refl);
+      fit = all_more (op_below far) ops (o ∷ []) ok.fit (and_of (op_below far o) true f refl);
     }
 
 op_sound : (far : ℕ) (k : Pk) (as' : PAttrs) (s : PSpec) (name : Ident) (ns : List ParamNode) (d : Draft) → DraftSound far d → length d.scope.types + (attrs_within as' + within s + params_within ns) ≤ far
@@ -154,8 +154,8 @@ op_sound far k as' s name ns d ok room =
     let count = ps.0.count in
     let l : Listed = (params_at k (param_names ns) ns q.1).0 in
     let o : OpForm = op_of name.text as' q.0 l.0 in
-    let fit : op_fits far o ≡ true =
-    and_of (list_all (param_fits far) l.0) (result_fits far (sort_result q.0.sort q.0.shape)) ps.1 (result_sound far q.0.sort q.0.shape (reach_far false (length q.1.types) far few q.0.shape r.1)) in
+    let fit : op_below far o ≡ true =
+    and_of (list_all (param_below far) l.0) (result_below far (sort_result q.0.sort q.0.shape)) ps.1 (result_sound far q.0.sort q.0.shape (reach_far false (length q.1.types) far few q.0.shape r.1)) in
     let kept = kept_any far (nat_lt (length d.ops) 65535) d.ops d.uses o l.1 (record { few = ok.few; of_each = ok.of_each; few_uses = ok.few_uses; fit = ok.ops }) (less_of (length d.ops) 65535) fit in
     record {
       count = omega (arith, before, count);
@@ -164,7 +164,7 @@ op_sound far k as' s name ns d ok room =
 
 -- ---- typedefs
 
-typedef_sound : (far : ℕ) (handle serialised : Bool) (t : Terms) (m : Sense) (ds : List Dtor) (p : Scope) → Sound far p → (list_any (λ d. d.stars == 0) ds ≡ true → fits (length p.types) far m.shape ≡ true) → fits far far m.shape ≡ true
+typedef_sound : (far : ℕ) (handle serialised : Bool) (t : Terms) (m : Sense) (ds : List Dtor) (p : Scope) → Sound far p → (list_any (λ d. d.stars == 0) ds ≡ true → is_below (length p.types) far m.shape ≡ true) → is_below far far m.shape ≡ true
     → Goes far 0 p (typedef_all handle serialised t m ds p)
 typedef_sound far handle serialised t m [] p ok here e = record { count = omega arith; sound = ok }
 typedef_sound far true serialised t m (d ∷ ds) p ok here e =

@@ -11,20 +11,20 @@ use Rattle.idl_outline.specs.declared.field.Place.TheVariants as places
 use Rattle.idl_outline.specs.Outline.{all_pointed}
 use Rattle.idl_outline.specs.Plain.{PSpec, spec, PKind, of_base, of_name, of_void, of_handle_t, of_error_status, of_tag, of_struct, of_union, of_enum, PSwitch, no_switch, switch, PMember, member, PMembers, no_member, then_member, PArm, arm, empty_arm, PArms, no_arm, then_arm, PMark, is_in, is_out, is_pointer, is_text, is_idempotent, is_maybe, is_handle, is_size, is_max, is_length, is_switch, is_switch_type, PAttr, attr, PAttrs, no_attr, then_attr}
 use Rattle.ndr_value.specs.Forms.{Form, OfNamed, OfStruct, OfUnion}
-use Rattle.table_form.specs.Ordered.{is_body, fits, arms_fit, body_fits, ordered_from}
+use Rattle.table_form.specs.Ordered.{is_body, is_below, arms_below, body_below, ordered_from}
 use Rattle.table_form.specs.Ordered.{is_size as is_number_size}
-use Rattle.table_scope.specs.declared.known.Tag.{Tag}
-use Rattle.table_scope.specs.Known.{Named, put, Sense, Scope, nothing, type_named, found_form, tag_form, with_constant, with_names, begun, with_entry, ended}
+use Rattle.table_scope.specs.declared.symbols.Tag.{Tag}
+use Rattle.table_scope.specs.Scopes.{ByName, put, Sense, Scope, nothing, type_named, found_form, tag_form, with_constant, with_names, begun, with_entry, ended}
 use Rattle.table_scope.specs.Declarators.{terms}
-use Rattle.table_scope.specs.Known.{or_nothing as or_sense}
+use Rattle.table_scope.specs.Scopes.{or_nothing as or_sense}
 use Rattle.table_specs.specs.Specs.{Face, base_form, row, arm_row, or_nothing, struct_at, union_at, member_names, arm_names, within, kind_within, switch_within, member_within, members_within, arm_within, arms_within, mark_within, attr_within, attrs_within, spec_at, kind_at, switch_at, mark_at, attr_at, attrs_at, member_at, members_at, arm_at, arms_at}
 use Rattle.marshal_table.proofs.Fitting.{both_of, and_of, less_is, fits_more, body_more, all_declared, AllFit, all_more, all_join, row_fits, held_fits, FacesFit, arm_row_fits}
 
 abbrev pub SenseFits : ℕ → ℕ → Option Sense → Type 0
 SenseFits near far None = Unit {0}
-SenseFits near far (Some m) = fits near far m.shape ≡ true
+SenseFits near far (Some m) = is_below near far m.shape ≡ true
 
-abbrev pub NamedFit : ℕ → ℕ → Named Sense → Type 0
+abbrev pub NamedFit : ℕ → ℕ → ByName Sense → Type 0
 NamedFit near far named = (name : List ℕ) → SenseFits near far (named name)
 
 -- a structure whose body has ended is a type; one whose body hasn't will be
@@ -32,7 +32,7 @@ abbrev pub TagFits : ℕ → ℕ → Option Tag → Type 0
 TagFits near far None = Unit {0}
 TagFits near far (Some t) = (t.whole ≡ true → t.number < near) × (t.number < far)
 
-abbrev pub TagsFit : ℕ → ℕ → Named Tag → Type 0
+abbrev pub TagsFit : ℕ → ℕ → ByName Tag → Type 0
 TagsFit near far tags = (name : List ℕ) → TagFits near far (tags name)
 
 pub record Sound (far : ℕ) (p : Scope) : Type 0 where
@@ -53,23 +53,23 @@ reach false near far = near
 
 abbrev pub GivenFits : ℕ → ℕ → Option Form → Type 0
 GivenFits near far None = Unit {0}
-GivenFits near far (Some s) = fits near far s ≡ true
+GivenFits near far (Some s) = is_below near far s ≡ true
 
 -- ---- small parts
 
-reach_fits : (b : Bool) (near far : ℕ) → near ≤ far → (s : Form) → fits near far s ≡ true → fits (reach b near far) far s ≡ true
+reach_fits : (b : Bool) (near far : ℕ) → near ≤ far → (s : Form) → is_below near far s ≡ true → is_below (reach b near far) far s ≡ true
 reach_fits true near far le s e = fits_more near far far le s e
 reach_fits false near far le s e = e
 
-pub reach_far : (b : Bool) (near far : ℕ) → near ≤ far → (s : Form) → fits (reach b near far) far s ≡ true → fits far far s ≡ true
+pub reach_far : (b : Bool) (near far : ℕ) → near ≤ far → (s : Form) → is_below (reach b near far) far s ≡ true → is_below far far s ≡ true
 reach_far true near far le s e = e
 reach_far false near far le s e = fits_more near far far le s e
 
-pub reach_not : (b : Bool) (near far : ℕ) (s : Form) → fits (reach (not b) near far) far s ≡ true → b ≡ true → fits near far s ≡ true
+pub reach_not : (b : Bool) (near far : ℕ) (s : Form) → is_below (reach (not b) near far) far s ≡ true → b ≡ true → is_below near far s ≡ true
 reach_not true near far s e is = e
 reach_not false near far s e is = absurd cc
 
-number_fits : (b : Bool) (near far n : ℕ) → n < near → n < far → fits (reach b near far) far (OfNamed n None) ≡ true
+number_fits : (b : Bool) (near far n : ℕ) → n < near → n < far → is_below (reach b near far) far (OfNamed n None) ≡ true
 number_fits true near far n here there = less_is n far there
 number_fits false near far n here there = less_is n near here
 
@@ -81,7 +81,7 @@ given_or : (near far : ℕ) (a b : Option Form) → GivenFits near far a → Giv
 given_or near far None b h k = k
 given_or near far (Some s) b h k = h
 
-nothing_or : (near far : ℕ) (o : Option Form) → GivenFits near far o → fits near far (or_nothing o) ≡ true
+nothing_or : (near far : ℕ) (o : Option Form) → GivenFits near far o → is_below near far (or_nothing o) ≡ true
 nothing_or near far None h = refl
 nothing_or near far (Some s) h = h
 
@@ -91,7 +91,7 @@ octets_cases false true c = refl
 octets_cases false false true = refl
 octets_cases false false false = refl
 
-base_fits : (near far : ℕ) (b : Base) → fits near far (base_form b) ≡ true
+base_fits : (near far : ℕ) (b : Base) → is_below near far (base_form b) ≡ true
 base_fits near far bases.Boolean = refl
 base_fits near far bases.Byte = refl
 base_fits near far (bases.Char unsigned) = refl
@@ -113,34 +113,34 @@ either P true x y h k = h
 either P false x y h k = k
 
 -- what holds at each name holds there behind one name more
-pub put_all : {X : Type 0} (P : Option X → Type 0) (name : List ℕ) (x : X) (named : Named X) → P (Some x) → ((n : List ℕ) → P (named n)) → (n : List ℕ) → P (put name x named n)
+pub put_all : {X : Type 0} (P : Option X → Type 0) (name : List ℕ) (x : X) (named : ByName X) → P (Some x) → ((n : List ℕ) → P (named n)) → (n : List ℕ) → P (put name x named n)
 put_all P name x named h k n = either P (bytes_eq name n) (Some x) (named n) h (k n)
 
-ordered_more : (k far : ℕ) (ts : List Form) (t : Form) → ordered_from k far ts ≡ true → is_body t ≡ true → fits (k + length ts) far t ≡ true → ordered_from k far (ts ++ t ∷ []) ≡ true
+ordered_more : (k far : ℕ) (ts : List Form) (t : Form) → ordered_from k far ts ≡ true → is_body t ≡ true → is_below (k + length ts) far t ≡ true → ordered_from k far (ts ++ t ∷ []) ≡ true
 ordered_more k far [] t e b f =
-    let g : fits k far t ≡ true = subst (λ (n : ℕ). fits n far t ≡ true) (omega arith) f in
-    and_of (is_body t) (fits k far t && true) b (and_of (fits k far t) true g refl)
+    let g : is_below k far t ≡ true = subst (λ (n : ℕ). is_below n far t ≡ true) (omega arith) f in
+    and_of (is_body t) (is_below k far t && true) b (and_of (is_below k far t) true g refl)
 ordered_more k far (x ∷ ts) t e b f =
-    let h = both_of (is_body x) (fits k far x && ordered_from (k + 1) far ts) e in
-    let i = both_of (fits k far x) (ordered_from (k + 1) far ts) h.1 in
-    let g : fits (k + 1 + length ts) far t ≡ true = subst (λ (n : ℕ). fits n far t ≡ true) (omega arith) f in
-    and_of (is_body x) (fits k far x && ordered_from (k + 1) far (ts ++ t ∷ [])) h.0
-    (and_of (fits k far x) (ordered_from (k + 1) far (ts ++ t ∷ [])) i.0 (ordered_more (k + 1) far ts t i.1 b g))
+    let h = both_of (is_body x) (is_below k far x && ordered_from (k + 1) far ts) e in
+    let i = both_of (is_below k far x) (ordered_from (k + 1) far ts) h.1 in
+    let g : is_below (k + 1 + length ts) far t ≡ true = subst (λ (n : ℕ). is_below n far t ≡ true) (omega arith) f in
+    and_of (is_body x) (is_below k far x && ordered_from (k + 1) far (ts ++ t ∷ [])) h.0
+    (and_of (is_below k far x) (ordered_from (k + 1) far (ts ++ t ∷ [])) i.0 (ordered_more (k + 1) far ts t i.1 b g))
 
 one_longer : (ts : List Form) (t : Form) → length (ts ++ t ∷ []) ≡ length ts + 1
 one_longer ts t = length-append ts (t ∷ [])
 
-with_entry_sound : (far : ℕ) (t : Form) (p : Scope) → Sound far p → length p.types + 1 ≤ far → is_body t ≡ true → fits (length p.types) far t ≡ true → Sound far (with_entry t p)
+with_entry_sound : (far : ℕ) (t : Form) (p : Scope) → Sound far p → length p.types + 1 ≤ far → is_body t ≡ true → is_below (length p.types) far t ≡ true → Sound far (with_entry t p)
 with_entry_sound far t p ok room b f =
     let longer = one_longer p.types t in
     record {
-      types = ordered_more 0 far p.types t ok.types b (subst (λ (n : ℕ). fits n far t ≡ true) (omega arith) f);
+      types = ordered_more 0 far p.types t ok.types b (subst (λ (n : ℕ). is_below n far t ≡ true) (omega arith) f);
       few = omega (arith, longer, room);
       named = λ name. sense_more (length p.types) (length (p.types ++ t ∷ [])) far (omega (arith, longer)) (p.named name) (ok.named name);
       tags = λ name. tag_more (length p.types) (length (p.types ++ t ∷ [])) far (omega (arith, longer)) (p.tags name) (ok.tags name);
     }
 
-ended_sound : (far : ℕ) (tag : Option Ident) (t : Form) (p : Scope) → Sound far p → length p.types + 1 ≤ far → is_body t ≡ true → fits (length p.types) far t ≡ true → Goes far 1 p (ended tag t p)
+ended_sound : (far : ℕ) (tag : Option Ident) (t : Form) (p : Scope) → Sound far p → length p.types + 1 ≤ far → is_body t ≡ true → is_below (length p.types) far t ≡ true → Goes far 1 p (ended tag t p)
 ended_sound far None t p ok room b f = record { count = one_longer p.types t; sound = with_entry_sound far t p ok room b f }
 ended_sound far (Some i) t p ok room b f =
     let e = with_entry_sound far t p ok room b f in
@@ -169,37 +169,37 @@ stays far p ok = record { count = omega arith; sound = ok }
 
 -- ---- names
 
-sense_fits : (near far : ℕ) (o : Option Sense) → SenseFits near far o → fits near far (or_sense o).shape ≡ true
+sense_fits : (near far : ℕ) (o : Option Sense) → SenseFits near far o → is_below near far (or_sense o).shape ≡ true
 sense_fits near far None h = refl
 sense_fits near far (Some m) h = h
 
-named_fits : (near far : ℕ) (name : List ℕ) (named : Named Sense) → NamedFit near far named → fits near far (type_named name named).shape ≡ true
+named_fits : (near far : ℕ) (name : List ℕ) (named : ByName Sense) → NamedFit near far named → is_below near far (type_named name named).shape ≡ true
 named_fits near far name named h = sense_fits near far (named name) (h name)
 
 found_any : (near far : ℕ) (pointed whole : Bool) (n : ℕ) → (whole ≡ true → n < near) → n < far
-    → fits (reach pointed near far) far (if whole then OfNamed n None else (if pointed then OfNamed n None else nothing)) ≡ true
+    → is_below (reach pointed near far) far (if whole then OfNamed n None else (if pointed then OfNamed n None else nothing)) ≡ true
 found_any near far true true n here there = less_is n far there
 found_any near far true false n here there = less_is n far there
 found_any near far false true n here there = less_is n near (here refl)
 found_any near far false false n here there = refl
 
-found_fits : (near far : ℕ) (pointed : Bool) (o : Option Tag) → TagFits near far o → fits (reach pointed near far) far (found_form pointed o) ≡ true
+found_fits : (near far : ℕ) (pointed : Bool) (o : Option Tag) → TagFits near far o → is_below (reach pointed near far) far (found_form pointed o) ≡ true
 found_fits near far true None h = refl
 found_fits near far false None h = refl
 found_fits near far pointed (Some t) h = found_any near far pointed t.whole t.number h.0 h.1
 
-tag_fits : (near far : ℕ) (pointed : Bool) (tag : Option Ident) (tags : Named Tag) → TagsFit near far tags → fits (reach pointed near far) far (tag_form pointed tag tags) ≡ true
+tag_fits : (near far : ℕ) (pointed : Bool) (tag : Option Ident) (tags : ByName Tag) → TagsFit near far tags → is_below (reach pointed near far) far (tag_form pointed tag tags) ≡ true
 tag_fits near far true None ts h = refl
 tag_fits near far false None ts h = refl
 tag_fits near far pointed (Some i) tags h = found_fits near far pointed (tags i.text) (h i.text)
 
-plain_fits : (b : Bool) (near far : ℕ) (s : Form) → ((n : ℕ) → fits n far s ≡ true) → fits (reach b near far) far s ≡ true
+plain_fits : (b : Bool) (near far : ℕ) (s : Form) → ((n : ℕ) → is_below n far s ≡ true) → is_below (reach b near far) far s ≡ true
 plain_fits b near far s h = h (reach b near far)
 
 -- ---- structures and unions
 
 struct_sound : (far n : ℕ) (pointed : Bool) (tag : Option Ident) (p : Scope) (i : List Form × Scope) → Goes far n p i.1 → AllFit (length i.1.types) far i.0 → length p.types + (n + 1) ≤ far
-    → Goes far (n + 1) p (struct_at tag i).1 × (fits (reach pointed (length (struct_at tag i).1.types) far) far (struct_at tag i).0.shape ≡ true)
+    → Goes far (n + 1) p (struct_at tag i).1 × (is_below (reach pointed (length (struct_at tag i).1.types) far) far (struct_at tag i).0.shape ≡ true)
 struct_sound far n pointed tag p i goes all room =
     let count = goes.count in
     let end = ended_sound far tag (OfStruct (row i.0)) i.1 goes.sound (omega (arith, count, room)) refl (row_fits (length i.1.types) far i.0 all) in
@@ -208,11 +208,11 @@ struct_sound far n pointed tag p i goes all room =
       number_fits pointed (length (struct_at tag i).1.types) far (length i.1.types) (omega (arith, last)) (omega (arith, count, room)),
     )
 
-union_sound : (far n : ℕ) (pointed : Bool) (t : Form) (p : Scope) (i : List Face × Scope) → Goes far n p i.1 → fits (length i.1.types) far t ≡ true → FacesFit (length i.1.types) far i.0 → length p.types + (n + 1) ≤ far
-    → Goes far (n + 1) p (union_at t i).1 × (fits (reach pointed (length (union_at t i).1.types) far) far (union_at t i).0.shape ≡ true)
+union_sound : (far n : ℕ) (pointed : Bool) (t : Form) (p : Scope) (i : List Face × Scope) → Goes far n p i.1 → is_below (length i.1.types) far t ≡ true → FacesFit (length i.1.types) far i.0 → length p.types + (n + 1) ≤ far
+    → Goes far (n + 1) p (union_at t i).1 × (is_below (reach pointed (length (union_at t i).1.types) far) far (union_at t i).0.shape ≡ true)
 union_sound far n pointed t p i goes f all room =
     let count = goes.count in
-    let body = and_of (fits (length i.1.types) far t) (arms_fit (length i.1.types) far (arm_row i.0)) f (arm_row_fits (length i.1.types) far i.0 all) in
+    let body = and_of (is_below (length i.1.types) far t) (arms_below (length i.1.types) far (arm_row i.0)) f (arm_row_fits (length i.1.types) far i.0 all) in
     let end = ended_sound far None (OfUnion t (arm_row i.0)) i.1 goes.sound (omega (arith, count, room)) refl body in
     let last = end.count in (
       record { count = omega (arith, count, last); sound = end.sound },
@@ -226,7 +226,7 @@ faces_more near more far le (a ∷ rest) h = (body_more near more far le a.2 h.0
 -- ---- specs
 
 abbrev SpecSound : ℕ → ℕ → Bool → Scope → Sense × Scope → Type 0
-SpecSound far n pointed p q = Goes far n p q.1 × (fits (reach pointed (length q.1.types) far) far q.0.shape ≡ true)
+SpecSound far n pointed p q = Goes far n p q.1 × (is_below (reach pointed (length q.1.types) far) far q.0.shape ≡ true)
 
 abbrev GivenSound : ℕ → ℕ → Scope → Option Form × Scope → Type 0
 GivenSound far n p q = Goes far n p q.1 × GivenFits (length q.1.types) far q.0
@@ -259,7 +259,7 @@ mutual
   kind_sound far k pointed given (of_enum tag names) p ok room g = (names_sound far 0 names p ok, refl)
 
   switch_sound : (far : ℕ) (k : Pk) (given : Option Form) (s : PSwitch) (p : Scope) → Sound far p → length p.types + switch_within s ≤ far → GivenFits (length p.types) far given
-      → Goes far (switch_within s) p (switch_at k given s p).1 × (fits (length (switch_at k given s p).1.types) far (switch_at k given s p).0 ≡ true)
+      → Goes far (switch_within s) p (switch_at k given s p).1 × (is_below (length (switch_at k given s p).1.types) far (switch_at k given s p).0 ≡ true)
   switch_sound far k given no_switch p ok room g = (stays far p ok, nothing_or (length p.types) far given g)
   switch_sound far k given (switch s i) p ok room g = spec_sound far k false None s p ok room tt
 
@@ -321,7 +321,7 @@ mutual
       )
 
   arm_sound : (far : ℕ) (k : Pk) (names : List Ident) (a : PArm) (p : Scope) → Sound far p → length p.types + arm_within a ≤ far
-      → Goes far (arm_within a) p (arm_at k names a p).1 × (body_fits (length (arm_at k names a p).1.types) far (arm_at k names a p).0.2 ≡ true)
+      → Goes far (arm_within a) p (arm_at k names a p).1 × (body_below (length (arm_at k names a p).1.types) far (arm_at k names a p).0.2 ≡ true)
   arm_sound far k names (arm ls m) p ok room =
       let inside = member_sound far k names m p ok room in
       (inside.0, held_fits (length (member_at k names m p).1.types) far (member_at k names m p).0 inside.1)

@@ -24,14 +24,14 @@ use Rattle.idl_outline.specs.Plain.{PSpec, spec, PKind, of_handle_t, PAttrs, pla
 use Rattle.ndr_value.specs.Forms.{Form}
 use Rattle.table_form.specs.declared.operation.HandleUse.{HandleUse}
 use Rattle.table_form.specs.Tables.{ParamForm, OpForm, TableForm, param_form, op_form}
-use Rattle.table_scope.specs.declared.known.Known.{Known}
-use Rattle.table_scope.specs.declared.known.Sort.{Sort}
-use Rattle.table_scope.specs.declared.known.Sort.TheVariants as sorts
+use Rattle.table_scope.specs.declared.symbols.Symbols.{Symbols}
+use Rattle.table_scope.specs.declared.symbols.Sort.{Sort}
+use Rattle.table_scope.specs.declared.symbols.Sort.TheVariants as sorts
 use Rattle.marshal_table.specs.declared.listing.Listing.{Listing}
 use Rattle.marshal_table.specs.declared.listing.Operations.{Operations}
 use Rattle.table_scope.specs.declared.said.Terms.{Terms}
 use Rattle.table_scope.specs.Marks.{says, says_in, says_out, says_maybe, says_handle, is_serialised}
-use Rattle.table_scope.specs.Known.{Named, Sense, Scope, scope, in_16, nothing_known, with_type, with_handle, with_constant}
+use Rattle.table_scope.specs.Scopes.{ByName, Sense, Scope, scope, in_16, nothing_known, with_type, with_handle, with_constant}
 use Rattle.table_scope.specs.Declarators.{terms, declared}
 use Rattle.table_specs.specs.Specs.{spec_at, attrs_at}
 
@@ -107,7 +107,7 @@ pub record Draft : Type 0 where
   pub uses : List (List HandleUse)
 
 -- the same of the code's lists
-abbrev pub draft : Known → Operations → Draft
+abbrev pub draft : Symbols → Operations → Draft
 draft k o = record { scope = scope k; ops = map op_form o.ops.items; uses = o.uses.items }
 
 -- no interface that keeps the rules has more operations than 65,535, and no operation of it more than four handles
@@ -147,7 +147,7 @@ bare_sort (Some size) s = sorts.Value
 abbrev pub sort_of : Dtor → Sort → Sort
 sort_of d s = if d.stars == 0 then bare_sort d.array s else sorts.Value
 
-abbrev pub typed : Terms → Named Num → Sense → Dtor → Sense
+abbrev pub typed : Terms → ByName Num → Sense → Dtor → Sense
 typed t constants m d = record { shape = declared t constants m.shape d; sort = sort_of d m.sort }
 
 -- a declarator of a typedef; handle: a word for context handles stands there

@@ -2,6 +2,7 @@
 ghost use Rattle.std.specs.Prelude.{◌≡◌, IfOk};
 ghost use Rattle.table_form.specs.Shown.{shown};
 ghost use Rattle.marshal_table.specs.Interfaces as spec;
+ghost use Rattle.marshal_table.specs.Wholes.{HasEachOperation, HasEachHandle};
 
 use crate::tables::build_tree;
 use idl_check::Checked;
@@ -13,9 +14,13 @@ use table_form::Table;
 ///
 /// # Errors
 ///
-/// `NoMemory` where there is no memory for it.
+/// `NoMemory` where there is no memory for it, or a type, a parameter or a result nests by value more
+/// than 256 levels.
 pub fn build(alloc: Global, checked: &Checked) -> Result<Table, NoMemory>
-    ensures { IfOk result (λ table. shown table ≡ spec.tabled checked.now) }
+    ensures exact { IfOk result (λ table. shown table ≡ spec.tabled checked.now) }
+    ensures operations { IfOk result (λ table. HasEachOperation checked.now (shown table)) }
+    ensures handles { IfOk result (λ table. HasEachHandle checked.now (shown table)) }
 {
-    build_tree(alloc, checked.tree())
+    let table = build_tree(alloc, checked.tree())?;
+    Ok(table)
 }

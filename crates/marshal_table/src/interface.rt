@@ -3,7 +3,7 @@ ghost use Rattle.std.specs.Prelude.{◌≡◌, [], false, IfOk, OnOk};
 ghost use Rattle.idl_outline.specs.Outline as outline;
 ghost use Rattle.idl_outline.specs.Plain.{plain_spec, plain_attrs};
 ghost use Rattle.idl_outline.specs.declared.field.Place.TheVariants as places;
-ghost use Rattle.table_scope.specs.Known.{sense, scope};
+ghost use Rattle.table_scope.specs.Scopes.{sense, scope};
 ghost use Rattle.table_scope.specs.Declarators as declarators;
 ghost use Rattle.name_map.specs.Named.{at_name};
 ghost use Rattle.marshal_table.specs.Interfaces as spec;
@@ -18,8 +18,8 @@ use name_map::Names;
 use rpc_base::{NoMemory, SyntaxId};
 use std::alloc::Global;
 use table_scope::{
-    Known, Meaning, Sort, Terms, all_pointed, declared, is_serialised, kept_16, says_handle, terms,
-    with_constant, with_handle, with_type,
+    Meaning, Sort, Symbols, Terms, all_pointed, declared, is_serialised, kept_16, says_handle,
+    terms, with_constant, with_handle, with_type,
 };
 use table_specs::{attrs_tag, spec_meaning};
 use uuid::Uuid;
@@ -63,7 +63,7 @@ fn typed(
 fn typedef_one(
     dtor: &Dtor,
     alloc: Global,
-    known: &mut Known,
+    known: &mut Symbols,
     handle: bool,
     serialised: bool,
     terms: &Terms,
@@ -81,7 +81,7 @@ fn typedef_one(
 fn typedef_all(
     dtors: &[Dtor],
     alloc: Global,
-    known: &mut Known,
+    known: &mut Symbols,
     handle: bool,
     serialised: bool,
     terms: &Terms,
@@ -101,7 +101,7 @@ fn typedef_meaning(
     of: &Spec,
     dtors: &[Dtor],
     alloc: Global,
-    known: &mut Known,
+    known: &mut Symbols,
     default: Pk,
 ) -> Result<Meaning, NoMemory>
     ensures value { IfOk result (λ m. sense m ≡ (spec.typedef_sense default (plain_attrs attrs.now) (plain_spec of.now) dtors.now (scope known.old)).0) }
@@ -125,7 +125,7 @@ fn typedef(
     of: &Spec,
     dtors: &[Dtor],
     alloc: Global,
-    known: &mut Known,
+    known: &mut Symbols,
     default: Pk,
 ) -> Result<(), NoMemory>
     ensures { OnOk result (scope known.new ≡ spec.typedef_at default attrs.now (plain_attrs attrs.now) (plain_spec of.now) dtors.now (scope known.old)) }
@@ -141,7 +141,7 @@ fn lone(
     attrs: &[Attr],
     of: &Spec,
     alloc: Global,
-    known: &mut Known,
+    known: &mut Symbols,
     default: Pk,
 ) -> Result<(), NoMemory>
     ensures { OnOk result (scope known.new ≡ spec.lone_at default (plain_attrs attrs.now) (plain_spec of.now) (scope known.old)) }
@@ -154,7 +154,7 @@ fn declaration(
     kind: &DeclKind,
     alloc: Global,
     default: Pk,
-    known: &mut Known,
+    known: &mut Symbols,
     into: &mut Operations,
 ) -> Result<(), NoMemory>
     ensures { OnOk result (spec.draft known.new into.new ≡ spec.decl_at default kind.now (spec.draft known.old into.old)) }
@@ -186,7 +186,7 @@ pub fn declarations(
     list: &[Decl],
     alloc: Global,
     default: Pk,
-    known: &mut Known,
+    known: &mut Symbols,
     into: &mut Operations,
 ) -> Result<(), NoMemory>
     ensures { OnOk result (spec.draft known.new into.new ≡ spec.decls_at default list.now (spec.draft known.old into.old)) }

@@ -3,7 +3,7 @@ ghost use Rattle.std.specs.Prelude.{◌≡◌, ◌++◌, ◌∷◌, [], map, tak
 ghost use Rattle.ndr_value.specs.Forms.{form};
 ghost use Rattle.table_form.specs.Tables.{result_form, param_form, op_form};
 ghost use Rattle.idl_outline.specs.Plain.{plain_spec, plain_attrs};
-ghost use Rattle.table_scope.specs.Known.{sense, scope};
+ghost use Rattle.table_scope.specs.Scopes.{sense, scope};
 ghost use Rattle.marshal_table.specs.Interfaces as spec;
 
 use crate::listing::{Listing, Operations};
@@ -13,7 +13,7 @@ use ndr_value::Shape;
 use rpc_base::NoMemory;
 use std::alloc::Global;
 use table_form::{HandleUses, Op, Params};
-use table_scope::{Known, Meaning, Sort, says_maybe};
+use table_scope::{Meaning, Sort, Symbols, says_maybe};
 use table_specs::{attrs_tag, spec_meaning};
 
 fn result_of(sort: Sort, shape: Shape) -> Option<Shape>
@@ -86,7 +86,7 @@ pub fn alone(
     attrs: &[Attr],
     of: &Spec,
     alloc: Global,
-    known: &mut Known,
+    known: &mut Symbols,
     default: Pk,
 ) -> Result<Meaning, NoMemory>
     ensures value { IfOk result (λ m. sense m ≡ (spec.alone_at default (plain_attrs attrs.now) (plain_spec of.now) (scope known.old)).0) }
@@ -100,7 +100,7 @@ pub fn alone(
 fn listed(
     nodes: &[ParamNode],
     alloc: Global,
-    known: &mut Known,
+    known: &mut Symbols,
     default: Pk,
 ) -> Result<Listing, NoMemory>
     ensures value { IfOk result (λ l. spec.listing l ≡ (spec.params_at default (spec.param_names nodes.now) nodes.now (scope known.old)).0) }
@@ -117,7 +117,7 @@ fn add_with(
     attrs: &[Attr],
     meaning: Meaning,
     all: Listing,
-    known: &Known,
+    known: &Symbols,
     into: &mut Operations,
 ) -> Result<(), NoMemory>
     ensures { OnOk result (spec.draft known.now into.new ≡ spec.op_with name.now.text (plain_attrs attrs.now) (sense meaning) (spec.listing all, scope known.now) (spec.draft known.now into.old)) }
@@ -139,7 +139,7 @@ pub fn operation(
     nodes: &[ParamNode],
     alloc: Global,
     default: Pk,
-    known: &mut Known,
+    known: &mut Symbols,
     into: &mut Operations,
 ) -> Result<(), NoMemory>
     ensures { OnOk result (spec.draft known.new into.new ≡ spec.op_at default (plain_attrs attrs.now) (plain_spec of.now) name.now nodes.now (spec.draft known.old into.old)) }

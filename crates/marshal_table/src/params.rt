@@ -5,7 +5,7 @@ ghost use Rattle.ndr_value.specs.Forms.{form};
 ghost use Rattle.table_form.specs.Tables.{result_form, param_form};
 ghost use Rattle.idl_outline.specs.Plain.{plain_spec, plain_kind, plain_attrs};
 ghost use Rattle.idl_outline.specs.declared.field.Place.TheVariants as places;
-ghost use Rattle.table_scope.specs.Known.{sense, scope};
+ghost use Rattle.table_scope.specs.Scopes.{sense, scope};
 ghost use Rattle.table_scope.specs.Declarators as declarators;
 ghost use Rattle.table_scope.specs.Marks as marks;
 ghost use Rattle.name_map.specs.Named.{at_name};
@@ -19,7 +19,7 @@ use ndr_value::Shape;
 use rpc_base::NoMemory;
 use std::alloc::Global;
 use table_form::{HandleUse, HandleUses, Param, Params};
-use table_scope::{Known, Meaning, Sort, declared, says_in, says_out, terms};
+use table_scope::{Meaning, Sort, Symbols, declared, says_in, says_out, terms};
 use table_specs::{attrs_tag, spec_meaning};
 
 fn is_binding_kind(kind: &SpecKind) -> bool
@@ -87,7 +87,7 @@ fn add_param(params: &mut Params, param: Param) -> Result<(), NoMemory>
 fn param_meaning(
     node: &ParamNode,
     alloc: Global,
-    known: &mut Known,
+    known: &mut Symbols,
     default: Pk,
 ) -> Result<Meaning, NoMemory>
     ensures value { IfOk result (λ m. sense m ≡ (spec.param_sense default node.now (scope known.old)).0) }
@@ -125,7 +125,7 @@ fn one_param(
 fn add_listed(
     node: &ParamNode,
     alloc: Global,
-    known: &Known,
+    known: &Symbols,
     default: Pk,
     names: &[Ident],
     meaning: &Meaning,
@@ -153,7 +153,7 @@ fn add_listed(
 fn param(
     node: &ParamNode,
     alloc: Global,
-    known: &mut Known,
+    known: &mut Symbols,
     default: Pk,
     names: &[Ident],
     into: &mut Listing,
@@ -177,7 +177,7 @@ fn param(
 pub fn params(
     nodes: &[ParamNode],
     alloc: Global,
-    known: &mut Known,
+    known: &mut Symbols,
     default: Pk,
     names: &[Ident],
 ) -> Result<Listing, NoMemory>

@@ -203,3 +203,58 @@ fn an_operation_that_is_not_there(rt: HostRuntime) -> Result<(), Fail> {
     assert!(rt; table.handle_uses(7).is_none());
     Ok(())
 }
+
+/// Types that nest by value, each within the one before: what comes first, and what stands before the
+/// earlier type's number, between the numbers, and behind the own one.
+const NESTED: &[(&str, &str, &str, &str)] = &[
+    (
+        "typedef struct{long x;}a0;",
+        "typedef struct{a",
+        " x;}a",
+        ";",
+    ),
+    ("typedef long a0[1];", "typedef a", " a", "[1];"),
+];
+
+fn nested(alloc: Global, parts: &(&str, &str, &str, &str), levels: u32) -> Result<String, Fail> {
+    let (first, before, between, behind) = parts;
+    let mut text = String::from_str(alloc, first)?;
+    for k in 1..levels {
+        text.push_str(before)?;
+        text.push_str(k.saturating_sub(1).to_string(alloc)?.as_str())?;
+        text.push_str(between)?;
+        text.push_str(k.to_string(alloc)?.as_str())?;
+        text.push_str(behind)?;
+    }
+    Ok(text)
+}
+
+/// A parameter of so many pointers, one behind the other.
+fn pointed(alloc: Global, levels: u32) -> Result<String, Fail> {
+    let mut text = String::from_str(alloc, "void f([in]long")?;
+    for _ in 0..levels {
+        text.push_str("*")?;
+    }
+    text.push_str("p);")?;
+    Ok(text)
+}
+
+fn builds(alloc: Global, declarations: &str) -> Result<bool, Fail> {
+    let text = interface(alloc, declarations)?;
+    let tree = read_idl(alloc, text.as_bytes())?;
+    let checked = check(alloc, &tree)?;
+    Ok(build(alloc, &checked).is_ok())
+}
+
+#[test]
+fn types_nest_256_levels(rt: HostRuntime) -> Result<(), Fail> {
+    for parts in NESTED {
+        assert!(rt; builds(rt.alloc(), nested(rt.alloc(), parts, 256)?.as_str())?);
+        assert!(rt; !builds(rt.alloc(), nested(rt.alloc(), parts, 257)?.as_str())?);
+        assert!(rt; !builds(rt.alloc(), nested(rt.alloc(), parts, 3000)?.as_str())?);
+    }
+    assert!(rt; builds(rt.alloc(), pointed(rt.alloc(), 256)?.as_str())?);
+    assert!(rt; !builds(rt.alloc(), pointed(rt.alloc(), 257)?.as_str())?);
+    assert!(rt; !builds(rt.alloc(), pointed(rt.alloc(), 20_000)?.as_str())?);
+    Ok(())
+}

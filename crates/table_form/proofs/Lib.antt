@@ -1,3 +1,2 @@
 pub mod Aligns
-pub mod Bodies
 pub mod Sizes

@@ -2,3 +2,5 @@ pub mod Aligned
 pub mod Ordered
 pub mod Shown
 pub mod Tables
+pub mod Nested
+pub mod Tails

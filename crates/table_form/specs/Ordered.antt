@@ -8,29 +8,29 @@ is_size n = n == 1 || (n == 2 || (n == 4 || n == 8))
 
 abbrev mutual
   -- the shape names types below near, and behind pointers types below far; its numbers have 1, 2, 4 or 8 octets
-  pub fits : ℕ → ℕ → Form → Bool
-  fits near far (OfInt size) = is_size size
-  fits near far (OfUint size) = is_size size
-  fits near far (OfNamed number switch) = nat_lt number near
-  fits near far (OfStruct ss) = each_fits near far ss
-  fits near far (OfUnion tag arms) = fits near far tag && arms_fit near far arms
-  fits near far (OfArray kind s) = fits near far s
-  fits near far (OfRef s) = fits far far s
-  fits near far (OfUnique s) = fits far far s
-  fits near far (OfFull s) = fits far far s
-  fits near far _ = true
+  pub is_below : ℕ → ℕ → Form → Bool
+  is_below near far (OfInt size) = is_size size
+  is_below near far (OfUint size) = is_size size
+  is_below near far (OfNamed number switch) = nat_lt number near
+  is_below near far (OfStruct ss) = each_below near far ss
+  is_below near far (OfUnion tag arms) = is_below near far tag && arms_below near far arms
+  is_below near far (OfArray kind s) = is_below near far s
+  is_below near far (OfRef s) = is_below far far s
+  is_below near far (OfUnique s) = is_below far far s
+  is_below near far (OfFull s) = is_below far far s
+  is_below near far _ = true
 
-  pub each_fits : ℕ → ℕ → Forms → Bool
-  each_fits near far no_form = true
-  each_fits near far (then_form s ss) = fits near far s && each_fits near far ss
+  pub each_below : ℕ → ℕ → Forms → Bool
+  each_below near far no_form = true
+  each_below near far (then_form s ss) = is_below near far s && each_below near far ss
 
-  pub arms_fit : ℕ → ℕ → ArmForms → Bool
-  arms_fit near far no_arm = true
-  arms_fit near far (then_arm cases default b rest) = body_fits near far b && arms_fit near far rest
+  pub arms_below : ℕ → ℕ → ArmForms → Bool
+  arms_below near far no_arm = true
+  arms_below near far (then_arm cases default b rest) = body_below near far b && arms_below near far rest
 
-  pub body_fits : ℕ → ℕ → Body → Bool
-  body_fits near far empty = true
-  body_fits near far (holds s) = fits near far s
+  pub body_below : ℕ → ℕ → Body → Bool
+  body_below near far empty = true
+  body_below near far (holds s) = is_below near far s
 
 -- a structure or a union
 abbrev pub is_body : Form → Bool
@@ -41,7 +41,7 @@ is_body _ = false
 -- the types from that number on; far: how many there are
 abbrev pub ordered_from : ℕ → ℕ → List Form → Bool
 ordered_from number far [] = true
-ordered_from number far (s ∷ ss) = is_body s && (fits number far s && ordered_from (number + 1) far ss)
+ordered_from number far (s ∷ ss) = is_body s && (is_below number far s && ordered_from (number + 1) far ss)
 
 -- structures and unions, each of which holds those of lesser numbers, and points to any of them
 abbrev pub ordered : List Form → Bool

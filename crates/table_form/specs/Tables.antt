@@ -7,7 +7,7 @@ use Rattle.ndr_value.specs.Forms.{Form, form}
 use Rattle.table_form.specs.declared.operation.HandleUse.{HandleUse}
 use Rattle.table_form.specs.declared.operation.Op.{Op}
 use Rattle.table_form.specs.declared.operation.Param.{Param}
-use Rattle.table_form.specs.Ordered.{fits, ordered}
+use Rattle.table_form.specs.Ordered.{is_below, ordered}
 
 pub record ParamForm : Type 0 where
   pub shape : Form
@@ -41,15 +41,15 @@ op_form o = record { name = o.name; params = map param_form o.params.items; resu
 
 -- ---- names are those of the table's types
 
-abbrev pub param_fits : ℕ → ParamForm → Bool
-param_fits far p = fits far far p.shape
+abbrev pub param_below : ℕ → ParamForm → Bool
+param_below far p = is_below far far p.shape
 
-abbrev pub result_fits : ℕ → Option Form → Bool
-result_fits far None = true
-result_fits far (Some s) = fits far far s
+abbrev pub result_below : ℕ → Option Form → Bool
+result_below far None = true
+result_below far (Some s) = is_below far far s
 
-abbrev pub op_fits : ℕ → OpForm → Bool
-op_fits far o = list_all (param_fits far) o.params && result_fits far o.result
+abbrev pub op_below : ℕ → OpForm → Bool
+op_below far o = list_all (param_below far) o.params && result_below far o.result
 
 -- what holds of every table; an operation has four handles at most
 pub record IsTable (types : List Form) (ops : List OpForm) (uses : List (List HandleUse)) : Type 0 where
@@ -57,4 +57,4 @@ pub record IsTable (types : List Form) (ops : List OpForm) (uses : List (List Ha
   pub of_each : length uses ≡ length ops
   pub few_uses : list_all (λ us. nat_le (length us) 4) uses ≡ true
   pub types_are : ordered types ≡ true
-  pub ops_are : list_all (op_fits (length types)) ops ≡ true
+  pub ops_are : list_all (op_below (length types)) ops ≡ true

@@ -5,11 +5,12 @@
 
 mod align;
 mod copies;
+mod nesting;
 mod operation;
 mod table;
-mod whole;
+mod tails;
 
 pub use align::octets;
+pub use nesting::{MOST_LEVELS, has_few_levels};
 pub use operation::{HandleUse, HandleUses, Op, Ops, Param, Params, Uses};
 pub use table::Table;
-pub use whole::is_table;

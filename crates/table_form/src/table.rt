@@ -2,11 +2,15 @@
 ghost use Rattle.std.specs.Prelude.{◌≡◌, map};
 ghost use Rattle.ndr_value.specs.Forms.{types_of};
 ghost use Rattle.table_form.specs.Aligned.{alignments};
+ghost use Rattle.table_form.specs.Nested.{IsShallow};
+ghost use Rattle.table_form.specs.Tails.{tails_of};
 ghost use Rattle.table_form.specs.Tables.{IsTable, op_form};
 
 use crate::align::{align_by, aligns_of};
 use crate::copies;
+use crate::nesting::{depths_of, ops_few};
 use crate::operation::{HandleUses, Op, Ops, Uses};
+use crate::tails::{self, Tails};
 use ndr_value::{Shape, Shapes, copy_shapes};
 use rpc_base::{NoMemory, Octets, SyntaxId};
 use std::alloc::Global;
@@ -20,8 +24,11 @@ pub struct Table {
     ops: Ops,
     uses: Uses,
     aligns: Octets,
+    tails: Tails,
     ghost whole: { IsTable (types_of types.items) (map op_form ops.items) uses.items },
     ghost aligned: { aligns ≡ alignments (types_of types.items) },
+    ghost ended: { tails ≡ tails_of (types_of types.items) },
+    ghost shallow: { IsShallow (types_of types.items) (map op_form ops.items) },
 }
 
 impl Table {
@@ -30,12 +37,15 @@ impl Table {
     ghost use Rattle.table_form.specs.Aligned.{align_of};
     ghost use Rattle.table_form.specs.Ordered.{is_size, ordered};
     ghost use Rattle.table_form.specs.Shown.{shown};
+    ghost use Rattle.table_form.specs.Nested.{IsShallow};
+    ghost use Rattle.table_form.specs.Tails as ends;
 
     /// The table of these types and operations, with the handles of each operation.
     ///
     /// # Errors
     ///
-    /// `NoMemory` where there is no memory for the alignments of the types.
+    /// `NoMemory` where there is no memory for the alignments of the types, or a type, a parameter or a
+    /// result nests by value more than `MOST_LEVELS` levels.
     pub fn of(
         alloc: Global,
         id: SyntaxId,
@@ -46,13 +56,19 @@ impl Table {
         requires { IsTable (types_of types.items) (map op_form ops.items) uses.items }
         ensures { IfOk result (λ table. shown table ≡ record { id = id; types = types_of types.items; ops = map op_form ops.items; uses = uses.items }) }
     {
+        let depths = depths_of(alloc, &types)?;
+        if !ops_few(&ops, depths.as_slice()) {
+            return Err(NoMemory);
+        }
         let aligns = aligns_of(alloc, &types)?;
+        let tails = tails::tails_of(alloc, &types)?;
         Ok(Table {
             id,
             types,
             ops,
             uses,
             aligns,
+            tails,
         })
     }
 
@@ -68,12 +84,14 @@ impl Table {
         let ops = copies::ops(alloc, &self.ops)?;
         let uses = copies::uses(alloc, &self.uses)?;
         let aligns = self.aligns.copy(alloc)?;
+        let tails = self.tails.copy(alloc)?;
         Ok(Table {
             id: self.id,
             types,
             ops,
             uses,
             aligns,
+            tails,
         })
     }
 
@@ -117,6 +135,15 @@ impl Table {
         align_by(shape, self.aligns.as_slice())
     }
 
+    /// Whether a shape that names types of the table ends in a conformant array or text, itself or by
+    /// its last members. The max_count of one stands in front of the outermost structure (C706,
+    /// "Transfer Syntax NDR").
+    pub fn ends_open(&self, shape: &Shape) -> bool
+        ensures { result ≡ ends.ends_open (ends.tails_of (shown self.now).types) (form shape.now) }
+    {
+        tails::ends_by(shape, self.tails.as_slice())
+    }
+
     /// The handles of the operation of that number. None where there are no more than so many
     /// operations.
     pub fn handle_uses(&self, number: u16) -> Option<&HandleUses>
@@ -128,5 +155,11 @@ impl Table {
     /// What holds of every table: the names in its types and operations are of its types.
     pub fn is_whole(&self)
         ensures { IsTable (shown self.now).types (shown self.now).ops (shown self.now).uses }
+    {}
+
+    /// What holds of every table: types, parameters and results nest by value `MOST_LEVELS` levels at
+    /// most.
+    pub fn is_shallow(&self)
+        ensures { IsShallow (shown self.now).types (shown self.now).ops }
     {}
 }

@@ -3,8 +3,8 @@ use Rattle.std.proofs.Common.{◌≡◌, ℕ, Bool, true, false, List, Option, S
 use Rattle.std.specs.Prelude.{bytes_eq, if◌then◌else◌}
 use Rattle.std.specs.BTreeMap.{BTreeMap}
 use Rattle.name_map.specs.Named.{at_name}
-use Rattle.table_scope.specs.declared.known.Meaning.{Meaning}
-use Rattle.table_scope.specs.Known.{Named, Sense, sense, sense_at, put}
+use Rattle.table_scope.specs.declared.symbols.Meaning.{Meaning}
+use Rattle.table_scope.specs.Scopes.{ByName, Sense, sense, sense_at, put}
 
 abbrev Names : Type 0 → Type 0
 Names X = BTreeMap (Vec ℕ Global) X

@@ -21,7 +21,7 @@ use Rattle.ndr_value.specs.declared.shape.Count.TheVariants as counts
 use Rattle.ndr_value.specs.Forms.{Form, OfNamed, OfArray, OfText, OfRef, OfUnique, OfFull}
 use Rattle.table_scope.specs.declared.said.Terms.{Terms}
 use Rattle.table_scope.specs.Marks.{given, says, says_string, pointer_in}
-use Rattle.table_scope.specs.Known.{in_8, in_32, Named}
+use Rattle.table_scope.specs.Scopes.{in_8, in_32, ByName}
 
 -- ---- counts: they name a parameter, or a member of the same body, by its index
 
@@ -81,13 +81,13 @@ pointers inner outer n s = if n == 0 then s else pointer outer (chain inner (n -
 
 -- ---- arrays and texts
 
-abbrev pub size_extent : Named Num → ArraySize → Extent
+abbrev pub size_extent : ByName Num → ArraySize → Extent
 size_extent constants sizes.Empty = extents.Open
 size_extent constants sizes.Star = extents.Open
 size_extent constants (sizes.Number n) = extents.Fixed (Some n)
 size_extent constants (sizes.Named i) = extents.Fixed (constants i.text)
 
-abbrev pub extent : Named Num → Option ArraySize → Extent
+abbrev pub extent : ByName Num → Option ArraySize → Extent
 extent constants None = extents.Single
 extent constants (Some size) = size_extent constants size
 
@@ -148,5 +148,5 @@ target t s = if t.text then OfText None else s
 abbrev pub shaped : Terms → Extent → ℕ → Form → Form
 shaped t e n s = if n == 0 then by_value t e s else array t e (pointers t.inner (outermost t e) n (target t s))
 
-abbrev pub declared : Terms → Named Num → Form → Dtor → Form
+abbrev pub declared : Terms → ByName Num → Form → Dtor → Form
 declared t constants s d = if_tied t.switch (shaped t (extent constants d.array) d.stars s)

@@ -1,3 +1,3 @@
-pub mod Known
+pub mod Scopes
 pub mod Marks
 pub mod Declarators

@@ -1,6 +1,6 @@
 //! Counts, which name a parameter or a member by its index.
 ghost use Rattle.std.specs.Prelude.{◌≡◌, ◌+◌, ◌≤◌, min, length};
-ghost use Rattle.table_scope.specs.Known.{in_8, in_32};
+ghost use Rattle.table_scope.specs.Scopes.{in_8, in_32};
 ghost use Rattle.table_scope.specs.Declarators as spec;
 
 use idl_tree::{Ident, SizeRef};

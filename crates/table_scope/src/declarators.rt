@@ -17,6 +17,7 @@ use name_map::Names;
 use ndr_value::{ArrayKind, Count, Shape, copy_shape};
 use rpc_base::NoMemory;
 use std::alloc::Global;
+use table_form::{MOST_LEVELS, has_few_levels};
 
 /// Whether each declarator has a star.
 pub fn all_pointed(dtors: &[Dtor]) -> bool
@@ -262,7 +263,7 @@ fn boxed(shape: &Shape, alloc: Global, count: Count) -> Result<Box<Shape>, NoMem
 ///
 /// # Errors
 ///
-/// `NoMemory` where there is no memory for it.
+/// `NoMemory` where there is no memory for it, or it nests more than `MOST_LEVELS` levels in place.
 pub fn declared(
     alloc: Global,
     terms: &Terms,
@@ -272,8 +273,14 @@ pub fn declared(
 ) -> Result<Shape, NoMemory>
     ensures { IfOk result (λ s. form s ≡ spec.declared terms.now (at_name constants.now) (form shape.now) dtor.now) }
 {
+    if dtor.stars > usize::from(MOST_LEVELS) {
+        return Err(NoMemory);
+    }
     let extent = extent(constants, &dtor.array);
     let shape = shaped(alloc, terms, extent, dtor.stars, shape)?;
+    if !has_few_levels(&shape, &[]) {
+        return Err(NoMemory);
+    }
     match terms.switch {
         None => Ok(shape),
         Some(count) => tied(&shape, alloc, count),

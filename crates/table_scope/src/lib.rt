@@ -4,17 +4,17 @@
 
 mod counts;
 mod declarators;
-mod known;
 mod marks;
 mod said;
 mod scope;
+mod symbols;
 
 pub use counts::kept_16;
 pub use declarators::{all_pointed, declared, terms};
-pub use known::{Known, Meaning, Sort, Tag};
 pub use marks::{is_serialised, says_handle, says_in, says_maybe, says_out};
 pub use said::Terms;
 pub use scope::{
     add, begun, constant_named, ended, nothing, nothing_known, struct_shape, tag_shape, type_named,
     union_shape, valued, with_constant, with_handle, with_names, with_type,
 };
+pub use symbols::{Meaning, Sort, Symbols, Tag};

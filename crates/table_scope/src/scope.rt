@@ -2,11 +2,11 @@
 ghost use Rattle.std.specs.Prelude.{◌≡◌, ◌+◌, ◌∷◌, [], length, map, IfOk, OnOk, None, Some};
 ghost use Rattle.ndr_value.specs.Forms.{form, forms, arms_of, types_of, OfStruct, OfUnion};
 ghost use Rattle.name_map.specs.Named.{at_name};
-ghost use Rattle.table_scope.specs.Known as spec;
-ghost use Rattle.table_scope.specs.Known.{sense, scope, handle_sense};
+ghost use Rattle.table_scope.specs.Scopes as spec;
+ghost use Rattle.table_scope.specs.Scopes.{sense, scope, handle_sense};
 
 use crate::counts::kept_16;
-use crate::known::{Known, Meaning, Sort, Tag};
+use crate::symbols::{Meaning, Sort, Symbols, Tag};
 use idl_tree::{Ident, Num};
 use name_map::{Names, named, put};
 use ndr_value::{Arms, Shape, Shapes, copy_shape};
@@ -63,7 +63,7 @@ fn key_of(alloc: Global, name: &Ident) -> Result<Vec<u8>, NoMemory>
 ///
 /// `NoMemory` where there is no memory for it, as for each of these.
 pub fn with_type(
-    known: &mut Known,
+    known: &mut Symbols,
     alloc: Global,
     name: &Ident,
     meaning: Meaning,
@@ -88,7 +88,7 @@ fn handle_meaning(kinds: usize, serialised: bool) -> Meaning
 
 /// The name of a type of context handles.
 pub fn with_handle(
-    known: &mut Known,
+    known: &mut Symbols,
     alloc: Global,
     name: &Ident,
     serialised: bool,
@@ -104,7 +104,7 @@ pub fn with_handle(
 
 /// The name of a constant.
 pub fn with_constant(
-    known: &mut Known,
+    known: &mut Symbols,
     alloc: Global,
     name: &Ident,
     value: Num,
@@ -117,7 +117,7 @@ pub fn with_constant(
 }
 
 /// The names of an enumeration.
-pub fn with_names(known: &mut Known, alloc: Global, names: &[Ident]) -> Result<(), NoMemory>
+pub fn with_names(known: &mut Symbols, alloc: Global, names: &[Ident]) -> Result<(), NoMemory>
     ensures { OnOk result (scope known.new ≡ spec.with_names 0 names.now (scope known.old)) }
 {
     let mut number = 0;
@@ -134,7 +134,7 @@ pub fn with_names(known: &mut Known, alloc: Global, names: &[Ident]) -> Result<(
 }
 
 // A structure's tag.
-fn with_tag(known: &mut Known, alloc: Global, name: &Ident, tag: Tag) -> Result<(), NoMemory>
+fn with_tag(known: &mut Symbols, alloc: Global, name: &Ident, tag: Tag) -> Result<(), NoMemory>
     ensures { OnOk result (scope known.new ≡ spec.with_tag name.now tag (scope known.old)) }
 {
     let key = key_of(alloc, name)?;
@@ -143,7 +143,7 @@ fn with_tag(known: &mut Known, alloc: Global, name: &Ident, tag: Tag) -> Result<
 }
 
 // The number of the next type.
-fn next_number(known: &Known) -> usize
+fn next_number(known: &Symbols) -> usize
     ensures { result ≡ length (scope known.now).types }
 {
     known.types.len()
@@ -151,7 +151,7 @@ fn next_number(known: &Known) -> usize
 
 /// The tag of a structure whose body begins, with so many structures and unions within.
 pub fn begun(
-    known: &mut Known,
+    known: &mut Symbols,
     alloc: Global,
     tag: &Option<Ident>,
     within: usize,
@@ -169,7 +169,7 @@ pub fn begun(
 }
 
 // A type.
-fn with_entry(known: &mut Known, entry: Shape) -> Result<(), NoMemory>
+fn with_entry(known: &mut Symbols, entry: Shape) -> Result<(), NoMemory>
     ensures { OnOk result (scope known.new ≡ spec.with_entry (form entry) (scope known.old)) }
 {
     known.types.push(entry)?;
@@ -178,7 +178,7 @@ fn with_entry(known: &mut Known, entry: Shape) -> Result<(), NoMemory>
 
 /// A structure or union whose body has ended.
 pub fn ended(
-    known: &mut Known,
+    known: &mut Symbols,
     alloc: Global,
     tag: &Option<Ident>,
     entry: Shape,
@@ -242,7 +242,7 @@ pub fn valued(shape: Shape) -> Meaning
 /// # Errors
 ///
 /// `NoMemory` where there is no memory for a copy of it.
-pub fn type_named(known: &Known, alloc: Global, name: &Ident) -> Result<Meaning, NoMemory>
+pub fn type_named(known: &Symbols, alloc: Global, name: &Ident) -> Result<Meaning, NoMemory>
     ensures { IfOk result (λ m. sense m ≡ spec.type_named name.now.text (scope known.now).named) }
 {
     match named(&known.named, name.text.as_slice()) {
@@ -267,7 +267,7 @@ fn found_shape(alloc: Global, pointed: bool, found: Option<Tag>) -> Shape
 }
 
 /// What a structure's tag stands for. `pointed`: it stands behind a pointer.
-pub fn tag_shape(known: &Known, alloc: Global, pointed: bool, tag: &Option<Ident>) -> Shape
+pub fn tag_shape(known: &Symbols, alloc: Global, pointed: bool, tag: &Option<Ident>) -> Shape
     ensures { form result ≡ spec.tag_form pointed tag.now (scope known.now).tags }
 {
     match tag {
@@ -277,10 +277,10 @@ pub fn tag_shape(known: &Known, alloc: Global, pointed: bool, tag: &Option<Ident
 }
 
 /// Nothing is known. It takes no memory.
-pub fn nothing_known(alloc: Global) -> Known
+pub fn nothing_known(alloc: Global) -> Symbols
     ensures { scope result ≡ spec.nothing_known }
 {
-    Known {
+    Symbols {
         types: Vec::new(alloc),
         kinds: 0,
         named: Names::new(alloc),

@@ -6,11 +6,11 @@ use Rattle.idl_outline.specs.Plain.{PSpec}
 use Rattle.ndr_value.specs.Forms.{Form}
 use Rattle.idl_tree.specs.declared.leaf.Num.{Num}
 use Rattle.table_scope.specs.declared.said.Terms.{Terms}
-use Rattle.table_scope.specs.Known.{Named, Scope}
+use Rattle.table_scope.specs.Scopes.{ByName, Scope}
 use Rattle.table_scope.specs.Declarators.{declared}
 use Rattle.table_specs.specs.Specs.{spec_at}
 
-pub same_declared : (t t' : Terms) (cs cs' : Named Num) (s s' : Form) (ds ds' : List Dtor) → t ≡ t' → cs ≡ cs' → s ≡ s' → ds ≡ ds'
+pub same_declared : (t t' : Terms) (cs cs' : ByName Num) (s s' : Form) (ds ds' : List Dtor) → t ≡ t' → cs ≡ cs' → s ≡ s' → ds ≡ ds'
     → map (declared t cs s) ds ≡ map (declared t' cs' s') ds'
 same_declared t t' cs cs' s s' ds ds' a b c d = cc
 

@@ -17,8 +17,8 @@ use Rattle.idl_outline.specs.Plain.{PSpec, spec, PKind, of_base, of_name, of_voi
 use Rattle.ndr_value.specs.Forms.{Form, OfBool, OfByte, OfChar, OfInt, OfUint, OfEnum, OfNamed, OfStruct, OfUnion, Forms, no_form, then_form, Body, empty, holds, ArmForms}
 use Rattle.ndr_value.specs.Forms.{no_arm as no_arm_form, then_arm as then_arm_form}
 use Rattle.table_form.specs.Aligned.{octets_of}
-use Rattle.table_scope.specs.declared.known.Sort.TheVariants as sorts
-use Rattle.table_scope.specs.Known.{Named, Sense, Scope, in_16, nothing, valued, status_sense, shapeless, type_named, tag_form, with_names, begun, ended}
+use Rattle.table_scope.specs.declared.symbols.Sort.TheVariants as sorts
+use Rattle.table_scope.specs.Scopes.{ByName, Sense, Scope, in_16, nothing, valued, status_sense, shapeless, type_named, tag_form, with_names, begun, ended}
 use Rattle.table_scope.specs.Declarators.{terms, declared}
 
 -- ---- small parts
@@ -58,7 +58,7 @@ or_nothing (Some s) = s
 abbrev pub case_number : Num → ℤ
 case_number n = if n.minus then neg_ℤ (pos (min n.value (2 ^ 63))) else pos (min n.value (2 ^ 63 - 1))
 
-abbrev pub label_number : Named Num → LabelKind → Option Num
+abbrev pub label_number : ByName Num → LabelKind → Option Num
 label_number constants (labels.Number n) = Some n
 label_number constants (labels.Named i) = constants i.text
 label_number constants labels.Default = None
@@ -67,7 +67,7 @@ abbrev pub if_case : Option Num → List ℤ
 if_case None = []
 if_case (Some n) = case_number n ∷ []
 
-abbrev pub cases : Named Num → List Label → List ℤ
+abbrev pub cases : ByName Num → List Label → List ℤ
 cases constants ls = flat_map (λ l. if_case (label_number constants l.what)) ls
 
 abbrev pub is_default : LabelKind → Bool

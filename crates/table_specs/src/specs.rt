@@ -4,7 +4,7 @@ ghost use Rattle.std.specs.Option.{option_or};
 ghost use Rattle.ndr_value.specs.Forms.{form, face, body, OfUnion};
 ghost use Rattle.table_form.specs.Tables.{result_form};
 ghost use Rattle.idl_outline.specs.Plain.{plain_spec, plain_kind, plain_member, plain_members, plain_switch, plain_arm, plain_arms, plain_mark, plain_attr, plain_attrs, of_tag, of_struct, of_union, of_enum, no_switch};
-ghost use Rattle.table_scope.specs.Known.{sense, scope, status_sense, shapeless, begun};
+ghost use Rattle.table_scope.specs.Scopes.{sense, scope, status_sense, shapeless, begun};
 ghost use Rattle.table_scope.specs.Declarators as declarators;
 ghost use Rattle.name_map.specs.Named.{at_name};
 ghost use Rattle.table_specs.specs.Specs as spec;
@@ -21,8 +21,8 @@ use rpc_base::NoMemory;
 use std::alloc::Global;
 use table_form::octets;
 use table_scope::{
-    Known, Meaning, Sort, Terms, all_pointed, begun, declared, ended, kept_16, nothing, tag_shape,
-    terms, type_named, union_shape, valued, with_names,
+    Meaning, Sort, Symbols, Terms, all_pointed, begun, declared, ended, kept_16, nothing,
+    tag_shape, terms, type_named, union_shape, valued, with_names,
 };
 
 fn base_shape(base: Base) -> Shape
@@ -69,7 +69,7 @@ fn union_entry(tag: Box<Shape>, arms: Arms) -> Shape
 }
 
 // The type that has just ended.
-fn newest(known: &Known) -> Meaning
+fn newest(known: &Symbols) -> Meaning
     ensures { sense result ≡ spec.numbered (scope known.now) }
 {
     valued(Shape::Named(known.types.len(), None))
@@ -112,7 +112,7 @@ fn first_of(tag: Option<Shape>, next: Option<Shape>) -> Option<Shape>
 }
 
 // An enumeration of these names.
-fn enumeration(known: &mut Known, alloc: Global, names: &[Ident]) -> Result<Meaning, NoMemory>
+fn enumeration(known: &mut Symbols, alloc: Global, names: &[Ident]) -> Result<Meaning, NoMemory>
     ensures value { IfOk result (λ m. sense m ≡ spec.enum_sense names.now) }
     ensures past { OnOk result (scope known.new ≡ spec.enum_past names.now (scope known.old)) }
 {
@@ -130,7 +130,7 @@ fn enumeration(known: &mut Known, alloc: Global, names: &[Ident]) -> Result<Mean
 pub fn spec_meaning(
     of: &Spec,
     alloc: Global,
-    known: &mut Known,
+    known: &mut Symbols,
     default: Pk,
     pointed: bool,
     given: &Option<Shape>,
@@ -145,7 +145,7 @@ pub fn spec_meaning(
 fn kind_meaning(
     kind: &SpecKind,
     alloc: Global,
-    known: &mut Known,
+    known: &mut Symbols,
     default: Pk,
     pointed: bool,
     given: &Option<Shape>,
@@ -186,7 +186,7 @@ fn kind_meaning(
 fn structure(
     list: &[Member],
     alloc: Global,
-    known: &mut Known,
+    known: &mut Symbols,
     default: Pk,
     tag: &Option<Ident>,
 ) -> Result<Meaning, NoMemory>
@@ -207,7 +207,7 @@ fn structure(
 fn union_meaning(
     list: &[ArmNode],
     alloc: Global,
-    known: &mut Known,
+    known: &mut Symbols,
     default: Pk,
     tag: Shape,
 ) -> Result<Meaning, NoMemory>
@@ -224,7 +224,12 @@ fn union_meaning(
 
 // The type of the tag that a union's switch names.
 #[cycle(specs)]
-fn switch_tag(by: &Switch, alloc: Global, known: &mut Known, default: Pk) -> Result<Shape, NoMemory>
+fn switch_tag(
+    by: &Switch,
+    alloc: Global,
+    known: &mut Symbols,
+    default: Pk,
+) -> Result<Shape, NoMemory>
     ensures value { IfOk result (λ s. form s ≡ (spec.switch_at default None (plain_switch by.now) (scope known.old)).0) }
     ensures past { OnOk result (scope known.new ≡ (spec.switch_at default None (plain_switch by.now) (scope known.old)).1) }
 {
@@ -242,7 +247,7 @@ fn switch_tag(by: &Switch, alloc: Global, known: &mut Known, default: Pk) -> Res
 pub fn attrs_tag(
     list: &[Attr],
     alloc: Global,
-    known: &mut Known,
+    known: &mut Symbols,
     default: Pk,
 ) -> Result<Option<Shape>, NoMemory>
     ensures value { IfOk result (λ o. result_form o ≡ (spec.attrs_at default (plain_attrs list.now) (scope known.old)).0) }
@@ -260,7 +265,7 @@ pub fn attrs_tag(
 fn attr_tag(
     attr: &Attr,
     alloc: Global,
-    known: &mut Known,
+    known: &mut Symbols,
     default: Pk,
 ) -> Result<Option<Shape>, NoMemory>
     ensures value { IfOk result (λ o. result_form o ≡ (spec.attr_at default (plain_attr attr.now) (scope known.old)).0) }
@@ -273,7 +278,7 @@ fn attr_tag(
 fn mark_tag(
     kind: &AttrKind,
     alloc: Global,
-    known: &mut Known,
+    known: &mut Symbols,
     default: Pk,
 ) -> Result<Option<Shape>, NoMemory>
     ensures value { IfOk result (λ o. result_form o ≡ (spec.mark_at default (plain_mark kind.now) (scope known.old)).0) }
@@ -305,7 +310,7 @@ fn mark_tag(
 fn member_shapes(
     member: &Member,
     alloc: Global,
-    known: &mut Known,
+    known: &mut Symbols,
     default: Pk,
     names: &[Ident],
     into: &mut Shapes,
@@ -332,7 +337,7 @@ fn member_shapes(
 fn members_shapes(
     list: &[Member],
     alloc: Global,
-    known: &mut Known,
+    known: &mut Symbols,
     default: Pk,
     names: &[Ident],
 ) -> Result<Shapes, NoMemory>
@@ -350,7 +355,7 @@ fn members_shapes(
 fn arms_of(
     list: &[ArmNode],
     alloc: Global,
-    known: &mut Known,
+    known: &mut Symbols,
     default: Pk,
     names: &[Ident],
 ) -> Result<Arms, NoMemory>
@@ -368,7 +373,7 @@ fn arms_of(
 fn arm_of(
     node: &ArmNode,
     alloc: Global,
-    known: &mut Known,
+    known: &mut Symbols,
     default: Pk,
     names: &[Ident],
 ) -> Result<Arm, NoMemory>
@@ -398,7 +403,7 @@ fn arm_of(
 fn arm_shape(
     member: &Member,
     alloc: Global,
-    known: &mut Known,
+    known: &mut Symbols,
     default: Pk,
     names: &[Ident],
 ) -> Result<Option<Shape>, NoMemory>

@@ -1,5 +1,5 @@
 use Rattle.std.proofs.Common.{◌≡◌, drop}
-use Rattle.table_scope.specs.Known.{sense, scope}
+use Rattle.table_scope.specs.Scopes.{sense, scope}
 use Rattle.marshal_table.specs.Interfaces.{typedef_all}
 use Rattle.marshal_table.proofs.interface.typedef_all.Given as goal
 

@@ -1,5 +1,5 @@
 use Rattle.std.proofs.Common.{◌≡◌, drop}
-use Rattle.table_scope.specs.Known.{scope}
+use Rattle.table_scope.specs.Scopes.{scope}
 use Rattle.marshal_table.specs.Interfaces.{listing, joined, params_at}
 use Rattle.marshal_table.proofs.params.params.Given as goal
 

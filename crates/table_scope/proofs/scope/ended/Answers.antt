@@ -1,7 +1,7 @@
 use Rattle.std.proofs.Common.{◌≡◌, Option, ap, subst, sym, ◌∙◌, length, OnOk, true}
 use Rattle.idl_tree.specs.declared.leaf.Ident.{Ident}
 use Rattle.ndr_value.specs.Forms.{form}
-use Rattle.table_scope.specs.Known.{Scope, scope, with_tag, ended}
+use Rattle.table_scope.specs.Scopes.{Scope, scope, with_tag, ended}
 use Rattle.table_scope.proofs.scope.ended.Goals as goal
 
 pub returns-in-Some : goal.returns-in-Some

@@ -1,5 +1,5 @@
 use Rattle.std.proofs.Common.{◌≡◌, ap, ◌∙◌}
-use Rattle.table_scope.specs.Known.{scope, handle_sense, with_type}
+use Rattle.table_scope.specs.Scopes.{scope, handle_sense, with_type}
 use Rattle.table_scope.proofs.scope.with_handle.Goals as goal
 
 pub returns : goal.returns

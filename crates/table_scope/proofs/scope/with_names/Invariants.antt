@@ -1,5 +1,5 @@
 use Rattle.std.proofs.Common.{◌≡◌, drop}
-use Rattle.table_scope.specs.Known.{scope, with_names}
+use Rattle.table_scope.specs.Scopes.{scope, with_names}
 use Rattle.table_scope.proofs.scope.with_names.Given as goal
 
 abbrev pub invariant-loop-name : goal.invariant-loop-name

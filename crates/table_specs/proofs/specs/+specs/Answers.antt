@@ -7,7 +7,7 @@ use Rattle.idl_outline.specs.Plain.{PKind, plain_spec, plain_switch, plain_arms,
 use Rattle.ndr_value.specs.Forms.{Form, form}
 use Rattle.table_form.specs.Tables.{result_form}
 use Rattle.name_map.specs.Named.{at_name}
-use Rattle.table_scope.specs.Known.{Sense, Scope, sense, scope}
+use Rattle.table_scope.specs.Scopes.{Sense, Scope, sense, scope}
 use Rattle.table_scope.specs.Declarators.{terms}
 use Rattle.table_specs.specs.Specs.{kind_at, spec_at, switch_at, union_at, arms_at, arm_names, attrs_at, or_nothing}
 use Rattle.table_specs.proofs.Layers.{is_struct, is_bare_union, is_union}

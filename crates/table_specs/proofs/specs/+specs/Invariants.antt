@@ -3,7 +3,7 @@ use Rattle.std.specs.Option.{option_or}
 use Rattle.ndr_value.specs.Forms.{form, face}
 use Rattle.table_form.specs.Tables.{result_form}
 use Rattle.idl_outline.specs.Plain.{plain_attrs, plain_members, plain_arms}
-use Rattle.table_scope.specs.Known.{scope}
+use Rattle.table_scope.specs.Scopes.{scope}
 use Rattle.table_specs.specs.Specs.{attrs_at, members_at, arms_at}
 use Rattle.table_specs.proofs.specs.+specs.Given as goal
 

@@ -6,11 +6,11 @@ use Rattle.idl_tree.specs.declared.leaf.Ident.{Ident}
 use Rattle.idl_tree.specs.declared.leaf.Num.{Num}
 use Rattle.name_map.specs.Named.{at_name}
 use Rattle.ndr_value.specs.Forms.{Form, OfUint, OfNamed, OfStruct, OfHandle, no_form, form, types_of}
-use Rattle.table_scope.specs.declared.known.Sort.{Sort}
-use Rattle.table_scope.specs.declared.known.Sort.TheVariants as sorts
-use Rattle.table_scope.specs.declared.known.Meaning.{Meaning}
-use Rattle.table_scope.specs.declared.known.Tag.{Tag}
-use Rattle.table_scope.specs.declared.known.Known.{Known}
+use Rattle.table_scope.specs.declared.symbols.Sort.{Sort}
+use Rattle.table_scope.specs.declared.symbols.Sort.TheVariants as sorts
+use Rattle.table_scope.specs.declared.symbols.Meaning.{Meaning}
+use Rattle.table_scope.specs.declared.symbols.Tag.{Tag}
+use Rattle.table_scope.specs.declared.symbols.Symbols.{Symbols}
 
 -- ---- numbers as a table keeps them: no interface that keeps the rules has greater ones
 
@@ -49,19 +49,19 @@ abbrev pub handle_sense : ℕ → Bool → Sense
 handle_sense kind serialised = record { shape = OfHandle (in_16 kind); sort = sorts.Handle (in_16 kind) serialised }
 
 -- what stands at each name
-abbrev pub Named : Type 0 → Type 0
-Named X = List ℕ → Option X
+abbrev pub ByName : Type 0 → Type 0
+ByName X = List ℕ → Option X
 
-abbrev pub put : {X : Type 0} → List ℕ → X → Named X → Named X
+abbrev pub put : {X : Type 0} → List ℕ → X → ByName X → ByName X
 put name x named = λ other. if bytes_eq name other then Some x else named other
 
 pub record Scope : Type 0 where
   pub types : List Form
   -- how many types of context handles there are
   pub kinds : ℕ
-  pub named : Named Sense
-  pub constants : Named Num
-  pub tags : Named Tag
+  pub named : ByName Sense
+  pub constants : ByName Num
+  pub tags : ByName Tag
 
 abbrev pub nothing_known : Scope
 nothing_known = record { types = []; kinds = 0; named = λ name. None; constants = λ name. None; tags = λ name. None }
@@ -75,7 +75,7 @@ abbrev pub sense_at : Option Meaning → Option Sense
 sense_at None = None
 sense_at (Some m) = Some (sense m)
 
-abbrev pub scope : Known → Scope
+abbrev pub scope : Symbols → Scope
 scope k = record { types = types_of k.types.items; kinds = k.kinds; named = λ name. sense_at (at_name k.named name); constants = λ name. at_name k.constants name; tags = λ name. at_name k.tags name }
 
 -- ---- what names stand for
@@ -84,7 +84,7 @@ abbrev pub or_nothing : Option Sense → Sense
 or_nothing None = valued nothing
 or_nothing (Some m) = m
 
-abbrev pub type_named : List ℕ → Named Sense → Sense
+abbrev pub type_named : List ℕ → ByName Sense → Sense
 type_named name named = or_nothing (named name)
 
 -- inside of its body a structure is known behind a pointer alone
@@ -92,7 +92,7 @@ abbrev pub found_form : Bool → Option Tag → Form
 found_form pointed None = nothing
 found_form pointed (Some t) = if t.whole then OfNamed t.number None else (if pointed then OfNamed t.number None else nothing)
 
-abbrev pub tag_form : Bool → Option Ident → Named Tag → Form
+abbrev pub tag_form : Bool → Option Ident → ByName Tag → Form
 tag_form pointed None tags = nothing
 tag_form pointed (Some i) tags = found_form pointed (tags i.text)
 

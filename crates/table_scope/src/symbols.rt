@@ -33,7 +33,7 @@ pub struct Tag {
 
 /// What is known at a place.
 #[derive(Drop)]
-pub struct Known {
+pub struct Symbols {
     /// The structures and unions whose bodies have ended.
     pub types: Shapes,
     /// How many types of context handles are declared.
