@@ -1,5 +1,5 @@
 -- The test of two shapes tells whether they are the same.
-use Rattle.std.proofs.Common.{◌≡◌, ℕ, ℤ, Bool, true, false, List, [], ◌∷◌, Option, Some, None, refl, ap, arith}
+use Rattle.std.proofs.Common.{◌≡◌, ℕ, ℤ, Bool, true, false, List, [], ◌∷◌, Option, Some, None, refl, ap, subst, ◌∙◌, arith}
 use Rattle.std.specs.Prelude.{◌==◌, ◌&&◌}
 use Rattle.std.specs.Ordering.{int_eq}
 use Rattle.ndr_value.specs.declared.shape.Count.{Count}
@@ -88,3 +88,78 @@ mutual
       let r = and_is (same_cases as' bs) (same_bool a b) q.0 in
       let f = cases_are as' bs r.0 in let g = bool_is a b r.1 in let h = body_is x y q.1 in let i = arms_are xs ys p.1 in cc
   arms_are _ _ e = absurd cc
+
+-- ---- shapes that are the same pass the test
+
+and_so : (a b : Bool) → a ≡ true → b ≡ true → (a && b) ≡ true
+and_so a b e f = ap (λ x. x && b) e ∙ f
+
+num_same : (a b : ℕ) → a ≡ b → (a == b) ≡ true
+num_same a b e = grind (arith, e)
+
+bool_self : (b : Bool) → same_bool b b ≡ true
+bool_self true = refl
+bool_self false = refl
+
+count_self : (c : Count) → same_count c c ≡ true
+count_self (Number a) = num_same a a refl
+count_self (Param i t p) = and_so ((i == i) && same_bool t t) (p == p) (and_so (i == i) (same_bool t t) (num_same i i refl) (bool_self t)) (num_same p p refl)
+count_self (Member i p) = and_so (i == i) (p == p) (num_same i i refl) (num_same p p refl)
+
+kind_self : (k : ArrayKind) → same_kind k k ≡ true
+kind_self (Fixed a) = num_same a a refl
+kind_self (Varying a c) = and_so (a == a) (same_count c c) (num_same a a refl) (count_self c)
+kind_self (Conformant c) = count_self c
+kind_self (ConformantVarying c d) = and_so (same_count c c) (same_count d d) (count_self c) (count_self d)
+
+size_self : (o : Option ℕ) → same_size o o ≡ true
+size_self None = refl
+size_self (Some a) = num_same a a refl
+
+int_self : (z : ℤ) → int_eq z z ≡ true
+int_self z = grind (arith)
+
+cases_self : (zs : List ℤ) → same_cases zs zs ≡ true
+cases_self [] = refl
+cases_self (z ∷ zs) = and_so (int_eq z z) (same_cases zs zs) (int_self z) (cases_self zs)
+
+mutual
+  pub same_of : (s t : Form) → IsSame s t → same s t ≡ true
+  same_of OfBool OfBool e = refl
+  same_of OfByte OfByte e = refl
+  same_of OfChar OfChar e = refl
+  same_of (OfInt a) (OfInt b) e = num_same a b cc
+  same_of (OfUint a) (OfUint b) e = num_same a b cc
+  same_of (OfEnum a) (OfEnum b) e = num_same a b cc
+  same_of (OfNamed a c) (OfNamed b d) e = num_same a b cc
+  same_of (OfStruct ss) (OfStruct ts) e = each_of ss ts cc
+  same_of (OfUnion s xs) (OfUnion t ys) e = and_so (same s t) (same_arms xs ys) (same_of s t cc) (arms_of xs ys cc)
+  same_of (OfArray a s) (OfArray b t) e = let k : a ≡ b = cc in and_so (same_kind a b) (same s t) (subst (λ (x : ArrayKind). same_kind a x ≡ true) k (kind_self a)) (same_of s t cc)
+  same_of (OfText a) (OfText b) e = let k : a ≡ b = cc in subst (λ (x : Option ℕ). same_size a x ≡ true) k (size_self a)
+  same_of (OfRef s) (OfRef t) e = same_of s t cc
+  same_of (OfUnique s) (OfUnique t) e = same_of s t cc
+  same_of (OfFull s) (OfFull t) e = same_of s t cc
+  same_of (OfHandle a) (OfHandle b) e = num_same a b cc
+  same_of _ _ e = absurd cc
+
+  each_of : (ss ts : Forms) → bare_forms ss ≡ bare_forms ts → same_each ss ts ≡ true
+  each_of no_form no_form e = refl
+  each_of (then_form s ss) (then_form t ts) e = and_so (same s t) (same_each ss ts) (same_of s t cc) (each_of ss ts cc)
+  each_of _ _ e = absurd cc
+
+  body_of : (x y : Body) → bare_body x ≡ bare_body y → same_body x y ≡ true
+  body_of empty empty e = refl
+  body_of (holds s) (holds t) e = same_of s t cc
+  body_of _ _ e = absurd cc
+
+  arms_of : (xs ys : ArmForms) → bare_arms xs ≡ bare_arms ys → same_arms xs ys ≡ true
+  arms_of no_arm no_arm e = refl
+  arms_of (then_arm as' a x xs) (then_arm bs b y ys) e =
+      let k : as' ≡ bs = cc in
+      let l : a ≡ b = cc in
+      and_so ((same_cases as' bs && same_bool a b) && same_body x y) (same_arms xs ys)
+      (and_so (same_cases as' bs && same_bool a b) (same_body x y)
+      (and_so (same_cases as' bs) (same_bool a b) (subst (λ (z : List ℤ). same_cases as' z ≡ true) k (cases_self as')) (subst (λ (z : Bool). same_bool a z ≡ true) l (bool_self a)))
+      (body_of x y cc))
+      (arms_of xs ys cc)
+  arms_of _ _ e = absurd cc

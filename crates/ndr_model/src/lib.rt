@@ -6,4 +6,4 @@ mod departure;
 mod laws;
 
 pub use departure::Departure;
-pub use laws::read_values_stand;
+pub use laws::{read_values_stand, same_is_tested};
