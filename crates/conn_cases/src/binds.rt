@@ -53,7 +53,7 @@ fn whole_connections(rt: HostRuntime) -> Result<(), NoMemory> {
 }
 
 /// What a server agrees to.
-const AGREED: [&str; 6] = [
+const AGREED: [&str; 7] = [
     // Three offers of the store by which Windows finds out what a server knows: over NDR, over NDR64, and its
     // feature negotiation. Maxima of 5,840 are more than a server wants.
     "
@@ -73,11 +73,19 @@ feed BIND =16:d0169805
 group 0
 bound 1 ACK =16:9805b810
 ",
+    // One octet less than the server sends and takes at most, and one more than the least.
+    "
+feed BIND =16:b7109905
+group 0
+bound 1 ACK =16:9905b710
+",
     // A group that is there, and the last id.
     "
 feed BIND =20:07000000
 group 7
+held
 bound 7 ACK =20:07000000
+open
 none
 ",
     "

@@ -178,7 +178,27 @@ fn called_off_between_fragments(rt: HostRuntime) -> Result<(), NoMemory> {
 }
 
 /// The same while a call is unanswered, and what has to wait then.
-const UNANSWERED: [&str; 6] = [
+const UNANSWERED: [&str; 7] = [
+    // What stands in front holds others up once its header has come, unless it calls off.
+    "
+open
+feed OPEN
+call 2 0 0 0 little - 05000000
+open
+feed 05000003 10000000
+none
+open
+feed 1c000000 03000000 04000000 00000000 05000000
+none
+held
+drop
+call 3 0 0 0 little - 05000000
+open
+feed CANCEL =12:03
+open
+cancel 3
+open
+",
     // Each acts at once, and again; one of another call is ignored.
     "
 feed OPEN
@@ -275,7 +295,7 @@ fn while_a_call_is_unanswered(rt: HostRuntime) -> Result<(), NoMemory> {
 }
 
 /// Answers of calls.
-const ANSWERED: [&str; 5] = [
+const ANSWERED: [&str; 6] = [
     // A fault before the call was executed, and one of an executed call.
     "
 feed OPEN
@@ -306,8 +326,16 @@ none
 feed OPEN =12:03
 call 3 0 0 0 little - 05000000
 ",
-    // Stubs of no octets, of one fragment, and of one octet more.
     "
+feed 05000003 00000000 001c0000 00000002 00000004 00070000 00000005
+answer 05000323 00000000 00200000 00000002 00000000 00070000 1c00001c 00000000
+none
+",
+    // Stubs of no octets, of three, of one fragment, and of one octet more.
+    "
+feed OPEN
+call 2 0 0 0 little - 05000000
+out 070809 as 05000203 10000000 1b000000 02000000 03000000 00000000 070809
 feed OPEN
 call 2 0 0 0 little - 05000000
 out as 05000203 10000000 18000000 02000000 00000000 00000000

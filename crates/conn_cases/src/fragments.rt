@@ -1,6 +1,6 @@
 //! Requests and responses in fragments.
 
-use crate::play::{agree, wrong_line};
+use crate::play::{agree, wrong_line, wrong_whole_line};
 use rpc_base::NoMemory;
 use std::alloc::Global;
 use std::process::Abort;
@@ -135,22 +135,22 @@ fn responses_as_large_as_the_client_takes(rt: HostRuntime) -> Result<(), NoMemor
     Ok(())
 }
 
-/// 256 fragments of 65,535 octets have 16,770,816 octets of stub data. With 6,400 more they have 16 MiB.
+/// 1,024 fragments of 65,535 octets have 67,083,264 octets of stub data. With 25,600 more they have 64 MiB.
 const LONG: [&str; 2] = [
     "
 feed 05000001 10000000 ffff0000 02000000 00000000 00000000 @0+65511
 none
-times 255 05000000 10000000 ffff0000 02000000 00000000 00000000 @0+65511
-feed 05000002 10000000 18190000 02000000 00000000 00000000 @0+6400
-call 2 16777216
+times 1023 05000000 10000000 ffff0000 02000000 00000000 00000000 @0+65511
+feed 05000002 10000000 18640000 02000000 00000000 00000000 @0+25600
+call 2 67108864
 out 00 as 05000203 10000000 19000000 02000000 01000000 00000000 00
 none
 ",
     "
 feed 05000001 10000000 ffff0000 02000000 00000000 00000000 @0+65511
 none
-times 255 05000000 10000000 ffff0000 02000000 00000000 00000000 @0+65511
-feed 05000000 10000000 19190000 02000000 00000000 00000000 @0+6401
+times 1023 05000000 10000000 ffff0000 02000000 00000000 00000000 @0+65511
+feed 05000000 10000000 19640000 02000000 00000000 00000000 @0+25601
 close long BROKEN
 none
 feed 05000002 10000000 18000000 02000000 00000000 00000000
@@ -159,6 +159,10 @@ none
 ];
 
 #[test]
-fn sixteen_mebioctets_and_one_octet_more(rt: HostRuntime) -> Result<(), NoMemory> {
-    hold(&rt, rt.alloc(), &LONG)
+fn the_longest_stub_and_one_octet_more(rt: HostRuntime) -> Result<(), NoMemory> {
+    for case in LONG {
+        let text = format!(in rt.alloc(); "feed BIND\ngroup 0\nbound 1 ACK\n{case}")?;
+        assert_eq!(rt; wrong_whole_line(rt.alloc(), text.as_str())?, 0, "{case}");
+    }
+    Ok(())
 }

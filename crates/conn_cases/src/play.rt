@@ -92,6 +92,8 @@ fn step(alloc: Global, conn: &mut Conn, line: &[u8], singly: bool) -> Result<boo
     match *verb {
         b"feed" => feed(alloc, conn, words, singly),
         b"times" => feed_often(alloc, conn, words),
+        b"held" => Ok(conn.must_wait()),
+        b"open" => Ok(!conn.must_wait()),
         verb if answers(verb) => answer(alloc, conn, verb, words),
         verb => next_is(alloc, conn, verb, words),
     }
@@ -110,8 +112,13 @@ fn play(alloc: Global, text: &str, singly: bool) -> Result<usize, NoMemory> {
     Ok(0)
 }
 
+/// The same, where octets come whole alone.
+pub fn wrong_whole_line(alloc: Global, text: &str) -> Result<usize, NoMemory> {
+    play(alloc, text, false)
+}
+
 /// Plays the lines one after the other: `feed OCTETS` lets octets come, whole and then again one by one; `none`
-/// wants no act; others want an act, or answer the group or the call. The number of the first line that doesn't
+/// wants no act; `held` wants that what stands in front must wait, and `open` that it needn't; others want an act, or answer the group or the call. The number of the first line that doesn't
 /// hold, or 0.
 pub fn wrong_line(alloc: Global, text: &str) -> Result<usize, NoMemory> {
     match play(alloc, text, false)? {

@@ -4,7 +4,7 @@ use crate::octets::octets_of;
 use conn_core::{Act, Conn, ConnFault};
 use handle_model::Said;
 use pdu_codec::PduFault;
-use pdu_stream::{JoinFault, Joined};
+use pdu_stream::{JoinFault, Joined, MOST_STUB};
 use rpc_base::{NoMemory, Octets, Order, Status};
 use rpc_words::{read_hex_u32, read_u16, read_u32};
 use std::alloc::Global;
@@ -175,7 +175,7 @@ fn out_answer(alloc: Global, conn: &mut Conn, words: &[&[u8]]) -> Result<bool, N
     let Some(stub) = octets_of(alloc, stub)? else {
         return Ok(false);
     };
-    if stub.len() > 0x100_0000 || !conn.is_calling() {
+    if stub.len() > MOST_STUB || !conn.is_calling() {
         return Ok(false);
     }
     let said = Said::Out(Octets::from_vec(stub));
