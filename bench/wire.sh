@@ -2,33 +2,29 @@
 # Times streams of requests through what takes them apart and joins them ("joined"), and through a connection of a
 # server that answers each call by its own stub ("served"): 1 to 64 MiB in requests of 4 KiB that come in pieces of
 # 64 KiB, with the ratio of each time to the one before, and one request of 16 MiB in fragments of 1,408 octets, in
-# pieces of 4 KiB and of one octet.
+# pieces of 4 KiB and of one octet. Each time is the least of three, less that of making the stream.
 set -eu
 top=$(cd "$(dirname "$0")/.." && pwd)
-(cd "$top/crates/wire_bench" && rt run -- served 2 3 40 7 >/dev/null) # builds it
+. "$top/bench/timing.sh"
 program=$top/crates/wire_bench/out/wire_bench
+(cd "$top/crates/wire_bench" && rt run -- made 1 1 1 1 >/dev/null) # builds it where it is stale
 
-microseconds() { # TAKER REQUESTS FRAGMENTS PART PIECE
-    local from to
-    from=$(date +%s%N)
-    "$program" "$@" >/dev/null
-    to=$(date +%s%N)
-    echo $(((to - from) / 1000))
+taken() { # TAKER REQUESTS FRAGMENTS PART PIECE
+    local made all
+    made=$(least 0 "$program" made "${@:2}") || return 1
+    all=$(least 0 "$program" "$@") || return 1
+    echo $((all > made ? all - made : 0))
 }
 
 for taker in joined served; do
     before=
     for mib in 1 4 16 64; do
-        time=$(microseconds "$taker" $((mib * 256)) 1 4096 65536)
-        awk -v w="$taker" -v n="$mib" -v t="$time" -v b="$before" 'BEGIN {
-            printf "%s %5d MiB %9.3f s", w, n, t / 1e6
-            if (b != "") printf ", %.2f times the one before", t / b
-            printf "\n"
-        }'
+        time=$(taken "$taker" $((mib * 256)) 1 4096 65536)
+        show "$taker $mib MiB" "$time" "$before"
         before=$time
     done
     for piece in 4096 1; do
-        awk -v w="$taker" -v p="$piece" -v t="$(microseconds "$taker" 1 11915 1408 "$piece")" \
-            'BEGIN { printf "%s 16 MiB in fragments of 1,408 octets, in pieces of %d: %.3f s\n", w, p, t / 1e6 }'
+        time=$(taken "$taker" 1 11915 1408 "$piece")
+        show "$taker 16 MiB by $piece" "$time"
     done
 done

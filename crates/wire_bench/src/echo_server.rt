@@ -4,6 +4,7 @@ ghost use Rattle.std.specs.Prelude.{◌<◌};
 use anyhow::{Result, ensure};
 use conn_core::{Act, Conn};
 use handle_model::Said;
+use pdu_stream::MOST_STUB;
 use rpc_base::{Octets, SyntaxId};
 use std::alloc::Global;
 use uuid::Uuid;
@@ -101,7 +102,7 @@ impl EchoServer {
     /// Answers a call by its own stub.
     fn reply(&mut self, stub: Octets) -> Result<Octets> {
         ensure!(self.conn.is_calling(), "no call is unanswered");
-        ensure!(stub.len() <= 0x100_0000, "a stub of {} octets", stub.len());
+        ensure!(stub.len() <= MOST_STUB, "a stub of {} octets", stub.len());
         self.calls = self.calls.saturating_add(1);
         self.octets = self.octets.saturating_add(stub.len());
         Ok(self.conn.reply(Some(&Said::Out(stub)), true)?)

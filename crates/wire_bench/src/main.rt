@@ -1,11 +1,12 @@
 //! The program: `wire_bench TAKER REQUESTS FRAGMENTS PART PIECE` makes a stream of so many requests, each of so
 //! many fragments with PART octets of stub data, and lets it come in pieces of PIECE octets. TAKER is `joined`,
-//! which takes the PDUs off the stream and joins the fragments, or `served`, a connection of a server that answers
-//! each call by its own stub. It prints how many requests there were and how many octets their stubs have, and, of
-//! a connection, how many octets were answered.
+//! which takes the PDUs off the stream and joins the fragments, `served`, a connection of a server that answers
+//! each call by its own stub, or `made`, which takes nothing. It prints how many requests there were and how many
+//! octets their stubs have, and, of a connection, how many octets were answered; of `made` the stream's octets.
 #![tactic(auto)]
 
-ghost use Rattle.std.specs.Prelude.{◌<◌, ◌≤◌, IfOk, IfSome};
+ghost use Rattle.std.specs.Prelude.{◌+◌, ◌<◌, ◌^◌, IfOk, IfSome};
+ghost use Rattle.pdu_codec.specs.Constants.{stub_offset};
 
 mod echo_server;
 mod line;
@@ -25,19 +26,21 @@ use std::rt::Env;
 enum Taker {
     Joiner,
     Server,
+    Nobody,
 }
 
 fn taker_of(word: &str) -> Option<Taker> {
     match word {
         "joined" => Some(Taker::Joiner),
         "served" => Some(Taker::Server),
+        "made" => Some(Taker::Nobody),
         _ => None,
     }
 }
 
 /// What the words ask for.
 fn asked(rt: &(impl Env + AllocGlobal), alloc: Global) -> Result<Option<(Taker, Plan)>>
-    ensures part { IfOk result (λ asked. IfSome asked (λ a. a.1.part ≤ 65511)) }
+    ensures part { IfOk result (λ asked. IfSome asked (λ a. stub_offset + a.1.part < 2 ^ 16)) }
     ensures piece { IfOk result (λ asked. IfSome asked (λ a. 0 < a.1.piece)) }
 {
     let mut words = env::args(rt).context("the words")?.skip(1);
@@ -83,12 +86,17 @@ fn serve(rt: &impl Print, alloc: Global, stream: &[u8], piece: usize) -> Result<
 fn main(rt: HostRuntime) -> Result<()> {
     let alloc = rt.alloc();
     let Some((taker, plan)) = asked(&rt, alloc)? else {
-        println!(rt; "wire_bench joined|served REQUESTS FRAGMENTS PART PIECE")?;
+        println!(rt; "wire_bench joined|served|made REQUESTS FRAGMENTS PART PIECE")?;
         return Ok(());
     };
     let stream = plan::stream(alloc, &plan)?;
     match taker {
         Taker::Joiner => join(&rt, alloc, stream.as_slice(), plan.piece),
         Taker::Server => serve(&rt, alloc, stream.as_slice(), plan.piece),
+        Taker::Nobody => {
+            let octets = stream.len();
+            println!(rt; "octets {octets}")?;
+            Ok(())
+        }
     }
 }
