@@ -17,7 +17,7 @@ use Rattle.ndr_model.specs.Places.{Place, past, Last, last, look}
 use Rattle.ndr_model.specs.Part.{IsTag, Part, a_bool, a_byte, a_char, an_int, a_uint, an_enum, a_handle, a_text, a_name, a_struct, an_empty_arm, an_arm, an_array, a_ref, a_null, a_unique, a_null_full, a_new, a_repeat, Parts, no_part, then_part, Items, no_item, then_item, Whole, for_last}
 use Rattle.ndr_model.specs.Reading.{number, name_at, wire_at, chars_at, array_at, tag_at, tag_size, opened_at}
 use Rattle.ndr_model.specs.Scan.{Scanned, level, unique_by, full_scan, full_by, of_type, arm_scan, each, times, past_number, scan_at, scan}
-use Rattle.ndr_model.specs.Build.{Cursor, ahead, cursor, Ends, ends, Built, referent, behind_ref, behind_unique, behind_known, behind_met, behind_full, built_each, built_times, in_struct, in_array, built_arm, build_at, build, whole}
+use Rattle.ndr_model.specs.Build.{Cursor, ahead, cursor, PartEnds, ends, Built, referent, behind_ref, behind_unique, behind_known, behind_met, behind_full, built_each, built_times, in_struct, in_array, built_arm, build_at, build, whole}
 use Rattle.ndr_model.proofs.Alike.{same_is}
 use Rattle.ndr_model.proofs.Mets.{Mets, Ext, ext_self, ext_then, eq_self, less_not, found_on, found_last, found_less}
 use Rattle.ndr_model.proofs.Pieces.{number_is, name_is, wire_is, array_is, chars_are, tag_is, opened_is}
@@ -114,20 +114,20 @@ module _ (types : List Form) (aligns : List ℕ) (order : Order) (octets : List 
   abbrev Extends : Type 0
   Extends = AllExt types aligns order octets sc
 
-  abbrev Stands : ℕ → Option ℕ → Form → Place → Last → Place → Val × Ends → Type 0
+  abbrev Stands : ℕ → Option ℕ → Form → Place → Last → Place → Val × PartEnds → Type 0
   Stands room moved s p q h y = Part types aligns order octets room moved s y.0 p h q y.1.all × (y.1.flat ≡ cursor h) × Ext q.here.met y.1.all.here.met
 
   abbrev AllStand : Type 0
-  AllStand = (room : ℕ) (moved : Option ℕ) (s : Form) (p : Place) (q : Last) (h : Place) (y : Val × Ends) → bu room moved s (cursor p) q ≡ Ok y → sc room moved s p ≡ Ok h → Ext h.met q.here.met → Stands room moved s p q h y
+  AllStand = (room : ℕ) (moved : Option ℕ) (s : Form) (p : Place) (q : Last) (h : Place) (y : Val × PartEnds) → bu room moved s (cursor p) q ≡ Ok y → sc room moved s p ≡ Ok h → Ext h.met q.here.met → Stands room moved s p q h y
 
-  abbrev RowStands : ℕ → Option ℕ → Forms → Place → Last → Place → Vals × Ends → Type 0
+  abbrev RowStands : ℕ → Option ℕ → Forms → Place → Last → Place → Vals × PartEnds → Type 0
   RowStands room own ss p q h y = Parts types aligns order octets room own ss y.0 p h q y.1.all × (y.1.flat ≡ cursor h) × Ext q.here.met y.1.all.here.met
 
-  each_stands : Extends → AllStand → (room : ℕ) (own : Option ℕ) (ss : Forms) (p : Place) (q : Last) (h : Place) (y : Vals × Ends) → built_each (bu room) own ss (cursor p) q ≡ Ok y → each (sc room) own ss p ≡ Ok h
+  each_stands : Extends → AllStand → (room : ℕ) (own : Option ℕ) (ss : Forms) (p : Place) (q : Last) (h : Place) (y : Vals × PartEnds) → built_each (bu room) own ss (cursor p) q ≡ Ok y → each (sc room) own ss p ≡ Ok h
       → Ext h.met q.here.met → RowStands room own ss p q h y
   each_stands ex so room own no_form p q h y e f ext =
       subst (λ (x : Place). RowStands room own no_form p q x y) (ok_is Departure p h f)
-      (subst (λ (z : Vals × Ends). RowStands room own no_form p q p z) (ok_is Departure (no_val, ends (cursor p) q) y e) (no_part, refl, ext_self q.here.met))
+      (subst (λ (z : Vals × PartEnds). RowStands room own no_form p q p z) (ok_is Departure (no_val, ends (cursor p) q) y e) (no_part, refl, ext_self q.here.met))
   each_stands ex so room own (then_form s ss) p q h y e f ext =
       let a = bind_ok (bu room (for_last ss own) s (cursor p) q) (λ x. built_each (bu room) own ss x.1.flat x.1.all >>= λ z. Ok (then_val x.0 z.0, z.1)) y e in
       let b = bind_ok (built_each (bu room) own ss a.0.1.flat a.0.1.all) (λ z. Ok (then_val a.0.0 z.0, z.1)) y a.2 in
@@ -135,17 +135,17 @@ module _ (types : List Form) (aligns : List ℕ) (order : Order) (octets : List 
       let g = so room (for_last ss own) s p q d.0 a.0 a.1 d.1 (ext_then d.0.met h.met q.here.met (each_ext types aligns order octets sc ex room own ss d.0 h d.2) ext) in
       let same : built_each (bu room) own ss a.0.1.flat a.0.1.all ≡ built_each (bu room) own ss (cursor d.0) a.0.1.all = ap (λ (c : Cursor). built_each (bu room) own ss c a.0.1.all) g.1 in
       let r = each_stands ex so room own ss d.0 a.0.1.all h b.0 (sym same ∙ b.1) d.2 (ext_then h.met q.here.met a.0.1.all.here.met ext g.2) in
-      subst (λ (z : Vals × Ends). RowStands room own (then_form s ss) p q h z) (ok_is Departure (then_val a.0.0 b.0.0, b.0.1) y b.2)
+      subst (λ (z : Vals × PartEnds). RowStands room own (then_form s ss) p q h z) (ok_is Departure (then_val a.0.0 b.0.0, b.0.1) y b.2)
       (then_part g.0 r.0, r.1, ext_then q.here.met a.0.1.all.here.met b.0.1.all.here.met g.2 r.2)
 
-  abbrev ManyStand : ℕ → ℕ → Form → Place → Last → Place → Vals × Ends → Type 0
+  abbrev ManyStand : ℕ → ℕ → Form → Place → Last → Place → Vals × PartEnds → Type 0
   ManyStand room n s p q h y = Items types aligns order octets room n s y.0 p h q y.1.all × (y.1.flat ≡ cursor h) × Ext q.here.met y.1.all.here.met
 
-  times_stand : Extends → AllStand → (room : ℕ) (s : Form) (n : ℕ) (p : Place) (q : Last) (h : Place) (y : Vals × Ends) → built_times (bu room None s) n (cursor p) q ≡ Ok y → times (sc room None s) n p ≡ Ok h
+  times_stand : Extends → AllStand → (room : ℕ) (s : Form) (n : ℕ) (p : Place) (q : Last) (h : Place) (y : Vals × PartEnds) → built_times (bu room None s) n (cursor p) q ≡ Ok y → times (sc room None s) n p ≡ Ok h
       → Ext h.met q.here.met → ManyStand room n s p q h y
   times_stand ex so room s zero p q h y e f ext =
       subst (λ (x : Place). ManyStand room zero s p q x y) (ok_is Departure p h f)
-      (subst (λ (z : Vals × Ends). ManyStand room zero s p q p z) (ok_is Departure (no_val, ends (cursor p) q) y e) (no_item, refl, ext_self q.here.met))
+      (subst (λ (z : Vals × PartEnds). ManyStand room zero s p q p z) (ok_is Departure (no_val, ends (cursor p) q) y e) (no_item, refl, ext_self q.here.met))
   times_stand ex so room s (suc n) p q h y e f ext =
       let a = bind_ok (bu room None s (cursor p) q) (λ x. built_times (bu room None s) n x.1.flat x.1.all >>= λ z. Ok (then_val x.0 z.0, z.1)) y e in
       let b = bind_ok (built_times (bu room None s) n a.0.1.flat a.0.1.all) (λ z. Ok (then_val a.0.0 z.0, z.1)) y a.2 in
@@ -153,7 +153,7 @@ module _ (types : List Form) (aligns : List ℕ) (order : Order) (octets : List 
       let g = so room None s p q d.0 a.0 a.1 d.1 (ext_then d.0.met h.met q.here.met (times_ext types aligns order octets sc ex room s n d.0 h d.2) ext) in
       let same : built_times (bu room None s) n a.0.1.flat a.0.1.all ≡ built_times (bu room None s) n (cursor d.0) a.0.1.all = ap (λ (c : Cursor). built_times (bu room None s) n c a.0.1.all) g.1 in
       let r = times_stand ex so room s n d.0 a.0.1.all h b.0 (sym same ∙ b.1) d.2 (ext_then h.met q.here.met a.0.1.all.here.met ext g.2) in
-      subst (λ (z : Vals × Ends). ManyStand room (suc n) s p q h z) (ok_is Departure (then_val a.0.0 b.0.0, b.0.1) y b.2)
+      subst (λ (z : Vals × PartEnds). ManyStand room (suc n) s p q h z) (ok_is Departure (then_val a.0.0 b.0.0, b.0.1) y b.2)
       (then_item g.0 r.0, r.1, ext_then q.here.met a.0.1.all.here.met b.0.1.all.here.met g.2 r.2)
 
   abbrev Referred : ℕ → Form → Last → Val × Last → Type 0
@@ -174,55 +174,55 @@ module _ (types : List Form) (aligns : List ℕ) (order : Order) (octets : List 
       subst (λ (n : ℕ). Part types aligns order octets n None s v q.here h (last h q.items) q') same part
 
   -- a piece without referents
-  leaf : {A : Type 0} (r : Result (A × ℕ) Departure) (shown : A × ℕ → Val) (room : ℕ) (moved : Option ℕ) (s : Form) (p : Place) (q : Last) (h : Place) (y : Val × Ends)
+  leaf : {A : Type 0} (r : Result (A × ℕ) Departure) (shown : A × ℕ → Val) (room : ℕ) (moved : Option ℕ) (s : Form) (p : Place) (q : Last) (h : Place) (y : Val × PartEnds)
       → ((x : A × ℕ) → r ≡ Ok x → Part types aligns order octets room moved s (shown x) p (past p x.1) q q) → (r >>= λ x. Ok (shown x, ends (ahead (cursor p) x.1) q)) ≡ Ok y → (r >>= λ x. Ok (past p x.1)) ≡ Ok h
       → Stands room moved s p q h y
   leaf r shown room moved s p q h y make e f =
       let a = bind_ok r (λ x. Ok (shown x, ends (ahead (cursor p) x.1) q)) y e in
       let g = sym (through r (λ x. Ok (past p x.1)) a.0 a.1) ∙ f in
       subst (λ (x : Place). Stands room moved s p q x y) (ok_is Departure (past p a.0.1) h g)
-      (subst (λ (z : Val × Ends). Stands room moved s p q (past p a.0.1) z) (ok_is Departure (shown a.0, ends (ahead (cursor p) a.0.1) q) y a.2) (make a.0 a.1, refl, ext_self q.here.met))
+      (subst (λ (z : Val × PartEnds). Stands room moved s p q (past p a.0.1) z) (ok_is Departure (shown a.0, ends (ahead (cursor p) a.0.1) q) y a.2) (make a.0 a.1, refl, ext_self q.here.met))
 
-  arm_stands : Extends → AllStand → (room : ℕ) (moved : Option ℕ) (t : Form) (arms : ArmForms) (tag : ℤ) (i j : ℕ) (o : Option Body) (p : Place) (q : Last) (h : Place) (y : Val × Ends)
+  arm_stands : Extends → AllStand → (room : ℕ) (moved : Option ℕ) (t : Form) (arms : ArmForms) (tag : ℤ) (i j : ℕ) (o : Option Body) (p : Place) (q : Last) (h : Place) (y : Val × PartEnds)
       → IsTag order octets t tag (up p.at (align_of aligns (OfUnion t arms))) j → arm_of (OfUnion t arms) tag ≡ o
       → built_arm o i tag (cursor (past p j)) q (bu room None) ≡ Ok y → arm_scan o i (past p j) (sc room None) ≡ Ok h → Ext h.met q.here.met → Stands room moved (OfUnion t arms) p q h y
   arm_stands ex so room moved t arms tag i j None p q h y at is e f ext = absurd cc
   arm_stands ex so room moved t arms tag i j (Some empty) p q h y at is e f ext =
       subst (λ (x : Place). Stands room moved (OfUnion t arms) p q x y) (ok_is Departure (past p j) h f)
-      (subst (λ (z : Val × Ends). Stands room moved (OfUnion t arms) p q (past p j) z) (ok_is Departure (VEmpty tag, ends (cursor (past p j)) q) y e) (an_empty_arm at is, refl, ext_self q.here.met))
+      (subst (λ (z : Val × PartEnds). Stands room moved (OfUnion t arms) p q (past p j) z) (ok_is Departure (VEmpty tag, ends (cursor (past p j)) q) y e) (an_empty_arm at is, refl, ext_self q.here.met))
   arm_stands ex so room moved t arms tag i j (Some (holds s)) p q h y at is e f ext =
       let a = bind_ok (bu room None s (cursor (past p j)) q) (λ x. Ok (VUnion tag x.0, x.1)) y e in
       let g = so room None s (past p j) q h a.0 a.1 f ext in
-      subst (λ (z : Val × Ends). Stands room moved (OfUnion t arms) p q h z) (ok_is Departure (VUnion tag a.0.0, a.0.1) y a.2) (an_arm at is g.0, g.1, g.2)
+      subst (λ (z : Val × PartEnds). Stands room moved (OfUnion t arms) p q h z) (ok_is Departure (VUnion tag a.0.0, a.0.1) y a.2) (an_arm at is g.0, g.1, g.2)
 
-  unique_stands : Extends → AllStand → (room : ℕ) (moved : Option ℕ) (s : Form) (p : Place) (q : Last) (h : Place) (id j : ℕ) (y : Val × Ends) → Scalar order octets 4 id p.at j
+  unique_stands : Extends → AllStand → (room : ℕ) (moved : Option ℕ) (s : Form) (p : Place) (q : Last) (h : Place) (id j : ℕ) (y : Val × PartEnds) → Scalar order octets 4 id p.at j
       → unique_by id room p j ≡ Ok h → behind_unique id (cursor (past p j)) q (referent sc bu room (up p.at 4) s q) ≡ Ok y → Stands room moved (OfUnique s) p q h y
   unique_stands ex so room moved s p q h zero j y at f e =
       subst (λ (x : Place). Stands room moved (OfUnique s) p q x y) (ok_is Departure (past p j) h f)
-      (subst (λ (z : Val × Ends). Stands room moved (OfUnique s) p q (past p j) z) (ok_is Departure (VNull, ends (cursor (past p j)) q) y e) (a_null at, refl, ext_self q.here.met))
+      (subst (λ (z : Val × PartEnds). Stands room moved (OfUnique s) p q (past p j) z) (ok_is Departure (VNull, ends (cursor (past p j)) q) y e) (a_null at, refl, ext_self q.here.met))
   unique_stands ex so zero moved s p q h (suc id) j y at f e = absurd cc
   unique_stands ex so (suc room) moved s p q h (suc id) j y at f e =
       let a = bind_ok (referent sc bu (suc room) (up p.at 4) s q) (λ x. Ok (VPtr x.0, ends (cursor (past p j)) x.1)) y e in
       let b = referent_stands ex so (suc room) (up p.at 4) s q a.0 a.1 in
       subst (λ (x : Place). Stands (suc room) moved (OfUnique s) p q x y) (ok_is Departure (past p j) h f)
-      (subst (λ (z : Val × Ends). Stands (suc room) moved (OfUnique s) p q (past p j) z) (ok_is Departure (VPtr a.0.0, ends (cursor (past p j)) a.0.1) y a.2)
+      (subst (λ (z : Val × PartEnds). Stands (suc room) moved (OfUnique s) p q (past p j) z) (ok_is Departure (VPtr a.0.0, ends (cursor (past p j)) a.0.1) y a.2)
       (a_unique at (referred_by room b.0 s a.0.0 q a.0.1 b.2 b.1 b.3), refl, b.4))
 
-  ref_stands : Extends → AllStand → (room : ℕ) (moved : Option ℕ) (s : Form) (p : Place) (q : Last) (h : Place) (n j : ℕ) (y : Val × Ends) → Scalar order octets 4 n p.at j
+  ref_stands : Extends → AllStand → (room : ℕ) (moved : Option ℕ) (s : Form) (p : Place) (q : Last) (h : Place) (n j : ℕ) (y : Val × PartEnds) → Scalar order octets 4 n p.at j
       → level room (up p.at 4) (Ok (past p j)) ≡ Ok h → behind_ref (cursor (past p j)) (referent sc bu room (up p.at 4) s q) ≡ Ok y → Stands room moved (OfRef s) p q h y
   ref_stands ex so zero moved s p q h n j y at f e = absurd cc
   ref_stands ex so (suc room) moved s p q h n j y at f e =
       let a = bind_ok (referent sc bu (suc room) (up p.at 4) s q) (λ x. Ok (x.0, ends (cursor (past p j)) x.1)) y e in
       let b = referent_stands ex so (suc room) (up p.at 4) s q a.0 a.1 in
       subst (λ (x : Place). Stands (suc room) moved (OfRef s) p q x y) (ok_is Departure (past p j) h f)
-      (subst (λ (z : Val × Ends). Stands (suc room) moved (OfRef s) p q (past p j) z) (ok_is Departure (a.0.0, ends (cursor (past p j)) a.0.1) y a.2)
+      (subst (λ (z : Val × PartEnds). Stands (suc room) moved (OfRef s) p q (past p j) z) (ok_is Departure (a.0.0, ends (cursor (past p j)) a.0.1) y a.2)
       (a_ref at (referred_by room b.0 s a.0.0 q a.0.1 b.2 b.1 b.3), refl, b.4))
 
   abbrev one_id_more : Place → ℕ → Cursor
   one_id_more p j = record { at = j; ids = suc (length p.met); handles = length p.wires }
 
   -- a full pointer, by what was known of its id before it
-  known_stands : Extends → AllStand → (room : ℕ) (moved : Option ℕ) (s : Form) (p : Place) (q : Last) (h : Place) (id j : ℕ) (o : Option (ℕ × Form)) (y : Val × Ends) → look p.met (suc id) ≡ o → Scalar order octets 4 (suc id) p.at j
+  known_stands : Extends → AllStand → (room : ℕ) (moved : Option ℕ) (s : Form) (p : Place) (q : Last) (h : Place) (id j : ℕ) (o : Option (ℕ × Form)) (y : Val × PartEnds) → look p.met (suc id) ≡ o → Scalar order octets 4 (suc id) p.at j
       → full_scan room (suc id) s o p j ≡ Ok h → Ext h.met q.here.met → behind_met (up p.at 4) (look q.here.met (suc id)) (cursor (past p j)) q (referent sc bu room (up p.at 4) s q) ≡ Ok y → Stands room moved (OfFull s) p q h y
   known_stands ex so zero moved s p q h id j None y is at f ext e = absurd cc
   known_stands ex so (suc room) moved s p q h id j None y is at f ext e =
@@ -238,7 +238,7 @@ module _ (types : List Form) (aligns : List ℕ) (order : Order) (octets : List 
       let count : suc (length p.met) ≡ length (p.met ++ (suc id, s) ∷ []) = omega (arith, length-append p.met ((suc id, s) ∷ [])) in
       let flat : one_id_more p j ≡ cursor (with_id p j (suc id) s) = ap (λ (n : ℕ). record { at = j; ids = n; handles = length p.wires }) count in
       subst (λ (x : Place). Stands (suc room) moved (OfFull s) p q x y) made
-      (subst (λ (z : Val × Ends). Stands (suc room) moved (OfFull s) p q (with_id p j (suc id) s) z) (ok_is Departure (VFull (Some (length p.met)), ends (one_id_more p j) (last a.0.1.here ((length p.met, a.0.0) ∷ a.0.1.items))) y a.2)
+      (subst (λ (z : Val × PartEnds). Stands (suc room) moved (OfFull s) p q (with_id p j (suc id) s) z) (ok_is Departure (VFull (Some (length p.met)), ends (one_id_more p j) (last a.0.1.here ((length p.met, a.0.0) ∷ a.0.1.items))) y a.2)
       (a_new at is (referred_by room b.0 s a.0.0 q a.0.1 b.2 b.1 b.3), flat, b.4))
   known_stands ex so room moved s p q h id j (Some m) y is at f ext e =
       let w = when_ok (same m.1 s) (Pointer (up p.at 4)) (Ok (past p j)) h f in
@@ -250,14 +250,14 @@ module _ (types : List Form) (aligns : List ℕ) (order : Order) (octets : List 
       ap (λ (o : Option (ℕ × Form)). behind_met (up p.at 4) o (cursor (past p j)) q (referent sc bu room (up p.at 4) s q)) lk
       ∙ ap (λ (b : Bool). behind_known m.0 b (cursor (past p j)) q (referent sc bu room (up p.at 4) s q)) below in
       subst (λ (x : Place). Stands room moved (OfFull s) p q x y) made
-      (subst (λ (z : Val × Ends). Stands room moved (OfFull s) p q (past p j) z) (ok_is Departure (VFull (Some m.0), ends (cursor (past p j)) q) y (sym one ∙ e))
+      (subst (λ (z : Val × PartEnds). Stands room moved (OfFull s) p q (past p j) z) (ok_is Departure (VFull (Some m.0), ends (cursor (past p j)) q) y (sym one ∙ e))
       (a_repeat at is (same_is m.1 s w.0), refl, ext_self q.here.met))
 
-  full_stands : Extends → AllStand → (room : ℕ) (moved : Option ℕ) (s : Form) (p : Place) (q : Last) (h : Place) (id j : ℕ) (y : Val × Ends) → Scalar order octets 4 id p.at j
+  full_stands : Extends → AllStand → (room : ℕ) (moved : Option ℕ) (s : Form) (p : Place) (q : Last) (h : Place) (id j : ℕ) (y : Val × PartEnds) → Scalar order octets 4 id p.at j
       → full_by id room s p j ≡ Ok h → Ext h.met q.here.met → behind_full id (up p.at 4) (cursor (past p j)) q (referent sc bu room (up p.at 4) s q) ≡ Ok y → Stands room moved (OfFull s) p q h y
   full_stands ex so room moved s p q h zero j y at f ext e =
       subst (λ (x : Place). Stands room moved (OfFull s) p q x y) (ok_is Departure (past p j) h f)
-      (subst (λ (z : Val × Ends). Stands room moved (OfFull s) p q (past p j) z) (ok_is Departure (VFull None, ends (cursor (past p j)) q) y e) (a_null_full at, refl, ext_self q.here.met))
+      (subst (λ (z : Val × PartEnds). Stands room moved (OfFull s) p q (past p j) z) (ok_is Departure (VFull None, ends (cursor (past p j)) q) y e) (a_null_full at, refl, ext_self q.here.met))
   full_stands ex so room moved s p q h (suc id) j y at f ext e = known_stands ex so room moved s p q h id j (look p.met (suc id)) y refl at f ext e
 
   abbrev one_handle_more : Place → ℕ → Cursor
@@ -266,7 +266,7 @@ module _ (types : List Form) (aligns : List ℕ) (order : Order) (octets : List 
   abbrev with_wire : Place → WireHandle × ℕ → Place
   with_wire p x = record { at = x.1; met = p.met; wires = p.wires ++ x.0 ∷ [] }
 
-  one_stands : Extends → AllStand → (room : ℕ) (moved : Option ℕ) (s : Form) (p : Place) (q : Last) (h : Place) (y : Val × Ends) → build_at types aligns order octets sc bu room moved s (cursor p) q ≡ Ok y
+  one_stands : Extends → AllStand → (room : ℕ) (moved : Option ℕ) (s : Form) (p : Place) (q : Last) (h : Place) (y : Val × PartEnds) → build_at types aligns order octets sc bu room moved s (cursor p) q ≡ Ok y
       → scan_at types aligns order octets room moved (sc room) s p ≡ Ok h → Ext h.met q.here.met → Stands room moved s p q h y
   one_stands ex so room moved OfBool p q h y e f ext = leaf (number order octets 1 p.at) (λ x. VBool (not (x.0 == 0))) room moved OfBool p q h y (λ x is. a_bool (number_is order octets 1 p.at x is)) e f
   one_stands ex so room moved OfByte p q h y e f ext = leaf (number order octets 1 p.at) (λ x. VByte x.0) room moved OfByte p q h y (λ x is. a_byte (number_is order octets 1 p.at x is)) e f
@@ -283,7 +283,7 @@ module _ (types : List Form) (aligns : List ℕ) (order : Order) (octets : List 
       let count : suc (length p.wires) ≡ length (p.wires ++ a.0.0 ∷ []) = omega (arith, length-append p.wires (a.0.0 ∷ [])) in
       let flat : one_handle_more p a.0.1 ≡ cursor (with_wire p a.0) = ap (λ (n : ℕ). record { at = a.0.1; ids = length p.met; handles = n }) count in
       subst (λ (x : Place). Stands room moved (OfHandle kind) p q x y) (ok_is Departure (with_wire p a.0) h g)
-      (subst (λ (z : Val × Ends). Stands room moved (OfHandle kind) p q (with_wire p a.0) z) (ok_is Departure (VHandle (length p.wires), ends (one_handle_more p a.0.1) q) y a.2)
+      (subst (λ (z : Val × PartEnds). Stands room moved (OfHandle kind) p q (with_wire p a.0) z) (ok_is Departure (VHandle (length p.wires), ends (one_handle_more p a.0.1) q) y a.2)
       (a_handle (wire_is order octets p.at a.0 a.1), flat, ext_self q.here.met))
   one_stands ex so room moved (OfNamed c switch) p q h y e f ext =
       let a = type_is (slice_get types c) p.at (λ s. bu room moved s (cursor p) q) y e in
@@ -295,7 +295,7 @@ module _ (types : List Form) (aligns : List ℕ) (order : Order) (octets : List 
       let b = bind_ok (built_each (bu room) a.0.0 ss (cursor (past p (up a.0.1 (members_align aligns ss)))) q) (λ x. Ok (VStruct x.0, x.1)) y a.2 in
       let g = sym (through (opened_at order octets types ss moved p.at) (λ x. each (sc room) x.0 ss (past p (up x.1 (members_align aligns ss)))) a.0 a.1) ∙ f in
       let r = each_stands ex so room a.0.0 ss (past p (up a.0.1 (members_align aligns ss))) q h b.0 b.1 g ext in
-      subst (λ (z : Val × Ends). Stands room moved (OfStruct ss) p q h z) (ok_is Departure (VStruct b.0.0, b.0.1) y b.2) (a_struct (opened_is order octets types ss moved p.at a.0 a.1) r.0, r.1, r.2)
+      subst (λ (z : Val × PartEnds). Stands room moved (OfStruct ss) p q h z) (ok_is Departure (VStruct b.0.0, b.0.1) y b.2) (a_struct (opened_is order octets types ss moved p.at a.0 a.1) r.0, r.1, r.2)
   one_stands ex so room moved (OfUnion t arms) p q h y e f ext =
       let start = up p.at (align_of aligns (OfUnion t arms)) in
       let a = bind_ok (tag_at order octets t start) (λ x. built_arm (arm_of (OfUnion t arms) x.0) (up start (tag_size t)) x.0 (ahead (cursor p) x.1) q (bu room None)) y e in
@@ -306,7 +306,7 @@ module _ (types : List Form) (aligns : List ℕ) (order : Order) (octets : List 
       let b = bind_ok (built_times (bu room None s) a.0.0.actual (cursor (past p a.0.1)) q) (λ x. Ok (VArray x.0, x.1)) y a.2 in
       let g = sym (through (array_at order octets kind moved p.at) (λ x. times (sc room None s) x.0.actual (past p x.1)) a.0 a.1) ∙ f in
       let r = times_stand ex so room s a.0.0.actual (past p a.0.1) q h b.0 b.1 g ext in
-      subst (λ (z : Val × Ends). Stands room moved (OfArray kind s) p q h z) (ok_is Departure (VArray b.0.0, b.0.1) y b.2) (an_array (array_is order octets kind moved p.at a.0 a.1) r.0, r.1, r.2)
+      subst (λ (z : Val × PartEnds). Stands room moved (OfArray kind s) p q h z) (ok_is Departure (VArray b.0.0, b.0.1) y b.2) (an_array (array_is order octets kind moved p.at a.0 a.1) r.0, r.1, r.2)
   one_stands ex so room moved (OfRef s) p q h y e f ext =
       let a = bind_ok (number order octets 4 p.at) (λ x. behind_ref (ahead (cursor p) x.1) (referent sc bu room (up p.at 4) s q)) y e in
       let g = sym (through (number order octets 4 p.at) (λ x. level room (up p.at 4) (Ok (past p x.1))) a.0 a.1) ∙ f in
@@ -326,7 +326,7 @@ module _ (types : List Form) (aligns : List ℕ) (order : Order) (octets : List 
   scan_ext zero room moved s p h f = absurd cc
   scan_ext (suc n) room moved s p h f = one_ext types aligns order octets (scan types aligns order octets n) (scan_ext n) room moved s p h f
 
-  pub build_stands : (n room : ℕ) (moved : Option ℕ) (s : Form) (p : Place) (q : Last) (h : Place) (y : Val × Ends) → build types aligns order octets n room moved s (cursor p) q ≡ Ok y
+  pub build_stands : (n room : ℕ) (moved : Option ℕ) (s : Form) (p : Place) (q : Last) (h : Place) (y : Val × PartEnds) → build types aligns order octets n room moved s (cursor p) q ≡ Ok y
       → scan types aligns order octets n room moved s p ≡ Ok h → Ext h.met q.here.met → Stands types aligns order octets (scan types aligns order octets n) (build types aligns order octets n) room moved s p q h y
   unfolding scan build
   build_stands zero room moved s p q h y e f ext = absurd cc

@@ -30,15 +30,15 @@ abbrev pub cursor : Place → Cursor
 cursor p = record { at = p.at; ids = length p.met; handles = length p.wires }
 
 -- behind a value: where its flat part ends, and where referents go on
-pub record Ends : Type 0 where
+pub record PartEnds : Type 0 where
   pub flat : Cursor
   pub all : Last
 
-abbrev pub ends : Cursor → Last → Ends
+abbrev pub ends : Cursor → Last → PartEnds
 ends a q = record { flat = a; all = q }
 
 abbrev pub Built : Type 0
-Built = Result (Val × Ends) Departure
+Built = Result (Val × PartEnds) Departure
 
 abbrev pub Found : Type 0
 Found = Result (Val × Last) Departure
@@ -73,7 +73,7 @@ behind_full zero i a q found = Ok (VFull None, ends a q)
 behind_full (suc id) i a q found = behind_met i (look q.here.met (suc id)) a q found
 
 abbrev pub Row : Type 0
-Row = Result (Vals × Ends) Departure
+Row = Result (Vals × PartEnds) Departure
 
 abbrev pub built_each : (Option ℕ → Form → Cursor → Last → Built) → Option ℕ → Forms → Cursor → Last → Row
 built_each go own no_form a q = Ok (no_val, ends a q)
