@@ -30,7 +30,7 @@ show() { # WHAT MICROSECONDS [MICROSECONDS]
     [ -n "$2" ] || return 1
     awk -v what="$1" -v now="$2" -v before="${3-}" 'BEGIN {
         printf "%-24s %9.3f s", what, now / 1e6
-        if (before != "") printf ", %.2f times the one before", now / before
+        if (before > 0) printf ", %.2f times the one before", now / before
         printf "\n"
     }'
 }
