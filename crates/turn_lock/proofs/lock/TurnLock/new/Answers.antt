@@ -1,0 +1,10 @@
+use Rattle.std.proofs.Common.{◌≡◌, false, [], ◌∷◌, ◌++◌, sym, subst, ap, ◌∙◌, Some}
+use Rattle.atomic_table.specs.Table.{opening}
+use Rattle.turn_lock.specs.Rule.{view, Lawful}
+use Rattle.turn_lock.proofs.PassLemmas.{opens}
+use Rattle.turn_lock.proofs.lock.TurnLock.new.Goals as goal
+
+pub new-requires : goal.new-requires
+new-requires g c =
+    let items : c.push.new.self.items ≡ Some c.args.value ∷ [] = c.in_ok-push.ensures.items ∙ ap (λ xs. xs ++ Some c.args.value ∷ []) c.new-slots.ensures.items in
+    subst (λ xs. Lawful g.T.Storied.tells g.T.Storied.ties (opening (0 ∷ 0 ∷ []) xs (view false [] []))) (sym items) (opens g.T.Storied.tells g.T.Storied.ties c.args.value c.requires)
