@@ -1,0 +1,4 @@
+pub mod LinkLemmas
+pub mod ScriptLemmas
+pub mod PlayLemmas
+pub mod DoorLemmas
