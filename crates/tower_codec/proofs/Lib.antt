@@ -1,0 +1,3 @@
+pub mod DepartureLaws
+pub mod TowerLaws
+pub mod WritingLaws

@@ -1,0 +1,3 @@
+pub mod Towers
+pub mod Departures
+pub mod Writing

@@ -1,0 +1,7 @@
+//! Towers octet for octet: tables of what is read, changed and cut, and what is answered.
+#![tactic(auto)]
+
+#[cfg(test)]
+mod rows;
+#[cfg(test)]
+mod towers;
