@@ -5,7 +5,6 @@
 
 mod handles;
 mod limits;
-mod numbers;
 mod profile;
 mod unions;
 

@@ -2,9 +2,8 @@
 ghost use Rattle.std.specs.Prelude.{◌≡◌};
 ghost use Rattle.idl_rules.specs.OutsideProfile as spec;
 
-use crate::numbers::{int_holds, within};
 use idl_outline::{Declared, Extent, Field, Mark, Size};
-use idl_rules::{is_pointer_layer, is_typedef, value_of};
+use idl_rules::{int_holds, is_pointer_layer, is_typedef, value_of, within};
 use idl_tree::{Base, Num};
 
 /// Whether it is the name of a type that the profile leaves out.

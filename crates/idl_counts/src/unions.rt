@@ -5,10 +5,10 @@ ghost use Rattle.idl_outline.specs.declared.event.Event.{Event};
 ghost use Rattle.idl_rules.specs.Least.{least};
 ghost use Rattle.idl_rules.specs.UnionTag as spec;
 
-use crate::numbers::{int_holds, within};
 use idl_outline::{Bare, Core, DataType, Declared, Event, Field, Label, Tag};
 use idl_rules::{
-    by_value, has_switch_type, is_tag_core, is_unknown, lesser, place_if, repeated, value_of,
+    by_value, has_switch_type, int_holds, is_tag_core, is_unknown, lesser, place_if, repeated,
+    value_of, within,
 };
 use idl_tree::Num;
 use rpc_base::NoMemory;

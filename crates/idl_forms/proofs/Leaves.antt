@@ -10,7 +10,7 @@ use Rattle.idl_tokens.specs.declared.marks.Mark.TheVariants as marks
 use Rattle.idl_tokens.specs.declared.marks.Bracket.{Bracket}
 use Rattle.idl_tokens.specs.declared.marks.Bracket.TheVariants as brackets
 use Rattle.idl_tokens.specs.declared.kinds.Kind.TheVariants as kinds
-use Rattle.idl_tokens.specs.Terminals.{of_word, of_mark, opening, number_class, text_class}
+use Rattle.idl_tokens.specs.Terminals.{of_word, of_mark, opening, number_class, text_class, bad_class, range_class, of_name}
 use Rattle.uuid.specs.declared.Uuid.{Uuid}
 use Rattle.idl_tree.specs.declared.leaf.Ident.{Ident}
 use Rattle.idl_tree.specs.declared.leaf.Num.{Num}
@@ -26,13 +26,15 @@ use Rattle.idl_tree.specs.declared.leaf.Dtor.{Dtor}
 use Rattle.idl_tree.specs.declared.spec.Label.{Label}
 use Rattle.idl_tree.specs.declared.spec.LabelKind.{LabelKind}
 use Rattle.idl_tree.specs.declared.spec.LabelKind.TheVariants as labels
-use Rattle.idl_tree.specs.Pieces.{What, Of, Pieces, alone, placed, word_pieces, mark_pieces, open_pieces, text_pieces, uuid_pieces, number_pieces, ident_pieces, if_ident, num_pieces, pk_word, pk_pieces, int_size_pieces, base_pieces, if_word, if_mark, size_pieces, array_pieces, star_pieces, dtor_pieces, ref_pieces, within}
+use Rattle.idl_tree.specs.Pieces.{What, Of, Pieces, alone, placed, word_pieces, mark_pieces, open_pieces, text_pieces, uuid_pieces, number_pieces, ident_pieces, if_ident, num_pieces, pk_word, pk_pieces, int_size_pieces, base_pieces, if_word, if_mark, size_pieces, array_pieces, star_pieces, dtor_pieces, ref_pieces, range_pieces, bounds_pieces, within}
 use Rattle.idl_tree.specs.Trees.{label_kind_pieces, label_pieces, dtors_pieces, names_pieces}
 use Rattle.idl_forms.specs.Forms.{if_there, ident_form, num_form, ref_form, size_form, dtor_form, label_kind_form, label_form}
 use Rattle.idl_forms.proofs.Stream.{has_itself, Seen, class, heads}
 use Rattle.idl_forms.proofs.Readers.{mapped, both, behind, upto, split, single, flag, maybe, loop, listed, maybe_listed, at_place}
-use Rattle.idl_forms.proofs.Reading.{Reads, heads_append, heads_placed, reads_as, reads_any, reads_right, reads_fewer, reads_mapped, reads_both, reads_then, behind_word, upto_mark, inside, split_yes, split_no, split_none, reads_single, reads_bad, flag_word, flag_mark, maybe_none, maybe_some, reads_placed, reads_loop, reads_listed, reads_maybe_listed}
+use Rattle.idl_forms.proofs.Reading.{Reads, heads_append, heads_placed, heads_right, reads_as, reads_any, reads_right, reads_fewer, reads_mapped, reads_both, reads_then, behind_word, behind_mark, upto_mark, inside, split_yes, split_no, split_none, reads_single, reads_bad, flag_word, flag_mark, maybe_none, maybe_some, reads_placed, reads_loop, reads_listed, reads_maybe_listed}
 use Rattle.idl_tree.specs.Grammar.{name_classes}
+use Rattle.idl_tree.proofs.Classes.{is_name_class}
+use Rattle.ebnf.proofs.Sets.{has_right}
 
 -- ---- what tokens hold
 
@@ -119,6 +121,10 @@ a_dtor n = mapped as_dtor (both (stars n) (both a_name an_array))
 abbrev pub a_ref : List Seen → SizeRef × List Seen
 a_ref = split (number_class ∷ of_mark marks.Minus ∷ []) (mapped refs.Number a_num) (mapped (λ p. refs.Named p.0 p.1) (both (flag (of_mark marks.Star)) a_name))
 
+-- the two about a comma
+abbrev pub a_bounds : List Seen → (Num × Num) × List Seen
+a_bounds = both a_num (behind a_num)
+
 abbrev a_label_kind : List Seen → LabelKind × List Seen
 a_label_kind = split (of_word words.Default ∷ []) (behind (a_token labels.Default)) (behind (upto (split (number_class ∷ of_mark marks.Minus ∷ []) (mapped labels.Number a_num) (mapped labels.Named a_name))))
 
@@ -159,7 +165,11 @@ num_heads n = elim n.minus as (λ b. heads (number_class ∷ of_mark marks.Minus
 
 pub ident_heads : (i : Ident) → heads name_classes (ident_pieces i) ≡ true
 unfolding ident_pieces
-ident_heads i = refl
+ident_heads i = has_right (of_name i.text) (bad_class ∷ []) name_classes (is_name_class i.text)
+
+pub range_heads : (ps : Pieces) → heads (range_class ∷ []) (range_pieces ++ ps) ≡ true
+unfolding range_pieces
+range_heads ps = refl
 
 pub text_heads : (t : List ℕ) → heads (text_class ∷ []) (text_pieces t) ≡ true
 unfolding text_pieces
@@ -177,8 +187,11 @@ label_heads l = heads_placed (of_word words.Case ∷ of_word words.Default ∷ [
 
 -- behind stars a name
 pub dtor_heads : (d : Dtor) → heads (of_mark marks.Star ∷ name_classes) (dtor_pieces d) ≡ true
-unfolding dtor_pieces star_pieces mark_pieces ident_pieces
-dtor_heads d = elim d.stars as (λ n. heads (of_mark marks.Star ∷ name_classes) (star_pieces n ++ (ident_pieces d.name ++ array_pieces d.array)) ≡ true) [ zero ↦ refl | suc n ↦ refl ]
+unfolding dtor_pieces star_pieces mark_pieces
+dtor_heads d = elim d.stars as (λ n. heads (of_mark marks.Star ∷ name_classes) (star_pieces n ++ (ident_pieces d.name ++ array_pieces d.array)) ≡ true) [
+  | zero ↦ heads_append (of_mark marks.Star ∷ name_classes) (ident_pieces d.name) (array_pieces d.array) (heads_right (of_mark marks.Star ∷ []) name_classes (ident_pieces d.name) (ident_heads d.name))
+  | suc n ↦ refl
+]
 
 pub dtors_heads : (ds : List Dtor) → heads (of_mark marks.Star ∷ name_classes) (dtors_pieces ds) ≡ true
 unfolding dtors_pieces
@@ -217,9 +230,9 @@ whole_int_heads true size w = refl
 whole_int_heads false size w = heads_append (of_word words.Unsigned ∷ of_word words.Small ∷ of_word words.Short ∷ of_word words.Long ∷ of_word words.Hyper ∷ []) (int_size_pieces size) _ (int_case (λ ps. heads (of_word words.Unsigned ∷ of_word words.Small ∷ of_word words.Short ∷ of_word words.Long ∷ of_word words.Hyper ∷ []) ps ≡ true) refl refl refl refl refl size)
 
 starred_heads : (star : Bool) (i : Ident) → heads (of_mark marks.Star ∷ name_classes) (if_mark star marks.Star ++ ident_pieces i) ≡ true
-unfolding if_mark mark_pieces ident_pieces
+unfolding if_mark mark_pieces
 starred_heads true i = refl
-starred_heads false i = refl
+starred_heads false i = heads_right (of_mark marks.Star ∷ []) name_classes (ident_pieces i) (ident_heads i)
 
 -- ---- stars as a list
 
@@ -361,6 +374,11 @@ module _ {f : ℕ → ℕ} where
   reads_label_kind (labels.Number n) = split_no (of_word words.Default ∷ []) (of_word words.Case ∷ []) _ (word_then words.Case _) refl (behind_word words.Case (upto_mark marks.Colon refl (split_yes (number_class ∷ of_mark marks.Minus ∷ []) _ (num_heads n) (reads_mapped labels.Number (reads_num n)))))
   reads_label_kind (labels.Named i) = split_no (of_word words.Default ∷ []) (of_word words.Case ∷ []) _ (word_then words.Case _) refl (behind_word words.Case (upto_mark marks.Colon refl (split_no (number_class ∷ of_mark marks.Minus ∷ []) name_classes _ (ident_heads i) refl (reads_mapped labels.Named (reads_name i)))))
   reads_label_kind labels.Default = split_yes (of_word words.Default ∷ []) _ (word_then words.Default _) (behind_word words.Default (mark_as labels.Default marks.Colon))
+
+  -- a range's bounds
+  pub reads_bounds : {n : ℕ} (low high : Num) → Reads f n [] a_bounds (bounds_pieces low high) (num_form f low, num_form f high)
+  unfolding bounds_pieces
+  reads_bounds low high = reads_then (reads_num low) (behind_mark marks.Comma (reads_num high))
 
   pub reads_label : {n : ℕ} (l : Label) → Reads f n [] a_label (label_pieces l) (label_form f l)
   unfolding label_pieces

@@ -16,17 +16,18 @@ use Rattle.idl_tree.specs.declared.declaration.ParamNode.{ParamNode}
 use Rattle.idl_tree.specs.Pieces.{Of, Pieces, size_pieces, array_pieces, star_pieces, word_pieces, mark_pieces, ident_pieces, dtor_pieces, open_pieces, within, commas, placed}
 use Rattle.idl_tree.specs.Trees.{kind_pieces, spec_pieces, attrs_pieces}
 use Rattle.idl_tree.specs.Files.{param_pieces}
-use Rattle.idl_forms.proofs.Stream.{Seen, head, tail, Clean, Shown, heads, shown_cut, shown_clean, shown_heads, ends, head_is, not_among, if_false, off_first, off_rest, off_fewer}
+use Rattle.idl_forms.proofs.Stream.{Seen, head, tail, Clean, Shown, heads, shown_cut, shown_clean, shown_heads, ends, head_is, not_among, if_true, if_false, off_first, off_rest, off_fewer}
 use Rattle.idl_forms.proofs.Reading.{heads_append, heads_placed}
 use Rattle.idl_forms.proofs.Leaves.{open_heads, dtor_heads}
 use Rattle.idl_forms.proofs.Specs.{member_firsts, other_firsts, kind_begins, typed_heads}
-use Rattle.idl_tokens.specs.Terminals.{of_word, of_mark, opening, name_class}
+use Rattle.idl_tokens.specs.Terminals.{of_word, of_mark, opening}
 use Rattle.idl_tree.specs.Grammar.{name_classes}
+use Rattle.idl_tree.proofs.Classes.{is_name_class}
 
 -- Is "void" the list's own word? Not where it is the type of a first parameter: then a declarator follows, and its name is
 -- followed by neither a star nor another name.
 abbrev pub own_word_on : ℕ → ℕ → Bool
-own_word_on second third = if eqb second (of_mark marks.Star) then false else (if eqb second name_class then has third (of_mark marks.Star ∷ name_classes) else true)
+own_word_on second third = if eqb second (of_mark marks.Star) then false else (if has second name_classes then has third (of_mark marks.Star ∷ name_classes) else true)
 
 abbrev pub has_own_word : List Seen → Bool
 has_own_word ss = eqb (head ss) (of_word words.Void) && own_word_on (head (tail ss)) (head (tail (tail ss)))
@@ -36,7 +37,10 @@ abbrev pub params_off : List ℕ
 params_off = of_mark marks.Star ∷ (member_firsts ++ (of_mark marks.Comma ∷ opening brackets.Square ∷ []))
 
 own_quiet : (c d : ℕ) → has c (of_mark marks.Star ∷ name_classes) ≡ false → own_word_on c d ≡ true
-own_quiet c d e = if_false (eqb c (of_mark marks.Star)) _ _ (off_first (eqb c (of_mark marks.Star)) _ e) ∙ if_false (eqb c name_class) _ _ (off_first (eqb c name_class) _ (off_rest (eqb c (of_mark marks.Star)) _ e))
+own_quiet c d e = if_false (eqb c (of_mark marks.Star)) _ _ (off_first (eqb c (of_mark marks.Star)) _ e) ∙ if_false (has c name_classes) _ _ (off_rest (eqb c (of_mark marks.Star)) _ e)
+
+own_named : (c d : ℕ) → has c name_classes ≡ true → own_word_on c d ≡ has d (of_mark marks.Star ∷ name_classes)
+own_named c d e = if_false (eqb c (of_mark marks.Star)) _ _ (off_first (eqb c (of_mark marks.Star)) _ (not_among c name_classes (of_mark marks.Star ∷ []) refl e)) ∙ if_true (has c name_classes) _ _ e
 
 own_other : (c d : ℕ) → has c other_firsts ≡ true → own_word_on c d ≡ true
 own_other c d e = own_quiet c d (not_among c other_firsts (of_mark marks.Star ∷ name_classes) refl e)
@@ -50,13 +54,18 @@ param_heads p = typed_heads p.attrs.items p.spec (dtor_pieces p.dtor)
 
 module _ (f : ℕ → ℕ) where
   -- a name alone, and "void"
-  name_alone : (i : Ident) (ss rest : List Seen) → Shown f (ident_pieces i) ss rest → (head ss ≡ name_class) × (tail ss ≡ rest)
-  unfolding ident_pieces
-  name_alone i ss rest h = ends f (record { what = Of (kinds.Name i.text); places = i.at ∷ [] }) ss rest h
+  named_first : (i : Ident) (ps : List ℕ) (ss rest : List Seen) → Shown f (record { what = Of (kinds.Name i.text); places = ps } ∷ []) ss rest → (has (head ss) name_classes ≡ true) × (tail ss ≡ rest)
+  named_first i ps ss rest h =
+      let e = ends f (record { what = Of (kinds.Name i.text); places = ps }) ss rest h in
+      (ap (λ c. has c name_classes) e.0 ∙ is_name_class i.text, e.1)
 
-  placed_name : (at : ℕ) (i : Ident) (ss rest : List Seen) → Shown f (placed at (ident_pieces i)) ss rest → (head ss ≡ name_class) × (tail ss ≡ rest)
+  name_alone : (i : Ident) (ss rest : List Seen) → Shown f (ident_pieces i) ss rest → (has (head ss) name_classes ≡ true) × (tail ss ≡ rest)
   unfolding ident_pieces
-  placed_name at i ss rest h = ends f (record { what = Of (kinds.Name i.text); places = at ∷ i.at ∷ [] }) ss rest h
+  name_alone i ss rest h = named_first i (i.at ∷ []) ss rest h
+
+  placed_name : (at : ℕ) (i : Ident) (ss rest : List Seen) → Shown f (placed at (ident_pieces i)) ss rest → (has (head ss) name_classes ≡ true) × (tail ss ≡ rest)
+  unfolding ident_pieces
+  placed_name at i ss rest h = named_first i (at ∷ i.at ∷ []) ss rest h
 
   placed_void : (at : ℕ) (ss rest : List Seen) → Shown f (placed at (word_pieces words.Void)) ss rest → (head ss ≡ of_word words.Void) × (tail ss ≡ rest)
   unfolding word_pieces
@@ -77,7 +86,7 @@ module _ (f : ℕ → ℕ) where
           | inl i ↦
               let one = placed_name s.at i.0 ss two.0 (subst (λ (ps : Pieces). Shown f (placed s.at ps) ss two.0) i.1 two.1) in
               let behind : has (head two.0) (of_mark marks.Star ∷ name_classes) ≡ true = (shown_heads f (of_mark marks.Star ∷ name_classes) (dtor_pieces d) two.0 cut.0 (dtor_heads d) two.2 (shown_clean f (spec_pieces s) ss two.0 two.1 c)).0 in
-              ap (λ v. own_word_on v (head (tail ss))) one.0 ∙ (ap (λ v. has (head v) (of_mark marks.Star ∷ name_classes)) one.1 ∙ behind)
+              own_named (head ss) (head (tail ss)) one.0 ∙ (ap (λ v. has (head v) (of_mark marks.Star ∷ name_classes)) one.1 ∙ behind)
           | inr e ↦
               let one = placed_void s.at ss two.0 (subst (λ (ps : Pieces). Shown f (placed s.at ps) ss two.0) e two.1) in
               ap (λ v. own_word_on v (head (tail ss))) one.0
@@ -99,7 +108,7 @@ module _ (f : ℕ → ℕ) where
       let cut = shown_cut f (ident_pieces i) (array_pieces o ++ more) ss rest h in
       let one = name_alone i ss cut.0 cut.1 in
       let behind : has (head cut.0) (of_mark marks.Star ∷ name_classes) ≡ false = array_then o more cut.0 rest (shown_clean f (ident_pieces i) ss cut.0 cut.1 c) quiet cut.2 in
-      ap (λ v. own_word_on v (head (tail ss))) one.0 ∙ (ap (λ v. has (head v) (of_mark marks.Star ∷ name_classes)) one.1 ∙ behind)
+      own_named (head ss) (head (tail ss)) one.0 ∙ (ap (λ v. has (head v) (of_mark marks.Star ∷ name_classes)) one.1 ∙ behind)
 
   -- a parameter first
   not_own : (as' : List Attr) (s : Spec) (d : Dtor) (more : Pieces) (ss rest : List Seen) → Clean ss → ((us : List Seen) → Clean us → Shown f more us rest → has (head us) (of_mark marks.Star ∷ name_classes) ≡ false)
@@ -113,7 +122,7 @@ module _ (f : ℕ → ℕ) where
         | inr q ↦ elim q [
           | inl i ↦
               let one = placed_name s.at i.0 ss two.0 (subst (λ (ps : Pieces). Shown f (placed s.at ps) ss two.0) i.1 two.1) in
-              ap (λ v. eqb v (of_word words.Void) && own_word_on (head (tail ss)) (head (tail (tail ss)))) one.0
+              no_word (head ss) _ (not_among (head ss) name_classes (of_word words.Void ∷ []) refl one.0)
           | inr e ↦
               let one = placed_void s.at ss two.0 (subst (λ (ps : Pieces). Shown f (placed s.at ps) ss two.0) e two.1) in
               let behind = not_own_dtor d.stars d.name d.array more two.0 rest (shown_clean f (spec_pieces s) ss two.0 two.1 c) quiet two.2 in

@@ -13,7 +13,7 @@ use Rattle.idl_tokens.specs.declared.marks.Bracket.{Bracket}
 use Rattle.idl_tokens.specs.declared.marks.Bracket.TheVariants as brackets
 use Rattle.idl_tokens.specs.declared.kinds.Kind.TheVariants as kinds
 use Rattle.idl_tokens.specs.Terminals.{of_word, of_mark, closing, opening, bad_class}
-use Rattle.idl_tree.specs.Pieces.{Piece, Pieces, alone, placed, word_pieces, mark_pieces, open_pieces, shut_pieces, if_word, if_mark, within, commas}
+use Rattle.idl_tree.specs.Pieces.{Piece, Pieces, alone, placed, range_pieces, word_pieces, mark_pieces, open_pieces, shut_pieces, if_word, if_mark, within, commas}
 use Rattle.idl_tree.specs.Trees.{in_squares}
 use Rattle.idl_forms.proofs.Stream.{Seen, bare, AllAt, head, tail, place, class, Clean, Shown, heads, if_true, if_false, head_is, off_left, off_right, not_among, ends, shown_cut, shown_length, shown_clean, shown_heads, shown_placed}
 use Rattle.idl_forms.proofs.Readers.{mapped, both, split, single, behind, upto, chosen, flag, maybe, loop, listed, maybe_listed, squares, at_place}
@@ -111,6 +111,10 @@ module _ {f : ℕ → ℕ} where
   pub behind_word : {A : Type 0} {n : ℕ} {off : List ℕ} {d : List Seen → A × List Seen} {ps : Pieces} {a : A} (w : Word) → Reads f n off d ps a → Reads f n off (behind d) (word_pieces w ++ ps) a
   unfolding word_pieces
   behind_word w r = reads_fewer (reads_behind _ r)
+
+  pub behind_range : {A : Type 0} {n : ℕ} {off : List ℕ} {d : List Seen → A × List Seen} {ps : Pieces} {a : A} → Reads f n off d ps a → Reads f n off (behind d) (range_pieces ++ ps) a
+  unfolding range_pieces
+  behind_range r = reads_fewer (reads_behind _ r)
 
   pub behind_mark : {A : Type 0} {n : ℕ} {off : List ℕ} {d : List Seen → A × List Seen} {ps : Pieces} {a : A} (m : Mark) → Reads f n off d ps a → Reads f n off (behind d) (mark_pieces m ++ ps) a
   unfolding mark_pieces

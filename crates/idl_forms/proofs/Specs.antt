@@ -22,16 +22,16 @@ use Rattle.idl_tree.specs.declared.spec.Switch.{Switch}
 use Rattle.idl_tree.specs.declared.spec.AttrKind.TheViews as views
 use Rattle.idl_tree.specs.declared.spec.AttrKind.TheOpen as open_
 use Rattle.idl_tree.specs.declared.spec.AttrKind.TheFolds.{fold-AttrKind, fold-SpecKind, fold-ArmNode, fold-Attr, fold-Member, fold-Spec, fold-Switch, fold-roll-AttrKind, fold-roll-SpecKind, map-ArmNode, fold_out-ArmNode, fold_out-Attr, fold_out-Member, fold_out-Spec, fold_out-Switch}
-use Rattle.idl_tree.specs.Pieces.{Pieces, word_pieces, mark_pieces, ident_pieces, if_ident, within, pk_pieces, pk_word, base_pieces, open_pieces}
+use Rattle.idl_tree.specs.Pieces.{Pieces, word_pieces, mark_pieces, ident_pieces, if_ident, range_pieces, within, pk_pieces, pk_word, base_pieces, open_pieces}
 use Rattle.idl_tree.specs.Trees.{attr_kind_step, kind_step, arm_step, attr_step, member_step, spec_step, switch_step, attr_kind_pieces, kind_pieces, spec_pieces, attr_pieces, attrs_pieces, member_pieces, switch_pieces, arm_member_pieces, arm_pieces, label_pieces, dtors_pieces, tag_pieces}
 use Rattle.idl_tree.proofs.Layers.{switch_type_is, struct_some, union_none, union_some}
-use Rattle.idl_forms.specs.Forms.{KindForm, OfBase, OfName, OfVoid, OfHandle, OfStatus, OfEnum, SpecForm, a_spec, MemberForm, a_member, SwitchForm, a_switch, struct_form, union_form, ArmForm, AttrForm, an_attr, AttrForms, attr_forms, AttrKindForm, OfIn, OfOut, OfPointer, OfText, OfIdempotent, OfMaybe, OfContext, OfSerialize, OfNoserialize, OfSizeIs, OfMaxIs, OfLengthIs, OfSwitchIs, OfSwitchType, if_there, ident_form, label_form, arm_of, attr_kind_layer, kind_layer, arm_layer, attr_layer, member_layer, spec_layer, switch_layer, attr_kind_form, kind_form, arm_form, attr_form, attrs_form, member_form, spec_form, switch_form}
+use Rattle.idl_forms.specs.Forms.{KindForm, OfBase, OfName, OfVoid, OfHandle, OfStatus, OfEnum, SpecForm, a_spec, MemberForm, a_member, SwitchForm, a_switch, struct_form, union_form, ArmForm, AttrForm, an_attr, AttrForms, attr_forms, AttrKindForm, OfIn, OfOut, OfPointer, OfText, OfIdempotent, OfMaybe, OfContext, OfSerialize, OfNoserialize, OfSizeIs, OfMaxIs, OfLengthIs, OfSwitchIs, OfSwitchType, OfRange, if_there, ident_form, label_form, arm_of, attr_kind_layer, kind_layer, arm_layer, attr_layer, member_layer, spec_layer, switch_layer, attr_kind_form, kind_form, arm_form, attr_form, attrs_form, member_form, spec_form, switch_form}
 use Rattle.idl_forms.proofs.Stream.{Seen, heads, shown_heads}
 use Rattle.idl_forms.proofs.Readers.{mapped, both, behind, upto, chosen, split, maybe, loop, listed, maybe_listed, squares, at_place}
-use Rattle.idl_forms.proofs.Reading.{Reads, heads_append, heads_placed, heads_left, heads_right, reads_as, reads_any, reads_left, reads_right, reads_fewer, reads_mapped, reads_both, reads_then, behind_word, upto_mark, inside, reads_chosen, split_yes, split_no, reads_bad, maybe_none, maybe_some, reads_placed, reads_loop, reads_squares}
-use Rattle.idl_forms.proofs.Leaves.{a_name, a_token, a_pk, a_base, a_dtor, a_ref, a_label, a_tag, word_then, word_heads, mark_heads, open_heads, ident_heads, label_heads, dtors_heads, base_heads, reads_name, word_as, mark_as, reads_pk, reads_base, reads_dtors, reads_names, reads_tag, reads_starred, reads_ref, reads_label}
+use Rattle.idl_forms.proofs.Reading.{Reads, heads_append, heads_placed, heads_left, heads_right, reads_as, reads_any, reads_left, reads_right, reads_fewer, reads_mapped, reads_both, reads_then, behind_word, behind_range, upto_mark, inside, reads_chosen, split_yes, split_no, reads_bad, maybe_none, maybe_some, reads_placed, reads_loop, reads_squares}
+use Rattle.idl_forms.proofs.Leaves.{a_name, a_token, a_pk, a_base, a_dtor, a_ref, a_bounds, a_label, a_tag, range_heads, word_then, word_heads, mark_heads, open_heads, ident_heads, label_heads, dtors_heads, base_heads, reads_name, word_as, mark_as, reads_pk, reads_base, reads_dtors, reads_names, reads_tag, reads_starred, reads_ref, reads_bounds, reads_label}
 use Rattle.idl_forms.proofs.Readers.{flag}
-use Rattle.idl_tokens.specs.Terminals.{of_word, of_mark, opening}
+use Rattle.idl_tokens.specs.Terminals.{of_word, of_mark, opening, range_class}
 use Rattle.idl_tree.specs.Grammar.{name_classes}
 
 -- ---- what each may begin with
@@ -50,7 +50,7 @@ abbrev arm_firsts : List ℕ
 arm_firsts = of_word words.Case ∷ of_word words.Default ∷ of_mark marks.Semicolon ∷ member_firsts
 
 abbrev attr_firsts : List ℕ
-attr_firsts = of_word words.Ref ∷ of_word words.Unique ∷ of_word words.Ptr ∷ of_word words.In ∷ of_word words.Out ∷ of_word words.String ∷ of_word words.Idempotent ∷ of_word words.Maybe ∷ of_word words.ContextHandle ∷ of_word words.ContextHandleSerialize ∷ of_word words.ContextHandleNoserialize ∷ of_word words.SizeIs ∷ of_word words.MaxIs ∷ of_word words.LengthIs ∷ of_word words.SwitchIs ∷ of_word words.SwitchType ∷ []
+attr_firsts = of_word words.Ref ∷ of_word words.Unique ∷ of_word words.Ptr ∷ of_word words.In ∷ of_word words.Out ∷ of_word words.String ∷ of_word words.Idempotent ∷ of_word words.Maybe ∷ of_word words.ContextHandle ∷ of_word words.ContextHandleSerialize ∷ of_word words.ContextHandleNoserialize ∷ of_word words.SizeIs ∷ of_word words.MaxIs ∷ of_word words.LengthIs ∷ of_word words.SwitchIs ∷ of_word words.SwitchType ∷ range_class ∷ []
 
 abbrev pk_class : Pk → ℕ
 pk_class pks.Ref = of_word words.Ref
@@ -83,6 +83,7 @@ attr_kind_on k c =
     else if eqb c (of_word words.LengthIs) then sized_by OfLengthIs
     else if eqb c (of_word words.SwitchIs) then behind (behind (upto (mapped (λ p. OfSwitchIs p.0 p.1) (both (flag (of_mark marks.Star)) a_name))))
     else if eqb c (of_word words.SwitchType) then behind (behind (upto (mapped OfSwitchType (spec_by k))))
+    else if eqb c range_class then behind (behind (upto (mapped (λ p. OfRange p.0 p.1) a_bounds)))
     else mapped OfPointer a_pk
 
 abbrev attr_by : Kinds → List Seen → AttrForm × List Seen
@@ -125,11 +126,10 @@ kind_on n k c =
     else if eqb c (of_word words.Enum) then enum_by n
     else if eqb c (of_word words.Void) then a_token OfVoid
     else if eqb c (of_word words.HandleT) then a_token OfHandle
-    else if eqb c (of_word words.ErrorStatusT) then a_token OfStatus
-    else mapped OfName a_name
+    else a_token OfStatus
 
 abbrev kind_by : ℕ → Kinds → List Seen → KindForm × List Seen
-kind_by n k = split base_firsts (mapped OfBase a_base) (chosen (kind_on n k))
+kind_by n k = split base_firsts (mapped OfBase a_base) (split name_classes (mapped OfName a_name) (chosen (kind_on n k)))
 
 -- for tokens that are at most n
 pub kind_within : ℕ → List Seen → KindForm × List Seen
@@ -139,9 +139,9 @@ kind_within (suc n) = kind_by n (kind_within n)
 -- ---- first tokens
 
 kind_step_heads : (s : open_.SpecKind-F Pieces Pieces Pieces Pieces Pieces Pieces Pieces) → heads spec_firsts (kind_step s) ≡ true
-unfolding word_pieces ident_pieces
+unfolding word_pieces
 kind_step_heads (open_.Base b) = heads_right (of_word words.Struct ∷ of_word words.Union ∷ of_word words.Enum ∷ of_word words.Void ∷ (name_classes ++ (of_word words.HandleT ∷ of_word words.ErrorStatusT ∷ []))) base_firsts (base_pieces b) (base_heads b)
-kind_step_heads (open_.Named i) = refl
+kind_step_heads (open_.Named i) = heads_right (of_word words.Struct ∷ of_word words.Union ∷ of_word words.Enum ∷ of_word words.Void ∷ []) (name_classes ++ (of_word words.HandleT ∷ of_word words.ErrorStatusT ∷ base_firsts)) (ident_pieces i) (heads_left name_classes (of_word words.HandleT ∷ of_word words.ErrorStatusT ∷ base_firsts) (ident_pieces i) (ident_heads i))
 kind_step_heads open_.Void = refl
 kind_step_heads open_.HandleT = refl
 kind_step_heads open_.ErrorStatus = refl
@@ -183,7 +183,7 @@ pk_heads pks.Unique = refl
 pk_heads pks.Ptr = refl
 
 attr_step_heads : (s : open_.AttrKind-F Pieces Pieces Pieces Pieces Pieces Pieces Pieces) → heads attr_firsts (attr_kind_step s) ≡ true
-unfolding word_pieces pk_pieces pk_word
+unfolding word_pieces range_pieces pk_pieces pk_word
 attr_step_heads open_.In = refl
 attr_step_heads open_.Out = refl
 attr_step_heads (open_.Pointer pks.Ref) = refl
@@ -200,6 +200,7 @@ attr_step_heads (open_.MaxIs r) = refl
 attr_step_heads (open_.LengthIs r) = refl
 attr_step_heads (open_.SwitchIs star i) = refl
 attr_step_heads (open_.SwitchType spec) = refl
+attr_step_heads (open_.Range low high) = refl
 
 attr_kind_heads : (x : AttrKind) → heads attr_firsts (attr_kind_pieces x) ≡ true
 attr_kind_heads x = subst (λ (v : AttrKind). heads attr_firsts (attr_kind_pieces v) ≡ true) (views.roll-out-AttrKind x) (subst (λ (ps : Pieces). heads attr_firsts ps ≡ true) (sym (fold-roll-AttrKind Pieces Pieces Pieces Pieces Pieces Pieces Pieces attr_kind_step kind_step arm_step attr_step member_step spec_step switch_step (views.out-AttrKind x))) (attr_step_heads _))
@@ -286,6 +287,7 @@ module _ {f : ℕ → ℕ} where
     attr_roll (open_.LengthIs r) = of_attr (open_.LengthIs r) (fold-roll-AttrKind Pieces Pieces Pieces Pieces Pieces Pieces Pieces attr_kind_step kind_step arm_step attr_step member_step spec_step switch_step (open_.LengthIs r)) (fold-roll-AttrKind AttrKindForm KindForm ArmForm AttrForm MemberForm SpecForm SwitchForm (attr_kind_layer f) (kind_layer f) (arm_layer f) (attr_layer f) (member_layer f) (spec_layer f) (switch_layer f) (open_.LengthIs r)) (of_word words.LengthIs) (word_then words.LengthIs _) (behind_word words.LengthIs (reads_fewer (inside brackets.Round refl (reads_mapped OfLengthIs (reads_ref r)))))
     attr_roll (open_.SwitchIs star i) = of_attr (open_.SwitchIs star i) (fold-roll-AttrKind Pieces Pieces Pieces Pieces Pieces Pieces Pieces attr_kind_step kind_step arm_step attr_step member_step spec_step switch_step (open_.SwitchIs star i)) (fold-roll-AttrKind AttrKindForm KindForm ArmForm AttrForm MemberForm SpecForm SwitchForm (attr_kind_layer f) (kind_layer f) (arm_layer f) (attr_layer f) (member_layer f) (spec_layer f) (switch_layer f) (open_.SwitchIs star i)) (of_word words.SwitchIs) (word_then words.SwitchIs _) (behind_word words.SwitchIs (reads_fewer (inside brackets.Round refl (reads_mapped (λ p. OfSwitchIs p.0 p.1) (reads_starred star i)))))
     attr_roll (open_.SwitchType b) = of_attr (open_.SwitchType b) (switch_type_at b) (fold-roll-AttrKind AttrKindForm KindForm ArmForm AttrForm MemberForm SpecForm SwitchForm (attr_kind_layer f) (kind_layer f) (arm_layer f) (attr_layer f) (member_layer f) (spec_layer f) (switch_layer f) (open_.SwitchType b)) (of_word words.SwitchType) (word_then words.SwitchType _) (behind_word words.SwitchType (reads_fewer (inside brackets.Round refl (reads_mapped OfSwitchType (reads_spec b.value)))))
+    attr_roll (open_.Range low high) = of_attr (open_.Range low high) (fold-roll-AttrKind Pieces Pieces Pieces Pieces Pieces Pieces Pieces attr_kind_step kind_step arm_step attr_step member_step spec_step switch_step (open_.Range low high)) (fold-roll-AttrKind AttrKindForm KindForm ArmForm AttrForm MemberForm SpecForm SwitchForm (attr_kind_layer f) (kind_layer f) (arm_layer f) (attr_layer f) (member_layer f) (spec_layer f) (switch_layer f) (open_.Range low high)) range_class (range_heads _) (behind_range (reads_fewer (inside brackets.Round refl (reads_mapped (λ p. OfRange p.0 p.1) (reads_bounds low high)))))
 
     reads_attr_kind : (x : AttrKind) → Reads f n [] (chosen (attr_kind_on k)) (attr_kind_pieces x) (attr_kind_form f x)
     reads_attr_kind x = subst (λ (v : AttrKind). Reads f n [] (chosen (attr_kind_on k)) (attr_kind_pieces v) (attr_kind_form f v)) (views.roll-out-AttrKind x) (attr_roll (views.out-AttrKind x))
@@ -338,24 +340,24 @@ module _ {f : ℕ → ℕ} where
     arms_in as' = inside brackets.Curly refl (reads_loop arm_pieces (arm_form f) n arm_firsts [] (arm_by n k) arm_heads refl reads_arm as')
 
     of_kind : (o : open_.SpecKind-F AttrKind SpecKind ArmNode Attr Member Spec Switch) {ps : Pieces} {a : KindForm} → kind_pieces (views.roll-SpecKind o) ≡ ps → kind_form f (views.roll-SpecKind o) ≡ a
-        → (c : ℕ) → heads (c ∷ []) ps ≡ true → apart (c ∷ []) base_firsts ≡ true → Reads f (suc n) (of_word words.Int ∷ opening brackets.Curly ∷ []) (kind_on n k c) ps a → Reads f (suc n) (of_word words.Int ∷ opening brackets.Curly ∷ []) (kind_by n k) (kind_pieces (views.roll-SpecKind o)) (kind_form f (views.roll-SpecKind o))
-    of_kind o e same c starts far r = reads_as e same (split_no base_firsts (c ∷ []) _ starts far (reads_chosen (kind_on n k) c starts r))
+        → (c : ℕ) → heads (c ∷ []) ps ≡ true → apart (c ∷ []) base_firsts ≡ true → apart (c ∷ []) name_classes ≡ true → Reads f (suc n) (of_word words.Int ∷ opening brackets.Curly ∷ []) (kind_on n k c) ps a → Reads f (suc n) (of_word words.Int ∷ opening brackets.Curly ∷ []) (kind_by n k) (kind_pieces (views.roll-SpecKind o)) (kind_form f (views.roll-SpecKind o))
+    of_kind o e same c starts far off r = reads_as e same (split_no base_firsts (c ∷ []) _ starts far (split_no name_classes (c ∷ []) _ starts off (reads_chosen (kind_on n k) c starts r)))
 
     kind_roll : (o : open_.SpecKind-F AttrKind SpecKind ArmNode Attr Member Spec Switch) → Reads f (suc n) (of_word words.Int ∷ opening brackets.Curly ∷ []) (kind_by n k) (kind_pieces (views.roll-SpecKind o)) (kind_form f (views.roll-SpecKind o))
     kind_roll (open_.Base b) = reads_as (fold-roll-SpecKind Pieces Pieces Pieces Pieces Pieces Pieces Pieces attr_kind_step kind_step arm_step attr_step member_step spec_step switch_step (open_.Base b)) (fold-roll-SpecKind AttrKindForm KindForm ArmForm AttrForm MemberForm SpecForm SwitchForm (attr_kind_layer f) (kind_layer f) (arm_layer f) (attr_layer f) (member_layer f) (spec_layer f) (switch_layer f) (open_.Base b)) (split_yes base_firsts _ (base_heads b) (reads_mapped OfBase (reads_left (opening brackets.Curly ∷ []) (reads_base b))))
-    kind_roll (open_.Named i) = of_kind (open_.Named i) (fold-roll-SpecKind Pieces Pieces Pieces Pieces Pieces Pieces Pieces attr_kind_step kind_step arm_step attr_step member_step spec_step switch_step (open_.Named i)) (fold-roll-SpecKind AttrKindForm KindForm ArmForm AttrForm MemberForm SpecForm SwitchForm (attr_kind_layer f) (kind_layer f) (arm_layer f) (attr_layer f) (member_layer f) (spec_layer f) (switch_layer f) (open_.Named i)) 70 (ident_heads i) refl (reads_any _ (reads_mapped OfName (reads_name i)))
-    kind_roll open_.Void = of_kind open_.Void (fold-roll-SpecKind Pieces Pieces Pieces Pieces Pieces Pieces Pieces attr_kind_step kind_step arm_step attr_step member_step spec_step switch_step open_.Void) (fold-roll-SpecKind AttrKindForm KindForm ArmForm AttrForm MemberForm SpecForm SwitchForm (attr_kind_layer f) (kind_layer f) (arm_layer f) (attr_layer f) (member_layer f) (spec_layer f) (switch_layer f) open_.Void) (of_word words.Void) (word_heads words.Void) refl (reads_any _ (word_as OfVoid words.Void))
-    kind_roll open_.HandleT = of_kind open_.HandleT (fold-roll-SpecKind Pieces Pieces Pieces Pieces Pieces Pieces Pieces attr_kind_step kind_step arm_step attr_step member_step spec_step switch_step open_.HandleT) (fold-roll-SpecKind AttrKindForm KindForm ArmForm AttrForm MemberForm SpecForm SwitchForm (attr_kind_layer f) (kind_layer f) (arm_layer f) (attr_layer f) (member_layer f) (spec_layer f) (switch_layer f) open_.HandleT) (of_word words.HandleT) (word_heads words.HandleT) refl (reads_any _ (word_as OfHandle words.HandleT))
-    kind_roll open_.ErrorStatus = of_kind open_.ErrorStatus (fold-roll-SpecKind Pieces Pieces Pieces Pieces Pieces Pieces Pieces attr_kind_step kind_step arm_step attr_step member_step spec_step switch_step open_.ErrorStatus) (fold-roll-SpecKind AttrKindForm KindForm ArmForm AttrForm MemberForm SpecForm SwitchForm (attr_kind_layer f) (kind_layer f) (arm_layer f) (attr_layer f) (member_layer f) (spec_layer f) (switch_layer f) open_.ErrorStatus) (of_word words.ErrorStatusT) (word_heads words.ErrorStatusT) refl (reads_any _ (word_as OfStatus words.ErrorStatusT))
-    kind_roll (open_.Struct tag None) = of_kind (open_.Struct tag None) (fold-roll-SpecKind Pieces Pieces Pieces Pieces Pieces Pieces Pieces attr_kind_step kind_step arm_step attr_step member_step spec_step switch_step (open_.Struct tag None)) (fold-roll-SpecKind AttrKindForm KindForm ArmForm AttrForm MemberForm SpecForm SwitchForm (attr_kind_layer f) (kind_layer f) (arm_layer f) (attr_layer f) (member_layer f) (spec_layer f) (switch_layer f) (open_.Struct tag None)) (of_word words.Struct) (word_then words.Struct _) refl (behind_word words.Struct (reads_mapped (λ p. struct_form p.0 p.1) (tag_alone tag)))
-    kind_roll (open_.Struct tag (Some ms)) = of_kind (open_.Struct tag (Some ms)) (struct_at tag ms) (fold-roll-SpecKind AttrKindForm KindForm ArmForm AttrForm MemberForm SpecForm SwitchForm (attr_kind_layer f) (kind_layer f) (arm_layer f) (attr_layer f) (member_layer f) (spec_layer f) (switch_layer f) (open_.Struct tag (Some ms))) (of_word words.Struct) (word_then words.Struct _) refl
+    kind_roll (open_.Named i) = reads_as (fold-roll-SpecKind Pieces Pieces Pieces Pieces Pieces Pieces Pieces attr_kind_step kind_step arm_step attr_step member_step spec_step switch_step (open_.Named i)) (fold-roll-SpecKind AttrKindForm KindForm ArmForm AttrForm MemberForm SpecForm SwitchForm (attr_kind_layer f) (kind_layer f) (arm_layer f) (attr_layer f) (member_layer f) (spec_layer f) (switch_layer f) (open_.Named i)) (split_no base_firsts name_classes _ (ident_heads i) refl (split_yes name_classes _ (ident_heads i) (reads_any _ (reads_mapped OfName (reads_name i)))))
+    kind_roll open_.Void = of_kind open_.Void (fold-roll-SpecKind Pieces Pieces Pieces Pieces Pieces Pieces Pieces attr_kind_step kind_step arm_step attr_step member_step spec_step switch_step open_.Void) (fold-roll-SpecKind AttrKindForm KindForm ArmForm AttrForm MemberForm SpecForm SwitchForm (attr_kind_layer f) (kind_layer f) (arm_layer f) (attr_layer f) (member_layer f) (spec_layer f) (switch_layer f) open_.Void) (of_word words.Void) (word_heads words.Void) refl refl (reads_any _ (word_as OfVoid words.Void))
+    kind_roll open_.HandleT = of_kind open_.HandleT (fold-roll-SpecKind Pieces Pieces Pieces Pieces Pieces Pieces Pieces attr_kind_step kind_step arm_step attr_step member_step spec_step switch_step open_.HandleT) (fold-roll-SpecKind AttrKindForm KindForm ArmForm AttrForm MemberForm SpecForm SwitchForm (attr_kind_layer f) (kind_layer f) (arm_layer f) (attr_layer f) (member_layer f) (spec_layer f) (switch_layer f) open_.HandleT) (of_word words.HandleT) (word_heads words.HandleT) refl refl (reads_any _ (word_as OfHandle words.HandleT))
+    kind_roll open_.ErrorStatus = of_kind open_.ErrorStatus (fold-roll-SpecKind Pieces Pieces Pieces Pieces Pieces Pieces Pieces attr_kind_step kind_step arm_step attr_step member_step spec_step switch_step open_.ErrorStatus) (fold-roll-SpecKind AttrKindForm KindForm ArmForm AttrForm MemberForm SpecForm SwitchForm (attr_kind_layer f) (kind_layer f) (arm_layer f) (attr_layer f) (member_layer f) (spec_layer f) (switch_layer f) open_.ErrorStatus) (of_word words.ErrorStatusT) (word_heads words.ErrorStatusT) refl refl (reads_any _ (word_as OfStatus words.ErrorStatusT))
+    kind_roll (open_.Struct tag None) = of_kind (open_.Struct tag None) (fold-roll-SpecKind Pieces Pieces Pieces Pieces Pieces Pieces Pieces attr_kind_step kind_step arm_step attr_step member_step spec_step switch_step (open_.Struct tag None)) (fold-roll-SpecKind AttrKindForm KindForm ArmForm AttrForm MemberForm SpecForm SwitchForm (attr_kind_layer f) (kind_layer f) (arm_layer f) (attr_layer f) (member_layer f) (spec_layer f) (switch_layer f) (open_.Struct tag None)) (of_word words.Struct) (word_then words.Struct _) refl refl (behind_word words.Struct (reads_mapped (λ p. struct_form p.0 p.1) (tag_alone tag)))
+    kind_roll (open_.Struct tag (Some ms)) = of_kind (open_.Struct tag (Some ms)) (struct_at tag ms) (fold-roll-SpecKind AttrKindForm KindForm ArmForm AttrForm MemberForm SpecForm SwitchForm (attr_kind_layer f) (kind_layer f) (arm_layer f) (attr_layer f) (member_layer f) (spec_layer f) (switch_layer f) (open_.Struct tag (Some ms))) (of_word words.Struct) (word_then words.Struct _) refl refl
         (behind_word words.Struct (reads_mapped (λ p. struct_form p.0 p.1) (reads_both (opening brackets.Curly ∷ []) (open_heads brackets.Curly _) refl (reads_tag tag) (maybe_some (opening brackets.Curly ∷ []) (open_heads brackets.Curly _) (reads_any _ (members_in ms.items))))))
-    kind_roll (open_.Union tag None arms) = of_kind (open_.Union tag None arms) (union_at tag arms) (fold-roll-SpecKind AttrKindForm KindForm ArmForm AttrForm MemberForm SpecForm SwitchForm (attr_kind_layer f) (kind_layer f) (arm_layer f) (attr_layer f) (member_layer f) (spec_layer f) (switch_layer f) (open_.Union tag None arms)) (of_word words.Union) (word_then words.Union _) refl
+    kind_roll (open_.Union tag None arms) = of_kind (open_.Union tag None arms) (union_at tag arms) (fold-roll-SpecKind AttrKindForm KindForm ArmForm AttrForm MemberForm SpecForm SwitchForm (attr_kind_layer f) (kind_layer f) (arm_layer f) (attr_layer f) (member_layer f) (spec_layer f) (switch_layer f) (open_.Union tag None arms)) (of_word words.Union) (word_then words.Union _) refl refl
         (behind_word words.Union (reads_mapped (λ p. union_form p.0 p.1.0 p.1.1) (reads_both (opening brackets.Curly ∷ []) (open_heads brackets.Curly _) refl (reads_tag tag) (reads_both (opening brackets.Curly ∷ []) (open_heads brackets.Curly _) refl (maybe_none (of_word words.Switch ∷ []) (switch_by k)) (reads_any _ (arms_in arms.items))))))
-    kind_roll (open_.Union tag (Some s) arms) = of_kind (open_.Union tag (Some s) arms) (switched_at tag s arms) (fold-roll-SpecKind AttrKindForm KindForm ArmForm AttrForm MemberForm SpecForm SwitchForm (attr_kind_layer f) (kind_layer f) (arm_layer f) (attr_layer f) (member_layer f) (spec_layer f) (switch_layer f) (open_.Union tag (Some s) arms)) (of_word words.Union) (word_then words.Union _) refl
+    kind_roll (open_.Union tag (Some s) arms) = of_kind (open_.Union tag (Some s) arms) (switched_at tag s arms) (fold-roll-SpecKind AttrKindForm KindForm ArmForm AttrForm MemberForm SpecForm SwitchForm (attr_kind_layer f) (kind_layer f) (arm_layer f) (attr_layer f) (member_layer f) (spec_layer f) (switch_layer f) (open_.Union tag (Some s) arms)) (of_word words.Union) (word_then words.Union _) refl refl
         (behind_word words.Union (reads_mapped (λ p. union_form p.0 p.1.0 p.1.1) (reads_both (of_word words.Switch ∷ []) (heads_append (of_word words.Switch ∷ []) (switch_pieces s) _ (switch_heads s)) refl (reads_tag tag)
         (reads_both (opening brackets.Curly ∷ []) (open_heads brackets.Curly _) refl (maybe_some (of_word words.Switch ∷ []) (switch_heads s) (reads_switch s)) (reads_any _ (arms_in arms.items))))))
-    kind_roll (open_.Enum tag names) = of_kind (open_.Enum tag names) (fold-roll-SpecKind Pieces Pieces Pieces Pieces Pieces Pieces Pieces attr_kind_step kind_step arm_step attr_step member_step spec_step switch_step (open_.Enum tag names)) (fold-roll-SpecKind AttrKindForm KindForm ArmForm AttrForm MemberForm SpecForm SwitchForm (attr_kind_layer f) (kind_layer f) (arm_layer f) (attr_layer f) (member_layer f) (spec_layer f) (switch_layer f) (open_.Enum tag names)) (of_word words.Enum) (word_then words.Enum _) refl
+    kind_roll (open_.Enum tag names) = of_kind (open_.Enum tag names) (fold-roll-SpecKind Pieces Pieces Pieces Pieces Pieces Pieces Pieces attr_kind_step kind_step arm_step attr_step member_step spec_step switch_step (open_.Enum tag names)) (fold-roll-SpecKind AttrKindForm KindForm ArmForm AttrForm MemberForm SpecForm SwitchForm (attr_kind_layer f) (kind_layer f) (arm_layer f) (attr_layer f) (member_layer f) (spec_layer f) (switch_layer f) (open_.Enum tag names)) (of_word words.Enum) (word_then words.Enum _) refl refl
         (behind_word words.Enum (reads_mapped (λ p. OfEnum p.0 p.1) (reads_both (opening brackets.Curly ∷ []) (open_heads brackets.Curly _) refl (reads_tag tag) (reads_any _ (inside brackets.Curly refl (reads_names n names.items))))))
 
   pub reads_kind : (n : ℕ) (x : SpecKind) → Reads f n (of_word words.Int ∷ opening brackets.Curly ∷ []) (kind_within n) (kind_pieces x) (kind_form f x)

@@ -9,7 +9,7 @@ use Rattle.ebnf.specs.Ebnf.Matches.{one, seq, left, right, none, some, stop, mor
 use Rattle.ebnf.proofs.Sound.{and_both}
 use Rattle.idl_tokens.specs.declared.kinds.Token.{Token}
 use Rattle.idl_tokens.specs.Terminals.{terminals, bad_class}
-use Rattle.idl_tree.specs.Grammar.{a_word, a_mark, a_name, a_number, a_text, a_uuid, the_end, pk, signed, sizeable, base, array_size, dtor, dtors, body, struct_rest, switch_part, union_body, union_rest, enum_body, enum_rest, typed, plain, spec, spec_but_void, star_name, size_ref, attr, attrs, member, members, label, arm, arms, param, param_but_void, more_params, params, op_rest, lone_or_op, const_decl, typedef_decl, decl, version, file_attr, file, rule}
+use Rattle.idl_tree.specs.Grammar.{a_word, a_mark, a_name, a_range, a_number, a_text, a_uuid, the_end, pk, signed, bounds, sizeable, base, array_size, dtor, dtors, body, struct_rest, switch_part, union_body, union_rest, enum_body, enum_rest, typed, plain, spec, spec_but_void, star_name, size_ref, attr, attrs, member, members, label, arm, arms, param, param_but_void, more_params, params, op_rest, lone_or_op, const_decl, typedef_decl, decl, version, file_attr, file, rule}
 use Rattle.idl_forms.proofs.Stream.{Clean, seen, without_level_class}
 
 -- It names no class 0, and has no limit above 2 ^ 64.
@@ -64,11 +64,11 @@ of_choice P true x y p q = p
 of_choice P false x y p q = q
 
 rules_sane : (r : ℕ) → sane (rule r) ≡ true
-unfolding rule a_word a_mark a_name a_number a_text a_uuid pk signed sizeable base array_size dtor dtors body struct_rest switch_part union_body union_rest enum_body enum_rest typed plain spec spec_but_void star_name size_ref attr attrs member members label arm arms param param_but_void more_params params op_rest lone_or_op const_decl typedef_decl decl version file_attr
+unfolding rule a_word a_mark a_name a_range a_number a_text a_uuid pk signed bounds sizeable base array_size dtor dtors body struct_rest switch_part union_body union_rest enum_body enum_rest typed plain spec spec_but_void star_name size_ref attr attrs member members label arm arms param param_but_void more_params params op_rest lone_or_op const_decl typedef_decl decl version file_attr
 rules_sane r =
     let P : Ebnf → Type 0 = λ g. sane g ≡ true in
     let Q : ℕ → Bool = λ n. eqb r n in
-    of_choice P (Q 1) _ _ refl (of_choice P (Q 2) _ _ refl (of_choice P (Q 3) _ _ refl (of_choice P (Q 4) _ _ refl (of_choice P (Q 5) _ _ refl (of_choice P (Q 6) _ _ refl (of_choice P (Q 7) _ _ refl (of_choice P (Q 8) _ _ refl (of_choice P (Q 9) _ _ refl (of_choice P (Q 10) _ _ refl (of_choice P (Q 11) _ _ refl (of_choice P (Q 12) _ _ refl (of_choice P (Q 13) _ _ refl (of_choice P (Q 14) _ _ refl (of_choice P (Q 15) _ _ refl refl))))))))))))))
+    of_choice P (Q 1) _ _ refl (of_choice P (Q 2) _ _ refl (of_choice P (Q 3) _ _ refl (of_choice P (Q 4) _ _ refl (of_choice P (Q 5) _ _ refl (of_choice P (Q 6) _ _ refl (of_choice P (Q 7) _ _ refl (of_choice P (Q 8) _ _ refl (of_choice P (Q 9) _ _ refl (of_choice P (Q 10) _ _ refl (of_choice P (Q 11) _ _ refl (of_choice P (Q 12) _ _ refl (of_choice P (Q 13) _ _ refl (of_choice P (Q 14) _ _ refl (of_choice P (Q 15) _ _ refl (of_choice P (Q 16) _ _ refl refl)))))))))))))))
 
 file_sane : (ks : List Terminal) → Matches rule file ks [] → AreSane ks
 unfolding file a_word a_name the_end

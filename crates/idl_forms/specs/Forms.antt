@@ -95,6 +95,7 @@ mutual
     OfLengthIs : SizeRef → AttrKindForm
     OfSwitchIs : Bool → Ident → AttrKindForm
     OfSwitchType : SpecForm → AttrKindForm
+    OfRange : Num → Num → AttrKindForm
 
 abbrev pub member_forms : List MemberForm → MemberForms
 member_forms [] = no_member
@@ -204,6 +205,7 @@ module _ (f : ℕ → ℕ) where
   attr_kind_layer (open_.LengthIs r) = OfLengthIs (ref_form r)
   attr_kind_layer (open_.SwitchIs star i) = OfSwitchIs star (ident_form i)
   attr_kind_layer (open_.SwitchType spec) = OfSwitchType spec.value
+  attr_kind_layer (open_.Range low high) = OfRange (num_form low) (num_form high)
 
   abbrev pub kind_layer : open_.SpecKind-F AttrKindForm KindForm ArmForm AttrForm MemberForm SpecForm SwitchForm → KindForm
   kind_layer (open_.Base b) = OfBase b

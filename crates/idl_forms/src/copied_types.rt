@@ -170,6 +170,7 @@ fn attr_kind_copied(kind: &AttrKind, alloc: Global) -> Result<AttrKind, NoMemory
             let spec = Box::new(alloc, spec_copied(spec, alloc)?)?;
             Ok(switch_type_of(spec))
         }
+        AttrKind::Range(low, high) => Ok(AttrKind::Range(*low, *high)),
     }
 }
 

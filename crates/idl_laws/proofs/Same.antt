@@ -6,7 +6,7 @@ use Rattle.ebnf.specs.Ebnf.Ebnf.{Seq, Alt, Opt, Many}
 use Rattle.ebnf.specs.Ebnf.Matches.{seq, left, right, none, some, stop, more}
 use Rattle.idl_tokens.specs.declared.words.Word.TheVariants as words
 use Rattle.idl_tokens.specs.declared.marks.Mark.TheVariants as marks
-use Rattle.idl_tree.specs.Grammar.{◌⨟◌, ◌∣◌, a_word, a_mark, a_name, a_text, a_uuid, listed, pk, signed, sizeable, base, array_size, dtor, dtors, body, struct_rest, union_body, union_rest, enum_body, enum_rest, typed, plain, spec, spec_but_void, size_ref, star_name, attr, attrs, member, members, label, arm, arms, param, param_but_void, more_params, params, op_rest, lone_or_op, const_decl, typedef_decl, decl, version, file_attr, file, rule}
+use Rattle.idl_tree.specs.Grammar.{◌⨟◌, ◌∣◌, a_word, a_mark, a_name, a_text, a_uuid, listed, pk, signed, bounds, sizeable, base, array_size, dtor, dtors, body, struct_rest, union_body, union_rest, enum_body, enum_rest, typed, plain, spec, spec_but_void, size_ref, star_name, attr, attrs, member, members, label, arm, arms, param, param_but_void, more_params, params, op_rest, lone_or_op, const_decl, typedef_decl, decl, version, file_attr, file, rule}
 use Rattle.idl_laws.specs.AsWritten.{written_base, written_spec, written_member, written_arm, written_param, written_params, with_tag, written_decl, written_rule}
 use Rattle.idl_laws.proofs.Swap.{swapped}
 
@@ -322,13 +322,13 @@ module _ (f : ℕ → Ebnf) where
   unfolding rule written_rule members arms
   to_rules r =
       let Q : ℕ → Bool = λ n. eqb r n in
-      by_rule (Q 1) _ _ _ _ (id array_size) (by_rule (Q 2) _ _ _ _ (to_seq _ _ _ _ to_member (to_many _ _ to_member)) (by_rule (Q 3) _ _ _ _ (id (listed file_attr)) (by_rule (Q 4) _ _ _ _ (id a_uuid) (by_rule (Q 5) _ _ _ _ (id version) (by_rule (Q 6) _ _ _ _ (id pk) (by_rule (Q 7) _ _ _ _ (id (listed a_text)) (by_rule (Q 8) _ _ _ _ (to_many _ _ to_decl) (by_rule (Q 9) _ _ _ _ (id (listed attr)) (by_rule (Q 10) _ _ _ _ (id size_ref) (by_rule (Q 11) _ _ _ _ (id star_name) (by_rule (Q 12) _ _ _ _ to_spec (by_rule (Q 13) _ _ _ _ to_params (by_rule (Q 14) _ _ _ _ (to_seq _ _ _ _ to_spec (id a_name)) (by_rule (Q 15) _ _ _ _ (to_seq _ _ _ _ to_arm (to_many _ _ to_arm)) (id (listed a_name))))))))))))))))
+      by_rule (Q 1) _ _ _ _ (id array_size) (by_rule (Q 2) _ _ _ _ (to_seq _ _ _ _ to_member (to_many _ _ to_member)) (by_rule (Q 3) _ _ _ _ (id (listed file_attr)) (by_rule (Q 4) _ _ _ _ (id a_uuid) (by_rule (Q 5) _ _ _ _ (id version) (by_rule (Q 6) _ _ _ _ (id pk) (by_rule (Q 7) _ _ _ _ (id (listed a_text)) (by_rule (Q 8) _ _ _ _ (to_many _ _ to_decl) (by_rule (Q 9) _ _ _ _ (id (listed attr)) (by_rule (Q 10) _ _ _ _ (id size_ref) (by_rule (Q 11) _ _ _ _ (id star_name) (by_rule (Q 12) _ _ _ _ to_spec (by_rule (Q 13) _ _ _ _ to_params (by_rule (Q 14) _ _ _ _ (to_seq _ _ _ _ to_spec (id a_name)) (by_rule (Q 15) _ _ _ _ (to_seq _ _ _ _ to_arm (to_many _ _ to_arm)) (by_rule (Q 16) _ _ _ _ (id (listed a_name)) (id bounds))))))))))))))))
 
   pub back_rules : (r : ℕ) → To (written_rule r) (rule r)
   unfolding rule written_rule members arms
   back_rules r =
       let Q : ℕ → Bool = λ n. eqb r n in
-      by_rule (Q 1) _ _ _ _ (id array_size) (by_rule (Q 2) _ _ _ _ (to_seq _ _ _ _ back_member (to_many _ _ back_member)) (by_rule (Q 3) _ _ _ _ (id (listed file_attr)) (by_rule (Q 4) _ _ _ _ (id a_uuid) (by_rule (Q 5) _ _ _ _ (id version) (by_rule (Q 6) _ _ _ _ (id pk) (by_rule (Q 7) _ _ _ _ (id (listed a_text)) (by_rule (Q 8) _ _ _ _ (to_many _ _ back_decl) (by_rule (Q 9) _ _ _ _ (id (listed attr)) (by_rule (Q 10) _ _ _ _ (id size_ref) (by_rule (Q 11) _ _ _ _ (id star_name) (by_rule (Q 12) _ _ _ _ back_spec (by_rule (Q 13) _ _ _ _ back_params (by_rule (Q 14) _ _ _ _ (to_seq _ _ _ _ back_spec (id a_name)) (by_rule (Q 15) _ _ _ _ (to_seq _ _ _ _ back_arm (to_many _ _ back_arm)) (id (listed a_name))))))))))))))))
+      by_rule (Q 1) _ _ _ _ (id array_size) (by_rule (Q 2) _ _ _ _ (to_seq _ _ _ _ back_member (to_many _ _ back_member)) (by_rule (Q 3) _ _ _ _ (id (listed file_attr)) (by_rule (Q 4) _ _ _ _ (id a_uuid) (by_rule (Q 5) _ _ _ _ (id version) (by_rule (Q 6) _ _ _ _ (id pk) (by_rule (Q 7) _ _ _ _ (id (listed a_text)) (by_rule (Q 8) _ _ _ _ (to_many _ _ back_decl) (by_rule (Q 9) _ _ _ _ (id (listed attr)) (by_rule (Q 10) _ _ _ _ (id size_ref) (by_rule (Q 11) _ _ _ _ (id star_name) (by_rule (Q 12) _ _ _ _ back_spec (by_rule (Q 13) _ _ _ _ back_params (by_rule (Q 14) _ _ _ _ (to_seq _ _ _ _ back_spec (id a_name)) (by_rule (Q 15) _ _ _ _ (to_seq _ _ _ _ back_arm (to_many _ _ back_arm)) (by_rule (Q 16) _ _ _ _ (id (listed a_name)) (id bounds))))))))))))))))
 
 pub as_written : (ks : List Terminal) → Matches rule file ks [] ↔ Matches written_rule file ks []
 as_written ks = ((λ p. swapped rule written_rule (to_rules rule) file ks [] p), (λ p. swapped written_rule rule (back_rules written_rule) file ks [] p))

@@ -5,7 +5,7 @@ use Rattle.ebnf.specs.Ebnf.{Ebnf}
 use Rattle.ebnf.specs.Ebnf.Ebnf.{Opt, Many}
 use Rattle.idl_tokens.specs.declared.words.Word.TheVariants as words
 use Rattle.idl_tokens.specs.declared.marks.Mark.TheVariants as marks
-use Rattle.idl_tree.specs.Grammar.{◌⨟◌, ◌∣◌, a_word, any_word, a_mark, a_name, a_text, a_uuid, listed, pk, signed, array_size, dtor, dtors, body, struct_rest, union_body, union_rest, enum_body, enum_rest, size_ref, star_name, attr, attrs, label, op_rest, version, file_attr}
+use Rattle.idl_tree.specs.Grammar.{◌⨟◌, ◌∣◌, a_word, any_word, a_mark, a_name, a_text, a_uuid, listed, pk, signed, bounds, array_size, dtor, dtors, body, struct_rest, union_body, union_rest, enum_body, enum_rest, size_ref, star_name, attr, attrs, label, op_rest, version, file_attr}
 
 -- "boolean" | "byte" | ["unsigned"] "char" | ["unsigned"] ("small" | "short" | "long" | "hyper") ["int"]
 unfoldable pub written_base : Ebnf
@@ -65,4 +65,5 @@ written_rule r =
     else if eqb r 13 then written_params
     else if eqb r 14 then written_spec ⨟ a_name
     else if eqb r 15 then written_arm ⨟ Many written_arm
-    else listed a_name
+    else if eqb r 16 then listed a_name
+    else bounds

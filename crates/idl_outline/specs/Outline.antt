@@ -40,7 +40,7 @@ use Rattle.idl_outline.specs.declared.event.Label.{Label}
 use Rattle.idl_outline.specs.declared.event.Label.TheVariants as labels
 use Rattle.idl_outline.specs.declared.event.Event.TheVariants as events
 use Rattle.idl_outline.specs.declared.setting.Setting.{Setting}
-use Rattle.idl_outline.specs.Plain.{PSpec, spec, PKind, of_base, of_name, of_void, of_handle_t, of_error_status, of_tag, of_struct, of_union, of_enum, PSwitch, no_switch, switch, PMember, member, PMembers, no_member, then_member, PArm, arm, empty_arm, PArms, no_arm, then_arm, PMark, is_in, is_out, is_pointer, is_text, is_idempotent, is_maybe, is_handle, is_size, is_max, is_length, is_switch, is_switch_type, PAttr, attr, PAttrs, no_attr, then_attr, plain_spec, plain_attrs}
+use Rattle.idl_outline.specs.Plain.{PSpec, spec, PKind, of_base, of_name, of_void, of_handle_t, of_error_status, of_tag, of_struct, of_union, of_enum, PSwitch, no_switch, switch, PMember, member, PMembers, no_member, then_member, PArm, arm, empty_arm, PArms, no_arm, then_arm, PMark, is_in, is_out, is_pointer, is_text, is_idempotent, is_maybe, is_handle, is_size, is_max, is_length, is_switch, is_switch_type, is_range, PAttr, attr, PAttrs, no_attr, then_attr, plain_spec, plain_attrs}
 use Rattle.idl_outline.specs.Names.{Past, bare, unknown, core_of, type_named, constant_named, struct_named, or_unknown, struct_type, has_handle_word, tag_given, declared_all, or_class, ends_open}
 
 -- ---- a structure that holds itself without a pointer between
@@ -265,6 +265,7 @@ abbrev mutual
   mark_of default (is_length r) p = marks.LengthIs (size_of r)
   mark_of default (is_switch star i) p = marks.SwitchIs (record { star = star; name = i })
   mark_of default (is_switch_type s) p = marks.SwitchType (begin_of s) (spec_type (alone default tags.Missing) s p)
+  mark_of default (is_range low high) p = marks.Range low high
 
   pub begin_of : PSpec → ℕ
   begin_of (spec at k) = at

@@ -1,6 +1,7 @@
 -- A tree of specs without where its parts lie in memory: what the text says, part by part.
 use Rattle.std.specs.Prelude.{ℕ, Bool, List, [], ◌∷◌, Option, Some, None, map}
 use Rattle.idl_tree.specs.declared.leaf.Ident.{Ident}
+use Rattle.idl_tree.specs.declared.leaf.Num.{Num}
 use Rattle.idl_tree.specs.declared.leaf.Pk.{Pk}
 use Rattle.idl_tree.specs.declared.leaf.Base.{Base}
 use Rattle.idl_tree.specs.declared.leaf.Dtor.{Dtor}
@@ -68,6 +69,7 @@ mutual
     is_length : SizeRef → PMark
     is_switch : Bool → Ident → PMark
     is_switch_type : PSpec → PMark
+    is_range : Num → Num → PMark
 
   pub data PAttr : Type 0 where
     attr : ℕ → PMark → PAttr
@@ -113,6 +115,7 @@ mark_step (open_.MaxIs r) = is_max r
 mark_step (open_.LengthIs r) = is_length r
 mark_step (open_.SwitchIs star i) = is_switch star i
 mark_step (open_.SwitchType s) = is_switch_type s.value
+mark_step (open_.Range low high) = is_range low high
 
 abbrev pub kind_step : open_.SpecKind-F PMark PKind PArm PAttr PMember PSpec PSwitch → PKind
 kind_step (open_.Base b) = of_base b

@@ -36,6 +36,8 @@ pub enum Mark {
     SwitchIs(NameRef),
     /// The octet where its spec begins, and the type.
     SwitchType { spec_at: usize, ty: DataType },
+    /// The lowest and the highest number.
+    Range(Num, Num),
 }
 
 /// An attribute, and the octet where it begins.

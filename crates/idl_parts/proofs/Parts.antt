@@ -15,7 +15,7 @@ use Rattle.idl_tree.specs.declared.leaf.Ident.{Ident}
 use Rattle.idl_tree.specs.declared.spec.Label.{Label}
 use Rattle.idl_tree.proofs.Classes.{word_same}
 use Rattle.idl_tree.proofs.Writing.{write_join, write_none, write_placed, commas_push, commas_one}
-use Rattle.idl_tree.proofs.Layers.{written_size_is, written_max_is, written_length_is, written_switch_is}
+use Rattle.idl_tree.proofs.Layers.{written_size_is, written_max_is, written_length_is, written_switch_is, written_range}
 use Rattle.std.specs.List.{flat_map}
 use Rattle.std.proofs.lemmas.Grind.{flat_map-append}
 
@@ -83,7 +83,7 @@ pub ruleset writing = (write_join, write_none, write_placed)
 
 pub ruleset plain_attrs = (write_join, is_among)
 
-pub ruleset size_attrs = (write_join, is_among, written_size_is, written_max_is, written_length_is, written_switch_is)
+pub ruleset size_attrs = (write_join, is_among, written_size_is, written_max_is, written_length_is, written_switch_is, written_range)
 
 -- ---- a tag that stands there, or none
 

@@ -11,11 +11,11 @@ use Rattle.idl_tokens.specs.declared.marks.Bracket.{Bracket}
 use Rattle.idl_tokens.specs.declared.kinds.Kind.{Kind}
 use Rattle.idl_tokens.specs.declared.kinds.Kind.TheVariants as kinds
 use Rattle.idl_tokens.specs.declared.kinds.Token.{Token}
-use Rattle.idl_tokens.specs.Terminals.{terminal, terminals, of_word, of_mark, opening, closing, end_class}
+use Rattle.idl_tokens.specs.Terminals.{terminal, terminals, of_word, of_mark, opening, closing, end_class, range_class}
 use Rattle.idl_tree.specs.declared.leaf.Ident.{Ident}
 use Rattle.idl_tree.specs.declared.leaf.Num.{Num}
-use Rattle.idl_tree.specs.Pieces.{Pieces, Front, Written, word_pieces, mark_pieces, open_pieces, shut_pieces, end_pieces, text_pieces, uuid_pieces, ident_pieces, number_pieces, num_pieces, alone, placed, BeginsAt}
-use Rattle.idl_tree.proofs.Classes.{word_told, mark_told, shut_told, open_told, end_told, name_told, number_told, text_told, uuid_told}
+use Rattle.idl_tree.specs.Pieces.{Pieces, Front, Written, word_pieces, mark_pieces, open_pieces, shut_pieces, end_pieces, text_pieces, uuid_pieces, ident_pieces, range_pieces, number_pieces, num_pieces, alone, placed, BeginsAt}
+use Rattle.idl_tree.proofs.Classes.{word_told, mark_told, shut_told, open_told, end_told, name_told, range_told, number_told, text_told, uuid_told}
 use Rattle.idl_tree.proofs.Writing.{write_join, write_placed}
 use Rattle.idl_tokens.specs.declared.marks.Mark.TheVariants as marks
 use Rattle.idl_parts.specs.Reads.{IsTaken}
@@ -67,6 +67,10 @@ shut_written b c m t ts rest e h = written_one _ t ts rest h.first (shut_told t.
 pub end_written : (m : ℕ) (t : Token) (ts rest : List Token) → IsTaken end_class m t ts rest → Written end_pieces ts rest
 unfolding end_pieces
 end_written m t ts rest h = written_one _ t ts rest h.first (end_told t.kind h.class_is, tt, refl)
+
+pub range_written : (m : ℕ) (t : Token) (ts rest : List Token) → IsTaken range_class m t ts rest → Written range_pieces ts rest
+unfolding range_pieces
+range_written m t ts rest h = written_one _ t ts rest h.first (range_told t.kind h.class_is, tt, refl)
 
 pub name_written : (i : Ident) (t : Token) (ts rest : List Token) → ts ≡ t ∷ rest → t.kind ≡ kinds.Name i.text → i.at ≡ t.at → Written (ident_pieces i) ts rest
 unfolding ident_pieces

@@ -7,7 +7,7 @@ use Rattle.ebnf.specs.Checks.{heads}
 use Rattle.idl_tokens.specs.declared.marks.Mark.TheVariants as marks
 use Rattle.idl_tokens.specs.declared.marks.Bracket.TheVariants as brackets
 use Rattle.idl_tree.specs.Grammar.{rule, a_mark, a_name, dtor, label, name_classes, level_limit}
-use Rattle.idl_tokens.specs.Terminals.{of_word, of_mark, opening, closing, number_class, text_class, uuid_class, end_class}
+use Rattle.idl_tokens.specs.Terminals.{of_word, of_mark, opening, closing, number_class, text_class, uuid_class, end_class, range_class}
 use Rattle.idl_tokens.specs.declared.words.Word.TheVariants as words
 use Rattle.idl_tokens.specs.declared.words.Word.{Word}
 use Rattle.idl_tokens.specs.declared.marks.Mark.{Mark}
@@ -40,6 +40,9 @@ shut_at b = token (closing b ∷ []) level_limit
 
 abbrev pub name_at : Along
 name_at = token name_classes 1
+
+abbrev pub range_at : Along
+range_at = token (range_class ∷ []) 1
 
 abbrev pub number_at : Along
 number_at = token (number_class ∷ []) (2 ^ 64)
@@ -141,6 +144,12 @@ size_attr_at ks = token (of_word words.SizeIs ∷ of_word words.MaxIs ∷ of_wor
 
 unfoldable pub switch_is_at : Along
 switch_is_at ks = word_at words.SwitchIs ks >>= in_round star_name_at
+
+unfoldable pub bounds_at : Along
+bounds_at ks = (signed_at ks >>= mark_at marks.Comma) >>= signed_at
+
+unfoldable pub range_attr_at : Along
+range_attr_at ks = range_at ks >>= in_round bounds_at
 
 -- ---- labels
 

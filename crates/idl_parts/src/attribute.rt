@@ -4,19 +4,19 @@ ghost use Rattle.std.specs.List.{flat_map};
 ghost use Rattle.idl_tokens.specs.declared.marks.Mark.TheVariants as marks;
 ghost use Rattle.idl_tokens.specs.declared.marks.Bracket.TheVariants as brackets;
 ghost use Rattle.idl_tokens.specs.Terminals.{terminals};
-ghost use Rattle.idl_tree.specs.Pieces.{Written, ident_pieces, ref_pieces, if_mark, within};
+ghost use Rattle.idl_tree.specs.Pieces.{Written, ident_pieces, ref_pieces, bounds_pieces, if_mark, within};
 ghost use Rattle.idl_tree.specs.Trees.{attr_kind_pieces, label_pieces, label_kind_pieces};
 ghost use Rattle.idl_parts.specs.Reads.{Gives};
-ghost use Rattle.idl_parts.specs.Along.{in_round, star_name_at, size_ref_at, plain_attr_at, size_attr_at, switch_is_at, case_label_at, label_at, labels_at};
+ghost use Rattle.idl_parts.specs.Along.{in_round, star_name_at, size_ref_at, plain_attr_at, size_attr_at, switch_is_at, bounds_at, range_attr_at, case_label_at, label_at, labels_at};
 
 use crate::basic::signed;
 use crate::stop::Stop;
 use crate::take::{
-    is_next, is_number, is_word, mark, mark_or_none, name, number, open, place, shut, word,
-    word_among,
+    is_next, is_number, is_word, mark, mark_or_none, name, number, open, place, range_word, shut,
+    word, word_among,
 };
 use idl_tokens::{Bracket, Mark, Token, Word, class};
-use idl_tree::{AttrKind, Ident, Label, LabelKind, Pk, SizeRef};
+use idl_tree::{AttrKind, Ident, Label, LabelKind, Num, Pk, SizeRef};
 use std::alloc::Global;
 
 /// Reads a name that may have a star.
@@ -128,6 +128,33 @@ pub fn switch_is(alloc: Global, tokens: &[Token]) -> Result<(AttrKind, &[Token])
     let (star, name, rest) = star_name(alloc, rest)?;
     let rest = shut(rest, Bracket::Round)?;
     Ok((AttrKind::SwitchIs { star, name }, rest))
+}
+
+/// Reads the bounds of a range.
+#[tactic(auto, using(crate::proofs::Parts::writing), unfolding(crate::specs::Along::bounds_at, idl_tree::specs::Pieces::bounds_pieces))]
+fn bounds(tokens: &[Token]) -> Result<(Num, Num, &[Token]), Stop<'_>>
+    ensures along { Gives (λ p. p.2.now) result (bounds_at (terminals tokens.now)) }
+    ensures written { IfOk result (λ p. Written (bounds_pieces p.0 p.1) tokens.now p.2.now) }
+    ensures shorter { IfOk result (λ p. length p.2.now < length tokens.now) }
+{
+    let (low, rest) = signed(tokens)?;
+    let rest = mark(rest, Mark::Comma)?;
+    let (high, rest) = signed(rest)?;
+    Ok((low, high, rest))
+}
+
+/// Reads `range`, with its bounds.
+#[tactic(auto, using(crate::proofs::Parts::size_attrs), unfolding(crate::specs::Along::range_attr_at))]
+pub fn range(tokens: &[Token]) -> Result<(AttrKind, &[Token]), Stop<'_>>
+    ensures along { Gives (λ p. p.1.now) result (range_attr_at (terminals tokens.now)) }
+    ensures written { IfOk result (λ p. Written (attr_kind_pieces p.0) tokens.now p.1.now) }
+    ensures shorter { IfOk result (λ p. length p.1.now < length tokens.now) }
+{
+    let rest = range_word(tokens)?;
+    let rest = open(rest, Bracket::Round)?;
+    let (low, high, rest) = bounds(rest)?;
+    let rest = shut(rest, Bracket::Round)?;
+    Ok((AttrKind::Range(low, high), rest))
 }
 
 /// Reads a label behind its `case` up to its colon.

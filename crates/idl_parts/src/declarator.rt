@@ -21,7 +21,10 @@ fn array_size(alloc: Global, tokens: &[Token]) -> Result<(ArraySize, &[Token]), 
     ensures written { IfOk result (λ p. Written (size_pieces p.0) tokens.now p.1.now) }
     ensures shorter { IfOk result (λ p. length p.1.now ≤ length tokens.now) }
 {
-    if !is_next(tokens, &[class::NUMBER, class::NAME, class::STAR]) {
+    if !is_next(
+        tokens,
+        &[class::NUMBER, class::NAME, class::RANGE, class::STAR],
+    ) {
         Ok((ArraySize::Empty, tokens))
     } else if is_number(tokens) {
         let (value, rest) = number(tokens, u64::MAX)?;

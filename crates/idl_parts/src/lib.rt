@@ -9,7 +9,7 @@ mod declarator;
 mod stop;
 mod take;
 
-pub use attribute::{labels, plain_attr, size_attr, switch_is};
+pub use attribute::{labels, plain_attr, range, size_attr, switch_is};
 pub use basic::{base, pk, signed};
 pub use declarator::{dtor, dtors, enum_body};
 pub use stop::Stop;

@@ -4,9 +4,9 @@ ghost use Rattle.ebnf.specs.Machine.{token};
 ghost use Rattle.ebnf.specs.Ebnf.{has};
 ghost use Rattle.ebnf.specs.Checks.{heads};
 ghost use Rattle.idl_tokens.specs.Terminals.{terminals, of_word, of_mark, opening, closing, number_class};
-ghost use Rattle.idl_tree.specs.Pieces.{Written, BeginsAt, word_pieces, mark_pieces, open_pieces, shut_pieces, end_pieces, text_pieces, uuid_pieces, ident_pieces, num_pieces, if_word, if_mark, if_ident};
+ghost use Rattle.idl_tree.specs.Pieces.{Written, BeginsAt, word_pieces, mark_pieces, open_pieces, shut_pieces, end_pieces, text_pieces, uuid_pieces, ident_pieces, range_pieces, num_pieces, if_word, if_mark, if_ident};
 ghost use Rattle.idl_parts.specs.Reads.{Gives, IsTaken};
-ghost use Rattle.idl_parts.specs.Along.{if_next, if_among, word_at, mark_at, open_at, shut_at, text_at, uuid_at, end_at, name_at};
+ghost use Rattle.idl_parts.specs.Along.{if_next, if_among, word_at, mark_at, open_at, shut_at, text_at, uuid_at, end_at, name_at, range_at};
 ghost use Rattle.idl_tree.specs.Grammar.{name_classes};
 
 use crate::stop::Stop;
@@ -90,7 +90,7 @@ pub fn is_open(tokens: &[Token], bracket: Bracket) -> bool
 pub fn is_name(tokens: &[Token]) -> bool
     ensures { result ≡ heads name_classes (terminals tokens.now) }
 {
-    is_next(tokens, &[class::NAME])
+    is_next(tokens, &[class::NAME, class::RANGE])
 }
 
 /// Whether the next token is a number.
@@ -160,14 +160,32 @@ pub fn name(alloc: Global, tokens: &[Token]) -> Result<(Ident, &[Token]), Stop<'
     ensures written { IfOk result (λ p. Written (ident_pieces p.0) tokens.now p.1.now) }
     ensures shorter { IfOk result (λ p. length p.1.now < length tokens.now) }
 {
-    let (first, rest) = take(tokens, class::NAME, 0)?;
-    match &first.kind {
-        Kind::Name(text) => {
-            let text = text.copy(alloc)?;
-            Ok((Ident { at: first.at, text }, rest))
+    match tokens.split_first() {
+        None => Err(Stop::At(false, tokens)),
+        Some((first, rest)) => {
+            if !has_class(&[class::NAME, class::RANGE], first.kind.class()) {
+                return Err(Stop::At(false, tokens));
+            }
+            match &first.kind {
+                Kind::Name(text) => {
+                    let text = text.copy(alloc)?;
+                    Ok((Ident { at: first.at, text }, rest))
+                }
+                _ => unreachable!(),
+            }
         }
-        _ => unreachable!(),
     }
+}
+
+/// Reads the word `range`, which is a name elsewhere.
+#[tactic(auto, using(crate::proofs::Taking::shorter))]
+pub fn range_word(tokens: &[Token]) -> Result<&[Token], Stop<'_>>
+    ensures along { Gives (λ p. p.now) result (range_at (terminals tokens.now)) }
+    ensures written { IfOk result (λ p. Written range_pieces tokens.now p.now) }
+    ensures shorter { IfOk result (λ p. length p.now < length tokens.now) }
+{
+    let (_, rest) = take(tokens, class::RANGE, 0)?;
+    Ok(rest)
 }
 
 /// Reads a number of at most this.

@@ -6,6 +6,7 @@ use Rattle.idl_tokens.specs.declared.marks.Mark.TheVariants as marks
 use Rattle.idl_tokens.specs.declared.marks.Bracket.TheVariants as brackets
 use Rattle.idl_layout.specs.declared.page.Page.{Page}
 use Rattle.idl_tree.specs.declared.leaf.Ident.{Ident}
+use Rattle.idl_tree.specs.declared.leaf.Num.{Num}
 use Rattle.idl_tree.specs.declared.leaf.SizeRef.{SizeRef}
 use Rattle.idl_tree.specs.declared.spec.ArmNode.{ArmNode}
 use Rattle.idl_tree.specs.declared.spec.Member.{Member}
@@ -14,9 +15,9 @@ use Rattle.idl_tree.specs.declared.spec.Switch.{Switch}
 use Rattle.idl_tree.specs.declared.spec.AttrKind.TheViews as views
 use Rattle.idl_tree.specs.declared.spec.AttrKind.TheVariants as attr_kinds
 use Rattle.idl_tree.specs.declared.spec.SpecKind.TheVariants as spec_kinds
-use Rattle.idl_tree.specs.Pieces.{Pieces, within, word_pieces, if_ident, if_mark, ident_pieces, ref_pieces}
+use Rattle.idl_tree.specs.Pieces.{Pieces, within, word_pieces, if_ident, if_mark, ident_pieces, ref_pieces, range_pieces, bounds_pieces}
 use Rattle.idl_tree.specs.Trees.{kind_pieces, attr_kind_pieces, member_pieces, arm_pieces, switch_pieces, spec_pieces, tag_pieces, names_pieces}
-use Rattle.idl_tree.proofs.Layers.{size_is, max_is, length_is, switch_is, switch_type_is, struct_none, struct_some, union_none, union_some, enum_is}
+use Rattle.idl_tree.proofs.Layers.{size_is, max_is, length_is, switch_is, switch_type_is, range_is, struct_none, struct_some, union_none, union_some, enum_is}
 use Rattle.idl_print.specs.Prints.{Prints}
 use Rattle.idl_print.proofs.Printing.{prints_join}
 
@@ -58,4 +59,7 @@ prints_switch_is star i a b p = subst (λ (x : Pieces). Prints x a b) (sym (swit
 pub prints_switch_type : (x : Box Spec Global) (a b : Page) → Prints (word_pieces words.SwitchType ++ within brackets.Round (spec_pieces x.value)) a b → Prints (attr_kind_pieces (views.SwitchType x)) a b
 prints_switch_type x a b p = subst (λ (y : Pieces). Prints y a b) (sym (switch_type_is x)) p
 
-pub ruleset attributes = (prints_size_is, prints_max_is, prints_length_is, prints_switch_is, prints_switch_type)
+pub prints_range : (low high : Num) (a b : Page) → Prints (range_pieces ++ within brackets.Round (bounds_pieces low high)) a b → Prints (attr_kind_pieces (attr_kinds.Range low high)) a b
+prints_range low high a b p = subst (λ (x : Pieces). Prints x a b) (sym (range_is low high)) p
+
+pub ruleset attributes = (prints_size_is, prints_max_is, prints_length_is, prints_switch_is, prints_switch_type, prints_range)

@@ -3,16 +3,16 @@ ghost use Rattle.std.specs.Prelude.{◌++◌, OnOk};
 ghost use Rattle.idl_tokens.specs.declared.words.Word.TheVariants as words;
 ghost use Rattle.idl_tokens.specs.declared.marks.Mark.TheVariants as marks;
 ghost use Rattle.idl_tokens.specs.declared.marks.Bracket.TheVariants as brackets;
-ghost use Rattle.idl_tree.specs.Pieces.{within, word_pieces, ident_pieces, if_mark, dtor_pieces, ref_pieces};
+ghost use Rattle.idl_tree.specs.Pieces.{within, word_pieces, ident_pieces, if_mark, dtor_pieces, ref_pieces, range_pieces, bounds_pieces};
 ghost use Rattle.idl_tree.specs.Trees.{label_kind_pieces, label_pieces, dtors_pieces, names_pieces, tag_pieces};
 ghost use Rattle.idl_print.specs.Prints.{Prints};
 
 use crate::leaf::{dtor, mark_if, num, size_ref};
 use crate::list::{Print, with_commas};
-use crate::tokens::{bad, mark, name, open, shut, word};
+use crate::tokens::{bad, mark, name, open, range_word, shut, word};
 use idl_layout::Page;
 use idl_tokens::{Bracket, Mark, Word};
-use idl_tree::{Dtor, Ident, Label, LabelKind, SizeRef};
+use idl_tree::{Dtor, Ident, Label, LabelKind, Num, SizeRef};
 use rpc_base::NoMemory;
 
 /// A word and a size in brackets.
@@ -36,6 +36,28 @@ pub(crate) fn switch_is(page: &mut Page, star: bool, tag: &Ident) -> Result<(), 
     open(page, Bracket::Round)?;
     mark_if(page, star, Mark::Star)?;
     name(page, tag)?;
+    shut(page, Bracket::Round)?;
+    Ok(())
+}
+
+#[tactic(auto, using(crate::proofs::Printing::printing), unfolding(idl_tree::specs::Pieces::bounds_pieces))]
+fn bounds(page: &mut Page, low: Num, high: Num) -> Result<(), NoMemory>
+    ensures { OnOk result (Prints (bounds_pieces low high) page.old page.new) }
+{
+    num(page, low)?;
+    mark(page, Mark::Comma)?;
+    num(page, high)?;
+    Ok(())
+}
+
+/// The attribute that bounds a parameter's numbers.
+#[tactic(auto, using(crate::proofs::Printing::printing))]
+pub(crate) fn range(page: &mut Page, low: Num, high: Num) -> Result<(), NoMemory>
+    ensures { OnOk result (Prints (range_pieces ++ within brackets.Round (bounds_pieces low high)) page.old page.new) }
+{
+    range_word(page)?;
+    open(page, Bracket::Round)?;
+    bounds(page, low, high)?;
     shut(page, Bracket::Round)?;
     Ok(())
 }

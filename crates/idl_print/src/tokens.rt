@@ -1,11 +1,11 @@
 //! Single tokens of a tree.
 ghost use Rattle.std.specs.Prelude.{[], ◌∷◌, OnOk};
 ghost use Rattle.idl_tokens.specs.declared.kinds.Kind.TheVariants as kinds;
-ghost use Rattle.idl_tree.specs.Pieces.{alone, word_pieces, mark_pieces, open_pieces, shut_pieces, end_pieces, text_pieces, uuid_pieces, ident_pieces};
+ghost use Rattle.idl_tree.specs.Pieces.{alone, word_pieces, mark_pieces, open_pieces, shut_pieces, end_pieces, text_pieces, uuid_pieces, ident_pieces, range_pieces};
 ghost use Rattle.idl_print.specs.Prints.{Prints};
 
 use idl_layout::Page;
-use idl_tokens::{Bracket, Mark, Word};
+use idl_tokens::{Bracket, Mark, RANGE_WORD, Word};
 use idl_tree::Ident;
 use rpc_base::NoMemory;
 use uuid::Uuid;
@@ -65,6 +65,14 @@ pub(crate) fn name(page: &mut Page, name: &Ident) -> Result<(), NoMemory>
     ensures { OnOk result (Prints (ident_pieces name.now) page.old page.new) }
 {
     page.name(name.text.as_slice())
+}
+
+/// The word `range`, which is a name elsewhere.
+#[tactic(auto, unfolding(crate::specs::Prints::Prints, idl_tree::specs::Pieces::range_pieces))]
+pub(crate) fn range_word(page: &mut Page) -> Result<(), NoMemory>
+    ensures { OnOk result (Prints range_pieces page.old page.new) }
+{
+    page.name(RANGE_WORD)
 }
 
 /// What stands where a tree is that of no text.

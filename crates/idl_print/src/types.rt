@@ -8,7 +8,7 @@ ghost use Rattle.idl_tree.specs.Pieces.{within, word_pieces, mark_pieces, if_ide
 ghost use Rattle.idl_tree.specs.Trees.{attr_kind_pieces, kind_pieces, spec_pieces, attr_pieces, attrs_pieces, member_pieces, switch_pieces, arm_member_pieces, arm_pieces, names_pieces, tag_pieces};
 ghost use Rattle.idl_print.specs.Prints.{Prints};
 
-use crate::attribute::{dtors, names, sized, switch_is, tag_alone};
+use crate::attribute::{dtors, names, range, sized, switch_is, tag_alone};
 use crate::leaf::{base, name_if, pk};
 use crate::list::each;
 use crate::tokens::{mark, name, open, shut, word};
@@ -167,6 +167,7 @@ fn attr_kind(page: &mut Page, kind: &AttrKind) -> Result<(), NoMemory>
         AttrKind::LengthIs(size) => sized(page, Word::LengthIs, size)?,
         AttrKind::SwitchIs { star, name } => switch_is(page, *star, name)?,
         AttrKind::SwitchType(of) => switch_type(page, of)?,
+        AttrKind::Range(low, high) => range(page, *low, *high)?,
     }
     Ok(())
 }

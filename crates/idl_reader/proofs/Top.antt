@@ -13,7 +13,7 @@ use Rattle.ebnf.proofs.Equations.{parse_seq, parse_one}
 use Rattle.idl_tokens.specs.declared.kinds.Token.{Token}
 use Rattle.idl_tokens.specs.Terminals.{terminal, terminals, bad_class, end_class}
 use Rattle.idl_tokens.specs.Laws.{EndsOnce}
-use Rattle.idl_tree.specs.Grammar.{rule, file, a_word, a_mark, a_name, a_number, a_text, a_uuid, the_end, pk, signed, sizeable, base, array_size, dtor, dtors, body, struct_rest, switch_part, union_body, union_rest, enum_body, enum_rest, typed, plain, spec, spec_but_void, star_name, size_ref, attr, attrs, member, members, label, arm, arms, param, param_but_void, more_params, params, op_rest, lone_or_op, const_decl, typedef_decl, decl, version, file_attr}
+use Rattle.idl_tree.specs.Grammar.{rule, file, a_word, a_mark, a_name, a_range, a_number, a_text, a_uuid, the_end, pk, signed, bounds, sizeable, base, array_size, dtor, dtors, body, struct_rest, switch_part, union_body, union_rest, enum_body, enum_rest, typed, plain, spec, spec_but_void, star_name, size_ref, attr, attrs, member, members, label, arm, arms, param, param_but_void, more_params, params, op_rest, lone_or_op, const_decl, typedef_decl, decl, version, file_attr}
 use Rattle.idl_tree.specs.Idl.{BeginsText, FirstDeparture, least, IsTree}
 use Rattle.idl_tree.proofs.Deciding.{sorted, file_good, file_full}
 use Rattle.idl_tokens.specs.declared.words.Word.TheVariants as words
@@ -65,18 +65,18 @@ of_choice P true x y p q = p
 of_choice P false x y p q = q
 
 no_end : (r : ℕ) → lacks end_class (rule r) ≡ true
-unfolding rule a_word a_mark a_name a_number a_text a_uuid the_end pk signed sizeable base array_size dtor dtors body struct_rest switch_part union_body union_rest enum_body enum_rest typed plain spec spec_but_void star_name size_ref attr attrs member members label arm arms param param_but_void more_params params op_rest lone_or_op const_decl typedef_decl decl version file_attr
+unfolding rule a_word a_mark a_name a_range a_number a_text a_uuid the_end pk signed bounds sizeable base array_size dtor dtors body struct_rest switch_part union_body union_rest enum_body enum_rest typed plain spec spec_but_void star_name size_ref attr attrs member members label arm arms param param_but_void more_params params op_rest lone_or_op const_decl typedef_decl decl version file_attr
 no_end r =
     let P : Ebnf → Type 0 = λ g. lacks end_class g ≡ true in
     let Q : ℕ → Bool = λ n. eqb r n in
-    of_choice P (Q 1) _ _ refl (of_choice P (Q 2) _ _ refl (of_choice P (Q 3) _ _ refl (of_choice P (Q 4) _ _ refl (of_choice P (Q 5) _ _ refl (of_choice P (Q 6) _ _ refl (of_choice P (Q 7) _ _ refl (of_choice P (Q 8) _ _ refl (of_choice P (Q 9) _ _ refl (of_choice P (Q 10) _ _ refl (of_choice P (Q 11) _ _ refl (of_choice P (Q 12) _ _ refl (of_choice P (Q 13) _ _ refl (of_choice P (Q 14) _ _ refl (of_choice P (Q 15) _ _ refl refl))))))))))))))
+    of_choice P (Q 1) _ _ refl (of_choice P (Q 2) _ _ refl (of_choice P (Q 3) _ _ refl (of_choice P (Q 4) _ _ refl (of_choice P (Q 5) _ _ refl (of_choice P (Q 6) _ _ refl (of_choice P (Q 7) _ _ refl (of_choice P (Q 8) _ _ refl (of_choice P (Q 9) _ _ refl (of_choice P (Q 10) _ _ refl (of_choice P (Q 11) _ _ refl (of_choice P (Q 12) _ _ refl (of_choice P (Q 13) _ _ refl (of_choice P (Q 14) _ _ refl (of_choice P (Q 15) _ _ refl (of_choice P (Q 16) _ _ refl refl)))))))))))))))
 
 no_bad : (r : ℕ) → lacks 0 (rule r) ≡ true
-unfolding rule a_word a_mark a_name a_number a_text a_uuid the_end pk signed sizeable base array_size dtor dtors body struct_rest switch_part union_body union_rest enum_body enum_rest typed plain spec spec_but_void star_name size_ref attr attrs member members label arm arms param param_but_void more_params params op_rest lone_or_op const_decl typedef_decl decl version file_attr
+unfolding rule a_word a_mark a_name a_range a_number a_text a_uuid the_end pk signed bounds sizeable base array_size dtor dtors body struct_rest switch_part union_body union_rest enum_body enum_rest typed plain spec spec_but_void star_name size_ref attr attrs member members label arm arms param param_but_void more_params params op_rest lone_or_op const_decl typedef_decl decl version file_attr
 no_bad r =
     let P : Ebnf → Type 0 = λ g. lacks 0 g ≡ true in
     let Q : ℕ → Bool = λ n. eqb r n in
-    of_choice P (Q 1) _ _ refl (of_choice P (Q 2) _ _ refl (of_choice P (Q 3) _ _ refl (of_choice P (Q 4) _ _ refl (of_choice P (Q 5) _ _ refl (of_choice P (Q 6) _ _ refl (of_choice P (Q 7) _ _ refl (of_choice P (Q 8) _ _ refl (of_choice P (Q 9) _ _ refl (of_choice P (Q 10) _ _ refl (of_choice P (Q 11) _ _ refl (of_choice P (Q 12) _ _ refl (of_choice P (Q 13) _ _ refl (of_choice P (Q 14) _ _ refl (of_choice P (Q 15) _ _ refl refl))))))))))))))
+    of_choice P (Q 1) _ _ refl (of_choice P (Q 2) _ _ refl (of_choice P (Q 3) _ _ refl (of_choice P (Q 4) _ _ refl (of_choice P (Q 5) _ _ refl (of_choice P (Q 6) _ _ refl (of_choice P (Q 7) _ _ refl (of_choice P (Q 8) _ _ refl (of_choice P (Q 9) _ _ refl (of_choice P (Q 10) _ _ refl (of_choice P (Q 11) _ _ refl (of_choice P (Q 12) _ _ refl (of_choice P (Q 13) _ _ refl (of_choice P (Q 14) _ _ refl (of_choice P (Q 15) _ _ refl (of_choice P (Q 16) _ _ refl refl)))))))))))))))
 
 -- the file but for its end
 unfoldable before_end : Ebnf

@@ -58,7 +58,7 @@ fn is_tagged(tokens: &[Token]) -> bool
     match tokens.split_first() {
         None => false,
         Some((_, rest)) => is_next(tokens, &[class::STRUCT, class::UNION, class::ENUM])
-            && is_next(rest, &[class::NAME]),
+            && is_next(rest, &[class::NAME, class::RANGE]),
     }
 }
 
@@ -138,6 +138,7 @@ fn starts_decl(tokens: &[Token]) -> bool
             class::ENUM,
             class::VOID,
             class::NAME,
+            class::RANGE,
             class::HANDLE_T,
             class::ERROR_STATUS_T,
             class::BOOLEAN,

@@ -78,6 +78,7 @@ fn starts_params(tokens: &[Token]) -> bool
             class::UNION,
             class::ENUM,
             class::NAME,
+            class::RANGE,
             class::HANDLE_T,
             class::ERROR_STATUS_T,
             class::BOOLEAN,
@@ -101,7 +102,7 @@ fn void_first(alloc: Global, tokens: &[Token]) -> Result<(bool, Vec<ParamNode>, 
 {
     let at = place(tokens);
     let rest = word(tokens, Word::Void)?;
-    if is_next(rest, &[class::STAR, class::NAME]) {
+    if is_next(rest, &[class::STAR, class::NAME, class::RANGE]) {
         let (dtor, rest) = dtor(alloc, rest)?;
         let spec = Spec {
             at,

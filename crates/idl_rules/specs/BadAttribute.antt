@@ -2,7 +2,8 @@
 -- neither in nor out; an out parameter is no pointer or array; an [out] pointer that isn't [in] is unique or ptr; a conformant array
 -- has no size_is or max_is, is no parameter and not the last member of a structure, or is an array's element; a structure that ends
 -- in a conformant array is a member that isn't the last, an array's element or a union's arm; string stands on other than char;
--- maybe with an out or a result.
+-- range on other than a parameter of an integer of at most 32 bits that holds its numbers, in order, or a Ref to one; maybe with an
+-- out or a result.
 use Rattle.std.specs.Prelude.{ℕ, ◌==◌, Bool, true, false, not, ◌&&◌, ◌||◌, List, [], ◌∷◌, ◌++◌, Option, Some, None, is_some, if◌then◌else◌}
 use Rattle.std.specs.List.{list_any, list_all, flat_map}
 use Rattle.idl_tree.specs.declared.leaf.Ident.{Ident}
@@ -21,6 +22,7 @@ use Rattle.idl_outline.specs.declared.field.Field.{Field}
 use Rattle.idl_outline.specs.declared.event.Event.{Event}
 use Rattle.idl_outline.specs.declared.event.Event.TheVariants as events
 use Rattle.idl_rules.specs.Places.{at_if, repeats}
+use Rattle.idl_rules.specs.Ranges.{may_range}
 use Rattle.idl_rules.specs.Types.{by_value, is_unknown, is_char, is_void, is_handle_t, is_context_handle, is_open_struct, is_bare_union, is_pointer_layer, is_open_layer, is_ref, is_ref_layer, is_single, is_open_extent, is_typedef, is_operation, is_parameter, is_member, is_arm, is_listed, says_in, says_out, says_string, says_most, says_maybe, has}
 
 -- ---- twice
@@ -39,6 +41,7 @@ kind_of (marks.MaxIs s) = 7
 kind_of (marks.LengthIs s) = 8
 kind_of (marks.SwitchIs n) = 9
 kind_of (marks.SwitchType at t) = 10
+kind_of (marks.Range low high) = 11
 
 abbrev pub same_kind : Attribute → Attribute → Bool
 same_kind a b = kind_of a.mark == kind_of b.mark
@@ -105,6 +108,7 @@ has_meaning f (marks.MaxIs s) = is_sizeable f
 has_meaning f (marks.LengthIs s) = is_countable f
 has_meaning f (marks.SwitchIs n) = is_switchable f
 has_meaning f (marks.SwitchType at t) = is_bare f.bare
+has_meaning f (marks.Range low high) = may_range f low high
 
 -- ---- parameters
 

@@ -15,3 +15,5 @@ pub mod UnionTag
 pub mod OutsideProfile
 pub mod Broken
 pub mod Seen
+pub mod Numbers
+pub mod Ranges

@@ -23,7 +23,7 @@ use Rattle.idl_outline.specs.declared.event.Event.TheVariants as events
 use Rattle.idl_outline.specs.Names.{is_operation, is_typedef_event}
 use Rattle.idl_rules.specs.Places.{at_if}
 use Rattle.idl_rules.specs.Types.{value_of, is_typedef, is_pointer_layer}
-use Rattle.idl_rules.specs.UnionTag.{within, int_holds}
+use Rattle.idl_rules.specs.Numbers.{within, int_holds}
 use Rattle.idl_rules.specs.TooManyHandles.{declared_of, place_if}
 
 -- ---- names of types

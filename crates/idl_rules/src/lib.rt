@@ -6,6 +6,8 @@ mod again;
 mod asked;
 mod duplicates;
 mod least;
+mod numbers;
+mod ranges;
 mod recursions;
 mod same;
 mod unknown_names;
@@ -20,6 +22,8 @@ pub use asked::{
 };
 pub use duplicates::duplicate;
 pub use least::{lesser, place_if};
+pub use numbers::{int_holds, within};
+pub use ranges::may_range;
 pub use recursions::recursion;
 pub use same::{is_uuid, value_of};
 pub use unknown_names::unknown;

@@ -70,6 +70,7 @@ fn kind_of(mark: &Mark) -> u8
         Mark::LengthIs(_) => 8,
         Mark::SwitchIs(_) => 9,
         Mark::SwitchType { .. } => 10,
+        Mark::Range(..) => 11,
     }
 }
 

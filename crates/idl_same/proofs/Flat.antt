@@ -80,6 +80,7 @@ abbrev mutual
   flat_mark (forms.OfLengthIs r) = plain.is_length r
   flat_mark (forms.OfSwitchIs star i) = plain.is_switch star i
   flat_mark (forms.OfSwitchType s) = plain.is_switch_type (flat_spec s)
+  flat_mark (forms.OfRange low high) = plain.is_range low high
 
 -- ---- a leaf is its own form, where no place is moved
 
@@ -269,6 +270,7 @@ mark_is (open_.MaxIs r) = ap plain.is_max (ref_same r)
 mark_is (open_.LengthIs r) = ap plain.is_length (ref_same r)
 mark_is (open_.SwitchIs star i) = refl
 mark_is (open_.SwitchType s) = ap plain.is_switch_type s.value.1
+mark_is (open_.Range low high) = refl
 
 kind_is : (y : open_.SpecKind-F (Each SameMark) (Each SameKind) (Each SameArm) (Each SameAttr) (Each SameMember) (Each SameSpec) (Each SameSwitch)) → kind_said (kind_layer y) ≡ kind_formed (kind_layer y)
 kind_is (open_.Base b) = refl

@@ -28,6 +28,8 @@ interface i {
       [string] char **p[*];
     } q;
   } d, [switch_is(e), switch_type(unsigned char)] m o[q]);
+  typedef long range;
+  void range([in, range(- 1, 255)] range *range, range range[range]);
 }
 ";
 
@@ -36,7 +38,8 @@ const DENSE: &str =
     "[uuid(5F0C7A12-3B4D-4E6F-8A90-B1C2D3E4F506),version(0x1.002),pointer_default(ptr),endpoint(\"a:b\",\"\")]interface i{
 const unsigned short int n=-0xff;const hyper m=0xffffffffffffffff;typedef[context_handle,ref]void**h,k[ ],l[03];/* a */struct s;
 union u switch(hyper t)b{case-1:case x:[string]char*p[*];default:;};// b
-enum{a,b}f(void);handle_t g([in,size_is(*n)]struct{boolean a;struct{[string]char**p[*];}q;}d,[switch_is(e),switch_type(unsigned char)]m o[q]);}";
+enum{a,b}f(void);handle_t g([in,size_is(*n)]struct{boolean a;struct{[string]char**p[*];}q;}d,[switch_is(e),switch_type(unsigned char)]m o[q]);
+typedef long range;void range([in,range(-0x1,0xff)]range*range,range range[range]);}";
 
 /// The canonical text of an interface text, or none of a text that is refused.
 pub fn reprinted(alloc: Global, text: &[u8]) -> Result<Option<Vec<u8>>, NoMemory> {

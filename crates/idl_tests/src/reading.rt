@@ -24,7 +24,11 @@ tree [version(1)]interface i{union u{case 1:long a;case x:case -2:default:;};}
 tree [version(1)]interface i{union u switch(long t)b{case 1:;};union switch(long t){case 1:;}f();}
 tree [version(1)]interface i{void f();void f(void);void f(void*p,long a);void f(void a);void f([in]void a,void b);}
 tree [version(1)]interface i{[idempotent,maybe]handle_t f(error_status_t e);name g(name n);}
-tree [version(1)]interface i{typedef [context_handle_serialize,context_handle_noserialize,context_handle,string,ref,unique,ptr,out]void a;}";
+tree [version(1)]interface i{typedef [context_handle_serialize,context_handle_noserialize,context_handle,string,ref,unique,ptr,out]void a;}
+tree [version(1)]interface i{typedef long range;}
+tree [version(1)]interface i{void f([range(1,10)]long a,[in,range(-5,0x10),out]range range);}
+tree [version(1)]interface range{const long range=1;typedef range*range[range];struct range{[size_is(*range)]range range;};}
+tree [version(1)]interface i{union range switch(range range)range{case range:range range;};enum range{range}range(void range);}";
 
 /// Texts that depart at an octet that begins no token, or at an unfinished token or comment.
 const BAD_TOKENS: &str = "1:0 $
@@ -112,7 +116,18 @@ const UNEXPECTED_TYPES: &str = "2:30 [version(1)]interface i{const x a=1;}
 2:39 [version(1)]interface i{struct{long a;};}
 2:33 [version(1)]interface i{struct s{};}
 2:39 [version(1)]interface i{struct s{long a};}
-2:40 [version(1)]interface i{struct s{long a;;};}";
+2:40 [version(1)]interface i{struct s{long a;;};}
+2:37 [version(1)]interface i{void f([range]long a);}
+2:38 [version(1)]interface i{void f([range()]long a);}
+2:39 [version(1)]interface i{void f([range(1)]long a);}
+2:40 [version(1)]interface i{void f([range(1,)]long a);}
+2:41 [version(1)]interface i{void f([range(1,2,3)]long a);}
+2:38 [version(1)]interface i{void f([range(n,2)]long a);}
+2:41 [version(1)]interface i{void f([range(1,--2)]long a);}
+2:38 [version(1)]interface i{void f([range range(1,2)]long a);}
+2:32 [version(1)]interface i{void f([Range(1,2)]long a);}
+2:1 [range(1,2)]interface i{}
+2:29 [version(1)]interface i{range(1,2);}";
 
 /// More texts that depart in a declaration.
 const UNEXPECTED_OPERATIONS: &str = "2:31 [version(1)]interface i{struct ;}
@@ -152,7 +167,9 @@ const TOO_LARGE: &str = "3:9 [version(65536)]
 3:37 [version(1)]interface i{const long a=0x10000000000000000;}
 3:39 [version(1)]interface i{typedef long a[18446744073709551616];}
 3:41 [version(1)]interface i{typedef [size_is(99999999999999999999)]long a;}
-3:37 [version(1)]interface i{union u{case 18446744073709551616:;};}";
+3:37 [version(1)]interface i{union u{case 18446744073709551616:;};}
+3:38 [version(1)]interface i{void f([range(18446744073709551616,1)]long a);}
+3:41 [version(1)]interface i{void f([range(1,-18446744073709551616)]long a);}";
 
 /// What a text gets: `tree`, or the number of its fault and the place.
 fn outcome(alloc: Global, text: &[u8]) -> Result<String, Fail> {

@@ -1,5 +1,5 @@
 -- How the grammar sees tokens.
-use Rattle.std.specs.Prelude.{ℕ, ◌^◌, List, [], ◌∷◌, None, Some}
+use Rattle.std.specs.Prelude.{ℕ, ◌^◌, List, [], ◌∷◌, None, Some, codes, bytes_eq, if◌then◌else◌}
 use Rattle.ebnf.specs.Ebnf.{Terminal}
 use Rattle.idl_tokens.specs.declared.words.Word.{Word}
 use Rattle.idl_tokens.specs.declared.words.Word.TheVariants as words
@@ -92,6 +92,16 @@ uuid_class = 73
 abbrev pub end_class : ℕ
 end_class = 74
 
+abbrev pub range_class : ℕ
+range_class = 75
+
+-- the name that is a word where an attribute begins, and free as a name
+abbrev pub range_text : List ℕ
+range_text = codes "range"
+
+abbrev pub of_name : List ℕ → ℕ
+of_name text = if bytes_eq text range_text then range_class else name_class
+
 -- a class without size
 abbrev pub just : ℕ → Terminal
 just c = record { class = c; size = 0 }
@@ -99,7 +109,7 @@ just c = record { class = c; size = 0 }
 -- A number's size is the number, and 2 ^ 64 where it doesn't fit 64 bits; an opening bracket's is its level.
 abbrev pub terminal : Kind → Terminal
 terminal (kinds.Word w) = just (of_word w)
-terminal (kinds.Name text) = just name_class
+terminal (kinds.Name text) = just (of_name text)
 terminal (kinds.Number (Some n)) = record { class = number_class; size = n }
 terminal (kinds.Number None) = record { class = number_class; size = 2 ^ 64 }
 terminal (kinds.Text text) = just text_class

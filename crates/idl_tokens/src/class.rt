@@ -124,3 +124,5 @@ pub const TEXT: u8 = 72;
 pub const UUID: u8 = 73;
 /// The end of the text.
 pub const END: u8 = 74;
+/// The name `range`, which is a word where an attribute begins.
+pub const RANGE: u8 = 75;

@@ -1,6 +1,6 @@
 //! Tokens.
 ghost use Rattle.std.specs.Prelude.{◌≡◌, nat_lt};
-ghost use Rattle.idl_tokens.specs.Terminals.{terminal};
+ghost use Rattle.idl_tokens.specs.Terminals.{terminal, of_name};
 
 use crate::{Bracket, Mark, Word, class};
 use rpc_base::Octets;
@@ -34,6 +34,20 @@ pub struct Token {
     pub kind: Kind,
 }
 
+/// The name that is a word where an attribute begins, and free as a name elsewhere.
+pub const RANGE_WORD: &[u8] = b"range";
+
+// The class of a name's tokens.
+fn class_of_name(name: &[u8]) -> u8
+    ensures { result ≡ of_name name.now }
+{
+    if name == RANGE_WORD {
+        class::RANGE
+    } else {
+        class::NAME
+    }
+}
+
 impl Kind {
     /// The token's class, which the grammar tells tokens by.
     pub fn class(&self) -> u8
@@ -41,7 +55,7 @@ impl Kind {
     {
         match self {
             Kind::Word(word) => word.class(),
-            Kind::Name(_) => class::NAME,
+            Kind::Name(name) => class_of_name(name.as_slice()),
             Kind::Number(_) => class::NUMBER,
             Kind::Text(_) => class::TEXT,
             Kind::Uuid(_) => class::UUID,

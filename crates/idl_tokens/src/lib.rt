@@ -12,7 +12,7 @@ mod numbers;
 mod runs;
 mod words;
 
-pub use kinds::{Kind, Token};
+pub use kinds::{Kind, RANGE_WORD, Token};
 pub use laws::{places_rise, text_has_one_list_of_tokens, tokens_end_once};
 pub use lexer::tokens;
 pub use marks::{Bracket, Mark};

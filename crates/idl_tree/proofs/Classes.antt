@@ -1,6 +1,12 @@
 -- A class tells its token.
-use Rattle.std.proofs.Common.{arith, List, ◌<◌, ◌^◌, ◌≡◌, ℕ, eqb, cond, refl, ap, sym, ◌∙◌, None, Some, inl, inr}
-use Rattle.std.specs.Prelude.{◌⊎◌}
+use Rattle.std.proofs.Common.{arith, List, [], ◌∷◌, ◌<◌, ◌^◌, ◌≡◌, ℕ, eqb, cond, refl, ap, sym, ◌∙◌, None, Some, inl, inr}
+use Rattle.std.specs.Prelude.{◌⊎◌, Bool, true, false, bytes_eq, if◌then◌else◌}
+use Rattle.std.proofs.lemmas.Bool.{eqb-true}
+use Rattle.std.proofs.lemmas.Slice.Eq.{bytes_eq-Decides}
+use Rattle.std.proofs.Math.Bool.{or-false}
+use Rattle.ebnf.specs.Ebnf.{has}
+use Rattle.ebnf.proofs.Sets.{has_either}
+use Rattle.idl_tree.specs.Grammar.{name_classes}
 use Rattle.idl_tokens.specs.declared.words.Word.{Word}
 use Rattle.idl_tokens.specs.declared.words.Word.TheVariants as words
 use Rattle.idl_tokens.specs.declared.marks.Mark.{Mark}
@@ -9,7 +15,7 @@ use Rattle.idl_tokens.specs.declared.marks.Bracket.{Bracket}
 use Rattle.idl_tokens.specs.declared.marks.Bracket.TheVariants as brackets
 use Rattle.idl_tokens.specs.declared.kinds.Kind.{Kind}
 use Rattle.idl_tokens.specs.declared.kinds.Kind.TheVariants as kinds
-use Rattle.idl_tokens.specs.Terminals.{of_word, of_mark, opening, closing, terminal, bad_class, name_class, number_class, text_class, uuid_class, end_class}
+use Rattle.idl_tokens.specs.Terminals.{of_word, of_mark, opening, closing, terminal, bad_class, name_class, number_class, text_class, uuid_class, end_class, range_class, range_text, of_name}
 use Rattle.uuid.specs.declared.Uuid.{Uuid}
 
 -- the word, mark, closing bracket or end of a class; for any other class Bad
@@ -82,6 +88,31 @@ open_none brackets.Square = refl
 open_none brackets.Round = refl
 open_none brackets.Curly = refl
 
+only : (c d : ℕ) → has c (d ∷ []) ≡ true → c ≡ d
+only c d e = eqb-true c d (sym (or-false (eqb c d)) ∙ e)
+
+-- a name's class is one of two
+name_among : (b : Bool) → has (if b then range_class else name_class) name_classes ≡ true
+name_among true = refl
+name_among false = refl
+
+pub is_name_class : (text : List ℕ) → has (of_name text) name_classes ≡ true
+is_name_class text = name_among (bytes_eq text range_text)
+
+name_none : (b : Bool) → told (if b then range_class else name_class) ≡ kinds.Bad
+unfolding told
+name_none true = refl
+name_none false = refl
+
+-- and no other class
+no_name : (text : List ℕ) (c : ℕ) → of_name text ≡ c → has c name_classes ≡ false → ⊥
+no_name text c e n = let yes : has c name_classes ≡ true = sym (ap (λ x. has x name_classes) e) ∙ is_name_class text in cc
+
+off_open : (b : Bracket) → has (opening b) name_classes ≡ false
+off_open brackets.Square = refl
+off_open brackets.Round = refl
+off_open brackets.Curly = refl
+
 others : (told name_class ≡ kinds.Bad) × (told number_class ≡ kinds.Bad) × (told text_class ≡ kinds.Bad) × (told uuid_class ≡ kinds.Bad) × (told end_class ≡ kinds.End) × (told bad_class ≡ kinds.Bad)
 unfolding told
 others = (refl, refl, refl, refl, refl, refl)
@@ -92,7 +123,7 @@ back (kinds.Word w) = inl (word_back w)
 back (kinds.Mark m) = inl (mark_back m)
 back (kinds.Shut b) = inl (shut_back b)
 back kinds.End = inl others.4
-back (kinds.Name text) = inr others.0
+back (kinds.Name text) = inr (name_none (bytes_eq text range_text))
 back (kinds.Number (Some n)) = inr others.1
 back (kinds.Number None) = inr others.1
 back (kinds.Text text) = inr others.2
@@ -132,24 +163,42 @@ below_70 brackets.Square = omega arith
 below_70 brackets.Round = omega arith
 below_70 brackets.Curly = omega arith
 
-pub name_told : (k : Kind) → (terminal k).class ≡ name_class → (text : List ℕ) × (k ≡ kinds.Name text)
-name_told (kinds.Word w) e = absurd (no_word w _ e others.0)
-name_told (kinds.Mark m) e = absurd (no_mark m _ e others.0)
-name_told (kinds.Shut b) e = absurd (no_shut b _ e others.0)
+-- the class of no token that holds nothing, and of no other that holds something
+told_off : (c : ℕ) → has c name_classes ≡ true → told c ≡ kinds.Bad
+unfolding told
+told_off c e = elim (has_either c (name_class ∷ []) (range_class ∷ []) e) [
+  | inl p ↦ ap told (only c name_class p)
+  | inr p ↦ ap told (only c range_class p)
+]
+
+pub name_told : (k : Kind) → has (terminal k).class name_classes ≡ true → (text : List ℕ) × (k ≡ kinds.Name text)
+name_told (kinds.Word w) e = absurd (no_word w _ refl (told_off _ e))
+name_told (kinds.Mark m) e = absurd (no_mark m _ refl (told_off _ e))
+name_told (kinds.Shut b) e = absurd (no_shut b _ refl (told_off _ e))
 name_told (kinds.Name text) e = (text, refl)
-name_told (kinds.Number (Some n)) e = absurd (omega arith)
-name_told (kinds.Number None) e = absurd (omega arith)
-name_told (kinds.Text text) e = absurd (omega arith)
-name_told (kinds.Uuid id) e = absurd (omega arith)
-name_told (kinds.Open b l) e = let a = below_70 b in absurd (omega arith)
-name_told kinds.End e = absurd (omega arith)
-name_told kinds.Bad e = absurd (omega arith)
+name_told (kinds.Number (Some n)) e = cc
+name_told (kinds.Number None) e = cc
+name_told (kinds.Text text) e = cc
+name_told (kinds.Uuid id) e = cc
+name_told (kinds.Open b l) e = let n = off_open b in cc
+name_told kinds.End e = cc
+name_told kinds.Bad e = cc
+
+text_is : (text : List ℕ) (b : Bool) → bytes_eq text range_text ≡ b → (if b then range_class else name_class) ≡ range_class → text ≡ range_text
+text_is text true e h = (bytes_eq-Decides text range_text).0 e
+text_is text false e h = absurd (omega arith)
+
+pub range_told : (k : Kind) → (terminal k).class ≡ range_class → k ≡ kinds.Name range_text
+range_told k e = let t = name_told k (ap (λ x. has x name_classes) e) in
+    let same : k ≡ kinds.Name t.0 = t.1 in
+    let named : of_name t.0 ≡ range_class = sym (ap (λ x. (terminal x).class) same) ∙ e in
+    same ∙ ap kinds.Name (text_is t.0 (bytes_eq t.0 range_text) refl named)
 
 pub number_told : (k : Kind) → (terminal k).class ≡ number_class → (terminal k).size < 2 ^ 64 → (n : ℕ) × (k ≡ kinds.Number (Some n))
 number_told (kinds.Word w) e l = absurd (no_word w _ e others.1)
 number_told (kinds.Mark m) e l = absurd (no_mark m _ e others.1)
 number_told (kinds.Shut b) e l = absurd (no_shut b _ e others.1)
-number_told (kinds.Name text) e l = absurd (omega arith)
+number_told (kinds.Name text) e l = absurd (no_name text _ e refl)
 number_told (kinds.Number (Some n)) e l = (n, refl)
 number_told (kinds.Number None) e l = absurd (omega arith)
 number_told (kinds.Text text) e l = absurd (omega arith)
@@ -162,7 +211,7 @@ pub text_told : (k : Kind) → (terminal k).class ≡ text_class → (text : Lis
 text_told (kinds.Word w) e = absurd (no_word w _ e others.2)
 text_told (kinds.Mark m) e = absurd (no_mark m _ e others.2)
 text_told (kinds.Shut b) e = absurd (no_shut b _ e others.2)
-text_told (kinds.Name text) e = absurd (omega arith)
+text_told (kinds.Name text) e = absurd (no_name text _ e refl)
 text_told (kinds.Number (Some n)) e = absurd (omega arith)
 text_told (kinds.Number None) e = absurd (omega arith)
 text_told (kinds.Text text) e = (text, refl)
@@ -175,7 +224,7 @@ pub uuid_told : (k : Kind) → (terminal k).class ≡ uuid_class → (id : Uuid)
 uuid_told (kinds.Word w) e = absurd (no_word w _ e others.3)
 uuid_told (kinds.Mark m) e = absurd (no_mark m _ e others.3)
 uuid_told (kinds.Shut b) e = absurd (no_shut b _ e others.3)
-uuid_told (kinds.Name text) e = absurd (omega arith)
+uuid_told (kinds.Name text) e = absurd (no_name text _ e refl)
 uuid_told (kinds.Number (Some n)) e = absurd (omega arith)
 uuid_told (kinds.Number None) e = absurd (omega arith)
 uuid_told (kinds.Text text) e = absurd (omega arith)
@@ -202,7 +251,7 @@ pub open_told : (k : Kind) (b : Bracket) → (terminal k).class ≡ opening b �
 open_told (kinds.Word w) b e = absurd (no_word w _ e (open_none b))
 open_told (kinds.Mark m) b e = absurd (no_mark m _ e (open_none b))
 open_told (kinds.Shut d) b e = absurd (no_shut d _ e (open_none b))
-open_told (kinds.Name text) b e = let a = below_70 b in let o = above_0 b in absurd (omega arith)
+open_told (kinds.Name text) b e = absurd (no_name text _ e (off_open b))
 open_told (kinds.Number (Some n)) b e = let a = below_70 b in let o = above_0 b in absurd (omega arith)
 open_told (kinds.Number None) b e = let a = below_70 b in let o = above_0 b in absurd (omega arith)
 open_told (kinds.Text text) b e = let a = below_70 b in let o = above_0 b in absurd (omega arith)

@@ -9,8 +9,8 @@ use Rattle.ebnf.specs.Checks.{decides, full, fulls}
 use Rattle.ebnf.specs.Stacks.{Good}
 use Rattle.ebnf.specs.Laws.{Word, Sorted}
 use Rattle.ebnf.proofs.Sets.{or_left}
-use Rattle.idl_tree.specs.Grammar.{a_word, a_mark, a_name, a_number, a_text, a_uuid, the_end, pk, signed, sizeable, base, array_size, dtor, dtors, body, struct_rest, switch_part, union_body, union_rest, enum_body, enum_rest, typed, plain, spec, spec_but_void, star_name, size_ref, attr, attrs, member, members, label, arm, arms, param, param_but_void, more_params, params, op_rest, lone_or_op, const_decl, typedef_decl, decl, version, file_attr, file, rule, level_limit}
-use Rattle.idl_tokens.specs.Terminals.{of_word, of_mark, opening, closing, name_class, number_class, text_class, uuid_class}
+use Rattle.idl_tree.specs.Grammar.{a_word, a_mark, a_name, a_range, a_number, a_text, a_uuid, the_end, pk, signed, bounds, sizeable, base, array_size, dtor, dtors, body, struct_rest, switch_part, union_body, union_rest, enum_body, enum_rest, typed, plain, spec, spec_but_void, star_name, size_ref, attr, attrs, member, members, label, arm, arms, param, param_but_void, more_params, params, op_rest, lone_or_op, const_decl, typedef_decl, decl, version, file_attr, file, rule, level_limit}
+use Rattle.idl_tokens.specs.Terminals.{of_word, of_mark, opening, closing, name_class, number_class, text_class, uuid_class, range_class}
 use Rattle.idl_tokens.specs.declared.words.Word.TheVariants as words
 use Rattle.idl_tokens.specs.declared.marks.Mark.TheVariants as marks
 use Rattle.idl_tokens.specs.declared.marks.Bracket.TheVariants as brackets
@@ -20,18 +20,18 @@ of_choice P true x y p q = p
 of_choice P false x y p q = q
 
 rules : (r : ℕ) → decides rule (rule r) ≡ true
-unfolding rule a_word a_mark a_name a_number a_text a_uuid pk signed sizeable base array_size dtor dtors body struct_rest switch_part union_body union_rest enum_body enum_rest typed plain spec spec_but_void star_name size_ref attr attrs member members label arm arms param param_but_void more_params params op_rest lone_or_op const_decl typedef_decl decl version file_attr
+unfolding rule a_word a_mark a_name a_range a_number a_text a_uuid pk signed bounds sizeable base array_size dtor dtors body struct_rest switch_part union_body union_rest enum_body enum_rest typed plain spec spec_but_void star_name size_ref attr attrs member members label arm arms param param_but_void more_params params op_rest lone_or_op const_decl typedef_decl decl version file_attr
 rules r =
     let P : Ebnf → Type 0 = λ g. decides rule g ≡ true in
     let Q : ℕ → Bool = λ n. eqb r n in
-    of_choice P (Q 1) _ _ refl (of_choice P (Q 2) _ _ refl (of_choice P (Q 3) _ _ refl (of_choice P (Q 4) _ _ refl (of_choice P (Q 5) _ _ refl (of_choice P (Q 6) _ _ refl (of_choice P (Q 7) _ _ refl (of_choice P (Q 8) _ _ refl (of_choice P (Q 9) _ _ refl (of_choice P (Q 10) _ _ refl (of_choice P (Q 11) _ _ refl (of_choice P (Q 12) _ _ refl (of_choice P (Q 13) _ _ refl (of_choice P (Q 14) _ _ refl (of_choice P (Q 15) _ _ refl refl))))))))))))))
+    of_choice P (Q 1) _ _ refl (of_choice P (Q 2) _ _ refl (of_choice P (Q 3) _ _ refl (of_choice P (Q 4) _ _ refl (of_choice P (Q 5) _ _ refl (of_choice P (Q 6) _ _ refl (of_choice P (Q 7) _ _ refl (of_choice P (Q 8) _ _ refl (of_choice P (Q 9) _ _ refl (of_choice P (Q 10) _ _ refl (of_choice P (Q 11) _ _ refl (of_choice P (Q 12) _ _ refl (of_choice P (Q 13) _ _ refl (of_choice P (Q 14) _ _ refl (of_choice P (Q 15) _ _ refl (of_choice P (Q 16) _ _ refl refl)))))))))))))))
 
 whole : (r : ℕ) → full (rule r) ≡ true
-unfolding rule a_word a_mark a_name a_number a_text a_uuid pk signed sizeable base array_size dtor dtors body struct_rest switch_part union_body union_rest enum_body enum_rest typed plain spec spec_but_void star_name size_ref attr attrs member members label arm arms param param_but_void more_params params op_rest lone_or_op const_decl typedef_decl decl version file_attr
+unfolding rule a_word a_mark a_name a_range a_number a_text a_uuid pk signed bounds sizeable base array_size dtor dtors body struct_rest switch_part union_body union_rest enum_body enum_rest typed plain spec spec_but_void star_name size_ref attr attrs member members label arm arms param param_but_void more_params params op_rest lone_or_op const_decl typedef_decl decl version file_attr
 whole r =
     let P : Ebnf → Type 0 = λ g. full g ≡ true in
     let Q : ℕ → Bool = λ n. eqb r n in
-    of_choice P (Q 1) _ _ refl (of_choice P (Q 2) _ _ refl (of_choice P (Q 3) _ _ refl (of_choice P (Q 4) _ _ refl (of_choice P (Q 5) _ _ refl (of_choice P (Q 6) _ _ refl (of_choice P (Q 7) _ _ refl (of_choice P (Q 8) _ _ refl (of_choice P (Q 9) _ _ refl (of_choice P (Q 10) _ _ refl (of_choice P (Q 11) _ _ refl (of_choice P (Q 12) _ _ refl (of_choice P (Q 13) _ _ refl (of_choice P (Q 14) _ _ refl (of_choice P (Q 15) _ _ refl refl))))))))))))))
+    of_choice P (Q 1) _ _ refl (of_choice P (Q 2) _ _ refl (of_choice P (Q 3) _ _ refl (of_choice P (Q 4) _ _ refl (of_choice P (Q 5) _ _ refl (of_choice P (Q 6) _ _ refl (of_choice P (Q 7) _ _ refl (of_choice P (Q 8) _ _ refl (of_choice P (Q 9) _ _ refl (of_choice P (Q 10) _ _ refl (of_choice P (Q 11) _ _ refl (of_choice P (Q 12) _ _ refl (of_choice P (Q 13) _ _ refl (of_choice P (Q 14) _ _ refl (of_choice P (Q 15) _ _ refl (of_choice P (Q 16) _ _ refl refl)))))))))))))))
 
 -- ---- some word of each part
 
@@ -64,7 +64,7 @@ w_uuid = w_one uuid_class [] 1 (omega arith)
 
 w_name : Word rule a_name
 unfolding a_name
-w_name = w_one name_class [] 1 (omega arith)
+w_name = w_one name_class (range_class ∷ []) 1 (omega arith)
 
 w_dtor : Word rule dtor
 unfolding dtor
@@ -90,19 +90,25 @@ w_arm : Word rule arm
 unfolding arm label a_word a_mark
 w_arm = w_seq _ _ (w_seq _ _ (w_right _ _ (w_seq _ _ (w_one (of_word words.Default) [] 1 (omega arith)) (w_one (of_mark marks.Colon) [] 1 (omega arith)))) (w_many _)) (w_right _ _ (w_one (of_mark marks.Semicolon) [] 1 (omega arith)))
 
+w_bounds : Word rule bounds
+unfolding bounds signed a_mark a_number
+w_bounds =
+    let number : Word rule signed = w_seq _ _ (w_opt _) (w_one number_class [] (2 ^ 64) (omega arith)) in
+    w_seq _ _ (w_seq _ _ number (w_one (of_mark marks.Comma) [] 1 (omega arith))) number
+
 some_word : (r : ℕ) → Word rule (rule r)
 unfolding rule array_size members a_uuid version pk a_text size_ref a_number star_name params arms
 some_word r =
     let P : Ebnf → Type 0 = λ g. Word rule g in
     let Q : ℕ → Bool = λ n. eqb r n in
     let starred : Word rule star_name = w_seq _ _ (w_opt _) w_name in
-    of_choice P (Q 1) _ _ (w_opt _) (of_choice P (Q 2) _ _ (w_seq _ _ w_member (w_many _)) (of_choice P (Q 3) _ _ (w_seq _ _ w_file_attr (w_many _)) (of_choice P (Q 4) _ _ (w_one uuid_class [] 1 (omega arith)) (of_choice P (Q 5) _ _ (w_seq _ _ (w_one number_class [] (2 ^ 16) (omega arith)) (w_opt _)) (of_choice P (Q 6) _ _ (w_one (of_word words.Ref) _ 1 (omega arith)) (of_choice P (Q 7) _ _ (w_seq _ _ (w_one text_class [] 1 (omega arith)) (w_many _)) (of_choice P (Q 8) _ _ (w_many _) (of_choice P (Q 9) _ _ (w_seq _ _ w_attr (w_many _)) (of_choice P (Q 10) _ _ (w_right _ _ starred) (of_choice P (Q 11) _ _ starred (of_choice P (Q 12) _ _ w_spec (of_choice P (Q 13) _ _ (w_opt _) (of_choice P (Q 14) _ _ (w_seq _ _ w_spec w_name) (of_choice P (Q 15) _ _ (w_seq _ _ w_arm (w_many _)) (w_seq _ _ w_name (w_many _))))))))))))))))
+    of_choice P (Q 1) _ _ (w_opt _) (of_choice P (Q 2) _ _ (w_seq _ _ w_member (w_many _)) (of_choice P (Q 3) _ _ (w_seq _ _ w_file_attr (w_many _)) (of_choice P (Q 4) _ _ (w_one uuid_class [] 1 (omega arith)) (of_choice P (Q 5) _ _ (w_seq _ _ (w_one number_class [] (2 ^ 16) (omega arith)) (w_opt _)) (of_choice P (Q 6) _ _ (w_one (of_word words.Ref) _ 1 (omega arith)) (of_choice P (Q 7) _ _ (w_seq _ _ (w_one text_class [] 1 (omega arith)) (w_many _)) (of_choice P (Q 8) _ _ (w_many _) (of_choice P (Q 9) _ _ (w_seq _ _ w_attr (w_many _)) (of_choice P (Q 10) _ _ (w_right _ _ starred) (of_choice P (Q 11) _ _ starred (of_choice P (Q 12) _ _ w_spec (of_choice P (Q 13) _ _ (w_opt _) (of_choice P (Q 14) _ _ (w_seq _ _ w_spec w_name) (of_choice P (Q 15) _ _ (w_seq _ _ w_arm (w_many _)) (of_choice P (Q 16) _ _ (w_seq _ _ w_name (w_many _)) w_bounds)))))))))))))))
 
 pub sorted : Sorted rule
 sorted = record { words = some_word; rules = rules; whole = whole }
 
 pub file_good : Good rule (file ∷ [])
-unfolding rule a_word a_mark a_name a_number a_text a_uuid the_end pk signed sizeable base array_size dtor dtors body struct_rest switch_part union_body union_rest enum_body enum_rest typed plain spec spec_but_void star_name size_ref attr attrs member members label arm arms param param_but_void more_params params op_rest lone_or_op const_decl typedef_decl decl version file_attr file
+unfolding rule a_word a_mark a_name a_range a_number a_text a_uuid the_end pk signed bounds sizeable base array_size dtor dtors body struct_rest switch_part union_body union_rest enum_body enum_rest typed plain spec spec_but_void star_name size_ref attr attrs member members label arm arms param param_but_void more_params params op_rest lone_or_op const_decl typedef_decl decl version file_attr file
 file_good = (refl, (λ c x y. cc), tt)
 
 pub file_full : fulls (file ∷ []) ≡ true

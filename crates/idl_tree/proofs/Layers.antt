@@ -5,6 +5,7 @@ use Rattle.idl_tokens.specs.declared.words.Word.TheVariants as words
 use Rattle.idl_tokens.specs.declared.marks.Mark.TheVariants as marks
 use Rattle.idl_tokens.specs.declared.marks.Bracket.TheVariants as brackets
 use Rattle.idl_tree.specs.declared.leaf.Ident.{Ident}
+use Rattle.idl_tree.specs.declared.leaf.Num.{Num}
 use Rattle.idl_tree.specs.declared.leaf.SizeRef.{SizeRef}
 use Rattle.idl_tree.specs.declared.spec.AttrKind.{AttrKind}
 use Rattle.idl_tree.specs.declared.spec.SpecKind.{SpecKind}
@@ -18,7 +19,7 @@ use Rattle.idl_tree.specs.declared.spec.AttrKind.TheVariants as attr_kinds
 use Rattle.idl_tree.specs.declared.spec.SpecKind.TheVariants as spec_kinds
 use Rattle.idl_tree.specs.declared.spec.AttrKind.TheOpen as open_
 use Rattle.idl_tree.specs.declared.spec.AttrKind.TheFolds.{fold-AttrKind, fold-SpecKind, fold-ArmNode, fold-Attr, fold-Member, fold-Spec, fold-Switch, fold-roll-AttrKind, fold-roll-SpecKind, map-ArmNode, fold_out-ArmNode, fold_out-Attr, fold_out-Member, fold_out-Spec, fold_out-Switch}
-use Rattle.idl_tree.specs.Pieces.{Pieces, Written, BeginsAt, placed, open_pieces, shut_pieces, within, word_pieces, mark_pieces, ref_pieces, if_mark, if_ident, ident_pieces}
+use Rattle.idl_tree.specs.Pieces.{Pieces, Written, BeginsAt, placed, open_pieces, shut_pieces, within, word_pieces, mark_pieces, ref_pieces, if_mark, if_ident, ident_pieces, range_pieces, bounds_pieces}
 use Rattle.idl_tokens.specs.declared.kinds.Token.{Token}
 use Rattle.idl_tree.proofs.Writing.{write_join, write_placed}
 use Rattle.idl_tree.specs.Trees.{attr_kind_step, kind_step, arm_step, attr_step, member_step, spec_step, switch_step, attr_kind_pieces, kind_pieces, spec_pieces, attr_pieces, attrs_pieces, member_pieces, switch_pieces, arm_member_pieces, arm_pieces, label_pieces, dtors_pieces, tag_pieces, names_pieces, in_squares}
@@ -87,6 +88,10 @@ pub switch_type_is : (b : Box Spec Global) → attr_kind_pieces (views.SwitchTyp
 unfolding views.roll-AttrKind denote.Hole.Carrier.roll
 switch_type_is b = fold-roll-AttrKind Pieces Pieces Pieces Pieces Pieces Pieces Pieces attr_kind_step kind_step arm_step attr_step member_step spec_step switch_step (open_.SwitchType b) ∙ ap (λ (x : Pieces). word_pieces words.SwitchType ++ within brackets.Round x) (spec_fold b.value)
 
+pub range_is : (low high : Num) → attr_kind_pieces (attr_kinds.Range low high) ≡ range_pieces ++ within brackets.Round (bounds_pieces low high)
+unfolding views.roll-AttrKind denote.Hole.Carrier.roll
+range_is low high = fold-roll-AttrKind Pieces Pieces Pieces Pieces Pieces Pieces Pieces attr_kind_step kind_step arm_step attr_step member_step spec_step switch_step (open_.Range low high)
+
 pub void_is : kind_pieces spec_kinds.Void ≡ word_pieces words.Void
 unfolding views.roll-SpecKind denote.Hole.Carrier.roll
 void_is = fold-roll-SpecKind Pieces Pieces Pieces Pieces Pieces Pieces Pieces attr_kind_step kind_step arm_step attr_step member_step spec_step switch_step open_.Void
@@ -150,6 +155,9 @@ written_length_is ts mid rest r p q = subst (λ (x : Pieces). Written x ts rest)
 pub written_switch_is : (ts mid rest : List Token) (star : Bool) (i : Ident) → Written (word_pieces words.SwitchIs) ts mid → Written (within brackets.Round (if_mark star marks.Star ++ ident_pieces i)) mid rest → Written (attr_kind_pieces (attr_kinds.SwitchIs star i)) ts rest
 written_switch_is ts mid rest star i p q = subst (λ (x : Pieces). Written x ts rest) (sym (switch_is star i)) (write_join p q)
 
+pub written_range : (ts mid rest : List Token) (low high : Num) → Written range_pieces ts mid → Written (within brackets.Round (bounds_pieces low high)) mid rest → Written (attr_kind_pieces (attr_kinds.Range low high)) ts rest
+written_range ts mid rest low high p q = subst (λ (x : Pieces). Written x ts rest) (sym (range_is low high)) (write_join p q)
+
 -- ---- what code makes of its parts
 
 made_attr : (a : open_.Attr-F AttrKind SpecKind ArmNode Attr Member Spec Switch) → attr_pieces (views.roll-Attr a) ≡ placed a.at (attr_kind_pieces a.what)
@@ -182,4 +190,4 @@ written_switch ts a b d e f rest s spec same p q r n z i =
 pub written_arm : (ts a rest : List Token) (m : open_.ArmNode-F AttrKind SpecKind ArmNode Attr Member Spec Switch) → Written (flat_map label_pieces m.labels.items) ts a → Written (arm_member_pieces m.member) a rest → Written (arm_pieces (views.roll-ArmNode m)) ts rest
 written_arm ts a rest m p q = subst (λ (x : Pieces). Written x ts rest) (sym (made_arm m)) (write_join p q)
 
-pub ruleset sizes = (written_size_is, written_max_is, written_length_is, written_switch_is)
+pub ruleset sizes = (written_size_is, written_max_is, written_length_is, written_switch_is, written_range)

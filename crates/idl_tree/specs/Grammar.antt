@@ -8,7 +8,7 @@ use Rattle.idl_tokens.specs.declared.marks.Mark.{Mark}
 use Rattle.idl_tokens.specs.declared.marks.Mark.TheVariants as marks
 use Rattle.idl_tokens.specs.declared.marks.Bracket.{Bracket}
 use Rattle.idl_tokens.specs.declared.marks.Bracket.TheVariants as brackets
-use Rattle.idl_tokens.specs.Terminals.{of_word, of_mark, opening, closing, name_class, number_class, text_class, uuid_class, end_class}
+use Rattle.idl_tokens.specs.Terminals.{of_word, of_mark, opening, closing, name_class, number_class, text_class, uuid_class, end_class, range_class}
 
 -- one after the other
 infixl 20 ◌⨟◌
@@ -32,10 +32,14 @@ a_mark m = One (of_mark m ∷ []) 1
 
 -- the classes of the tokens that may stand for a name
 abbrev pub name_classes : List ℕ
-name_classes = name_class ∷ []
+name_classes = name_class ∷ range_class ∷ []
 
 unfoldable pub a_name : Ebnf
 a_name = One name_classes 1
+
+-- "range", which is a word only here
+unfoldable pub a_range : Ebnf
+a_range = One (range_class ∷ []) 1
 
 -- a number below the limit
 unfoldable pub a_number : ℕ → Ebnf
@@ -146,6 +150,10 @@ star_name = Opt (a_mark marks.Star) ⨟ a_name
 unfoldable pub size_ref : Ebnf
 size_ref = a_number (2 ^ 64) ∣ star_name
 
+-- ["-"] num "," ["-"] num
+unfoldable pub bounds : Ebnf
+bounds = signed ⨟ a_mark marks.Comma ⨟ signed
+
 -- the attributes of one word
 abbrev pub plain_attrs : List Word
 plain_attrs = words.In ∷ words.Out ∷ words.Ref ∷ words.Unique ∷ words.Ptr ∷ words.String ∷ words.Idempotent ∷ words.Maybe ∷ words.ContextHandle ∷ words.ContextHandleSerialize ∷ words.ContextHandleNoserialize ∷ []
@@ -156,6 +164,7 @@ attr =
     ∣ any_word (words.SizeIs ∷ words.MaxIs ∷ words.LengthIs ∷ []) ⨟ in_brackets brackets.Round 10
     ∣ a_word words.SwitchIs ⨟ in_brackets brackets.Round 11
     ∣ a_word words.SwitchType ⨟ in_brackets brackets.Round 12
+    ∣ a_range ⨟ in_brackets brackets.Round 17
 
 -- "[" attr {"," attr} "]"
 unfoldable pub attrs : Ebnf
@@ -258,4 +267,5 @@ rule r =
     else if eqb r 13 then params
     else if eqb r 14 then spec ⨟ a_name
     else if eqb r 15 then arms
-    else listed a_name
+    else if eqb r 16 then listed a_name
+    else bounds

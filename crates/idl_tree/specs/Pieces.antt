@@ -10,6 +10,7 @@ use Rattle.idl_tokens.specs.declared.marks.Bracket.TheVariants as brackets
 use Rattle.idl_tokens.specs.declared.kinds.Kind.{Kind}
 use Rattle.idl_tokens.specs.declared.kinds.Kind.TheVariants as kinds
 use Rattle.idl_tokens.specs.declared.kinds.Token.{Token}
+use Rattle.idl_tokens.specs.Terminals.{range_text}
 use Rattle.uuid.specs.declared.Uuid.{Uuid}
 use Rattle.idl_tree.specs.declared.leaf.Ident.{Ident}
 use Rattle.idl_tree.specs.declared.leaf.Num.{Num}
@@ -84,6 +85,10 @@ text_pieces text = alone (kinds.Text text) ∷ []
 unfoldable pub uuid_pieces : Uuid → Pieces
 uuid_pieces id = alone (kinds.Uuid id) ∷ []
 
+-- the word `range`, which is a name elsewhere
+unfoldable pub range_pieces : Pieces
+range_pieces = alone (kinds.Name range_text) ∷ []
+
 -- a number alone, at its octet
 unfoldable pub number_pieces : ℕ → ℕ → Pieces
 number_pieces at n = record { what = Of (kinds.Number (Some n)); places = at ∷ [] } ∷ []
@@ -139,6 +144,9 @@ base_pieces bases.Boolean = word_pieces words.Boolean
 base_pieces bases.Byte = word_pieces words.Byte
 base_pieces (bases.Char u) = if_word u words.Unsigned ++ word_pieces words.Char
 base_pieces (bases.Int u size w) = if_word u words.Unsigned ++ (int_size_pieces size ++ if_word w words.Int)
+
+unfoldable pub bounds_pieces : Num → Num → Pieces
+bounds_pieces low high = num_pieces low ++ (mark_pieces marks.Comma ++ num_pieces high)
 
 -- ---- declarators and sizes
 

@@ -5,7 +5,7 @@ use Rattle.idl_tokens.specs.declared.words.Word.TheVariants as words
 use Rattle.idl_tokens.specs.declared.marks.Mark.TheVariants as marks
 use Rattle.idl_tokens.specs.declared.marks.Bracket.TheVariants as brackets
 use Rattle.idl_tokens.specs.declared.kinds.Kind.TheVariants as kinds
-use Rattle.idl_tree.specs.Pieces.{Pieces, alone, placed, within, commas, word_pieces, mark_pieces, ident_pieces, if_ident, if_mark, num_pieces, pk_pieces, base_pieces, dtor_pieces, ref_pieces}
+use Rattle.idl_tree.specs.Pieces.{Pieces, alone, placed, within, commas, word_pieces, mark_pieces, ident_pieces, if_ident, if_mark, num_pieces, pk_pieces, base_pieces, dtor_pieces, ref_pieces, range_pieces, bounds_pieces}
 use Rattle.idl_tree.specs.declared.leaf.Ident.{Ident}
 use Rattle.idl_tree.specs.declared.leaf.Dtor.{Dtor}
 use Rattle.idl_tree.specs.declared.spec.SpecKind.{SpecKind}
@@ -65,6 +65,7 @@ attr_kind_step (open_.MaxIs r) = word_pieces words.MaxIs ++ within brackets.Roun
 attr_kind_step (open_.LengthIs r) = word_pieces words.LengthIs ++ within brackets.Round (ref_pieces r)
 attr_kind_step (open_.SwitchIs star i) = word_pieces words.SwitchIs ++ within brackets.Round (if_mark star marks.Star ++ ident_pieces i)
 attr_kind_step (open_.SwitchType spec) = word_pieces words.SwitchType ++ within brackets.Round spec.value
+attr_kind_step (open_.Range low high) = range_pieces ++ within brackets.Round (bounds_pieces low high)
 
 abbrev pub if_switch : Option Pieces → Pieces
 if_switch None = []

@@ -105,4 +105,6 @@ pub enum AttrKind {
     LengthIs(SizeRef),
     SwitchIs { star: bool, name: Ident },
     SwitchType(Box<Spec>),
+    /// The lowest and the highest number that a parameter may be (MIDL's `range`).
+    Range(Num, Num),
 }

@@ -1,5 +1,5 @@
 -- The readers' order and the grammar are one.
-use Rattle.std.proofs.Common.{◌≡◌, false, List, [], ◌∷◌, refl}
+use Rattle.std.proofs.Common.{◌≡◌, ℕ, false, List, [], ◌∷◌, refl}
 use Rattle.std.specs.Prelude.{if◌then◌else◌, Ok}
 use Rattle.ebnf.specs.Ebnf.{Terminal}
 use Rattle.ebnf.specs.Ebnf.Ebnf.{Seq, Alt, Opt, Many}
@@ -7,11 +7,11 @@ use Rattle.ebnf.specs.Machine.{null, parse, token, ◌>>=◌}
 use Rattle.ebnf.specs.Checks.{first, heads}
 use Rattle.idl_tokens.specs.declared.marks.Mark.TheVariants as marks
 use Rattle.idl_tokens.specs.declared.marks.Bracket.TheVariants as brackets
-use Rattle.idl_tree.specs.Grammar.{rule, a_word, a_mark, a_name, sizeable, base, dtors, body, struct_rest, switch_part, union_body, union_rest, enum_rest, typed, plain, spec, attr, attrs, member, members, label, arm, arms, name_classes, level_limit}
-use Rattle.idl_parts.proofs.Orders.{Law, law_seq, law_opt, law_alt, law_within, law_one, law_same, law_many, law_more, name_law, base_law, dtors_law, if_name_law, enum_rest_law, ref_rule, star_rule, labels_law}
-use Rattle.idl_parts.specs.Along.{if_next, in_round, more_of, name_at, base_at, dtors_at, enum_rest_at, star_name_at, size_ref_at, plain_attr_start, plain_attr_at, size_attr_at, switch_is_at, labels_at, if_among, word_at, mark_at}
+use Rattle.idl_tree.specs.Grammar.{rule, a_word, a_mark, a_name, a_range, sizeable, base, dtors, body, struct_rest, switch_part, union_body, union_rest, enum_rest, typed, plain, spec, attr, attrs, member, members, label, arm, arms, name_classes, level_limit}
+use Rattle.idl_parts.proofs.Orders.{Law, law_seq, law_opt, law_alt, law_within, law_one, law_same, law_many, law_more, name_law, base_law, dtors_law, if_name_law, enum_rest_law, ref_rule, star_rule, bounds_rule, labels_law}
+use Rattle.idl_parts.specs.Along.{Along, if_next, in_round, more_of, name_at, base_at, dtors_at, enum_rest_at, star_name_at, size_ref_at, plain_attr_start, plain_attr_at, size_attr_at, switch_is_at, range_attr_at, range_at, bounds_at, labels_at, if_among, word_at, mark_at}
 use Rattle.idl_types.specs.Along.{own_word_at, typed_at, plain_at, struct_rest_at, arms_part, union_body_at, union_rest_at, spec_start, member_start, spec_at, attr_at, comma_attr_at, attr_list_at, attrs_at, if_attrs_at, member_at, more_members_at, members_at, body_at, switch_type_at, switch_at, arm_at, more_arms_at, arm_list_at, arms_at}
-use Rattle.idl_tokens.specs.Terminals.{of_word, of_mark, opening, closing}
+use Rattle.idl_tokens.specs.Terminals.{of_word, of_mark, opening, closing, range_class}
 use Rattle.idl_tokens.specs.declared.words.Word.TheVariants as words
 
 -- ---- specs
@@ -90,15 +90,30 @@ spec_rule = spec_law
 
 -- ---- attributes
 
+abbrev size_words : List ℕ
+size_words = of_word words.SizeIs ∷ of_word words.MaxIs ∷ of_word words.LengthIs ∷ []
+
+-- from switch_type on, from switch_is on, and from the sizes on
+abbrev from_type : Along
+from_type ks = if heads (of_word words.SwitchType ∷ []) ks then (word_at words.SwitchType ks >>= in_round spec_at) else (range_at ks >>= in_round bounds_at)
+
+abbrev from_switch : Along
+from_switch ks = if heads (of_word words.SwitchIs ∷ []) ks then (word_at words.SwitchIs ks >>= in_round star_name_at) else from_type ks
+
+abbrev from_size : Along
+from_size ks = if heads size_words ks then (token size_words 1 ks >>= in_round size_ref_at) else from_switch ks
+
 pub attr_law : Law attr attr_at
-unfolding attr attr_at plain_attr_at size_attr_at switch_is_at a_word
+unfolding attr attr_at plain_attr_at size_attr_at switch_is_at range_attr_at a_word a_range
 attr_law =
-    law_alt _ _ plain_attr_start (token plain_attr_start 1) (λ ks. if heads (of_word words.SizeIs ∷ of_word words.MaxIs ∷ of_word words.LengthIs ∷ []) ks then (token (of_word words.SizeIs ∷ of_word words.MaxIs ∷ of_word words.LengthIs ∷ []) 1 ks >>= in_round size_ref_at) else if heads (of_word words.SwitchIs ∷ []) ks then (word_at words.SwitchIs ks >>= in_round star_name_at) else (word_at words.SwitchType ks >>= in_round spec_at)) refl refl (law_one plain_attr_start 1)
-    (law_alt _ _ (of_word words.SizeIs ∷ of_word words.MaxIs ∷ of_word words.LengthIs ∷ []) (λ ks. token (of_word words.SizeIs ∷ of_word words.MaxIs ∷ of_word words.LengthIs ∷ []) 1 ks >>= in_round size_ref_at) (λ ks. if heads (of_word words.SwitchIs ∷ []) ks then (word_at words.SwitchIs ks >>= in_round star_name_at) else (word_at words.SwitchType ks >>= in_round spec_at)) refl refl
-    (law_seq _ _ (token (of_word words.SizeIs ∷ of_word words.MaxIs ∷ of_word words.LengthIs ∷ []) 1) (in_round size_ref_at) (law_one (of_word words.SizeIs ∷ of_word words.MaxIs ∷ of_word words.LengthIs ∷ []) 1) (law_within (opening brackets.Round) 10 (closing brackets.Round) level_limit size_ref_at ref_rule))
-    (law_alt _ _ (of_word words.SwitchIs ∷ []) (λ ks. word_at words.SwitchIs ks >>= in_round star_name_at) (λ ks. word_at words.SwitchType ks >>= in_round spec_at) refl refl
+    law_alt _ _ plain_attr_start (token plain_attr_start 1) from_size refl refl (law_one plain_attr_start 1)
+    (law_alt _ _ size_words (λ ks. token size_words 1 ks >>= in_round size_ref_at) from_switch refl refl
+    (law_seq _ _ (token size_words 1) (in_round size_ref_at) (law_one size_words 1) (law_within (opening brackets.Round) 10 (closing brackets.Round) level_limit size_ref_at ref_rule))
+    (law_alt _ _ (of_word words.SwitchIs ∷ []) (λ ks. word_at words.SwitchIs ks >>= in_round star_name_at) from_type refl refl
     (law_seq _ _ (word_at words.SwitchIs) (in_round star_name_at) (law_one (of_word words.SwitchIs ∷ []) 1) (law_within (opening brackets.Round) 11 (closing brackets.Round) level_limit star_name_at star_rule))
-    (law_seq _ _ (word_at words.SwitchType) (in_round spec_at) (law_one (of_word words.SwitchType ∷ []) 1) (law_within (opening brackets.Round) 12 (closing brackets.Round) level_limit spec_at spec_rule))))
+    (law_alt _ _ (of_word words.SwitchType ∷ []) (λ ks. word_at words.SwitchType ks >>= in_round spec_at) (λ ks. range_at ks >>= in_round bounds_at) refl refl
+    (law_seq _ _ (word_at words.SwitchType) (in_round spec_at) (law_one (of_word words.SwitchType ∷ []) 1) (law_within (opening brackets.Round) 12 (closing brackets.Round) level_limit spec_at spec_rule))
+    (law_seq _ _ range_at (in_round bounds_at) (law_one (range_class ∷ []) 1) (law_within (opening brackets.Round) 17 (closing brackets.Round) level_limit bounds_at bounds_rule)))))
 
 pub more_attrs : (ks : List Terminal) → more_of attr ks ≡ (if heads (of_mark marks.Comma ∷ []) ks then (comma_attr_at ks >>= more_of attr) else Ok ks)
 unfolding comma_attr_at

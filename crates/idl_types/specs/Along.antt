@@ -7,7 +7,7 @@ use Rattle.ebnf.specs.Checks.{heads}
 use Rattle.idl_tokens.specs.declared.marks.Mark.TheVariants as marks
 use Rattle.idl_tokens.specs.declared.marks.Bracket.TheVariants as brackets
 use Rattle.idl_tree.specs.Grammar.{rule, in_brackets, body, switch_part, attrs, attr, member, arm, name_classes}
-use Rattle.idl_parts.specs.Along.{Along, if_among, if_next, word_at, mark_at, open_at, shut_at, name_at, in_round, more_of, base_at, dtors_at, enum_rest_at, plain_attr_start, plain_attr_at, size_attr_at, switch_is_at, labels_at}
+use Rattle.idl_parts.specs.Along.{Along, if_among, if_next, word_at, mark_at, open_at, shut_at, name_at, in_round, more_of, base_at, dtors_at, enum_rest_at, plain_attr_start, plain_attr_at, size_attr_at, switch_is_at, range_attr_at, labels_at}
 use Rattle.idl_tokens.specs.Terminals.{of_word, opening}
 use Rattle.idl_tokens.specs.declared.words.Word.TheVariants as words
 
@@ -58,7 +58,8 @@ attr_at ks =
     if heads plain_attr_start ks then plain_attr_at ks
     else if heads (of_word words.SizeIs ∷ of_word words.MaxIs ∷ of_word words.LengthIs ∷ []) ks then size_attr_at ks
     else if heads (of_word words.SwitchIs ∷ []) ks then switch_is_at ks
-    else (word_at words.SwitchType ks >>= in_round spec_at)
+    else if heads (of_word words.SwitchType ∷ []) ks then (word_at words.SwitchType ks >>= in_round spec_at)
+    else range_attr_at ks
 
 unfoldable pub comma_attr_at : Along
 comma_attr_at ks = mark_at marks.Comma ks >>= attr_at

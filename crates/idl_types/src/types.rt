@@ -17,7 +17,7 @@ ghost use Rattle.idl_types.specs.Along.{own_word_at, typed_at, plain_at, struct_
 
 use idl_parts::{
     Stop, base, dtors, enum_body, is_mark, is_name, is_next, is_open, is_word, labels, mark, name,
-    name_or_none, open, place, plain_attr, shut, size_attr, switch_is, word, word_among,
+    name_or_none, open, place, plain_attr, range, shut, size_attr, switch_is, word, word_among,
 };
 use idl_tokens::{Bracket, Mark, Token, Word, class};
 use idl_tree::{ArmNode, Attr, AttrKind, Member, Spec, SpecKind, Switch};
@@ -96,6 +96,7 @@ fn starts_member(tokens: &[Token]) -> bool
             class::ENUM,
             class::VOID,
             class::NAME,
+            class::RANGE,
             class::HANDLE_T,
             class::ERROR_STATUS_T,
             class::BOOLEAN,
@@ -273,7 +274,7 @@ fn attr(alloc: Global, tokens: &[Token]) -> Result<(Attr, &[Token]), Stop<'_>>
     } else if is_word(tokens, Word::SwitchIs) {
         let (what, rest) = switch_is(alloc, tokens)?;
         Ok((Attr { at, what }, rest))
-    } else {
+    } else if is_word(tokens, Word::SwitchType) {
         let rest = word(tokens, Word::SwitchType)?;
         let rest = open(rest, Bracket::Round)?;
         let (spec, rest) = spec(alloc, rest)?;
@@ -286,6 +287,9 @@ fn attr(alloc: Global, tokens: &[Token]) -> Result<(Attr, &[Token]), Stop<'_>>
             },
             rest,
         ))
+    } else {
+        let (what, rest) = range(tokens)?;
+        Ok((Attr { at, what }, rest))
     }
 }
 

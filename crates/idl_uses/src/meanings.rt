@@ -5,7 +5,7 @@ ghost use Rattle.idl_uses.specs.Facts as facts;
 
 use crate::facts::Together;
 use idl_outline::{Bare, Field, Mark};
-use idl_rules::{is_bare_union, is_operation, is_parameter, is_typedef, is_unknown};
+use idl_rules::{is_bare_union, is_operation, is_parameter, is_typedef, is_unknown, may_range};
 
 fn is_bare(bare: Bare) -> bool
     ensures { result ≡ rule.is_bare bare }
@@ -41,5 +41,6 @@ pub(crate) fn has_meaning(field: &Field, together: Together, mark: &Mark) -> boo
         Mark::LengthIs(_) => together.countable,
         Mark::SwitchIs(_) => is_switchable(field),
         Mark::SwitchType { .. } => is_bare(field.bare),
+        Mark::Range(low, high) => may_range(field, *low, *high),
     }
 }

@@ -313,6 +313,7 @@ fn mark_walked(
             Ok(Mark::SwitchIs(NameRef { star: *star, name }))
         }
         AttrKind::SwitchType(spec) => switch_type(alloc, default, spec, outline),
+        AttrKind::Range(low, high) => Ok(Mark::Range(*low, *high)),
     }
 }
 

@@ -22,7 +22,7 @@ use Rattle.idl_outline.specs.declared.field.Declared.{Declared}
 use Rattle.idl_outline.specs.declared.field.Field.{Field}
 use Rattle.idl_outline.specs.declared.event.Event.TheVariants as events
 use Rattle.idl_outline.specs.declared.setting.Setting.{Setting}
-use Rattle.idl_outline.specs.Plain.{PSpec, spec, PKind, of_base, of_name, of_void, of_handle_t, of_error_status, of_tag, of_struct, of_union, of_enum, PSwitch, no_switch, switch, PMember, member, PMembers, no_member, then_member, PArm, arm, empty_arm, PArms, no_arm, then_arm, PMark, is_in, is_out, is_pointer, is_text, is_idempotent, is_maybe, is_handle, is_size, is_max, is_length, is_switch, is_switch_type, PAttr, attr, PAttrs, no_attr, then_attr, plain_spec, plain_attrs}
+use Rattle.idl_outline.specs.Plain.{PSpec, spec, PKind, of_base, of_name, of_void, of_handle_t, of_error_status, of_tag, of_struct, of_union, of_enum, PSwitch, no_switch, switch, PMember, member, PMembers, no_member, then_member, PArm, arm, empty_arm, PArms, no_arm, then_arm, PMark, is_in, is_out, is_pointer, is_text, is_idempotent, is_maybe, is_handle, is_size, is_max, is_length, is_switch, is_switch_type, is_range, PAttr, attr, PAttrs, no_attr, then_attr, plain_spec, plain_attrs}
 use Rattle.idl_outline.specs.Names.{Past, is_operation, pointers, declared_as, declared_type, extent_of, is_handle_word, has_handle_word, each_declared, pointer_given, class_at, or_class, tag_given}
 use Rattle.idl_outline.specs.Names.{type_named as outline_type, or_unknown, declared as outline_declared}
 use Rattle.idl_outline.specs.Outline.{before_declarators, all_pointed, size_past, mark_of, attributes, attr_past, attrs_past, spec_past, spec_type, kind_type, member_past, member_field, param_plain, params_past, param_fields, typedef_setting, typedef_behind, typedef_field, typedef_past, types_past, lone_past, result_past, op_past, decl_past, decls_past, pointer_default, outline}
@@ -93,6 +93,7 @@ mutual
   mark_named k (is_max r) q = refl
   mark_named k (is_length r) q = refl
   mark_named k (is_switch star i) q = refl
+  mark_named k (is_range low high) q = refl
   mark_named k (is_switch_type s) q = spec_named k false None s q
 
   attr_named : (k : Pk) (a : PAttr) (q : Scope) → (attr_at k a q).1.named ≡ q.named
@@ -292,6 +293,7 @@ word_is k (is_size r) p = refl
 word_is k (is_max r) p = refl
 word_is k (is_length r) p = refl
 word_is k (is_switch star i) p = refl
+word_is k (is_range low high) p = refl
 word_is k (is_switch_type s) p = refl
 
 words_are : (k : Pk) (as' : PAttrs) (p : Past) → has_handle_word (attributes k as' p) ≡ says says_handle as'

@@ -16,7 +16,7 @@ use Rattle.idl_outline.specs.declared.field.Field.{Field}
 use Rattle.idl_outline.specs.declared.event.Event.{Event}
 use Rattle.idl_outline.specs.declared.event.Event.TheVariants as events
 use Rattle.idl_outline.specs.declared.setting.Setting.{Setting}
-use Rattle.idl_outline.specs.Plain.{PSpec, spec, PKind, of_base, of_name, of_void, of_handle_t, of_error_status, of_tag, of_struct, of_union, of_enum, PSwitch, no_switch, switch, PMember, member, PMembers, no_member, then_member, PArm, arm, empty_arm, PArms, no_arm, then_arm, PMark, is_in, is_out, is_pointer, is_text, is_idempotent, is_maybe, is_handle, is_size, is_max, is_length, is_switch, is_switch_type, PAttr, attr, PAttrs, no_attr, then_attr}
+use Rattle.idl_outline.specs.Plain.{PSpec, spec, PKind, of_base, of_name, of_void, of_handle_t, of_error_status, of_tag, of_struct, of_union, of_enum, PSwitch, no_switch, switch, PMember, member, PMembers, no_member, then_member, PArm, arm, empty_arm, PArms, no_arm, then_arm, PMark, is_in, is_out, is_pointer, is_text, is_idempotent, is_maybe, is_handle, is_size, is_max, is_length, is_switch, is_switch_type, is_range, PAttr, attr, PAttrs, no_attr, then_attr}
 use Rattle.idl_outline.specs.Names.{Past, is_operation, type_named, tag_given}
 use Rattle.idl_outline.specs.Outline.{before_declarators, size_past, array_past, sizes_past, label_past, labels_past, tag_used_past, void_past, other_tag_past, names_past, struct_past, struct_end, tag_holds, attributes, spec_past, kind_past, switch_past, mark_past, attr_past, attrs_past, member_past, members_past, member_fields, arm_past, arms_past, types_past, param_plain, params_past}
 
@@ -142,6 +142,7 @@ mutual
   mark_quiet default (is_max r) p = stays p
   mark_quiet default (is_length r) p = stays p
   mark_quiet default (is_switch star i) p = stays p
+  mark_quiet default (is_range low high) p = stays p
   mark_quiet default (is_switch_type s) p = spec_quiet _ s p
 
   attr_quiet : (default : Pk) (a : PAttr) (p : Past) → Quiet p (attr_past default a p)

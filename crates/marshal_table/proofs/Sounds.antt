@@ -9,7 +9,7 @@ use Rattle.idl_tree.specs.declared.leaf.Base.{Base}
 use Rattle.idl_tree.specs.declared.leaf.Base.TheVariants as bases
 use Rattle.idl_outline.specs.declared.field.Place.TheVariants as places
 use Rattle.idl_outline.specs.Outline.{all_pointed}
-use Rattle.idl_outline.specs.Plain.{PSpec, spec, PKind, of_base, of_name, of_void, of_handle_t, of_error_status, of_tag, of_struct, of_union, of_enum, PSwitch, no_switch, switch, PMember, member, PMembers, no_member, then_member, PArm, arm, empty_arm, PArms, no_arm, then_arm, PMark, is_in, is_out, is_pointer, is_text, is_idempotent, is_maybe, is_handle, is_size, is_max, is_length, is_switch, is_switch_type, PAttr, attr, PAttrs, no_attr, then_attr}
+use Rattle.idl_outline.specs.Plain.{PSpec, spec, PKind, of_base, of_name, of_void, of_handle_t, of_error_status, of_tag, of_struct, of_union, of_enum, PSwitch, no_switch, switch, PMember, member, PMembers, no_member, then_member, PArm, arm, empty_arm, PArms, no_arm, then_arm, PMark, is_in, is_out, is_pointer, is_text, is_idempotent, is_maybe, is_handle, is_size, is_max, is_length, is_switch, is_switch_type, is_range, PAttr, attr, PAttrs, no_attr, then_attr}
 use Rattle.ndr_value.specs.Forms.{Form, OfNamed, OfStruct, OfUnion}
 use Rattle.table_form.specs.Ordered.{is_body, is_below, arms_below, body_below, ordered_from}
 use Rattle.table_form.specs.Ordered.{is_size as is_number_size}
@@ -275,6 +275,7 @@ mutual
   mark_sound far k (is_max r) p ok room = (stays far p ok, tt)
   mark_sound far k (is_length r) p ok room = (stays far p ok, tt)
   mark_sound far k (is_switch star i) p ok room = (stays far p ok, tt)
+  mark_sound far k (is_range low high) p ok room = (stays far p ok, tt)
   mark_sound far k (is_switch_type s) p ok room = spec_sound far k false None s p ok room tt
 
   attr_sound : (far : ℕ) (k : Pk) (a : PAttr) (p : Scope) → Sound far p → length p.types + attr_within a ≤ far → GivenSound far (attr_within a) p (attr_at k a p)

@@ -30,8 +30,8 @@ use Rattle.table_scope.specs.declared.symbols.Sort.TheVariants as sorts
 use Rattle.marshal_table.specs.declared.listing.Listing.{Listing}
 use Rattle.marshal_table.specs.declared.listing.Operations.{Operations}
 use Rattle.table_scope.specs.declared.said.Terms.{Terms}
-use Rattle.table_scope.specs.Marks.{says, says_in, says_out, says_maybe, says_handle, is_serialised}
-use Rattle.table_scope.specs.Scopes.{ByName, Sense, Scope, scope, in_16, nothing_known, with_type, with_handle, with_constant}
+use Rattle.table_scope.specs.Marks.{given, range_in, says, says_in, says_out, says_maybe, says_handle, is_serialised}
+use Rattle.table_scope.specs.Scopes.{ByName, Sense, Scope, scope, nothing_known, with_type, with_handle, with_constant}
 use Rattle.table_scope.specs.Declarators.{terms, declared}
 use Rattle.table_specs.specs.Specs.{spec_at, attrs_at}
 
@@ -75,7 +75,7 @@ param_sense default n p =
 
 abbrev pub one_param : Pk → List Ident → PAttrs → Dtor → Sense × Scope → ParamForm
 one_param default names as' d behind =
-    record { shape = declared (terms default places.Parameter true names as') behind.1.constants behind.0.shape d; inward = says says_in as'; outward = says says_out as' }
+    record { shape = declared (terms default places.Parameter true names as') behind.1.constants behind.0.shape d; inward = says says_in as'; outward = says says_out as'; range = given range_in as' }
 
 abbrev pub listed_at : Pk → List Ident → PAttrs → Dtor → Sense × Scope → Listed × Scope
 listed_at default names as' d behind =
@@ -191,10 +191,10 @@ uuid_in _ = None
 
 abbrev pub minor_of : Option Num → ℕ
 minor_of None = 0
-minor_of (Some n) = in_16 n.value
+minor_of (Some n) = n.value
 
 abbrev pub version_in : FileAttrKind → Option (ℕ × ℕ)
-version_in (file_kinds.Version major minor) = Some (in_16 major.value, minor_of minor)
+version_in (file_kinds.Version major minor) = Some (major.value, minor_of minor)
 version_in _ = None
 
 abbrev pub first_in : {X : Type 0} → (FileAttrKind → Option X) → List FileAttr → Option X

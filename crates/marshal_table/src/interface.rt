@@ -18,8 +18,8 @@ use name_map::Names;
 use rpc_base::{NoMemory, SyntaxId};
 use std::alloc::Global;
 use table_scope::{
-    Meaning, Sort, Symbols, Terms, all_pointed, declared, is_serialised, kept_16, says_handle,
-    terms, with_constant, with_handle, with_type,
+    Meaning, Sort, Symbols, Terms, all_pointed, declared, in_16, is_serialised, says_handle, terms,
+    with_constant, with_handle, with_type,
 };
 use table_specs::{attrs_tag, spec_meaning};
 use uuid::Uuid;
@@ -113,8 +113,8 @@ fn typedef_meaning(
 }
 
 // What attributes say of a typedef's declarators, which have no counts.
-fn typedef_terms(attrs: &[Attr], alloc: Global, default: Pk) -> Terms
-    ensures { result ≡ declarators.terms default places.Typedef false [] (plain_attrs attrs.now) }
+fn typedef_terms(attrs: &[Attr], alloc: Global, default: Pk) -> Result<Terms, NoMemory>
+    ensures { IfOk result (λ t. t ≡ declarators.terms default places.Typedef false [] (plain_attrs attrs.now)) }
 {
     let none: Vec<Ident> = Vec::new(alloc);
     terms(attrs, default, Place::Typedef, false, none.as_slice())
@@ -131,7 +131,7 @@ fn typedef(
     ensures { OnOk result (scope known.new ≡ spec.typedef_at default attrs.now (plain_attrs attrs.now) (plain_spec of.now) dtors.now (scope known.old)) }
 {
     let meaning = typedef_meaning(attrs, of, dtors, alloc, known, default)?;
-    let terms = typedef_terms(attrs, alloc, default);
+    let terms = typedef_terms(attrs, alloc, default)?;
     let handle = says_handle(attrs);
     let serialised = is_serialised(attrs);
     typedef_all(dtors, alloc, known, handle, serialised, &terms, &meaning)
@@ -217,21 +217,24 @@ fn uuid_in(kind: &FileAttrKind) -> Option<Uuid>
     }
 }
 
-fn minor_of(minor: Option<Num>) -> u16
-    ensures { result ≡ spec.minor_of minor }
+fn minor_of(minor: Option<Num>) -> Result<u16, NoMemory>
+    ensures { IfOk result (λ n. n ≡ spec.minor_of minor) }
 {
     match minor {
-        None => 0,
-        Some(number) => kept_16(number.value),
+        None => Ok(0),
+        Some(number) => in_16(number.value),
     }
 }
 
-fn version_in(kind: &FileAttrKind) -> Option<(u16, u16)>
-    ensures { result ≡ spec.version_in kind.now }
+fn version_in(kind: &FileAttrKind) -> Result<Option<(u16, u16)>, NoMemory>
+    ensures { IfOk result (λ v. v ≡ spec.version_in kind.now) }
 {
     match kind {
-        FileAttrKind::Version(major, minor) => Some((kept_16(major.value), minor_of(*minor))),
-        _ => None,
+        FileAttrKind::Version(major, minor) => {
+            let version = (in_16(major.value)?, minor_of(*minor)?);
+            Ok(Some(version))
+        }
+        _ => Ok(None),
     }
 }
 
@@ -260,29 +263,33 @@ fn first_uuid(attrs: &[FileAttr]) -> Option<Uuid>
     None
 }
 
-fn first_version(attrs: &[FileAttr]) -> Option<(u16, u16)>
-    ensures { result ≡ spec.first_in spec.version_in attrs.now }
+fn first_version(attrs: &[FileAttr]) -> Result<Option<(u16, u16)>, NoMemory>
+    ensures { IfOk result (λ v. v ≡ spec.first_in spec.version_in attrs.now) }
 {
     for attr in attrs {
-        let found = version_in(&attr.what);
+        let found = version_in(&attr.what)?;
         if found.is_some() {
-            return found;
+            return Ok(found);
         }
     }
-    None
+    Ok(None)
 }
 
 /// The interface's identifier and version; 0.0 where no version is given.
-pub fn syntax_of(attrs: &[FileAttr]) -> SyntaxId
-    ensures { result ≡ spec.syntax_of attrs.now }
+///
+/// # Errors
+///
+/// `NoMemory` where there is no identifier, or a number of the version has no room in 16 bits: no
+/// interface that keeps the rules is so.
+pub fn syntax_of(attrs: &[FileAttr]) -> Result<SyntaxId, NoMemory>
+    ensures { IfOk result (λ id. id ≡ spec.syntax_of attrs.now) }
 {
-    let id = match first_uuid(attrs) {
-        Some(id) => id,
-        None => Uuid::nil(),
+    let Some(id) = first_uuid(attrs) else {
+        return Err(NoMemory);
     };
-    let (major, minor) = match first_version(attrs) {
+    let (major, minor) = match first_version(attrs)? {
         Some(version) => version,
         None => (0, 0),
     };
-    SyntaxId { id, major, minor }
+    Ok(SyntaxId { id, major, minor })
 }

@@ -19,7 +19,7 @@ use ndr_value::Shape;
 use rpc_base::NoMemory;
 use std::alloc::Global;
 use table_form::{HandleUse, HandleUses, Param, Params};
-use table_scope::{Meaning, Sort, Symbols, declared, says_in, says_out, terms};
+use table_scope::{Meaning, Sort, Symbols, declared, range, says_in, says_out, terms};
 use table_specs::{attrs_tag, spec_meaning};
 
 fn is_binding_kind(kind: &SpecKind) -> bool
@@ -108,16 +108,18 @@ fn one_param(
     constants: &Names<Num>,
     shape: &Shape,
 ) -> Result<Param, NoMemory>
-    ensures { IfOk result (λ p. param_form p ≡ record { shape = declarators.declared (declarators.terms default places.Parameter true names.now (plain_attrs attrs.now)) (at_name constants.now) (form shape.now) dtor.now; inward = marks.says marks.says_in (plain_attrs attrs.now); outward = marks.says marks.says_out (plain_attrs attrs.now) }) }
+    ensures { IfOk result (λ p. param_form p ≡ record { shape = declarators.declared (declarators.terms default places.Parameter true names.now (plain_attrs attrs.now)) (at_name constants.now) (form shape.now) dtor.now; inward = marks.says marks.says_in (plain_attrs attrs.now); outward = marks.says marks.says_out (plain_attrs attrs.now); range = marks.given marks.range_in (plain_attrs attrs.now) }) }
 {
-    let terms = terms(attrs, default, Place::Parameter, true, names);
+    let terms = terms(attrs, default, Place::Parameter, true, names)?;
     let shape = declared(alloc, &terms, constants, shape, dtor)?;
     let inward = says_in(attrs);
     let outward = says_out(attrs);
+    let range = range(attrs)?;
     Ok(Param {
         shape,
         inward,
         outward,
+        range,
     })
 }
 

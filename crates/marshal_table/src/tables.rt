@@ -33,6 +33,6 @@ pub(crate) fn build_tree(alloc: Global, tree: &Ast) -> Result<Table, NoMemory>
     let mut known = nothing_known(alloc);
     let mut all = no_operations(alloc);
     declarations(&tree.decls, alloc, default, &mut known, &mut all)?;
-    let id = syntax_of(&tree.attributes);
+    let id = syntax_of(&tree.attributes)?;
     Table::of(alloc, id, known.types, all.ops, all.uses)
 }

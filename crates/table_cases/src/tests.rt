@@ -130,6 +130,11 @@ const DECLARATIONS: &[(&str, &str)] = &[
         "8 {[2][3]i2 ?[3]i2 bool char char u8 enum:1 }\n",
     ),
     ("[maybe]void f(handle_t h,[in]long a);", "f(in i4;)~\n"),
+    // ranges
+    (
+        "typedef short range;void f([in,range(-5,10)]long a,[in,out,range(0,255)]unsigned small*b,[in]range range,[in,range(-32768,-1)]range c);",
+        "f(in i4 -5..10;inout &u1 0..255;in i2;in i2 -32768..-1;)\n",
+    ),
     (
         "typedef error_status_t e;typedef unsigned long u;typedef e p[1];e f();u g();p h();",
         "f()u4!\ng()u4\nh()[1]u4\n",
@@ -196,6 +201,27 @@ fn tables_of_declarations(rt: HostRuntime) -> Result<(), Fail> {
 }
 
 #[test]
+fn a_large_text_has_its_table(rt: HostRuntime) -> Result<(), Fail> {
+    let mut declarations = String::new(rt.alloc());
+    let mut types = String::from_str(rt.alloc(), "0.0\n")?;
+    let mut operations = String::new(rt.alloc());
+    for n in 0..200u32 {
+        let declared = format!(in rt.alloc();
+            "struct s{n}{{long n;[size_is(n)]byte a[];}};void f{n}([in,range(0,{n})]long a,[in]struct s{n}*p);"
+        )?;
+        declarations.push_str(declared.as_str())?;
+        types.push_str("4 {i4 [m0]byte }\n")?;
+        let operation = format!(in rt.alloc(); "f{n}(in i4 0..{n};in &#{n};)\n")?;
+        operations.push_str(operation.as_str())?;
+    }
+    types.push_str(operations.as_str())?;
+    let text = interface(rt.alloc(), declarations.as_str())?;
+    let table = table_of(rt.alloc(), text.as_str())?;
+    assert_eq!(rt; table.as_str(), types.as_str());
+    Ok(())
+}
+
+#[test]
 fn an_operation_that_is_not_there(rt: HostRuntime) -> Result<(), Fail> {
     let table = built(rt.alloc(), STORE)?;
     assert!(rt; table.op(6).is_some());
@@ -244,6 +270,53 @@ fn builds(alloc: Global, declarations: &str) -> Result<bool, Fail> {
     let tree = read_idl(alloc, text.as_bytes())?;
     let checked = check(alloc, &tree)?;
     Ok(build(alloc, &checked).is_ok())
+}
+
+/// 128 structures by value, so many typedefs of arrays over the last, and what is declared with it.
+fn over_structures(alloc: Global, arrays: u32, declared: &str) -> Result<String, Fail> {
+    let structures = (
+        "typedef struct{long x;}a0;",
+        "typedef struct{a",
+        " x;}a",
+        ";",
+    );
+    let mut text = nested(alloc, &structures, 128)?;
+    let over = ("typedef a127 b0[1];", "typedef b", " b", "[1];");
+    text.push_str(nested(alloc, &over, arrays)?.as_str())?;
+    let last = arrays.saturating_sub(1).to_string(alloc)?;
+    text.push_str("typedef b")?;
+    text.push_str(last.as_str())?;
+    text.push_str(" *c;")?;
+    text.push_str(declared)?;
+    Ok(text)
+}
+
+/// What reaches a type behind pointers alone.
+const POINTED: &[&str] = &[
+    "void f([in]c p);",
+    "void f([in]c*p);",
+    "struct z{c p[2];};",
+    "union u switch(long t){case 1:c p;};",
+    "c f();",
+];
+
+#[test]
+fn what_pointers_point_to_nests_256_levels(rt: HostRuntime) -> Result<(), Fail> {
+    for declared in POINTED {
+        assert!(rt;
+            builds(
+                rt.alloc(),
+                over_structures(rt.alloc(), 128, declared)?.as_str()
+            )?
+        );
+        assert!(rt;
+            !builds(
+                rt.alloc(),
+                over_structures(rt.alloc(), 129, declared)?.as_str()
+            )?
+        );
+    }
+    Ok(())
 }
 
 #[test]

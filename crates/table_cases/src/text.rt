@@ -3,7 +3,7 @@ use ndr_value::{Arm, ArrayKind, Count, Shape};
 use rpc_base::NoMemory;
 use rpc_words::{put, put_decimal};
 use std::alloc::Global;
-use table_form::{HandleUse, Op, Param, Table};
+use table_form::{Bounds, HandleUse, Op, Param, Table};
 
 fn put_number(mark: &[u8], number: u64, alloc: Global, into: &mut Vec<u8>) -> Result<(), NoMemory> {
     put(mark, into)?;
@@ -144,9 +144,13 @@ fn put_arms(arms: &[Arm], alloc: Global, into: &mut Vec<u8>) -> Result<(), NoMem
     Ok(())
 }
 
+fn put_signed(number: i64, alloc: Global, into: &mut Vec<u8>) -> Result<(), NoMemory> {
+    put_if(number < 0, b"-", into)?;
+    put_number(b"", number.unsigned_abs(), alloc, into)
+}
+
 fn put_case(case: i64, alloc: Global, into: &mut Vec<u8>) -> Result<(), NoMemory> {
-    put_if(case < 0, b"-", into)?;
-    put_number(b"", case.unsigned_abs(), alloc, into)?;
+    put_signed(case, alloc, into)?;
     put(b",", into)
 }
 
@@ -169,11 +173,25 @@ fn put_arm(arm: &Arm, alloc: Global, into: &mut Vec<u8>) -> Result<(), NoMemory>
     }
 }
 
+// ` -5..10`.
+fn put_range(range: &Option<Bounds>, alloc: Global, into: &mut Vec<u8>) -> Result<(), NoMemory> {
+    match range {
+        None => Ok(()),
+        Some(range) => {
+            put(b" ", into)?;
+            put_signed(range.low, alloc, into)?;
+            put(b"..", into)?;
+            put_signed(range.high, alloc, into)
+        }
+    }
+}
+
 fn put_param(param: &Param, alloc: Global, into: &mut Vec<u8>) -> Result<(), NoMemory> {
     put_if(param.inward, b"in", into)?;
     put_if(param.outward, b"out", into)?;
     put(b" ", into)?;
     put_shape(&param.shape, alloc, into)?;
+    put_range(&param.range, alloc, into)?;
     put(b";", into)
 }
 

@@ -4,3 +4,4 @@ pub mod Shown
 pub mod Tables
 pub mod Nested
 pub mod Tails
+pub mod Sound

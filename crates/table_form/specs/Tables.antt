@@ -4,6 +4,7 @@ use Rattle.std.specs.List.{list_all}
 use Rattle.rpc_base.specs.declared.identifiers.SyntaxId.{SyntaxId}
 use Rattle.ndr_value.specs.declared.shape.Shape.{Shape}
 use Rattle.ndr_value.specs.Forms.{Form, form}
+use Rattle.table_form.specs.declared.operation.Bounds.{Bounds}
 use Rattle.table_form.specs.declared.operation.HandleUse.{HandleUse}
 use Rattle.table_form.specs.declared.operation.Op.{Op}
 use Rattle.table_form.specs.declared.operation.Param.{Param}
@@ -13,6 +14,7 @@ pub record ParamForm : Type 0 where
   pub shape : Form
   pub inward : Bool
   pub outward : Bool
+  pub range : Option Bounds
 
 -- an operation: its name, its parameters, its result, whether that is an error_status_t, and whether nobody waits for an answer
 pub record OpForm : Type 0 where
@@ -30,7 +32,7 @@ pub record TableForm : Type 0 where
   pub uses : List (List HandleUse)
 
 abbrev pub param_form : Param → ParamForm
-param_form p = record { shape = form p.shape; inward = p.inward; outward = p.outward }
+param_form p = record { shape = form p.shape; inward = p.inward; outward = p.outward; range = p.range }
 
 abbrev pub result_form : Option Shape → Option Form
 result_form None = None

@@ -15,6 +15,7 @@ fn param(alloc: Global, param: &Param) -> Result<Param, NoMemory>
         shape,
         inward: param.inward,
         outward: param.outward,
+        range: param.range,
     })
 }
 

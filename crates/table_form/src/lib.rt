@@ -7,10 +7,11 @@ mod align;
 mod copies;
 mod nesting;
 mod operation;
+mod sound;
 mod table;
 mod tails;
 
 pub use align::octets;
 pub use nesting::{MOST_LEVELS, has_few_levels};
-pub use operation::{HandleUse, HandleUses, Op, Ops, Param, Params, Uses};
+pub use operation::{Bounds, HandleUse, HandleUses, Op, Ops, Param, Params, Uses};
 pub use table::Table;

@@ -1,5 +1,5 @@
 //! How deep shapes nest by value.
-ghost use Rattle.std.specs.Prelude.{◌≡◌, ◌+◌, max, min, map, true, IfOk, unwrap_or, slice_get};
+ghost use Rattle.std.specs.Prelude.{◌≡◌, ◌+◌, ◌&&◌, ◌||◌, max, min, map, true, IfOk, unwrap_or, slice_get};
 ghost use Rattle.std.specs.List.{list_all};
 ghost use Rattle.ndr_value.specs.Forms.{form, forms, arms_of, body, types_of};
 ghost use Rattle.table_form.specs.Nested as spec;
@@ -146,11 +146,100 @@ pub fn has_few_levels(shape: &Shape, depths: &[u16]) -> bool
     levels_at(shape, depths, MOST_LEVELS + 1) <= MOST_LEVELS
 }
 
+fn is_pointer(shape: &Shape) -> bool
+    ensures { result ≡ spec.is_pointer (form shape.now) }
+{
+    matches!(shape, Shape::Ref(_) | Shape::Unique(_) | Shape::Full(_))
+}
+
+#[cycle(reach)]
+fn reaches_few(shape: &Shape, depths: &[u16]) -> bool
+    ensures { result ≡ spec.reaches_few depths.now (form shape.now) }
+{
+    match shape {
+        Shape::Bool => true,
+        Shape::Byte => true,
+        Shape::Char => true,
+        Shape::Int(_) => true,
+        Shape::Uint(_) => true,
+        Shape::Enum(_) => true,
+        Shape::Named(_, _) => true,
+        Shape::Struct(members) => each_reaches(members, depths),
+        Shape::Union { arms, .. } => arms_reach(arms, depths),
+        Shape::Array(_, inner) => reaches_few(inner, depths),
+        Shape::Text(_) => true,
+        Shape::Ref(inner) => pointed_few(inner, depths),
+        Shape::Unique(inner) => pointed_few(inner, depths),
+        Shape::Full(inner) => pointed_few(inner, depths),
+        Shape::Handle(_) => true,
+    }
+}
+
+#[cycle(reach)]
+fn pointed_few(inner: &Shape, depths: &[u16]) -> bool
+    ensures { result ≡ ((spec.is_pointer (form inner.now) || spec.is_few (spec.levels depths.now (form inner.now))) && spec.reaches_few depths.now (form inner.now)) }
+{
+    (is_pointer(inner) || has_few_levels(inner, depths)) && reaches_few(inner, depths)
+}
+
+#[cycle(reach)]
+fn each_reaches(members: &[Shape], depths: &[u16]) -> bool
+    ensures { result ≡ spec.each_reaches depths.now (forms members.now) }
+{
+    for member in members {
+        if !reaches_few(member, depths) {
+            return false;
+        }
+    }
+    true
+}
+
+#[cycle(reach)]
+fn arms_reach(arms: &[Arm], depths: &[u16]) -> bool
+    ensures { result ≡ spec.arms_reach depths.now (arms_of arms.now) }
+{
+    for arm in arms {
+        if !arm_reaches(arm, depths) {
+            return false;
+        }
+    }
+    true
+}
+
+#[cycle(reach)]
+fn arm_reaches(arm: &Arm, depths: &[u16]) -> bool
+    ensures { result ≡ spec.body_reaches depths.now (body arm.now.shape) }
+{
+    match &arm.shape {
+        None => true,
+        Some(inner) => reaches_few(inner, depths),
+    }
+}
+
+/// Whether what the pointers in the types point to nests by value no more than `MOST_LEVELS` levels, by
+/// the levels of the types.
+pub fn types_reach(types: &[Shape], depths: &[u16]) -> bool
+    ensures { result ≡ list_all (spec.reaches_few depths.now) (types_of types.now) }
+{
+    for ty in types {
+        if !reaches_few(ty, depths) {
+            return false;
+        }
+    }
+    true
+}
+
+fn is_shallow(shape: &Shape, depths: &[u16]) -> bool
+    ensures { result ≡ spec.is_shallow depths.now (form shape.now) }
+{
+    has_few_levels(shape, depths) && reaches_few(shape, depths)
+}
+
 fn params_few(params: &[Param], depths: &[u16]) -> bool
     ensures { result ≡ list_all (spec.param_few depths.now) (map param_form params.now) }
 {
     for param in params {
-        if !has_few_levels(&param.shape, depths) {
+        if !is_shallow(&param.shape, depths) {
             return false;
         }
     }
@@ -162,7 +251,7 @@ fn result_few(shape: &Option<Shape>, depths: &[u16]) -> bool
 {
     match shape {
         None => true,
-        Some(shape) => has_few_levels(shape, depths),
+        Some(shape) => is_shallow(shape, depths),
     }
 }
 
@@ -174,8 +263,8 @@ fn op_few(op: &Op, depths: &[u16]) -> bool
     params && own
 }
 
-/// Whether no parameter and no result nests by value more than `MOST_LEVELS` levels, by the levels of
-/// the types.
+/// Whether no parameter and no result, and nothing that their pointers point to, nests by value more
+/// than `MOST_LEVELS` levels, by the levels of the types.
 pub fn ops_few(ops: &[Op], depths: &[u16]) -> bool
     ensures { result ≡ list_all (spec.op_few depths.now) (map op_form ops.now) }
 {

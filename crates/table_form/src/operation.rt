@@ -3,6 +3,13 @@
 use ndr_value::Shape;
 use rpc_base::{Items, Octets};
 
+/// The numbers from `low` to `high`, both among them.
+#[derive(Clone, Copy, Debug, PartialEq, Eq)]
+pub struct Bounds {
+    pub low: i64,
+    pub high: i64,
+}
+
 /// A parameter. Those of type `handle_t` are not listed.
 #[derive(Debug, Drop)]
 pub struct Param {
@@ -11,6 +18,8 @@ pub struct Param {
     pub inward: bool,
     /// It is part of a response.
     pub outward: bool,
+    /// The numbers that it may be (MIDL's attribute `range`). None: any of its shape.
+    pub range: Option<Bounds>,
 }
 
 /// The parameters of an operation, in order.

@@ -3,13 +3,15 @@ ghost use Rattle.std.specs.Prelude.{◌≡◌, map};
 ghost use Rattle.ndr_value.specs.Forms.{types_of};
 ghost use Rattle.table_form.specs.Aligned.{alignments};
 ghost use Rattle.table_form.specs.Nested.{IsShallow};
+ghost use Rattle.table_form.specs.Sound.{IsSound};
 ghost use Rattle.table_form.specs.Tails.{tails_of};
 ghost use Rattle.table_form.specs.Tables.{IsTable, op_form};
 
 use crate::align::{align_by, aligns_of};
 use crate::copies;
-use crate::nesting::{depths_of, ops_few};
+use crate::nesting::{depths_of, ops_few, types_reach};
 use crate::operation::{HandleUses, Op, Ops, Uses};
+use crate::sound::{each_uses, ops_sound, types_sound};
 use crate::tails::{self, Tails};
 use ndr_value::{Shape, Shapes, copy_shapes};
 use rpc_base::{NoMemory, Octets, SyntaxId};
@@ -29,6 +31,7 @@ pub struct Table {
     ghost aligned: { aligns ≡ alignments (types_of types.items) },
     ghost ended: { tails ≡ tails_of (types_of types.items) },
     ghost shallow: { IsShallow (types_of types.items) (map op_form ops.items) },
+    ghost sound: { IsSound (types_of types.items) (map op_form ops.items) uses.items },
 }
 
 impl Table {
@@ -38,14 +41,16 @@ impl Table {
     ghost use Rattle.table_form.specs.Ordered.{is_size, ordered};
     ghost use Rattle.table_form.specs.Shown.{shown};
     ghost use Rattle.table_form.specs.Nested.{IsShallow};
+    ghost use Rattle.table_form.specs.Sound.{IsSound};
     ghost use Rattle.table_form.specs.Tails as ends;
 
     /// The table of these types and operations, with the handles of each operation.
     ///
     /// # Errors
     ///
-    /// `NoMemory` where there is no memory for the alignments of the types, or a type, a parameter or a
-    /// result nests by value more than `MOST_LEVELS` levels.
+    /// `NoMemory` where there is no memory for the alignments of the types, or a type, a parameter, a
+    /// result or what one of their pointers points to nests by value more than `MOST_LEVELS` levels, or
+    /// the shapes or the handles aren't those of an interface that keeps the rules.
     pub fn of(
         alloc: Global,
         id: SyntaxId,
@@ -57,7 +62,10 @@ impl Table {
         ensures { IfOk result (λ table. shown table ≡ record { id = id; types = types_of types.items; ops = map op_form ops.items; uses = uses.items }) }
     {
         let depths = depths_of(alloc, &types)?;
-        if !ops_few(&ops, depths.as_slice()) {
+        if !types_reach(&types, depths.as_slice()) || !ops_few(&ops, depths.as_slice()) {
+            return Err(NoMemory);
+        }
+        if !types_sound(&types) || !ops_sound(&ops) || !each_uses(&ops, &uses) {
             return Err(NoMemory);
         }
         let aligns = aligns_of(alloc, &types)?;
@@ -157,9 +165,15 @@ impl Table {
         ensures { IsTable (shown self.now).types (shown self.now).ops (shown self.now).uses }
     {}
 
-    /// What holds of every table: types, parameters and results nest by value `MOST_LEVELS` levels at
-    /// most.
+    /// What holds of every table: types, parameters, results and what their pointers point to nest by
+    /// value `MOST_LEVELS` levels at most.
     pub fn is_shallow(&self)
         ensures { IsShallow (shown self.now).types (shown self.now).ops }
+    {}
+
+    /// What holds of every table: each value of its shapes has octets, each union a tag, handles stand
+    /// as parameters alone, and the uses of each operation are those of its parameters.
+    pub fn is_sound(&self)
+        ensures { IsSound (shown self.now).types (shown self.now).ops (shown self.now).uses }
     {}
 }

@@ -21,7 +21,7 @@ use Rattle.ndr_value.specs.declared.shape.Count.TheVariants as counts
 use Rattle.ndr_value.specs.Forms.{Form, OfNamed, OfArray, OfText, OfRef, OfUnique, OfFull}
 use Rattle.table_scope.specs.declared.said.Terms.{Terms}
 use Rattle.table_scope.specs.Marks.{given, says, says_string, pointer_in}
-use Rattle.table_scope.specs.Scopes.{in_8, in_32, ByName}
+use Rattle.table_scope.specs.Scopes.{ByName}
 
 -- ---- counts: they name a parameter, or a member of the same body, by its index
 
@@ -31,10 +31,10 @@ index_of name (i ∷ is) = if bytes_eq i.text name then 0 else index_of name is 
 
 abbrev pub named_count : Bool → List Ident → ℕ → Bool → Ident → Count
 named_count parameters names plus star i =
-    if parameters then counts.Param (in_8 (index_of i.text names)) star plus else counts.Member (in_8 (index_of i.text names)) plus
+    if parameters then counts.Param (index_of i.text names) star plus else counts.Member (index_of i.text names) plus
 
 abbrev pub count : Bool → List Ident → ℕ → SizeRef → Count
-count parameters names plus (refs.Number n) = counts.Number (in_32 (n.value + plus))
+count parameters names plus (refs.Number n) = counts.Number (n.value + plus)
 count parameters names plus (refs.Named star i) = named_count parameters names plus star i
 
 -- how many elements there may be: max_is names the greatest index, one less
@@ -93,7 +93,7 @@ extent constants (Some size) = size_extent constants size
 
 abbrev pub bound : Option Num → ℕ
 bound None = 0
-bound (Some n) = in_32 n.value
+bound (Some n) = n.value
 
 abbrev pub or_none : Option Count → Count
 or_none None = counts.Number 0

@@ -3,10 +3,12 @@ use Rattle.std.specs.Prelude.{Bool, true, false, not, ◌||◌, List, Option, So
 use Rattle.std.specs.List.{list_any}
 use Rattle.std.specs.Option.{option_or}
 use Rattle.idl_tree.specs.declared.leaf.Pk.{Pk}
+use Rattle.table_form.specs.declared.operation.Bounds.{Bounds}
+use Rattle.table_scope.specs.Scopes.{signed_value}
 use Rattle.idl_tree.specs.declared.spec.Attr.{Attr}
 use Rattle.idl_tree.specs.declared.spec.AttrKind.{AttrKind}
 use Rattle.idl_tree.specs.declared.spec.AttrKind.TheVariants as attr_kinds
-use Rattle.idl_outline.specs.Plain.{PMark, is_in, is_out, is_pointer, is_text, is_maybe, is_handle, PAttr, attr, PAttrs, no_attr, then_attr}
+use Rattle.idl_outline.specs.Plain.{PMark, is_in, is_out, is_pointer, is_text, is_maybe, is_handle, is_range, PAttr, attr, PAttrs, no_attr, then_attr}
 
 abbrev pub mark_of : PAttr → PMark
 mark_of (attr at m) = m
@@ -42,6 +44,11 @@ says_handle _ = false
 abbrev pub pointer_in : PMark → Option Pk
 pointer_in (is_pointer k) = Some k
 pointer_in _ = None
+
+-- the numbers that a parameter may be
+abbrev pub range_in : PMark → Option Bounds
+range_in (is_range low high) = Some (record { low = signed_value low; high = signed_value high })
+range_in _ = None
 
 abbrev pub is_noserialize : AttrKind → Bool
 is_noserialize attr_kinds.HandleNoserialize = true

@@ -1,7 +1,7 @@
 -- What is known at a place of an interface's text: the structures and unions whose bodies have ended, in the order in which they
 -- end, and what names stand for. A name stands for what its newest declaration of that kind declares. Where a rule of the interface
 -- is broken, a name may stand for nothing.
-use Rattle.std.specs.Prelude.{ℕ, ◌+◌, Bool, true, false, List, [], ◌∷◌, ◌++◌, length, min, Option, Some, None, if◌then◌else◌, bytes_eq}
+use Rattle.std.specs.Prelude.{ℕ, ◌+◌, ℤ, pos, neg_ℤ, Bool, true, false, List, [], ◌∷◌, ◌++◌, length, Option, Some, None, if◌then◌else◌, bytes_eq}
 use Rattle.idl_tree.specs.declared.leaf.Ident.{Ident}
 use Rattle.idl_tree.specs.declared.leaf.Num.{Num}
 use Rattle.name_map.specs.Named.{at_name}
@@ -12,16 +12,9 @@ use Rattle.table_scope.specs.declared.symbols.Meaning.{Meaning}
 use Rattle.table_scope.specs.declared.symbols.Tag.{Tag}
 use Rattle.table_scope.specs.declared.symbols.Symbols.{Symbols}
 
--- ---- numbers as a table keeps them: no interface that keeps the rules has greater ones
-
-abbrev pub in_8 : ℕ → ℕ
-in_8 n = min n 255
-
-abbrev pub in_16 : ℕ → ℕ
-in_16 n = min n 65535
-
-abbrev pub in_32 : ℕ → ℕ
-in_32 n = min n 4294967295
+-- the number, with its sign
+abbrev pub signed_value : Num → ℤ
+signed_value n = if n.minus then neg_ℤ (pos n.value) else pos n.value
 
 -- ---- what specs stand for
 
@@ -46,7 +39,7 @@ shapeless sort = record { shape = nothing; sort = sort }
 
 -- a context handle of the type with that number
 abbrev pub handle_sense : ℕ → Bool → Sense
-handle_sense kind serialised = record { shape = OfHandle (in_16 kind); sort = sorts.Handle (in_16 kind) serialised }
+handle_sense kind serialised = record { shape = OfHandle kind; sort = sorts.Handle kind serialised }
 
 -- what stands at each name
 abbrev pub ByName : Type 0 → Type 0

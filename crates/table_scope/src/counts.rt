@@ -1,30 +1,55 @@
 //! Counts, which name a parameter or a member by its index.
-ghost use Rattle.std.specs.Prelude.{◌≡◌, ◌+◌, ◌≤◌, min, length};
-ghost use Rattle.table_scope.specs.Scopes.{in_8, in_32};
+ghost use Rattle.std.specs.Prelude.{◌≡◌, ◌+◌, ◌≤◌, length, IfOk};
+ghost use Rattle.table_scope.specs.Scopes.{signed_value};
 ghost use Rattle.table_scope.specs.Declarators as spec;
 
-use idl_tree::{Ident, SizeRef};
+use idl_tree::{Ident, Num, SizeRef};
 use ndr_value::Count;
+use rpc_base::NoMemory;
 
-/// The number, or the greatest of 16 bits.
-pub fn kept_16(number: u64) -> u16
-    ensures { result ≡ min number 65535 }
+/// The number in 16 bits.
+///
+/// # Errors
+///
+/// `NoMemory` where it has no room there, as for each of these: no interface that keeps the rules has
+/// such a number.
+pub fn in_16(number: u64) -> Result<u16, NoMemory>
+    ensures { IfOk result (λ n. n ≡ number) }
 {
-    if number < 65_535 {
-        number as u16
+    if number < 65_536 {
+        Ok(number as u16)
     } else {
-        u16::MAX
+        Err(NoMemory)
     }
 }
 
-/// The number, or the greatest of 32 bits.
-pub fn kept_32(number: u64) -> u32
-    ensures { result ≡ in_32 number }
+/// The number in 32 bits.
+pub fn in_32(number: u64) -> Result<u32, NoMemory>
+    ensures { IfOk result (λ n. n ≡ number) }
 {
-    if number < 4_294_967_295 {
-        number as u32
+    if number < 4_294_967_296 {
+        Ok(number as u32)
     } else {
-        u32::MAX
+        Err(NoMemory)
+    }
+}
+
+/// The number in 64 bits, with its sign.
+pub fn signed_64(number: Num) -> Result<i64, NoMemory>
+    ensures { IfOk result (λ n. n ≡ signed_value number) }
+{
+    if number.minus {
+        if number.value < 1 << 63 {
+            Ok(-(number.value as i64))
+        } else if number.value == 1 << 63 {
+            Ok(i64::MIN)
+        } else {
+            Err(NoMemory)
+        }
+    } else if number.value < 1 << 63 {
+        Ok(number.value as i64)
+    } else {
+        Err(NoMemory)
     }
 }
 
@@ -42,40 +67,48 @@ fn index_of(name: &[u8], names: &[Ident]) -> usize
     index
 }
 
-/// The count that a name stands for.
-pub fn named_count(parameters: bool, names: &[Ident], plus: u8, star: bool, name: &Ident) -> Count
-    ensures { result ≡ spec.named_count parameters names.now plus star name.now }
+/// The count that a name stands for. A name that isn't among the others is refused too.
+pub fn named_count(
+    parameters: bool,
+    names: &[Ident],
+    plus: u8,
+    star: bool,
+    name: &Ident,
+) -> Result<Count, NoMemory>
+    ensures { IfOk result (λ c. c ≡ spec.named_count parameters names.now plus star name.now) }
 {
     let place = index_of(name.text.as_slice(), names);
-    let index = if place < 255 { place as u8 } else { 255 };
+    if place > 255 || place == names.len() {
+        return Err(NoMemory);
+    }
+    let index = place as u8;
     if parameters {
-        Count::Param {
+        Ok(Count::Param {
             index,
             through: star,
             plus,
-        }
+        })
     } else {
-        Count::Member { index, plus }
+        Ok(Count::Member { index, plus })
     }
 }
 
-// The number and a little more, or the greatest of 32 bits.
-fn sum(number: u64, plus: u8) -> u32
-    ensures { result ≡ in_32 (number + plus) }
+// The number and a little more.
+fn sum(number: u64, plus: u8) -> Result<u32, NoMemory>
+    ensures { IfOk result (λ n. n ≡ number + plus) }
 {
-    if number < 4_294_967_295 {
-        kept_32(number + u64::from(plus))
-    } else {
-        u32::MAX
+    if number > 4_294_967_295 {
+        return Err(NoMemory);
     }
+    in_32(number + u64::from(plus))
 }
 
 /// What a size gives, and so much more.
-pub fn count(parameters: bool, names: &[Ident], plus: u8, size: &SizeRef) -> Count
-    ensures { result ≡ spec.count parameters names.now plus size.now }
+pub fn count(parameters: bool, names: &[Ident], plus: u8, size: &SizeRef) -> Result<Count, NoMemory>
+    ensures { IfOk result (λ c. c ≡ spec.count parameters names.now plus size.now) }
 {
     match size {
-        SizeRef::Number(number) => Count::Number(sum(number.value, plus)),
+        SizeRef::Number(number) => Ok(Count::Number(sum(number.value, plus)?)),
         SizeRef::Named { star, name } => named_count(parameters, names, plus, *star, name),
     }
 }

@@ -7,7 +7,7 @@ ghost use Rattle.idl_outline.specs.Plain.{plain_attrs};
 ghost use Rattle.name_map.specs.Named.{at_name};
 ghost use Rattle.table_scope.specs.Declarators as spec;
 
-use crate::counts::kept_32;
+use crate::counts::in_32;
 use crate::marks;
 use crate::said::Terms;
 use crate::scope::constant_named;
@@ -50,15 +50,26 @@ fn or_class(class: Option<Pk>, other: Pk) -> Pk
 
 /// What attributes say of the declarators behind them. `parameters`: these are parameters, and not
 /// members of a body; `names` has the names of all of these.
-pub fn terms(attrs: &[Attr], default: Pk, place: Place, parameters: bool, names: &[Ident]) -> Terms
-    ensures { result ≡ spec.terms default place parameters names.now (plain_attrs attrs.now) }
+///
+/// # Errors
+///
+/// `NoMemory` where a size or a switch names none of them, or a number or an index has no room in its
+/// field: no interface that keeps the rules has such an attribute.
+pub fn terms(
+    attrs: &[Attr],
+    default: Pk,
+    place: Place,
+    parameters: bool,
+    names: &[Ident],
+) -> Result<Terms, NoMemory>
+    ensures { IfOk result (λ t. t ≡ spec.terms default place parameters names.now (plain_attrs attrs.now)) }
 {
     let class = marks::pointer(attrs);
     let text = marks::says_string(attrs);
-    let most = marks::most(attrs, parameters, names);
-    let travel = marks::travel(attrs, parameters, names);
-    let switch = marks::switch(attrs, parameters, names);
-    Terms {
+    let most = marks::most(attrs, parameters, names)?;
+    let travel = marks::travel(attrs, parameters, names)?;
+    let switch = marks::switch(attrs, parameters, names)?;
+    Ok(Terms {
         inner: default,
         outer: or_class(class, class_at(default, place)),
         element: or_class(class, default),
@@ -66,7 +77,7 @@ pub fn terms(attrs: &[Attr], default: Pk, place: Place, parameters: bool, names:
         most,
         travel,
         switch,
-    }
+    })
 }
 
 fn pointer(alloc: Global, class: Pk, shape: Shape) -> Result<Shape, NoMemory>
@@ -128,21 +139,28 @@ fn extent(constants: &Names<Num>, array: &Option<ArraySize>) -> Extent
     }
 }
 
-fn bound(size: Option<Num>) -> u32
-    ensures { result ≡ spec.bound size }
+// A size that isn't declared or is negative is refused.
+fn bound(size: Option<Num>) -> Result<u32, NoMemory>
+    ensures { IfOk result (λ n. n ≡ spec.bound size) }
 {
     match size {
-        None => 0,
-        Some(number) => kept_32(number.value),
+        None => Err(NoMemory),
+        Some(number) => {
+            if number.minus {
+                return Err(NoMemory);
+            }
+            in_32(number.value)
+        }
     }
 }
 
-fn or_none(most: Option<Count>) -> Count
-    ensures { result ≡ spec.or_none most }
+// An array that has no size is refused.
+fn or_none(most: Option<Count>) -> Result<Count, NoMemory>
+    ensures { IfOk result (λ c. c ≡ spec.or_none most) }
 {
     match most {
-        None => Count::Number(0),
-        Some(count) => count,
+        None => Err(NoMemory),
+        Some(count) => Ok(count),
     }
 }
 
@@ -170,23 +188,23 @@ fn array(alloc: Global, terms: &Terms, extent: Extent, shape: Shape) -> Result<S
     match extent {
         Extent::Single => Ok(shape),
         Extent::Open => {
-            let kind = open_kind(or_none(terms.most), terms.travel);
+            let kind = open_kind(or_none(terms.most)?, terms.travel);
             Ok(Shape::Array(kind, Box::new(alloc, shape)?))
         }
         Extent::Fixed(size) => {
-            let kind = fixed_kind(bound(size), terms.travel);
+            let kind = fixed_kind(bound(size)?, terms.travel);
             Ok(Shape::Array(kind, Box::new(alloc, shape)?))
         }
     }
 }
 
-fn text(extent: Extent) -> Shape
-    ensures { form result ≡ spec.text extent }
+fn text(extent: Extent) -> Result<Shape, NoMemory>
+    ensures { IfOk result (λ s. form s ≡ spec.text extent) }
 {
     match extent {
-        Extent::Single => Shape::Text(None),
-        Extent::Open => Shape::Text(None),
-        Extent::Fixed(size) => Shape::Text(Some(bound(size))),
+        Extent::Single => Ok(Shape::Text(None)),
+        Extent::Open => Ok(Shape::Text(None)),
+        Extent::Fixed(size) => Ok(Shape::Text(Some(bound(size)?))),
     }
 }
 
@@ -214,7 +232,7 @@ fn by_value(alloc: Global, terms: &Terms, extent: Extent, shape: &Shape) -> Resu
     ensures { IfOk result (λ s. form s ≡ spec.by_value terms.now extent (form shape.now)) }
 {
     if terms.text {
-        return Ok(text(extent));
+        return text(extent);
     }
     let own = copy_shape(alloc, shape)?;
     array(alloc, terms, extent, own)
@@ -263,7 +281,8 @@ fn boxed(shape: &Shape, alloc: Global, count: Count) -> Result<Box<Shape>, NoMem
 ///
 /// # Errors
 ///
-/// `NoMemory` where there is no memory for it, or it nests more than `MOST_LEVELS` levels in place.
+/// `NoMemory` where there is no memory for it, it nests more than `MOST_LEVELS` levels in place, or an
+/// array has no size, or one that has no room in 32 bits.
 pub fn declared(
     alloc: Global,
     terms: &Terms,

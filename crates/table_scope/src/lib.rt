@@ -9,9 +9,9 @@ mod said;
 mod scope;
 mod symbols;
 
-pub use counts::kept_16;
+pub use counts::{in_16, signed_64};
 pub use declarators::{all_pointed, declared, terms};
-pub use marks::{is_serialised, says_handle, says_in, says_maybe, says_out};
+pub use marks::{is_serialised, range, says_handle, says_in, says_maybe, says_out};
 pub use said::Terms;
 pub use scope::{
     add, begun, constant_named, ended, nothing, nothing_known, struct_shape, tag_shape, type_named,

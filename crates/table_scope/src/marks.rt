@@ -1,13 +1,15 @@
 //! What a list of attributes gives.
-ghost use Rattle.std.specs.Prelude.{◌≡◌, ◌+◌, min, length};
+ghost use Rattle.std.specs.Prelude.{◌≡◌, IfOk};
 ghost use Rattle.std.specs.List.{list_any};
 ghost use Rattle.idl_outline.specs.Plain.{plain_mark, plain_attrs};
 ghost use Rattle.table_scope.specs.Marks as spec;
 ghost use Rattle.table_scope.specs.Declarators.{most_in, travel_in, switch_in};
 
-use crate::counts::{count, named_count};
+use crate::counts::{count, named_count, signed_64};
 use idl_tree::{Attr, AttrKind, Ident, Pk};
 use ndr_value::Count;
+use rpc_base::NoMemory;
+use table_form::Bounds;
 
 fn is_in(kind: &AttrKind) -> bool
     ensures { result ≡ spec.says_in (plain_mark kind.now) }
@@ -59,16 +61,17 @@ fn pointer_in(kind: &AttrKind) -> Option<Pk>
         | AttrKind::MaxIs(_)
         | AttrKind::LengthIs(_)
         | AttrKind::SwitchIs { .. }
-        | AttrKind::SwitchType(_) => None,
+        | AttrKind::SwitchType(_)
+        | AttrKind::Range(..) => None,
     }
 }
 
-fn most_of(kind: &AttrKind, parameters: bool, names: &[Ident]) -> Option<Count>
-    ensures { result ≡ most_in parameters names.now (plain_mark kind.now) }
+fn most_of(kind: &AttrKind, parameters: bool, names: &[Ident]) -> Result<Option<Count>, NoMemory>
+    ensures { IfOk result (λ c. c ≡ most_in parameters names.now (plain_mark kind.now)) }
 {
     match kind {
-        AttrKind::SizeIs(size) => Some(count(parameters, names, 0, size)),
-        AttrKind::MaxIs(size) => Some(count(parameters, names, 1, size)),
+        AttrKind::SizeIs(size) => Ok(Some(count(parameters, names, 0, size)?)),
+        AttrKind::MaxIs(size) => Ok(Some(count(parameters, names, 1, size)?)),
         AttrKind::In
         | AttrKind::Out
         | AttrKind::Pointer(_)
@@ -80,15 +83,16 @@ fn most_of(kind: &AttrKind, parameters: bool, names: &[Ident]) -> Option<Count>
         | AttrKind::HandleNoserialize
         | AttrKind::LengthIs(_)
         | AttrKind::SwitchIs { .. }
-        | AttrKind::SwitchType(_) => None,
+        | AttrKind::SwitchType(_)
+        | AttrKind::Range(..) => Ok(None),
     }
 }
 
-fn travel_of(kind: &AttrKind, parameters: bool, names: &[Ident]) -> Option<Count>
-    ensures { result ≡ travel_in parameters names.now (plain_mark kind.now) }
+fn travel_of(kind: &AttrKind, parameters: bool, names: &[Ident]) -> Result<Option<Count>, NoMemory>
+    ensures { IfOk result (λ c. c ≡ travel_in parameters names.now (plain_mark kind.now)) }
 {
     match kind {
-        AttrKind::LengthIs(size) => Some(count(parameters, names, 0, size)),
+        AttrKind::LengthIs(size) => Ok(Some(count(parameters, names, 0, size)?)),
         AttrKind::In
         | AttrKind::Out
         | AttrKind::Pointer(_)
@@ -101,15 +105,18 @@ fn travel_of(kind: &AttrKind, parameters: bool, names: &[Ident]) -> Option<Count
         | AttrKind::SizeIs(_)
         | AttrKind::MaxIs(_)
         | AttrKind::SwitchIs { .. }
-        | AttrKind::SwitchType(_) => None,
+        | AttrKind::SwitchType(_)
+        | AttrKind::Range(..) => Ok(None),
     }
 }
 
-fn switch_of(kind: &AttrKind, parameters: bool, names: &[Ident]) -> Option<Count>
-    ensures { result ≡ switch_in parameters names.now (plain_mark kind.now) }
+fn switch_of(kind: &AttrKind, parameters: bool, names: &[Ident]) -> Result<Option<Count>, NoMemory>
+    ensures { IfOk result (λ c. c ≡ switch_in parameters names.now (plain_mark kind.now)) }
 {
     match kind {
-        AttrKind::SwitchIs { star, name } => Some(named_count(parameters, names, 0, *star, name)),
+        AttrKind::SwitchIs { star, name } => {
+            Ok(Some(named_count(parameters, names, 0, *star, name)?))
+        }
         AttrKind::In
         | AttrKind::Out
         | AttrKind::Pointer(_)
@@ -122,7 +129,33 @@ fn switch_of(kind: &AttrKind, parameters: bool, names: &[Ident]) -> Option<Count
         | AttrKind::SizeIs(_)
         | AttrKind::MaxIs(_)
         | AttrKind::LengthIs(_)
-        | AttrKind::SwitchType(_) => None,
+        | AttrKind::SwitchType(_)
+        | AttrKind::Range(..) => Ok(None),
+    }
+}
+
+fn range_of(kind: &AttrKind) -> Result<Option<Bounds>, NoMemory>
+    ensures { IfOk result (λ r. r ≡ spec.range_in (plain_mark kind.now)) }
+{
+    match kind {
+        AttrKind::Range(low, high) => Ok(Some(Bounds {
+            low: signed_64(*low)?,
+            high: signed_64(*high)?,
+        })),
+        AttrKind::In
+        | AttrKind::Out
+        | AttrKind::Pointer(_)
+        | AttrKind::Text
+        | AttrKind::Idempotent
+        | AttrKind::Maybe
+        | AttrKind::Handle
+        | AttrKind::HandleSerialize
+        | AttrKind::HandleNoserialize
+        | AttrKind::SizeIs(_)
+        | AttrKind::MaxIs(_)
+        | AttrKind::LengthIs(_)
+        | AttrKind::SwitchIs { .. }
+        | AttrKind::SwitchType(_) => Ok(None),
     }
 }
 
@@ -218,40 +251,58 @@ pub fn pointer(attrs: &[Attr]) -> Option<Pk>
 }
 
 /// How many elements there may be.
-pub fn most(attrs: &[Attr], parameters: bool, names: &[Ident]) -> Option<Count>
-    ensures { result ≡ spec.given (most_in parameters names.now) (plain_attrs attrs.now) }
+pub fn most(attrs: &[Attr], parameters: bool, names: &[Ident]) -> Result<Option<Count>, NoMemory>
+    ensures { IfOk result (λ c. c ≡ spec.given (most_in parameters names.now) (plain_attrs attrs.now)) }
 {
     for attr in attrs {
-        let found = most_of(&attr.what, parameters, names);
+        let found = most_of(&attr.what, parameters, names)?;
         if found.is_some() {
-            return found;
+            return Ok(found);
         }
     }
-    None
+    Ok(None)
 }
 
 /// How many elements travel.
-pub fn travel(attrs: &[Attr], parameters: bool, names: &[Ident]) -> Option<Count>
-    ensures { result ≡ spec.given (travel_in parameters names.now) (plain_attrs attrs.now) }
+pub fn travel(attrs: &[Attr], parameters: bool, names: &[Ident]) -> Result<Option<Count>, NoMemory>
+    ensures { IfOk result (λ c. c ≡ spec.given (travel_in parameters names.now) (plain_attrs attrs.now)) }
 {
     for attr in attrs {
-        let found = travel_of(&attr.what, parameters, names);
+        let found = travel_of(&attr.what, parameters, names)?;
         if found.is_some() {
-            return found;
+            return Ok(found);
         }
     }
-    None
+    Ok(None)
 }
 
 /// What selects a union's arm.
-pub fn switch(attrs: &[Attr], parameters: bool, names: &[Ident]) -> Option<Count>
-    ensures { result ≡ spec.given (switch_in parameters names.now) (plain_attrs attrs.now) }
+pub fn switch(attrs: &[Attr], parameters: bool, names: &[Ident]) -> Result<Option<Count>, NoMemory>
+    ensures { IfOk result (λ c. c ≡ spec.given (switch_in parameters names.now) (plain_attrs attrs.now)) }
 {
     for attr in attrs {
-        let found = switch_of(&attr.what, parameters, names);
+        let found = switch_of(&attr.what, parameters, names)?;
         if found.is_some() {
-            return found;
+            return Ok(found);
         }
     }
-    None
+    Ok(None)
+}
+
+/// The numbers that the first `range` allows.
+///
+/// # Errors
+///
+/// `NoMemory` where a number has no room in 64 bits with a sign: no interface that keeps the rules has
+/// such a range.
+pub fn range(attrs: &[Attr]) -> Result<Option<Bounds>, NoMemory>
+    ensures { IfOk result (λ r. r ≡ spec.given spec.range_in (plain_attrs attrs.now)) }
+{
+    for attr in attrs {
+        let found = range_of(&attr.what)?;
+        if found.is_some() {
+            return Ok(found);
+        }
+    }
+    Ok(None)
 }

@@ -5,7 +5,7 @@ ghost use Rattle.name_map.specs.Named.{at_name};
 ghost use Rattle.table_scope.specs.Scopes as spec;
 ghost use Rattle.table_scope.specs.Scopes.{sense, scope, handle_sense};
 
-use crate::counts::kept_16;
+use crate::counts::in_16;
 use crate::symbols::{Meaning, Sort, Symbols, Tag};
 use idl_tree::{Ident, Num};
 use name_map::{Names, named, put};
@@ -76,14 +76,14 @@ pub fn with_type(
 }
 
 // The next type of context handles.
-fn handle_meaning(kinds: usize, serialised: bool) -> Meaning
-    ensures { sense result ≡ handle_sense kinds serialised }
+fn handle_meaning(kinds: usize, serialised: bool) -> Result<Meaning, NoMemory>
+    ensures { IfOk result (λ m. sense m ≡ handle_sense kinds serialised) }
 {
-    let kind = kept_16(kinds as u64);
-    Meaning {
+    let kind = in_16(kinds as u64)?;
+    Ok(Meaning {
         shape: Shape::Handle(kind),
         sort: Sort::Handle { kind, serialised },
-    }
+    })
 }
 
 /// The name of a type of context handles.
@@ -96,7 +96,7 @@ pub fn with_handle(
     ensures { OnOk result (scope known.new ≡ spec.with_handle name.now serialised (scope known.old)) }
 {
     let kinds = add(known.kinds, 1)?;
-    let meaning = handle_meaning(known.kinds, serialised);
+    let meaning = handle_meaning(known.kinds, serialised)?;
     with_type(known, alloc, name, meaning)?;
     known.kinds = kinds;
     Ok(())

@@ -1,5 +1,5 @@
 -- What specs stand for, and what they add to what is known. X_at gives what an X stands for at a place, and what is known behind it.
-use Rattle.std.specs.Prelude.{ℕ, ◌+◌, ◌^◌, ◌-◌, Bool, true, false, List, [], ◌∷◌, ◌++◌, length, map, min, Option, Some, None, if◌then◌else◌, ℤ, pos, neg_ℤ}
+use Rattle.std.specs.Prelude.{ℕ, ◌+◌, Bool, true, false, List, [], ◌∷◌, ◌++◌, length, map, Option, Some, None, if◌then◌else◌, ℤ}
 use Rattle.std.specs.List.{flat_map, list_any}
 use Rattle.std.specs.Option.{option_or}
 use Rattle.idl_tree.specs.declared.leaf.Ident.{Ident}
@@ -18,7 +18,7 @@ use Rattle.ndr_value.specs.Forms.{Form, OfBool, OfByte, OfChar, OfInt, OfUint, O
 use Rattle.ndr_value.specs.Forms.{no_arm as no_arm_form, then_arm as then_arm_form}
 use Rattle.table_form.specs.Aligned.{octets_of}
 use Rattle.table_scope.specs.declared.symbols.Sort.TheVariants as sorts
-use Rattle.table_scope.specs.Scopes.{ByName, Sense, Scope, in_16, nothing, valued, status_sense, shapeless, type_named, tag_form, with_names, begun, ended}
+use Rattle.table_scope.specs.Scopes.{ByName, Sense, Scope, signed_value, nothing, valued, status_sense, shapeless, type_named, tag_form, with_names, begun, ended}
 use Rattle.table_scope.specs.Declarators.{terms, declared}
 
 -- ---- small parts
@@ -54,10 +54,6 @@ or_nothing (Some s) = s
 
 -- ---- labels
 
--- a number as a table keeps it: a case of an interface that keeps the rules fits 64 bits, with its sign
-abbrev pub case_number : Num → ℤ
-case_number n = if n.minus then neg_ℤ (pos (min n.value (2 ^ 63))) else pos (min n.value (2 ^ 63 - 1))
-
 abbrev pub label_number : ByName Num → LabelKind → Option Num
 label_number constants (labels.Number n) = Some n
 label_number constants (labels.Named i) = constants i.text
@@ -65,7 +61,7 @@ label_number constants labels.Default = None
 
 abbrev pub if_case : Option Num → List ℤ
 if_case None = []
-if_case (Some n) = case_number n ∷ []
+if_case (Some n) = signed_value n ∷ []
 
 abbrev pub cases : ByName Num → List Label → List ℤ
 cases constants ls = flat_map (λ l. if_case (label_number constants l.what)) ls
@@ -149,7 +145,7 @@ abbrev pub union_at : Form → List Face × Scope → Sense × Scope
 union_at tag inside = (numbered inside.1, ended None (OfUnion tag (arm_row inside.0)) inside.1)
 
 abbrev pub enum_sense : List Ident → Sense
-enum_sense names = valued (OfEnum (in_16 (length names)))
+enum_sense names = valued (OfEnum (length names))
 
 abbrev pub enum_past : List Ident → Scope → Scope
 enum_past names p = with_names 0 names p

@@ -5,37 +5,31 @@ ghost use Rattle.ndr_value.specs.Forms.{form, body, OfStruct};
 ghost use Rattle.name_map.specs.Named.{at_name};
 ghost use Rattle.table_specs.specs.Specs as spec;
 
-use idl_tree::{Label, LabelKind, Num};
+use idl_tree::{Ident, Label, LabelKind, Num};
 use name_map::Names;
 use ndr_value::{Cases, Shape, Shapes};
 use rpc_base::NoMemory;
 use std::alloc::Global;
-use table_scope::{constant_named, struct_shape};
+use table_scope::{constant_named, signed_64, struct_shape};
 
-// The number, or the nearest of 64 bits with a sign.
-fn case_number(number: Num) -> i64
-    ensures { result ≡ spec.case_number number }
+// A constant that isn't declared is refused.
+fn constant(constants: &Names<Num>, name: &Ident) -> Result<Option<Num>, NoMemory>
+    ensures { IfOk result (λ n. n ≡ at_name constants.now name.now.text) }
 {
-    if number.minus {
-        if number.value < 1 << 63 {
-            -(number.value as i64)
-        } else {
-            i64::MIN
-        }
-    } else if number.value < 1 << 63 {
-        number.value as i64
-    } else {
-        i64::MAX
+    let value = constant_named(constants, name.text.as_slice());
+    if value.is_none() {
+        return Err(NoMemory);
     }
+    Ok(value)
 }
 
-fn label_number(constants: &Names<Num>, kind: &LabelKind) -> Option<Num>
-    ensures { result ≡ spec.label_number (at_name constants.now) kind.now }
+fn label_number(constants: &Names<Num>, kind: &LabelKind) -> Result<Option<Num>, NoMemory>
+    ensures { IfOk result (λ n. n ≡ spec.label_number (at_name constants.now) kind.now) }
 {
     match kind {
-        LabelKind::Number(number) => Some(*number),
-        LabelKind::Named(name) => constant_named(constants, name.text.as_slice()),
-        LabelKind::Default => None,
+        LabelKind::Number(number) => Ok(Some(*number)),
+        LabelKind::Named(name) => constant(constants, name),
+        LabelKind::Default => Ok(None),
     }
 }
 
@@ -44,7 +38,7 @@ fn add_case(all: &mut Cases, number: Option<Num>) -> Result<(), NoMemory>
 {
     match number {
         None => Ok(()),
-        Some(number) => all.push(case_number(number)),
+        Some(number) => all.push(signed_64(number)?),
     }
 }
 
@@ -52,13 +46,14 @@ fn add_case(all: &mut Cases, number: Option<Num>) -> Result<(), NoMemory>
 ///
 /// # Errors
 ///
-/// `NoMemory` where there is no memory for them.
+/// `NoMemory` where there is no memory for them, a constant isn't declared, or a number has no room in
+/// 64 bits with a sign.
 pub fn cases(alloc: Global, constants: &Names<Num>, labels: &[Label]) -> Result<Cases, NoMemory>
     ensures { IfOk result (λ all. all ≡ spec.cases (at_name constants.now) labels.now) }
 {
     let mut all = Cases::new(alloc);
     for label in labels {
-        add_case(&mut all, label_number(constants, &label.what))?;
+        add_case(&mut all, label_number(constants, &label.what)?)?;
     }
     Ok(all)
 }

@@ -117,7 +117,8 @@ fn mark_within(kind: &AttrKind) -> Result<usize, NoMemory>
         | AttrKind::SizeIs(_)
         | AttrKind::MaxIs(_)
         | AttrKind::LengthIs(_)
-        | AttrKind::SwitchIs { .. } => Ok(0),
+        | AttrKind::SwitchIs { .. }
+        | AttrKind::Range(..) => Ok(0),
     }
 }
 

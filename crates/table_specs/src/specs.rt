@@ -21,8 +21,8 @@ use rpc_base::NoMemory;
 use std::alloc::Global;
 use table_form::octets;
 use table_scope::{
-    Meaning, Sort, Symbols, Terms, all_pointed, begun, declared, ended, kept_16, nothing,
-    tag_shape, terms, type_named, union_shape, valued, with_names,
+    Meaning, Sort, Symbols, Terms, all_pointed, begun, declared, ended, in_16, nothing, tag_shape,
+    terms, type_named, union_shape, valued, with_names,
 };
 
 fn base_shape(base: Base) -> Shape
@@ -117,7 +117,7 @@ fn enumeration(known: &mut Symbols, alloc: Global, names: &[Ident]) -> Result<Me
     ensures past { OnOk result (scope known.new ≡ spec.enum_past names.now (scope known.old)) }
 {
     with_names(known, alloc, names)?;
-    Ok(valued(Shape::Enum(kept_16(names.len() as u64))))
+    Ok(valued(Shape::Enum(in_16(names.len() as u64)?)))
 }
 
 /// What a spec stands for. `pointed`: each of its declarators has a star. `given`: the shape of its
@@ -301,7 +301,8 @@ fn mark_tag(
         | AttrKind::SizeIs(_)
         | AttrKind::MaxIs(_)
         | AttrKind::LengthIs(_)
-        | AttrKind::SwitchIs { .. } => Ok(None),
+        | AttrKind::SwitchIs { .. }
+        | AttrKind::Range(..) => Ok(None),
     }
 }
 
@@ -321,7 +322,7 @@ fn member_shapes(
     let tag = attrs_tag(&member.attrs, alloc, known, default)?;
     let pointed = all_pointed(&member.dtors);
     let meaning = spec_meaning(&member.spec, alloc, known, default, pointed, &tag)?;
-    let terms = terms(&member.attrs, default, Place::Member, false, names);
+    let terms = terms(&member.attrs, default, Place::Member, false, names)?;
     let constants = &known.constants;
     each_declared(
         alloc,

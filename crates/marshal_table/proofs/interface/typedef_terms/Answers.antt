@@ -1,4 +1,5 @@
-use Rattle.std.proofs.Common.{◌≡◌, List, [], ap, ◌∙◌, false}
+use Rattle.std.proofs.Common.{◌≡◌, List, [], subst, false}
+use Rattle.std.specs.Prelude.{IfOk}
 use Rattle.idl_tree.specs.declared.leaf.Ident.{Ident}
 use Rattle.idl_outline.specs.declared.field.Place.TheVariants as places
 use Rattle.idl_outline.specs.Plain.{plain_attrs}
@@ -8,4 +9,4 @@ use Rattle.marshal_table.proofs.interface.typedef_terms.Goals as goal
 pub returns : goal.returns
 returns c =
     let none : c.as_slice.result.now ≡ [] = cc in
-    c.terms.ensures ∙ ap (λ (ns : List Ident). terms c.args.default places.Typedef false ns (plain_attrs c.args.attrs.now)) none
+    subst (λ (ns : List Ident). IfOk c.terms.result (λ t. t ≡ terms c.args.default places.Typedef false ns (plain_attrs c.args.attrs.now))) none c.terms.ensures

@@ -79,8 +79,8 @@ member_shapes-returns-clause-value t c =
     let shape_is : form c.in_ok-meaning.meaning.shape ≡ behind.0.shape = ap (λ (m : Sense). m.shape) (c.in_ok-meaning.ensures.value ∙ ap (λ (x : Sense × Scope). x.0) same) in
     let constants_are : at_name c.spec_meaning.new.known.constants ≡ behind.1.constants =
     ap (λ (p : Scope). p.constants) (c.in_ok-meaning.ensures.past ∙ ap (λ (x : Sense × Scope). x.1) same) in
-    let terms_are : c.terms-terms.result ≡ terms c.args.default places.Member false c.args.names.now (plain_attrs as') =
-    c.terms-terms.ensures ∙ ap (λ (x : List Attr). terms c.args.default places.Member false c.args.names.now (plain_attrs x)) c.deref-3.ensures.value in
-    let e = same_declared c.terms-terms.result (terms c.args.default places.Member false c.args.names.now (plain_attrs as')) (at_name c.spec_meaning.new.known.constants) behind.1.constants (form c.in_ok-meaning.meaning.shape) behind.0.shape c.deref-4.result.now (views.out-Member c.args.member.now).dtors.items
+    let terms_are : c.in_ok-terms.terms ≡ terms c.args.default places.Member false c.args.names.now (plain_attrs as') =
+    c.in_ok-terms.ensures ∙ ap (λ (x : List Attr). terms c.args.default places.Member false c.args.names.now (plain_attrs x)) c.deref-3.ensures.value in
+    let e = same_declared c.in_ok-terms.terms (terms c.args.default places.Member false c.args.names.now (plain_attrs as')) (at_name c.spec_meaning.new.known.constants) behind.1.constants (form c.in_ok-meaning.meaning.shape) behind.0.shape c.deref-4.result.now (views.out-Member c.args.member.now).dtors.items
     terms_are constants_are shape_is c.deref-4.ensures.value in
     subst (λ (x : List Form). OnOk c.each_declared.result (map form c.each_declared.new.into.items ≡ map form c.args.into.now.items ++ x)) e c.each_declared.ensures

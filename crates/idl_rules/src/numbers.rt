@@ -1,9 +1,9 @@
 //! The numbers that types hold.
 ghost use Rattle.std.specs.Prelude.{◌≡◌};
-ghost use Rattle.idl_rules.specs.UnionTag as spec;
+ghost use Rattle.idl_rules.specs.Numbers as spec;
 
 /// Whether the number is at least `low` and below `high`.
-pub(crate) fn within(low: i128, high: i128, number: i128) -> bool
+pub fn within(low: i128, high: i128, number: i128) -> bool
     ensures { result ≡ spec.within low high number }
 {
     low <= number && number < high
@@ -34,7 +34,7 @@ fn signed_holds(size: u8, number: i128) -> bool
 }
 
 /// Whether an integer of so many octets holds the number.
-pub(crate) fn int_holds(unsigned: bool, size: u8, number: i128) -> bool
+pub fn int_holds(unsigned: bool, size: u8, number: i128) -> bool
     ensures { result ≡ spec.int_holds unsigned size number }
 {
     if unsigned {
