@@ -8,17 +8,23 @@ use Rattle.handle_model.specs.declared.entry.Home.{Home}
 use Rattle.handle_model.specs.declared.entry.Asked.{Asked}
 use Rattle.handle_model.specs.declared.entry.Entry.{Entry}
 use Rattle.handle_model.specs.declared.entry.Entry.TheVariants.{Accept, Take}
+use Rattle.handle_model.specs.declared.base.BaseCall.{BaseCall}
+use Rattle.handle_model.specs.declared.base.Base.{Base}
 use Rattle.handle_model.specs.Slots.{opens}
-use Rattle.handle_model.specs.Journal.{Legal, takes, asked, accepted, taken, slots, waits, runs, waiting, running, is_empty}
+use Rattle.handle_model.specs.Bases.{is_number, is_taken_call, numbers_of, taken_calls}
+use Rattle.handle_model.specs.Sound.{rise, rise_above}
+use Rattle.handle_model.specs.History.{History, since}
+use Rattle.handle_model.specs.Journal.{Legal, asked, accepted, accept_count, taken, is_taken, slots, waits, runs, waiting, running, is_empty}
 use Rattle.handle_model.specs.Limits.{openings}
-use Rattle.handle_model.proofs.Held.{or_right, runs_among}
+use Rattle.handle_model.proofs.Tests.{or_right}
+use Rattle.handle_model.proofs.Held.{runs_among}
+use Rattle.handle_model.proofs.BaseFacts.{above_least, rise_later}
 use Rattle.handle_model.proofs.Reversed.{reverse-cons}
-use Rattle.journal_laws.proofs.Apart.{taken_within}
 use Rattle.call_table.specs.declared.row.Row.{Row}
 use Rattle.call_table.specs.Rows.{is_running, openings_of}
 use Rattle.call_table.specs.Shown.{row_as, row_in, rows_of}
-use Rattle.call_table.proofs.Steps.{Falls, accepted_falls, falls_within, self, runs_taken, waits_idle, taken_decided}
-use Rattle.call_table.proofs.Found.{has_number, asked_listed, runs_asked, waits_asked, any_rows, runs_as_row, is_of}
+use Rattle.call_table.proofs.Calls.{Falls, accepted_falls, falls_within, self, runs_taken, waits_idle, taken_decided, asked_listed, runs_asked, waits_asked, taken_within}
+use Rattle.call_table.proofs.Found.{has_number, any_rows, runs_as_row, is_of}
 
 -- SUMS
 
@@ -58,20 +64,20 @@ split_off : (f : ℕ → ℕ) (q : ℕ → Bool) (m : ℕ) (xs : List ℕ) → h
 split_off f q m [] i = refl
 split_off f q m (x ∷ xs) i =
     elim (eqb_tells x m) [
-      | inl e ↦ let j = rw e.0 at i in absurd (cc)
+      | inl e ↦ let f = rw e.0 at i in absurd (cc)
       | inr e ↦
           let other : (m == x) ≡ false = elim (eqb_tells m x) [ inl g ↦ absurd (e.1 (sym g.1)) | inr g ↦ g.0 ] in
           rw (other, split_off f q m xs (rw e.0 at i)) refl
     ]
 
-split_one : (f : ℕ → ℕ) (q : ℕ → Bool) (m : ℕ) (xs : List ℕ) → Falls xs → has_number m xs ≡ true → q m ≡ false → total (λ k. when (m == k || q k) (f k)) xs ≡ f m + total (λ k. when (q k) (f k)) xs
-split_one f q m [] w i n = absurd (cc)
-split_one f q m (x ∷ xs) w i n =
+split_one : (f : ℕ → ℕ) (q : ℕ → Bool) (m high low : ℕ) (xs : List ℕ) → Falls high low xs → has_number m xs ≡ true → q m ≡ false → total (λ k. when (m == k || q k) (f k)) xs ≡ f m + total (λ k. when (q k) (f k)) xs
+split_one f q m high low [] w i n = absurd (cc)
+split_one f q m high low (x ∷ xs) w i n =
     let top = w.0 in
     elim (eqb_tells x m) [
       | inl e ↦
           let same = e.1 in
-          let gone : has_number m xs ≡ false = false_from_ne_true (has_number m xs) (λ t. let low = falls_within xs m w.1 t in absurd (omega arith)) in
+          let gone : has_number m xs ≡ false = false_from_ne_true (has_number m xs) (λ t. let less = falls_within x low xs m w.1 t in absurd (omega arith)) in
           let here = eq-eqb m x (sym e.1) in
           let off : q x ≡ false = ap q e.1 ∙ n in
           let rest = split_off f q m xs gone in
@@ -79,62 +85,99 @@ split_one f q m (x ∷ xs) w i n =
           rw (here, off) (omega arith)
       | inr e ↦
           let other : (m == x) ≡ false = elim (eqb_tells m x) [ inl g ↦ absurd (e.1 (sym g.1)) | inr g ↦ g.0 ] in
-          let rest = split_one f q m xs w.1 (rw e.0 at i) n in
+          let rest = split_one f q m x low xs w.1 (rw e.0 at i) n in
           rw other (omega arith)
     ]
 
 -- TAKEN CALLS
 
-waits_listed : (past : List Entry) (k : ℕ) (o : Option Asked) → asked past k ≡ o → waits past k ≡ true → has_number k (accepted past) ≡ true
-waits_listed past k None e w = let f = rw e at (waits_asked past k w) in absurd (cc)
-waits_listed past k (Some a) e w = asked_listed past k a e
+waits_listed : (j : History) (k : ℕ) (o : Option Asked) → asked j k ≡ o → waits j k ≡ true → has_number k (accepted j) ≡ true
+waits_listed j k None e w = let f = rw e at (waits_asked j k w) in absurd (cc)
+waits_listed j k (Some a) e w = asked_listed j k a e
 
-waits_untaken : (past : List Entry) (k : ℕ) → waits past k ≡ true → list_any (takes k) past ≡ false
-waits_untaken past k w = false_from_ne_true (list_any (takes k) past) (λ t. let d = taken_decided past k t in grind (arith, common_steps))
+waits_untaken : (j : History) (k : ℕ) → waits j k ≡ true → is_taken j k ≡ false
+waits_untaken j k w = false_from_ne_true (is_taken j k) (λ t. let d = taken_decided j k t in grind (arith, common_steps))
+
+total_members : (f g : ℕ → ℕ) (xs : List ℕ) → ((m : ℕ) → has_number m xs ≡ true → f m ≡ g m) → total f xs ≡ total g xs
+total_members f g [] e = refl
+total_members f g (x ∷ xs) e =
+    let q = self x in
+    let here = e x (rw q refl) in
+    let more = total_members f g xs (λ m i. e m (or_right (x == m) (has_number m xs) i)) in omega (arith, here, more)
+
+untaken_above : (k : ℕ) (cs : List BaseCall) → rise_above k (numbers_of cs) ≡ true → list_any (is_taken_call k) cs ≡ false
+untaken_above k cs r = false_from_ne_true (list_any (is_taken_call k) cs) (λ t. let low = above_least k k (numbers_of cs) r (numbered cs k t) in absurd (omega arith))
+  where
+    numbered : (cs : List BaseCall) (k : ℕ) → list_any (is_taken_call k) cs ≡ true → has_number k (numbers_of cs) ≡ true
+    numbered [] k h = absurd (cc)
+    numbered (d ∷ cs) k h = grind (arith, common_steps, numbered cs k)
+
+-- a sum over the base's taken calls is one over its calls
+total_calls : (f : ℕ → ℕ) (cs : List BaseCall) → rise (numbers_of cs) ≡ true → total f (numbers_of (filter (λ (c : BaseCall). c.taken) cs)) ≡ total (λ k. when (list_any (is_taken_call k) cs) (f k)) (numbers_of cs)
+total_calls f [] r = refl
+total_calls f (c ∷ cs) r =
+    let q = self c.call in
+    let off = untaken_above c.call cs r in
+    let more = total_calls f cs (rise_later c.call (numbers_of cs) r) in
+    let others : total (λ k. when (list_any (is_taken_call k) (c ∷ cs)) (f k)) (numbers_of cs) ≡ total (λ k. when (list_any (is_taken_call k) cs) (f k)) (numbers_of cs) =
+    total_members (λ k. when (list_any (is_taken_call k) (c ∷ cs)) (f k)) (λ k. when (list_any (is_taken_call k) cs) (f k)) (numbers_of cs) (λ m i.
+    let low = above_least c.call m (numbers_of cs) r i in
+    let other : (c.call == m) ≡ false = elim (eqb_tells c.call m) [ inl e ↦ let same = e.1 in absurd (omega arith) | inr e ↦ e.0 ] in rw other refl) in
+    let one : ℕ → ℕ = λ k. when (list_any (is_taken_call k) (c ∷ cs)) (f k) in
+    let right : total one (numbers_of (c ∷ cs)) ≡ one c.call + total one (numbers_of cs) = refl in
+    let left : total f (numbers_of (filter (λ (d : BaseCall). d.taken) (c ∷ cs))) ≡ one c.call + total f (numbers_of (filter (λ (d : BaseCall). d.taken) cs)) =
+    elim (cases_Bool c.taken) [ inl t ↦ rw (q, t) refl | inr t ↦ rw (q, t, off) (omega arith) ] in
+    left ∙ (ap (λ n. one c.call + n) (more ∙ sym others) ∙ sym right)
+
+total_taken_since : (home : Home) (base : Base) (past : List Entry) (f : ℕ → ℕ) → Legal (since home base past) → total f (taken (since home base past)) ≡ total (λ k. when (is_taken (since home base past) k) (f k)) (accepted (since home base past))
+total_taken_since home base [] f l =
+    total_turned f (numbers_of (taken_calls base)) ∙ (total_calls f base.calls l.calls_rise ∙ sym (total_turned (λ k. when (list_any (is_taken_call k) base.calls) (f k)) (numbers_of base.calls)))
+total_taken_since home base (Take m cookies ∷ past) f l =
+    let j : History = since home base past in
+    let w = l.0.fits.0 in
+    let more = total_taken_since home base past f l.1 in
+    let one = split_one f (λ k. is_taken j k) m (accept_count j + 1) 0 (accepted j) (accepted_falls j l.1) (waits_listed j m (asked j m) refl w) (waits_untaken j m w) in
+    ap (λ n. f m + n) more ∙ sym one
+total_taken_since home base (Accept k a ∷ past) f l =
+    let j : History = since home base past in
+    let top = l.0.fits.0 in
+    let more = total_taken_since home base past f l.1 in
+    let off : is_taken j k ≡ false = false_from_ne_true (is_taken j k) (λ t. let low = taken_within j k l.1 t in absurd (omega arith)) in
+    more ∙ sym (rw off (omega arith))
+total_taken_since home base (_ ∷ past) f l = total_taken_since home base past f l.1
 
 -- a sum over the taken calls is one over the accepted ones
-total_taken : (home : Home) (past : List Entry) (f : ℕ → ℕ) → Legal home past → total f (taken past) ≡ total (λ k. when (list_any (takes k) past) (f k)) (accepted past)
-total_taken home [] f l = refl
-total_taken home (Take m cookies ∷ past) f l =
-    let w = l.0.fits.0 in
-    let more = total_taken home past f l.1 in
-    let one = split_one f (λ k. list_any (takes k) past) m (accepted past) (accepted_falls home past l.1) (waits_listed past m (asked past m) refl w) (waits_untaken past m w) in
-    ap (λ n. f m + n) more ∙ sym one
-total_taken home (Accept k a ∷ past) f l =
-    let top = l.0.fits.0 in
-    let more = total_taken home past f l.1 in
-    let off : list_any (takes k) past ≡ false = false_from_ne_true (list_any (takes k) past) (λ t. let low = taken_within home past k l.1 t in absurd (omega arith)) in
-    more ∙ sym (rw off (omega arith))
-total_taken home (_ ∷ past) f l = total_taken home past f l.1
+total_taken : (j : History) (f : ℕ → ℕ) → Legal j → total f (taken j) ≡ total (λ k. when (is_taken j k) (f k)) (accepted j)
+total_taken j f l = total_taken_since j.home j.base j.past f l
 
-running_when : (past : List Entry) (f : ℕ → ℕ) (k : ℕ) → when (list_any (takes k) past) (when (runs past k) (f k)) ≡ when (runs past k) (f k)
-running_when past f k =
-    elim (cases_Bool (runs past k)) [
-      | inl r ↦ let t = runs_taken past k r in rw (r, t) refl
-      | inr r ↦ rw r (elim (cases_Bool (list_any (takes k) past)) [ inl t ↦ rw t refl | inr t ↦ rw t refl ])
+running_when : (j : History) (f : ℕ → ℕ) (k : ℕ) → when (is_taken j k) (when (runs j k) (f k)) ≡ when (runs j k) (f k)
+running_when j f k =
+    elim (cases_Bool (runs j k)) [
+      | inl r ↦ let t = runs_taken j k r in rw (r, t) refl
+      | inr r ↦ rw r (elim (cases_Bool (is_taken j k)) [ inl t ↦ rw t refl | inr t ↦ rw t refl ])
     ]
 
-total_running : (home : Home) (past : List Entry) (f : ℕ → ℕ) → Legal home past → total f (running past) ≡ total (λ k. when (runs past k) (f k)) (accepted past)
-total_running home past f l =
-    total_filter f (runs past) (taken past) ∙ (total_taken home past (λ k. when (runs past k) (f k)) l ∙ total_same (λ k. when (list_any (takes k) past) (when (runs past k) (f k))) (λ k. when (runs past k) (f k)) (accepted past) (running_when past f))
+total_running : (j : History) (f : ℕ → ℕ) → Legal j → total f (running j) ≡ total (λ k. when (runs j k) (f k)) (accepted j)
+total_running j f l =
+    total_filter f (runs j) (taken j) ∙ (total_taken j (λ k. when (runs j k) (f k)) l ∙ total_same (λ k. when (is_taken j k) (when (runs j k) (f k))) (λ k. when (runs j k) (f k)) (accepted j) (running_when j f))
 
 -- ROWS
 
-active_when : (past : List Entry) (f : ℕ → ℕ) (k : ℕ) → when (waits past k || runs past k) (f k) ≡ when (waits past k) (f k) + when (runs past k) (f k)
-active_when past f k =
-    elim (cases_Bool (waits past k)) [
-      | inl w ↦ let idle = waits_idle past k w in rw (w, idle) (omega arith)
-      | inr w ↦ elim (cases_Bool (runs past k)) [ inl r ↦ rw (w, r) (omega arith) | inr r ↦ rw (w, r) (omega arith) ]
+active_when : (j : History) (f : ℕ → ℕ) (k : ℕ) → when (waits j k || runs j k) (f k) ≡ when (waits j k) (f k) + when (runs j k) (f k)
+active_when j f k =
+    elim (cases_Bool (waits j k)) [
+      | inl w ↦ let idle = waits_idle j k w in rw (w, idle) (omega arith)
+      | inr w ↦ elim (cases_Bool (runs j k)) [ inl r ↦ rw (w, r) (omega arith) | inr r ↦ rw (w, r) (omega arith) ]
     ]
 
 -- a sum over the waiting and the running calls
-total_active : (home : Home) (past : List Entry) (f : ℕ → ℕ) → Legal home past → total (λ k. when (waits past k || runs past k) (f k)) (reverse (accepted past)) ≡ total f (waiting past) + total f (running past)
-total_active home past f l =
-    let turned = total_turned (λ k. when (waits past k || runs past k) (f k)) (accepted past) in
-    let parts = total_same (λ k. when (waits past k || runs past k) (f k)) (λ k. when (waits past k) (f k) + when (runs past k) (f k)) (accepted past) (active_when past f) in
-    let both = total_both (λ k. when (waits past k) (f k)) (λ k. when (runs past k) (f k)) (accepted past) in
-    let first = total_filter f (waits past) (accepted past) in
-    let second = total_running home past f l in omega arith
+total_active : (j : History) (f : ℕ → ℕ) → Legal j → total (λ k. when (waits j k || runs j k) (f k)) (reverse (accepted j)) ≡ total f (waiting j) + total f (running j)
+total_active j f l =
+    let turned = total_turned (λ k. when (waits j k || runs j k) (f k)) (accepted j) in
+    let parts = total_same (λ k. when (waits j k || runs j k) (f k)) (λ k. when (waits j k) (f k) + when (runs j k) (f k)) (accepted j) (active_when j f) in
+    let both = total_both (λ k. when (waits j k) (f k)) (λ k. when (runs j k) (f k)) (accepted j) in
+    let first = total_filter f (waits j) (accepted j) in
+    let second = total_running j f l in omega arith
 
 abbrev pub weight : (Row → ℕ) → Option Row → ℕ
 weight g None = 0
@@ -148,15 +191,15 @@ weight_cons : (g : Row → ℕ) (o : Option Row) (rows : List Row) → row_total
 weight_cons g None rows = omega arith
 weight_cons g (Some r) rows = refl
 
-rows_total : (g : Row → ℕ) (f : ℕ → ℕ) (past : List Entry) (xs : List ℕ) → ((m : ℕ) → weight g (row_in past m) ≡ f m) → row_total g (filter_map (row_in past) xs) ≡ total f xs
-rows_total g f past [] e = refl
-rows_total g f past (x ∷ xs) e = weight_cons g (row_in past x) (filter_map (row_in past) xs) ∙ rw (e x, rows_total g f past xs e) refl
+rows_total : (g : Row → ℕ) (f : ℕ → ℕ) (j : History) (xs : List ℕ) → ((m : ℕ) → weight g (row_in j m) ≡ f m) → row_total g (filter_map (row_in j) xs) ≡ total f xs
+rows_total g f j [] e = refl
+rows_total g f j (x ∷ xs) e = weight_cons g (row_in j x) (filter_map (row_in j) xs) ∙ rw (e x, rows_total g f j xs e) refl
 
-one_each : (home : Home) (past : List Entry) (k : ℕ) (o : Option Asked) → Legal home past → asked past k ≡ o → weight (λ r. 1) (row_as past k o) ≡ when (waits past k || runs past k) 1
-one_each home past k None l e =
-    let w : waits past k ≡ false = rw e refl in
-    let r : runs past k ≡ false = false_from_ne_true (runs past k) (λ r. let s = runs_asked home past k None l e r in cc) in rw (w, r) refl
-one_each home past k (Some a) l e = elim (cases_Bool (waits past k || runs past k)) [ inl c ↦ rw c refl | inr c ↦ rw c refl ]
+one_each : (j : History) (k : ℕ) (o : Option Asked) → Legal j → asked j k ≡ o → weight (λ r. 1) (row_as j k o) ≡ when (waits j k || runs j k) 1
+one_each j k None l e =
+    let w : waits j k ≡ false = rw e refl in
+    let r : runs j k ≡ false = false_from_ne_true (runs j k) (λ r. let s = runs_asked j k None l e r in cc) in rw (w, r) refl
+one_each j k (Some a) l e = elim (cases_Bool (waits j k || runs j k)) [ inl c ↦ rw c refl | inr c ↦ rw c refl ]
 
 length_total : (rows : List Row) → length rows ≡ row_total (λ r. 1) rows
 length_total [] = refl
@@ -167,34 +210,34 @@ length_ones [] = refl
 length_ones (x ∷ xs) = let more = length_ones xs in omega arith
 
 -- as many rows as calls wait and run
-pub count_shown : (home : Home) (past : List Entry) → Legal home past → length (rows_of past) ≡ length (waiting past) + length (running past)
-count_shown home past l =
-    let all = length_total (rows_of past) ∙ (rows_total (λ r. 1) (λ k. when (waits past k || runs past k) 1) past (reverse (accepted past)) (λ m. one_each home past m (asked past m) l refl) ∙ total_active home past (λ m. 1) l) in
-    let a = length_ones (waiting past) in
-    let b = length_ones (running past) in omega arith
+pub count_shown : (j : History) → Legal j → length (rows_of j) ≡ length (waiting j) + length (running j)
+count_shown j l =
+    let all = length_total (rows_of j) ∙ (rows_total (λ r. 1) (λ k. when (waits j k || runs j k) 1) j (reverse (accepted j)) (λ m. one_each j m (asked j m) l refl) ∙ total_active j (λ m. 1) l) in
+    let a = length_ones (waiting j) in
+    let b = length_ones (running j) in omega arith
 
-opens_each : (home : Home) (past : List Entry) (k : ℕ) (o : Option Asked) → Legal home past → asked past k ≡ o → weight (λ (r : Row). length (filter opens r.slots)) (row_as past k o) ≡ when (waits past k || runs past k) (length (filter opens (slots past k)))
-opens_each home past k None l e =
-    let w : waits past k ≡ false = rw e refl in
-    let r : runs past k ≡ false = false_from_ne_true (runs past k) (λ r. let s = runs_asked home past k None l e r in cc) in rw (w, r) refl
-opens_each home past k (Some a) l e = elim (cases_Bool (waits past k || runs past k)) [ inl c ↦ rw (c, e) refl | inr c ↦ rw c refl ]
+opens_each : (j : History) (k : ℕ) (o : Option Asked) → Legal j → asked j k ≡ o → weight (λ (r : Row). length (filter opens r.slots)) (row_as j k o) ≡ when (waits j k || runs j k) (length (filter opens (slots j k)))
+opens_each j k None l e =
+    let w : waits j k ≡ false = rw e refl in
+    let r : runs j k ≡ false = false_from_ne_true (runs j k) (λ r. let s = runs_asked j k None l e r in cc) in rw (w, r) refl
+opens_each j k (Some a) l e = elim (cases_Bool (waits j k || runs j k)) [ inl c ↦ rw (c, e) refl | inr c ↦ rw c refl ]
 
-openings_total : (past : List Entry) (ks : List ℕ) → openings past ks ≡ total (λ k. length (filter opens (slots past k))) ks
-openings_total past [] = refl
-openings_total past (k ∷ ks) = rw (openings_total past ks) refl
+openings_total : (j : History) (ks : List ℕ) → openings j ks ≡ total (λ k. length (filter opens (slots j k))) ks
+openings_total j [] = refl
+openings_total j (k ∷ ks) = rw (openings_total j ks) refl
 
 openings_rows : (rows : List Row) → openings_of rows ≡ row_total (λ (r : Row). length (filter opens r.slots)) rows
 openings_rows [] = refl
 openings_rows (r ∷ rows) = rw (openings_rows rows) refl
 
 -- and as many handles that they may issue
-pub openings_shown : (home : Home) (past : List Entry) → Legal home past → openings_of (rows_of past) ≡ openings past (waiting past) + openings past (running past)
-openings_shown home past l =
+pub openings_shown : (j : History) → Legal j → openings_of (rows_of j) ≡ openings j (waiting j) + openings j (running j)
+openings_shown j l =
     let g : Row → ℕ = λ (r : Row). length (filter opens r.slots) in
-    let f : ℕ → ℕ = λ k. length (filter opens (slots past k)) in
-    let all = openings_rows (rows_of past) ∙ (rows_total g (λ k. when (waits past k || runs past k) (f k)) past (reverse (accepted past)) (λ m. opens_each home past m (asked past m) l refl) ∙ total_active home past f l) in
-    let a = openings_total past (waiting past) in
-    let b = openings_total past (running past) in omega arith
+    let f : ℕ → ℕ = λ k. length (filter opens (slots j k)) in
+    let all = openings_rows (rows_of j) ∙ (rows_total g (λ k. when (waits j k || runs j k) (f k)) j (reverse (accepted j)) (λ m. opens_each j m (asked j m) l refl) ∙ total_active j f l) in
+    let a = openings_total j (waiting j) in
+    let b = openings_total j (running j) in omega arith
 
 -- RUNNING AT ALL
 
@@ -214,26 +257,26 @@ of_runs k (r ∷ rows) h =
       | inr e ↦ rw e (of_runs k rows (elim (cases_Bool (r.call == k)) [ inl c ↦ rw (c, e) at h | inr c ↦ rw c at h ]))
     ]
 
-some_runs : (past : List Entry) (xs : List ℕ) → is_empty (filter (runs past) xs) ≡ false → (k : ℕ) × (runs past k ≡ true)
-some_runs past [] h = absurd (cc)
-some_runs past (x ∷ xs) h =
-    elim (cases_Bool (runs past x)) [
+some_runs : (j : History) (xs : List ℕ) → is_empty (filter (runs j) xs) ≡ false → (k : ℕ) × (runs j k ≡ true)
+some_runs j [] h = absurd (cc)
+some_runs j (x ∷ xs) h =
+    elim (cases_Bool (runs j x)) [
       | inl e ↦ (x, e)
-      | inr e ↦ some_runs past xs (rw e at h)
+      | inr e ↦ some_runs j xs (rw e at h)
     ]
 
 -- a call runs where a row does
-pub idle_shown : (home : Home) (past : List Entry) → Legal home past → list_any is_running (rows_of past) ≡ not (is_empty (running past))
-idle_shown home past l =
-    elim (cases_Bool (is_empty (running past))) [
+pub idle_shown : (j : History) → Legal j → list_any is_running (rows_of j) ≡ not (is_empty (running j))
+idle_shown j l =
+    elim (cases_Bool (is_empty (running j))) [
       | inl e ↦
-          let off : list_any is_running (rows_of past) ≡ false =
-          false_from_ne_true (list_any is_running (rows_of past)) (λ h.
-          let w = runs_there (rows_of past) h in
-          let r : runs past w.0 ≡ true = sym (runs_as_row home past w.0 (asked past w.0) l refl) ∙ (sym (any_rows past w.0 is_running) ∙ w.1) in
-          let some = runs_among past w.0 r in cc) in rw (e, off) refl
+          let off : list_any is_running (rows_of j) ≡ false =
+          false_from_ne_true (list_any is_running (rows_of j)) (λ h.
+          let w = runs_there (rows_of j) h in
+          let r : runs j w.0 ≡ true = sym (runs_as_row j w.0 (asked j w.0) l refl) ∙ (sym (any_rows j w.0 is_running) ∙ w.1) in
+          let some = runs_among j w.0 r in cc) in rw (e, off) refl
       | inr e ↦
-          let w = some_runs past (taken past) e in
-          let on : list_any is_running (rows_of past) ≡ true =
-          of_runs w.0 (rows_of past) (any_rows past w.0 is_running ∙ (runs_as_row home past w.0 (asked past w.0) l refl ∙ w.1)) in rw (e, on) refl
+          let w = some_runs j (taken j) e in
+          let on : list_any is_running (rows_of j) ≡ true =
+          of_runs w.0 (rows_of j) (any_rows j w.0 is_running ∙ (runs_as_row j w.0 (asked j w.0) l refl ∙ w.1)) in rw (e, on) refl
     ]

@@ -1,6 +1,10 @@
+pub mod Calls
 pub mod Counts
 pub mod Follows
 pub mod Found
 pub mod Marks
+pub mod Order
 pub mod Owed
+pub mod Started
 pub mod Steps
+pub mod Stored

@@ -18,7 +18,7 @@ use Rattle.call_table.specs.Kept.{Rises, AllFew, IsRow, IsKept, blank}
 -- PLACES
 
 no_row : Row
-no_row = record { call = 0; conn = 0; slots = []; runs = false; cancelled = false; orphaned = false }
+no_row = record { call = 0; conn = 0; slots = []; place = 0; runs = false; cancelled = false; orphaned = false }
 
 pub is_place : (rows : List Row) (k i : ℕ) → position (is_call k) rows ≡ Some i → IsRow rows k i
 is_place rows k i e =

@@ -7,43 +7,51 @@ use Rattle.handle_model.specs.declared.entry.Home.{Home}
 use Rattle.handle_model.specs.declared.entry.Asked.{Asked}
 use Rattle.handle_model.specs.declared.entry.Entry.{Entry}
 use Rattle.handle_model.specs.declared.entry.Entry.TheVariants.{Join, Accept, Take, Deny, Cancel, Orphan, End, Leave, Shut}
-use Rattle.handle_model.specs.Journal.{Legal, asked, accepted, waits, runs, decides, cancels, orphans}
-use Rattle.handle_model.proofs.Held.{or_right}
+use Rattle.handle_model.specs.declared.base.Base.{Base}
+use Rattle.handle_model.specs.History.{History, since, with_entry, size}
+use Rattle.handle_model.specs.Journal.{Legal, asked, waits, runs, is_decided, is_cancelled, is_orphaned}
+use Rattle.handle_model.proofs.Tests.{or_right}
 use Rattle.call_table.specs.declared.row.Row.{Row}
 use Rattle.call_table.specs.Rows.{is_call, is_other, row_at, at_call, taken, cancelled, orphaned, with_start, with_cancel, with_orphan, without, left, stays, owed_by, owed_of}
 use Rattle.call_table.specs.Kept.{Rises}
 use Rattle.call_table.specs.Shown.{call_row, row_as, row_in, rows_of}
 use Rattle.call_table.specs.Laws.{left_by, speaks_of_running}
+use Rattle.call_table.proofs.Calls.{waits_idle, cancels_decided, orphans_decided, runs_asked}
 use Rattle.call_table.proofs.Marks.{Marks, above_kept, rises_marked, rises_filter, rises_push}
-use Rattle.call_table.proofs.Steps.{waits_idle, cancels_decided, orphans_decided, row_there}
-use Rattle.call_table.proofs.Found.{runs_asked, row_shown, over_shown}
+use Rattle.call_table.proofs.Steps.{row_there}
+use Rattle.call_table.proofs.Found.{row_shown, over_shown}
 use Rattle.call_table.proofs.Follows.{follows}
+use Rattle.call_table.proofs.Started.{base_shown, base_rises}
 
 -- THE ROWS RISE
 
 rises_mark : (k : ℕ) (f : Row → Row) (rows : List Row) → Marks f → Rises 0 rows → Rises 0 (map (at_call k f) rows)
 rises_mark k f rows m r = rises_marked k f 0 rows m r
 
-rises_left : (home : Home) (past : List Entry) (e : Entry) (b : Bool) → Legal home (e ∷ past) → Rises 0 (rows_of past) → Rises 0 (left_by (rows_of past) e b)
-rises_left home past (Join c) b l r = r
-rises_left home past (Accept k a) b l r =
+rises_left : (j : History) (e : Entry) (b : Bool) → Legal (with_entry j e) → Rises 0 (rows_of j) → Rises 0 (left_by (rows_of j) (size j) e b)
+rises_left j (Join c) b l r = r
+rises_left j (Accept k a) b l r =
     let first = l.0.fits.0 in
-    rises_push 0 (rows_of past) (record { call = k; conn = a.conn; slots = a.slots; runs = false; cancelled = false; orphaned = false }) r
-    (over_shown home past k l.1 (omega (arith, first))) (omega arith) l.0.fits.5
-rises_left home past (Take k cookies) b l r = rises_mark k taken (rows_of past) (record { call = λ x. refl; slots = λ x. refl }) r
-rises_left home past (Deny k j) b l r = rises_filter (is_other k) 0 (rows_of past) r
-rises_left home past (Cancel k) true l r = rises_mark k cancelled (rows_of past) (record { call = λ x. refl; slots = λ x. refl }) r
-rises_left home past (Cancel k) false l r = rises_filter (is_other k) 0 (rows_of past) r
-rises_left home past (Orphan k) true l r = rises_mark k orphaned (rows_of past) (record { call = λ x. refl; slots = λ x. refl }) r
-rises_left home past (Orphan k) false l r = rises_filter (is_other k) 0 (rows_of past) r
-rises_left home past (End k results said) b l r = rises_filter (is_other k) 0 (rows_of past) r
-rises_left home past (Leave c) b l r = rises_filter (stays c) 0 (rows_of past) r
-rises_left home past (Shut items) b l r = r
+    rises_push 0 (rows_of j) (record { call = k; conn = a.conn; slots = a.slots; place = size j; runs = false; cancelled = false; orphaned = false }) r
+    (over_shown j k l.1 (omega (arith, first))) (omega arith) l.0.fits.5
+rises_left j (Take k cookies) b l r = rises_mark k taken (rows_of j) (record { call = λ x. refl; slots = λ x. refl }) r
+rises_left j (Deny k slot) b l r = rises_filter (is_other k) 0 (rows_of j) r
+rises_left j (Cancel k) true l r = rises_mark k cancelled (rows_of j) (record { call = λ x. refl; slots = λ x. refl }) r
+rises_left j (Cancel k) false l r = rises_filter (is_other k) 0 (rows_of j) r
+rises_left j (Orphan k) true l r = rises_mark k orphaned (rows_of j) (record { call = λ x. refl; slots = λ x. refl }) r
+rises_left j (Orphan k) false l r = rises_filter (is_other k) 0 (rows_of j) r
+rises_left j (End k results said) b l r = rises_filter (is_other k) 0 (rows_of j) r
+rises_left j (Leave c) b l r = rises_filter (stays c) 0 (rows_of j) r
+rises_left j (Shut items) b l r = r
 
-pub rises_shown : (home : Home) (past : List Entry) → Legal home past → Rises 0 (rows_of past)
-rises_shown home [] l = tt
-rises_shown home (e ∷ past) l =
-    subst (Rises 0) (sym (follows home past e l)) (rises_left home past e (speaks_of_running past e) l (rises_shown home past l.1))
+rises_since : (home : Home) (base : Base) (past : List Entry) → Legal (since home base past) → Rises 0 (rows_of (since home base past))
+rises_since home base [] l = subst (Rises 0) (sym (base_shown home base l)) (base_rises home base l)
+rises_since home base (e ∷ past) l =
+    let j : History = since home base past in
+    subst (Rises 0) (sym (follows j e l)) (rises_left j e (speaks_of_running j e) l (rises_since home base past l.1))
+
+pub rises_shown : (j : History) → Legal j → Rises 0 (rows_of j)
+rises_shown j l = rises_since j.home j.base j.past l
 
 -- EDITS
 
@@ -97,48 +105,48 @@ owed_filter p (x ∷ rows) =
 
 -- THE ROW OF A CALL
 
-pub record WaitingRow (past : List Entry) (k : ℕ) : Type 0 where
+pub record WaitingRow (j : History) (k : ℕ) : Type 0 where
   pub row : Row
-  pub there : row_at (rows_of past) k ≡ Some row
+  pub there : row_at (rows_of j) k ≡ Some row
   pub waits_ : row.runs ≡ false
   pub uncancelled : row.cancelled ≡ false
   pub unorphaned : row.orphaned ≡ false
 
-pub record RunningRow (past : List Entry) (k : ℕ) : Type 0 where
+pub record RunningRow (j : History) (k : ℕ) : Type 0 where
   pub row : Row
-  pub there : row_at (rows_of past) k ≡ Some row
+  pub there : row_at (rows_of j) k ≡ Some row
   pub runs_ : row.runs ≡ true
-  pub cancelled_ : row.cancelled ≡ list_any (cancels k) past
-  pub orphaned_ : row.orphaned ≡ list_any (orphans k) past
+  pub cancelled_ : row.cancelled ≡ is_cancelled j k
+  pub orphaned_ : row.orphaned ≡ is_orphaned j k
 
-undecided : (past : List Entry) (k : ℕ) (b : Bool) → waits past k ≡ true → (b ≡ true → list_any (decides k) past ≡ true) → b ≡ false
-undecided past k false w h = refl
-undecided past k true w h = let d = h refl in grind (arith, common_steps)
+undecided : (j : History) (k : ℕ) (b : Bool) → waits j k ≡ true → (b ≡ true → is_decided j k ≡ true) → b ≡ false
+undecided j k false w h = refl
+undecided j k true w h = let d = h refl in grind (arith, common_steps)
 
-waiting_as : (past : List Entry) (k : ℕ) (o : Option Asked) → asked past k ≡ o → waits past k ≡ true → WaitingRow past k
-waiting_as past k None e w = absurd (let f = rw e at w in cc)
-waiting_as past k (Some a) e w =
+waiting_as : (j : History) (k : ℕ) (o : Option Asked) → Legal j → asked j k ≡ o → waits j k ≡ true → WaitingRow j k
+waiting_as j k None l e w = absurd (let f = rw e at w in cc)
+waiting_as j k (Some a) l e w =
     record {
-      row = call_row past k a;
-      there = row_shown past k ∙ (ap (row_as past k) e ∙ row_there past k a (rw w refl));
-      waits_ = waits_idle past k w;
-      uncancelled = undecided past k (list_any (cancels k) past) w (cancels_decided past k);
-      unorphaned = undecided past k (list_any (orphans k) past) w (orphans_decided past k);
+      row = call_row j k a;
+      there = row_shown j k ∙ (ap (row_as j k) e ∙ row_there j k a (rw w refl));
+      waits_ = waits_idle j k w;
+      uncancelled = undecided j k (is_cancelled j k) w (cancels_decided j k l);
+      unorphaned = undecided j k (is_orphaned j k) w (orphans_decided j k l);
     }
 
-pub waiting_row : (past : List Entry) (k : ℕ) → waits past k ≡ true → WaitingRow past k
-waiting_row past k w = waiting_as past k (asked past k) refl w
+pub waiting_row : (j : History) (k : ℕ) → Legal j → waits j k ≡ true → WaitingRow j k
+waiting_row j k l w = waiting_as j k (asked j k) l refl w
 
-running_as : (home : Home) (past : List Entry) (k : ℕ) (o : Option Asked) → Legal home past → asked past k ≡ o → runs past k ≡ true → RunningRow past k
-running_as home past k None l e r = absurd (let s = runs_asked home past k None l e r in cc)
-running_as home past k (Some a) l e r =
+running_as : (j : History) (k : ℕ) (o : Option Asked) → Legal j → asked j k ≡ o → runs j k ≡ true → RunningRow j k
+running_as j k None l e r = absurd (let s = runs_asked j k None l e r in cc)
+running_as j k (Some a) l e r =
     record {
-      row = call_row past k a;
-      there = row_shown past k ∙ (ap (row_as past k) e ∙ row_there past k a (or_right (waits past k) (runs past k) r));
+      row = call_row j k a;
+      there = row_shown j k ∙ (ap (row_as j k) e ∙ row_there j k a (or_right (waits j k) (runs j k) r));
       runs_ = r;
       cancelled_ = refl;
       orphaned_ = refl;
     }
 
-pub running_row : (home : Home) (past : List Entry) (k : ℕ) → Legal home past → runs past k ≡ true → RunningRow past k
-running_row home past k l r = running_as home past k (asked past k) l refl r
+pub running_row : (j : History) (k : ℕ) → Legal j → runs j k ≡ true → RunningRow j k
+running_row j k l r = running_as j k (asked j k) l refl r

@@ -12,14 +12,16 @@ use Rattle.handle_model.specs.declared.entry.Said.{Said}
 use Rattle.handle_model.specs.declared.entry.DueItem.{DueItem}
 use Rattle.handle_model.specs.declared.entry.Entry.{Entry}
 use Rattle.handle_model.specs.declared.entry.Entry.TheVariants.{Join, Accept, Take, Deny, Cancel, Orphan, End, Leave, Shut}
-use Rattle.handle_model.specs.Journal.{Legal, joins, leaves, takes, ends, decides, cancels, orphans, is_open, asked, accepted, waits, runs}
-use Rattle.handle_model.proofs.Held.{and_left, and_right, or_right, or_cases}
+use Rattle.handle_model.specs.History.{History, with_entry, size}
+use Rattle.handle_model.specs.Journal.{Legal, has_joined, leaves, ends, is_open, asked, accepted, accept_count, is_taken, is_decided, is_cancelled, is_orphaned, waits, runs}
+use Rattle.handle_model.specs.Bases.{is_number}
+use Rattle.handle_model.proofs.Tests.{and_left, and_right, or_right}
 use Rattle.handle_model.proofs.Reversed.{reverse-cons, list_any-reverse}
 use Rattle.std.proofs.lemmas.List.Elements.{filter_map-append}
-use Rattle.journal_laws.proofs.Apart.{taken_within, asked_within}
 use Rattle.call_table.specs.declared.row.Row.{Row}
 use Rattle.call_table.specs.Rows.{is_other, stays, taken, cancelled, orphaned, at_call, with_start, with_cancel, with_orphan, without, left}
-use Rattle.call_table.specs.Shown.{call_row, row_as, row_in, rows_of}
+use Rattle.call_table.specs.Shown.{place_of, call_row, row_as, row_in, rows_of}
+use Rattle.call_table.proofs.Calls.{self, turned, taken_decided, cancels_decided, orphans_decided, runs_taken, waits_idle, ended_taken, accepted_falls, falls_within, decided_within}
 
 -- LISTS
 
@@ -49,343 +51,237 @@ same_some g h (x ∷ xs) e = rw (e x, same_some g h xs e) refl
 
 -- CALLS
 
-pub self : (k : ℕ) → (k == k) ≡ true
-self k = eq-eqb k k refl
-
-pub turned : (k m : ℕ) → (k == m) ≡ false → (m == k) ≡ false
-turned k m e = elim (eqb_tells m k) [ inl f ↦ absurd (let q = eq-eqb k m (sym f.1) in cc) | inr f ↦ f.0 ]
-
-pub taken_decided : (past : List Entry) (k : ℕ) → list_any (takes k) past ≡ true → list_any (decides k) past ≡ true
-taken_decided [] k h = h
-taken_decided (Take m cookies ∷ past) k h = grind (arith, common_steps, taken_decided past k)
-taken_decided (Deny m j ∷ past) k h = or_right (m == k) (list_any (decides k) past) (taken_decided past k h)
-taken_decided (Cancel m ∷ past) k h = or_right (m == k) (list_any (decides k) past) (taken_decided past k h)
-taken_decided (Orphan m ∷ past) k h = or_right (m == k) (list_any (decides k) past) (taken_decided past k h)
-taken_decided (_ ∷ past) k h = taken_decided past k h
-
-pub cancels_decided : (past : List Entry) (k : ℕ) → list_any (cancels k) past ≡ true → list_any (decides k) past ≡ true
-cancels_decided [] k h = h
-cancels_decided (Cancel m ∷ past) k h = grind (arith, common_steps, cancels_decided past k)
-cancels_decided (Take m cookies ∷ past) k h = or_right (m == k) (list_any (decides k) past) (cancels_decided past k h)
-cancels_decided (Deny m j ∷ past) k h = or_right (m == k) (list_any (decides k) past) (cancels_decided past k h)
-cancels_decided (Orphan m ∷ past) k h = or_right (m == k) (list_any (decides k) past) (cancels_decided past k h)
-cancels_decided (_ ∷ past) k h = cancels_decided past k h
-
-pub orphans_decided : (past : List Entry) (k : ℕ) → list_any (orphans k) past ≡ true → list_any (decides k) past ≡ true
-orphans_decided [] k h = h
-orphans_decided (Orphan m ∷ past) k h = grind (arith, common_steps, orphans_decided past k)
-orphans_decided (Take m cookies ∷ past) k h = or_right (m == k) (list_any (decides k) past) (orphans_decided past k h)
-orphans_decided (Deny m j ∷ past) k h = or_right (m == k) (list_any (decides k) past) (orphans_decided past k h)
-orphans_decided (Cancel m ∷ past) k h = or_right (m == k) (list_any (decides k) past) (orphans_decided past k h)
-orphans_decided (_ ∷ past) k h = orphans_decided past k h
-
-pub runs_taken : (past : List Entry) (k : ℕ) → runs past k ≡ true → list_any (takes k) past ≡ true
-runs_taken past k r = and_left (list_any (takes k) past) (not (list_any (ends k) past)) r
-
--- a call does not wait and run
-pub waits_idle : (past : List Entry) (k : ℕ) → waits past k ≡ true → runs past k ≡ false
-waits_idle past k w = false_from_ne_true (runs past k) (λ r. let d = taken_decided past k (runs_taken past k r) in grind (arith, common_steps))
-
--- an End comes after a Take
-pub ended_taken : (home : Home) (past : List Entry) (k : ℕ) → Legal home past → list_any (ends k) past ≡ true → list_any (takes k) past ≡ true
-ended_taken home [] k l h = h
-ended_taken home (End m results said ∷ past) k l h =
-    elim (eqb_tells m k) [
-      | inl e ↦ subst (λ n. list_any (takes n) past ≡ true) e.1 (runs_taken past m l.0.fits.0)
-      | inr e ↦ ended_taken home past k l.1 (rw e.0 at h)
-    ]
-ended_taken home (Take m cookies ∷ past) k l h = or_right (m == k) (list_any (takes k) past) (ended_taken home past k l.1 h)
-ended_taken home (_ ∷ past) k l h = ended_taken home past k l.1 h
-
-waits_unended : (home : Home) (past : List Entry) (k : ℕ) → Legal home past → waits past k ≡ true → list_any (ends k) past ≡ false
-waits_unended home past k l w =
-    false_from_ne_true (list_any (ends k) past) (λ e. let d = taken_decided past k (ended_taken home past k l e) in grind (arith, common_steps))
+waits_unended : (j : History) (k : ℕ) → Legal j → waits j k ≡ true → list_any (ends k) j.past ≡ false
+waits_unended j k l w =
+    false_from_ne_true (list_any (ends k) j.past) (λ e. let d = taken_decided j k (ended_taken j k l e) in grind (arith, common_steps))
 
 -- ONE ROW, WHERE THE ENTRY SPEAKS OF ANOTHER CALL
 
-at_other : (f : Row → Row) (past : List Entry) (k m : ℕ) (o : Option Asked) → (m == k) ≡ false → option_map (at_call k f) (row_as past m o) ≡ row_as past m o
-at_other f past k m None e = refl
-at_other f past k m (Some a) e = elim (cases_Bool (waits past m || runs past m)) [ inl c ↦ rw (c, e) refl | inr c ↦ rw c refl ]
+at_other : (f : Row → Row) (j : History) (k m : ℕ) (o : Option Asked) → (m == k) ≡ false → option_map (at_call k f) (row_as j m o) ≡ row_as j m o
+at_other f j k m None e = refl
+at_other f j k m (Some a) e = elim (cases_Bool (waits j m || runs j m)) [ inl c ↦ rw (c, e) refl | inr c ↦ rw c refl ]
 
-at_here : (f : Row → Row) (past : List Entry) (k : ℕ) (o : Option Asked) → option_map (at_call k f) (row_as past k o) ≡ option_map f (row_as past k o)
-at_here f past k None = refl
-at_here f past k (Some a) = let q = self k in elim (cases_Bool (waits past k || runs past k)) [ inl c ↦ rw (c, q) refl | inr c ↦ rw c refl ]
+at_here : (f : Row → Row) (j : History) (k : ℕ) (o : Option Asked) → option_map (at_call k f) (row_as j k o) ≡ option_map f (row_as j k o)
+at_here f j k None = refl
+at_here f j k (Some a) = let q = self k in elim (cases_Bool (waits j k || runs j k)) [ inl c ↦ rw (c, q) refl | inr c ↦ rw c refl ]
 
-kept_other : (past : List Entry) (k m : ℕ) (o : Option Asked) → (m == k) ≡ false → keep (is_other k) (row_as past m o) ≡ row_as past m o
-kept_other past k m None e = refl
-kept_other past k m (Some a) e = elim (cases_Bool (waits past m || runs past m)) [ inl c ↦ rw (c, e) refl | inr c ↦ rw c refl ]
+kept_other : (j : History) (k m : ℕ) (o : Option Asked) → (m == k) ≡ false → keep (is_other k) (row_as j m o) ≡ row_as j m o
+kept_other j k m None e = refl
+kept_other j k m (Some a) e = elim (cases_Bool (waits j m || runs j m)) [ inl c ↦ rw (c, e) refl | inr c ↦ rw c refl ]
 
-kept_here : (past : List Entry) (k : ℕ) (o : Option Asked) → keep (is_other k) (row_as past k o) ≡ None
-kept_here past k None = refl
-kept_here past k (Some a) = let q = self k in elim (cases_Bool (waits past k || runs past k)) [ inl c ↦ rw (c, q) refl | inr c ↦ rw c refl ]
+kept_here : (j : History) (k : ℕ) (o : Option Asked) → keep (is_other k) (row_as j k o) ≡ None
+kept_here j k None = refl
+kept_here j k (Some a) = let q = self k in elim (cases_Bool (waits j k || runs j k)) [ inl c ↦ rw (c, q) refl | inr c ↦ rw c refl ]
 
-take_other : (past : List Entry) (k m : ℕ) (cookies : List (Option ℕ)) (o : Option Asked) → asked past m ≡ o → (k == m) ≡ false → row_as (Take k cookies ∷ past) m o ≡ row_as past m o
-take_other past k m cookies None e d = refl
-take_other past k m cookies (Some a) e d = rw (e, d) refl
+take_other : (j : History) (k m : ℕ) (cookies : List (Option ℕ)) (o : Option Asked) → asked j m ≡ o → (k == m) ≡ false → row_as (with_entry j (Take k cookies)) m o ≡ row_as j m o
+take_other j k m cookies None e d = refl
+take_other j k m cookies (Some a) e d = rw (e, d) refl
 
-deny_other : (past : List Entry) (k m j : ℕ) (o : Option Asked) → asked past m ≡ o → (k == m) ≡ false → row_as (Deny k j ∷ past) m o ≡ row_as past m o
-deny_other past k m j None e d = refl
-deny_other past k m j (Some a) e d = rw (e, d) refl
+deny_other : (j : History) (k m slot : ℕ) (o : Option Asked) → asked j m ≡ o → (k == m) ≡ false → row_as (with_entry j (Deny k slot)) m o ≡ row_as j m o
+deny_other j k m slot None e d = refl
+deny_other j k m slot (Some a) e d = rw (e, d) refl
 
-cancel_other : (past : List Entry) (k m : ℕ) (o : Option Asked) → asked past m ≡ o → (k == m) ≡ false → row_as (Cancel k ∷ past) m o ≡ row_as past m o
-cancel_other past k m None e d = refl
-cancel_other past k m (Some a) e d = rw (e, d) refl
+cancel_other : (j : History) (k m : ℕ) (o : Option Asked) → asked j m ≡ o → (k == m) ≡ false → row_as (with_entry j (Cancel k)) m o ≡ row_as j m o
+cancel_other j k m None e d = refl
+cancel_other j k m (Some a) e d = rw (e, d) refl
 
-orphan_other : (past : List Entry) (k m : ℕ) (o : Option Asked) → asked past m ≡ o → (k == m) ≡ false → row_as (Orphan k ∷ past) m o ≡ row_as past m o
-orphan_other past k m None e d = refl
-orphan_other past k m (Some a) e d = rw (e, d) refl
+orphan_other : (j : History) (k m : ℕ) (o : Option Asked) → asked j m ≡ o → (k == m) ≡ false → row_as (with_entry j (Orphan k)) m o ≡ row_as j m o
+orphan_other j k m None e d = refl
+orphan_other j k m (Some a) e d = rw (e, d) refl
 
-end_other : (past : List Entry) (k m : ℕ) (results : List Outcome) (said : Said) (o : Option Asked) → asked past m ≡ o → (k == m) ≡ false → row_as (End k results said ∷ past) m o ≡ row_as past m o
-end_other past k m results said None e d = refl
-end_other past k m results said (Some a) e d = rw (e, d) refl
+end_other : (j : History) (k m : ℕ) (results : List Outcome) (said : Said) (o : Option Asked) → asked j m ≡ o → (k == m) ≡ false → row_as (with_entry j (End k results said)) m o ≡ row_as j m o
+end_other j k m results said None e d = refl
+end_other j k m results said (Some a) e d = rw (e, d) refl
 
 -- AND WHERE IT SPEAKS OF THIS ONE
 
 -- neither waits nor runs
-row_none : (past : List Entry) (k : ℕ) (o : Option Asked) → waits past k ≡ false → runs past k ≡ false → row_as past k o ≡ None
-row_none past k None w r = refl
-row_none past k (Some a) w r = rw (w, r) refl
+row_none : (j : History) (k : ℕ) (o : Option Asked) → waits j k ≡ false → runs j k ≡ false → row_as j k o ≡ None
+row_none j k None w r = refl
+row_none j k (Some a) w r = rw (w, r) refl
 
-pub row_there : (past : List Entry) (k : ℕ) (a : Asked) → (waits past k || runs past k) ≡ true → row_as past k (Some a) ≡ Some (call_row past k a)
-row_there past k a c = rw c refl
+pub row_there : (j : History) (k : ℕ) (a : Asked) → (waits j k || runs j k) ≡ true → row_as j k (Some a) ≡ Some (call_row j k a)
+row_there j k a c = rw c refl
 
 or_left : (a b : Bool) → a ≡ true → (a || b) ≡ true
 or_left true b h = refl
 or_left false b h = absurd (cc)
 
-take_here : (home : Home) (past : List Entry) (k : ℕ) (cookies : List (Option ℕ)) (o : Option Asked) → Legal home past → waits past k ≡ true → row_as (Take k cookies ∷ past) k o ≡ option_map taken (row_as past k o)
-take_here home past k cookies None l w = refl
-take_here home past k cookies (Some a) l w =
+take_here : (j : History) (k : ℕ) (cookies : List (Option ℕ)) (o : Option Asked) → Legal j → waits j k ≡ true → row_as (with_entry j (Take k cookies)) k o ≡ option_map taken (row_as j k o)
+take_here j k cookies None l w = refl
+take_here j k cookies (Some a) l w =
     let q = self k in
-    let unended = waits_unended home past k l w in
-    let run : runs (Take k cookies ∷ past) k ≡ true = rw (q, unended) refl in
-    let new = row_there (Take k cookies ∷ past) k a (or_right (waits (Take k cookies ∷ past) k) (runs (Take k cookies ∷ past) k) run) in
-    let old = row_there past k a (or_left (waits past k) (runs past k) w) in
-    let made : Bool → Row = λ b. record { call = k; conn = a.conn; slots = a.slots; runs = b; cancelled = list_any (cancels k) past; orphaned = list_any (orphans k) past } in
+    let unended = waits_unended j k l w in
+    let run : runs (with_entry j (Take k cookies)) k ≡ true = rw (q, unended) refl in
+    let new = row_there (with_entry j (Take k cookies)) k a (or_right (waits (with_entry j (Take k cookies)) k) (runs (with_entry j (Take k cookies)) k) run) in
+    let old = row_there j k a (or_left (waits j k) (runs j k) w) in
+    let made : Bool → Row = λ b. record { call = k; conn = a.conn; slots = a.slots; place = place_of j k; runs = b; cancelled = is_cancelled j k; orphaned = is_orphaned j k } in
     new ∙ (ap (λ b. Some (made b)) run ∙ sym (ap (option_map taken) old))
 
-deny_waits : (past : List Entry) (k j : ℕ) → waits (Deny k j ∷ past) k ≡ false
-deny_waits past k j = let q = self k in grind (arith, common_steps)
+deny_waits : (j : History) (k slot : ℕ) → waits (with_entry j (Deny k slot)) k ≡ false
+deny_waits j k slot = let q = self k in grind (arith, common_steps)
 
-cancel_waits : (past : List Entry) (k : ℕ) → waits (Cancel k ∷ past) k ≡ false
-cancel_waits past k = let q = self k in grind (arith, common_steps)
+cancel_waits : (j : History) (k : ℕ) → waits (with_entry j (Cancel k)) k ≡ false
+cancel_waits j k = let q = self k in grind (arith, common_steps)
 
-orphan_waits : (past : List Entry) (k : ℕ) → waits (Orphan k ∷ past) k ≡ false
-orphan_waits past k = let q = self k in grind (arith, common_steps)
+orphan_waits : (j : History) (k : ℕ) → waits (with_entry j (Orphan k)) k ≡ false
+orphan_waits j k = let q = self k in grind (arith, common_steps)
 
-deny_here : (past : List Entry) (k j : ℕ) (o : Option Asked) → waits past k ≡ true → row_as (Deny k j ∷ past) k o ≡ None
-deny_here past k j o w = row_none (Deny k j ∷ past) k o (deny_waits past k j) (waits_idle past k w)
+deny_here : (j : History) (k slot : ℕ) (o : Option Asked) → waits j k ≡ true → row_as (with_entry j (Deny k slot)) k o ≡ None
+deny_here j k slot o w = row_none (with_entry j (Deny k slot)) k o (deny_waits j k slot) (waits_idle j k w)
 
-cancel_here : (past : List Entry) (k : ℕ) (o : Option Asked) → waits past k ≡ true → row_as (Cancel k ∷ past) k o ≡ None
-cancel_here past k o w = row_none (Cancel k ∷ past) k o (cancel_waits past k) (waits_idle past k w)
+cancel_here : (j : History) (k : ℕ) (o : Option Asked) → waits j k ≡ true → row_as (with_entry j (Cancel k)) k o ≡ None
+cancel_here j k o w = row_none (with_entry j (Cancel k)) k o (cancel_waits j k) (waits_idle j k w)
 
-orphan_here : (past : List Entry) (k : ℕ) (o : Option Asked) → waits past k ≡ true → row_as (Orphan k ∷ past) k o ≡ None
-orphan_here past k o w = row_none (Orphan k ∷ past) k o (orphan_waits past k) (waits_idle past k w)
+orphan_here : (j : History) (k : ℕ) (o : Option Asked) → waits j k ≡ true → row_as (with_entry j (Orphan k)) k o ≡ None
+orphan_here j k o w = row_none (with_entry j (Orphan k)) k o (orphan_waits j k) (waits_idle j k w)
 
-flag_here : (past : List Entry) (k : ℕ) (o : Option Asked) → runs past k ≡ true → row_as (Cancel k ∷ past) k o ≡ option_map cancelled (row_as past k o)
-flag_here past k None r = refl
-flag_here past k (Some a) r =
+flag_here : (j : History) (k : ℕ) (o : Option Asked) → runs j k ≡ true → row_as (with_entry j (Cancel k)) k o ≡ option_map cancelled (row_as j k o)
+flag_here j k None r = refl
+flag_here j k (Some a) r =
     let q = self k in
-    let new = row_there (Cancel k ∷ past) k a (or_right (waits (Cancel k ∷ past) k) (runs (Cancel k ∷ past) k) r) in
-    let old = row_there past k a (or_right (waits past k) (runs past k) r) in
-    let seen : list_any (cancels k) (Cancel k ∷ past) ≡ true = rw q refl in
-    let made : Bool → Row = λ b. record { call = k; conn = a.conn; slots = a.slots; runs = runs past k; cancelled = b; orphaned = list_any (orphans k) past } in
+    let new = row_there (with_entry j (Cancel k)) k a (or_right (waits (with_entry j (Cancel k)) k) (runs (with_entry j (Cancel k)) k) r) in
+    let old = row_there j k a (or_right (waits j k) (runs j k) r) in
+    let seen : is_cancelled (with_entry j (Cancel k)) k ≡ true = rw q refl in
+    let made : Bool → Row = λ b. record { call = k; conn = a.conn; slots = a.slots; place = place_of j k; runs = runs j k; cancelled = b; orphaned = is_orphaned j k } in
     new ∙ (ap (λ b. Some (made b)) seen ∙ sym (ap (option_map cancelled) old))
 
-drop_here : (past : List Entry) (k : ℕ) (o : Option Asked) → runs past k ≡ true → row_as (Orphan k ∷ past) k o ≡ option_map orphaned (row_as past k o)
-drop_here past k None r = refl
-drop_here past k (Some a) r =
+drop_here : (j : History) (k : ℕ) (o : Option Asked) → runs j k ≡ true → row_as (with_entry j (Orphan k)) k o ≡ option_map orphaned (row_as j k o)
+drop_here j k None r = refl
+drop_here j k (Some a) r =
     let q = self k in
-    let new = row_there (Orphan k ∷ past) k a (or_right (waits (Orphan k ∷ past) k) (runs (Orphan k ∷ past) k) r) in
-    let old = row_there past k a (or_right (waits past k) (runs past k) r) in
-    let seen : list_any (orphans k) (Orphan k ∷ past) ≡ true = rw q refl in
-    let made : Bool → Row = λ b. record { call = k; conn = a.conn; slots = a.slots; runs = runs past k; cancelled = list_any (cancels k) past; orphaned = b } in
+    let new = row_there (with_entry j (Orphan k)) k a (or_right (waits (with_entry j (Orphan k)) k) (runs (with_entry j (Orphan k)) k) r) in
+    let old = row_there j k a (or_right (waits j k) (runs j k) r) in
+    let seen : is_orphaned (with_entry j (Orphan k)) k ≡ true = rw q refl in
+    let made : Bool → Row = λ b. record { call = k; conn = a.conn; slots = a.slots; place = place_of j k; runs = runs j k; cancelled = is_cancelled j k; orphaned = b } in
     new ∙ (ap (λ b. Some (made b)) seen ∙ sym (ap (option_map orphaned) old))
 
-runs_waits_not : (past : List Entry) (k : ℕ) → runs past k ≡ true → waits past k ≡ false
-runs_waits_not past k r = false_from_ne_true (waits past k) (λ w. let i = waits_idle past k w in cc)
+runs_waits_not : (j : History) (k : ℕ) → runs j k ≡ true → waits j k ≡ false
+runs_waits_not j k r = false_from_ne_true (waits j k) (λ w. let i = waits_idle j k w in cc)
 
-end_waits : (past : List Entry) (k m : ℕ) (results : List Outcome) (said : Said) (o : Option Asked) → asked past m ≡ o → waits (End k results said ∷ past) m ≡ waits past m
-end_waits past k m results said None e = rw e refl
-end_waits past k m results said (Some a) e = rw e refl
+end_waits : (j : History) (k m : ℕ) (results : List Outcome) (said : Said) (o : Option Asked) → asked j m ≡ o → waits (with_entry j (End k results said)) m ≡ waits j m
+end_waits j k m results said None e = rw e refl
+end_waits j k m results said (Some a) e = rw e refl
 
-end_here : (past : List Entry) (k : ℕ) (results : List Outcome) (said : Said) (o : Option Asked) → runs past k ≡ true → row_as (End k results said ∷ past) k o ≡ None
-end_here past k results said o r =
+end_here : (j : History) (k : ℕ) (results : List Outcome) (said : Said) (o : Option Asked) → runs j k ≡ true → row_as (with_entry j (End k results said)) k o ≡ None
+end_here j k results said o r =
     let q = self k in
-    let over : runs (End k results said ∷ past) k ≡ false = grind (arith, common_steps) in
-    row_none (End k results said ∷ past) k o (end_waits past k k results said (asked past k) refl ∙ runs_waits_not past k r) over
-
--- ACCEPTED CALLS
-
--- the numbers of calls fall from their count to 1
-abbrev pub Falls : List ℕ → Type 0
-Falls [] = Unit {0}
-Falls (x ∷ xs) = (x ≡ length xs + 1) × Falls xs
-
-pub accepted_falls : (home : Home) (past : List Entry) → Legal home past → Falls (accepted past)
-accepted_falls home [] l = tt
-accepted_falls home (Accept k a ∷ past) l = (l.0.fits.0, accepted_falls home past l.1)
-accepted_falls home (_ ∷ past) l = accepted_falls home past l.1
-
-abbrev pub is_number : ℕ → ℕ → Bool
-is_number m x = x == m
-
-pub falls_within : (xs : List ℕ) (m : ℕ) → Falls xs → list_any (is_number m) xs ≡ true → m ≤ length xs
-falls_within [] m f i = absurd (cc)
-falls_within (x ∷ xs) m f i =
-    let top = f.0 in
-    elim (eqb_tells x m) [
-      | inl e ↦ let same = e.1 in omega arith
-      | inr e ↦ let low = falls_within xs m f.1 (rw e.0 at i) in omega arith
-    ]
-
--- a call that was decided, or that runs, was accepted
-waits_within : (home : Home) (past : List Entry) (k : ℕ) (o : Option Asked) → Legal home past → asked past k ≡ o → waits past k ≡ true → k ≤ length (accepted past)
-waits_within home past k None l e w = let f = rw e at w in absurd (cc)
-waits_within home past k (Some a) l e w = asked_within home past k a l e
-
-active_within : (home : Home) (past : List Entry) (k : ℕ) (b : Bool) → Legal home past → (waits past k || runs past k && b) ≡ true → k ≤ length (accepted past)
-active_within home past k b l h =
-    elim (or_cases (waits past k) (runs past k && b) h) [
-      | inl w ↦ waits_within home past k (asked past k) l refl w
-      | inr r ↦ taken_within home past k l (runs_taken past k (and_left (runs past k) b r))
-    ]
-
-pub decided_within : (home : Home) (past : List Entry) (k : ℕ) → Legal home past → list_any (decides k) past ≡ true → k ≤ length (accepted past)
-decided_within home [] k l h = absurd (cc)
-decided_within home (Accept m a ∷ past) k l h = let w = decided_within home past k l.1 h in omega arith
-decided_within home (Take m cookies ∷ past) k l h =
-    elim (eqb_tells m k) [
-      | inl e ↦ let w = waits_within home past m (asked past m) l.1 refl l.0.fits.0 in let same = e.1 in omega arith
-      | inr e ↦ decided_within home past k l.1 (rw e.0 at h)
-    ]
-decided_within home (Deny m j ∷ past) k l h =
-    elim (eqb_tells m k) [
-      | inl e ↦ let w = waits_within home past m (asked past m) l.1 refl l.0.fits.0 in let same = e.1 in omega arith
-      | inr e ↦ decided_within home past k l.1 (rw e.0 at h)
-    ]
-decided_within home (Cancel m ∷ past) k l h =
-    elim (eqb_tells m k) [
-      | inl e ↦ let w = active_within home past m (not (list_any (cancels m) past)) l.1 l.0.fits in let same = e.1 in omega arith
-      | inr e ↦ decided_within home past k l.1 (rw e.0 at h)
-    ]
-decided_within home (Orphan m ∷ past) k l h =
-    elim (eqb_tells m k) [
-      | inl e ↦ let w = active_within home past m (not (list_any (orphans m) past)) l.1 l.0.fits in let same = e.1 in omega arith
-      | inr e ↦ decided_within home past k l.1 (rw e.0 at h)
-    ]
-decided_within home (_ ∷ past) k l h = decided_within home past k l.1 h
+    let over : runs (with_entry j (End k results said)) k ≡ false = grind (arith, common_steps) in
+    row_none (with_entry j (End k results said)) k o (end_waits j k k results said (asked j k) refl ∙ runs_waits_not j k r) over
 
 -- THE ROWS
 
 -- a new call
-fresh_row : (home : Home) (past : List Entry) (k : ℕ) (a : Asked) → Legal home (Accept k a ∷ past) → row_in (Accept k a ∷ past) k ≡ Some (record { call = k; conn = a.conn; slots = a.slots; runs = false; cancelled = false; orphaned = false })
-fresh_row home past k a l =
+fresh_row : (j : History) (k : ℕ) (a : Asked) → Legal (with_entry j (Accept k a)) → row_in (with_entry j (Accept k a)) k ≡ Some (record { call = k; conn = a.conn; slots = a.slots; place = size j; runs = false; cancelled = false; orphaned = false })
+fresh_row j k a l =
     let q = self k in
     let top = l.0.fits.0 in
-    let stands : is_open past a.conn ≡ true = l.0.fits.1 in
-    let undecided : list_any (decides k) past ≡ false = false_from_ne_true (list_any (decides k) past) (λ d. let w = decided_within home past k l.1 d in absurd (omega arith)) in
-    let untaken : list_any (takes k) past ≡ false = false_from_ne_true (list_any (takes k) past) (λ d. let t = taken_decided past k d in cc) in
-    let uncancelled : list_any (cancels k) past ≡ false = false_from_ne_true (list_any (cancels k) past) (λ d. let t = cancels_decided past k d in cc) in
-    let unorphaned : list_any (orphans k) past ≡ false = false_from_ne_true (list_any (orphans k) past) (λ d. let t = orphans_decided past k d in cc) in
-    let here : list_any (leaves a.conn) past ≡ false = false_from_ne_true (list_any (leaves a.conn) past) (λ g. let n = and_right (list_any (joins a.conn) past) (not (list_any (leaves a.conn) past)) stands in let f = rw g at n in cc) in
-    let e : asked (Accept k a ∷ past) k ≡ Some a = rw q refl in
-    let w : waits (Accept k a ∷ past) k ≡ true = rw (e, here, undecided) refl in
-    let made : Bool → Bool → Bool → Row = λ x y z. record { call = k; conn = a.conn; slots = a.slots; runs = x && not (list_any (ends k) past); cancelled = y; orphaned = z } in
-    ap (row_as (Accept k a ∷ past) k) e ∙ (row_there (Accept k a ∷ past) k a (or_left (waits (Accept k a ∷ past) k) (runs (Accept k a ∷ past) k) w) ∙ (ap (λ x. Some (made x (list_any (cancels k) past) (list_any (orphans k) past))) untaken ∙ (ap (λ y. Some (made false y (list_any (orphans k) past))) uncancelled ∙ ap (λ z. Some (made false false z)) unorphaned)))
+    let stands : is_open j a.conn ≡ true = l.0.fits.1 in
+    let undecided : is_decided j k ≡ false = false_from_ne_true (is_decided j k) (λ d. let w = decided_within j k l.1 d in absurd (omega arith)) in
+    let untaken : is_taken j k ≡ false = false_from_ne_true (is_taken j k) (λ d. let t = taken_decided j k d in cc) in
+    let uncancelled : is_cancelled j k ≡ false = false_from_ne_true (is_cancelled j k) (λ d. let t = cancels_decided j k l.1 d in cc) in
+    let unorphaned : is_orphaned j k ≡ false = false_from_ne_true (is_orphaned j k) (λ d. let t = orphans_decided j k l.1 d in cc) in
+    let here : list_any (leaves a.conn) j.past ≡ false = false_from_ne_true (list_any (leaves a.conn) j.past) (λ g. let n = and_right (has_joined j a.conn) (not (list_any (leaves a.conn) j.past)) stands in let f = rw g at n in cc) in
+    let e : asked (with_entry j (Accept k a)) k ≡ Some a = rw q refl in
+    let w : waits (with_entry j (Accept k a)) k ≡ true = rw (e, here, undecided) refl in
+    let made : Bool → Bool → Bool → Row = λ x y z. record { call = k; conn = a.conn; slots = a.slots; place = size j; runs = x && not (list_any (ends k) j.past); cancelled = y; orphaned = z } in
+    let here_place : place_of (with_entry j (Accept k a)) k ≡ size j = rw q refl in
+    ap (row_as (with_entry j (Accept k a)) k) e ∙ (row_there (with_entry j (Accept k a)) k a (or_left (waits (with_entry j (Accept k a)) k) (runs (with_entry j (Accept k a)) k) w) ∙ (ap (λ p. Some (record { call = k; conn = a.conn; slots = a.slots; place = p; runs = runs j k; cancelled = is_cancelled j k; orphaned = is_orphaned j k })) here_place ∙ (ap (λ x. Some (made x (is_cancelled j k) (is_orphaned j k))) untaken ∙ (ap (λ y. Some (made false y (is_orphaned j k))) uncancelled ∙ ap (λ z. Some (made false false z)) unorphaned))))
 
-older_some : (past : List Entry) (k m : ℕ) (b a : Asked) → asked (Accept k b ∷ past) m ≡ Some a → asked past m ≡ Some a → row_as (Accept k b ∷ past) m (Some a) ≡ row_as past m (Some a)
-older_some past k m b a n e =
-    let same : waits (Accept k b ∷ past) m ≡ waits past m = rw (n, e) refl in
-    ap (λ (w : Bool). if w || runs past m then Some (call_row past m a) else None) same
+older_some : (j : History) (k m : ℕ) (b a : Asked) → (k == m) ≡ false → asked (with_entry j (Accept k b)) m ≡ Some a → asked j m ≡ Some a → row_as (with_entry j (Accept k b)) m (Some a) ≡ row_as j m (Some a)
+older_some j k m b a d n e =
+    let same : waits (with_entry j (Accept k b)) m ≡ waits j m = rw (n, e) refl in
+    let stands : place_of (with_entry j (Accept k b)) m ≡ place_of j m = rw d refl in
+    let made : ℕ → Row = λ p. record { call = m; conn = a.conn; slots = a.slots; place = p; runs = runs j m; cancelled = is_cancelled j m; orphaned = is_orphaned j m } in
+    ap (λ (w : Bool). if w || runs j m then Some (call_row (with_entry j (Accept k b)) m a) else None) same ∙ ap (λ p. if waits j m || runs j m then Some (made p) else None) stands
 
-older_as : (past : List Entry) (k m : ℕ) (b : Asked) (o : Option Asked) → (k == m) ≡ false → asked past m ≡ o → row_in (Accept k b ∷ past) m ≡ row_in past m
-older_as past k m b None d e =
-    let n : asked (Accept k b ∷ past) m ≡ None = rw d e in
-    ap (row_as (Accept k b ∷ past) m) n ∙ sym (ap (row_as past m) e)
-older_as past k m b (Some a) d e =
-    let n : asked (Accept k b ∷ past) m ≡ Some a = rw d e in
-    ap (row_as (Accept k b ∷ past) m) n ∙ (older_some past k m b a n e ∙ sym (ap (row_as past m) e))
+older_as : (j : History) (k m : ℕ) (b : Asked) (o : Option Asked) → (k == m) ≡ false → asked j m ≡ o → row_in (with_entry j (Accept k b)) m ≡ row_in j m
+older_as j k m b None d e =
+    let n : asked (with_entry j (Accept k b)) m ≡ None = rw d e in
+    ap (row_as (with_entry j (Accept k b)) m) n ∙ sym (ap (row_as j m) e)
+older_as j k m b (Some a) d e =
+    let n : asked (with_entry j (Accept k b)) m ≡ Some a = rw d e in
+    ap (row_as (with_entry j (Accept k b)) m) n ∙ (older_some j k m b a d n e ∙ sym (ap (row_as j m) e))
 
-older_rows : (home : Home) (past : List Entry) (k : ℕ) (a : Asked) (xs : List ℕ) → ((m : ℕ) → list_any (is_number m) xs ≡ true → m < k) → filter_map (row_in (Accept k a ∷ past)) xs ≡ filter_map (row_in past) xs
-older_rows home past k a [] h = refl
-older_rows home past k a (x ∷ xs) h =
+older_rows : (j : History) (k : ℕ) (a : Asked) (xs : List ℕ) → ((m : ℕ) → list_any (is_number m) xs ≡ true → m < k) → filter_map (row_in (with_entry j (Accept k a))) xs ≡ filter_map (row_in j) xs
+older_rows j k a [] h = refl
+older_rows j k a (x ∷ xs) h =
     let q = self x in
     let low : x < k = h x (rw q refl) in
     let other : (k == x) ≡ false = elim (eqb_tells k x) [ inl e ↦ let same = e.1 in absurd (omega arith) | inr e ↦ e.0 ] in
-    rw (older_as past k x a (asked past x) other refl, older_rows home past k a xs (λ m i. h m (or_right (x == m) (list_any (is_number m) xs) i))) refl
+    rw (older_as j k x a (asked j x) other refl, older_rows j k a xs (λ m i. h m (or_right (x == m) (list_any (is_number m) xs) i))) refl
 
-pub accept_rows : (home : Home) (past : List Entry) (k : ℕ) (a : Asked) → Legal home (Accept k a ∷ past) → rows_of (Accept k a ∷ past) ≡ rows_of past ++ record { call = k; conn = a.conn; slots = a.slots; runs = false; cancelled = false; orphaned = false } ∷ []
-accept_rows home past k a l =
-    let xs = reverse (accepted past) in
+pub accept_rows : (j : History) (k : ℕ) (a : Asked) → Legal (with_entry j (Accept k a)) → rows_of (with_entry j (Accept k a)) ≡ rows_of j ++ record { call = k; conn = a.conn; slots = a.slots; place = size j; runs = false; cancelled = false; orphaned = false } ∷ []
+accept_rows j k a l =
+    let xs = reverse (accepted j) in
     let top = l.0.fits.0 in
     let low : (m : ℕ) → list_any (is_number m) xs ≡ true → m < k =
-    λ m i. let w = falls_within (accepted past) m (accepted_falls home past l.1) (sym (list_any-reverse (is_number m) (accepted past)) ∙ i) in omega arith in
-    ap (filter_map (row_in (Accept k a ∷ past))) (reverse-cons k (accepted past)) ∙ (filter_map-append (row_in (Accept k a ∷ past)) xs (k ∷ []) ∙ rw (older_rows home past k a xs low, fresh_row home past k a l) refl)
+    λ m i. let w = falls_within (accept_count j + 1) 0 (accepted j) m (accepted_falls j l.1) (sym (list_any-reverse (is_number m) (accepted j)) ∙ i) in omega arith in
+    ap (filter_map (row_in (with_entry j (Accept k a)))) (reverse-cons k (accepted j)) ∙ (filter_map-append (row_in (with_entry j (Accept k a))) xs (k ∷ []) ∙ rw (older_rows j k a xs low, fresh_row j k a l) refl)
 
-pub join_rows : (past : List Entry) (c : ℕ) → rows_of (Join c ∷ past) ≡ rows_of past
-join_rows past c = same_some (row_in (Join c ∷ past)) (row_in past) (reverse (accepted past)) (λ m. one m (asked past m) refl)
+pub join_rows : (j : History) (c : ℕ) → rows_of (with_entry j (Join c)) ≡ rows_of j
+join_rows j c = same_some (row_in (with_entry j (Join c))) (row_in j) (reverse (accepted j)) (λ m. one m (asked j m) refl)
   where
-    one : (m : ℕ) (o : Option Asked) → asked past m ≡ o → row_as (Join c ∷ past) m o ≡ row_as past m o
+    one : (m : ℕ) (o : Option Asked) → asked j m ≡ o → row_as (with_entry j (Join c)) m o ≡ row_as j m o
     one m None e = refl
     one m (Some a) e = rw e refl
 
-pub shut_rows : (past : List Entry) (items : List DueItem) → rows_of (Shut items ∷ past) ≡ rows_of past
-shut_rows past items = same_some (row_in (Shut items ∷ past)) (row_in past) (reverse (accepted past)) (λ m. one m (asked past m) refl)
+pub shut_rows : (j : History) (items : List DueItem) → rows_of (with_entry j (Shut items)) ≡ rows_of j
+shut_rows j items = same_some (row_in (with_entry j (Shut items))) (row_in j) (reverse (accepted j)) (λ m. one m (asked j m) refl)
   where
-    one : (m : ℕ) (o : Option Asked) → asked past m ≡ o → row_as (Shut items ∷ past) m o ≡ row_as past m o
+    one : (m : ℕ) (o : Option Asked) → asked j m ≡ o → row_as (with_entry j (Shut items)) m o ≡ row_as j m o
     one m None e = refl
     one m (Some a) e = rw e refl
 
-pub take_rows : (home : Home) (past : List Entry) (k : ℕ) (cookies : List (Option ℕ)) → Legal home past → waits past k ≡ true → rows_of (Take k cookies ∷ past) ≡ with_start k (rows_of past)
-take_rows home past k cookies l w =
-    map_some (at_call k taken) (row_in (Take k cookies ∷ past)) (row_in past) (reverse (accepted past)) (λ m. elim (eqb_tells k m) [
-      | inl e ↦ subst (λ n. row_in (Take k cookies ∷ past) n ≡ option_map (at_call k taken) (row_in past n)) e.1 (take_here home past k cookies (asked past k) l w ∙ sym (at_here taken past k (asked past k)))
-      | inr e ↦ take_other past k m cookies (asked past m) refl e.0 ∙ sym (at_other taken past k m (asked past m) (turned k m e.0))
+pub take_rows : (j : History) (k : ℕ) (cookies : List (Option ℕ)) → Legal j → waits j k ≡ true → rows_of (with_entry j (Take k cookies)) ≡ with_start k (rows_of j)
+take_rows j k cookies l w =
+    map_some (at_call k taken) (row_in (with_entry j (Take k cookies))) (row_in j) (reverse (accepted j)) (λ m. elim (eqb_tells k m) [
+      | inl e ↦ subst (λ n. row_in (with_entry j (Take k cookies)) n ≡ option_map (at_call k taken) (row_in j n)) e.1 (take_here j k cookies (asked j k) l w ∙ sym (at_here taken j k (asked j k)))
+      | inr e ↦ take_other j k m cookies (asked j m) refl e.0 ∙ sym (at_other taken j k m (asked j m) (turned k m e.0))
     ])
 
-pub deny_rows : (past : List Entry) (k j : ℕ) → waits past k ≡ true → rows_of (Deny k j ∷ past) ≡ without k (rows_of past)
-deny_rows past k j w =
-    keep_some (is_other k) (row_in (Deny k j ∷ past)) (row_in past) (reverse (accepted past)) (λ m. elim (eqb_tells k m) [
-      | inl e ↦ subst (λ n. row_in (Deny k j ∷ past) n ≡ keep (is_other k) (row_in past n)) e.1 (deny_here past k j (asked past k) w ∙ sym (kept_here past k (asked past k)))
-      | inr e ↦ deny_other past k m j (asked past m) refl e.0 ∙ sym (kept_other past k m (asked past m) (turned k m e.0))
+pub deny_rows : (j : History) (k slot : ℕ) → waits j k ≡ true → rows_of (with_entry j (Deny k slot)) ≡ without k (rows_of j)
+deny_rows j k slot w =
+    keep_some (is_other k) (row_in (with_entry j (Deny k slot))) (row_in j) (reverse (accepted j)) (λ m. elim (eqb_tells k m) [
+      | inl e ↦ subst (λ n. row_in (with_entry j (Deny k slot)) n ≡ keep (is_other k) (row_in j n)) e.1 (deny_here j k slot (asked j k) w ∙ sym (kept_here j k (asked j k)))
+      | inr e ↦ deny_other j k m slot (asked j m) refl e.0 ∙ sym (kept_other j k m (asked j m) (turned k m e.0))
     ])
 
 -- a cancel of a waiting call, and of a running one
-pub cancel_rows : (past : List Entry) (k : ℕ) → waits past k ≡ true → rows_of (Cancel k ∷ past) ≡ without k (rows_of past)
-cancel_rows past k w =
-    keep_some (is_other k) (row_in (Cancel k ∷ past)) (row_in past) (reverse (accepted past)) (λ m. elim (eqb_tells k m) [
-      | inl e ↦ subst (λ n. row_in (Cancel k ∷ past) n ≡ keep (is_other k) (row_in past n)) e.1 (cancel_here past k (asked past k) w ∙ sym (kept_here past k (asked past k)))
-      | inr e ↦ cancel_other past k m (asked past m) refl e.0 ∙ sym (kept_other past k m (asked past m) (turned k m e.0))
+pub cancel_rows : (j : History) (k : ℕ) → waits j k ≡ true → rows_of (with_entry j (Cancel k)) ≡ without k (rows_of j)
+cancel_rows j k w =
+    keep_some (is_other k) (row_in (with_entry j (Cancel k))) (row_in j) (reverse (accepted j)) (λ m. elim (eqb_tells k m) [
+      | inl e ↦ subst (λ n. row_in (with_entry j (Cancel k)) n ≡ keep (is_other k) (row_in j n)) e.1 (cancel_here j k (asked j k) w ∙ sym (kept_here j k (asked j k)))
+      | inr e ↦ cancel_other j k m (asked j m) refl e.0 ∙ sym (kept_other j k m (asked j m) (turned k m e.0))
     ])
 
-pub flag_rows : (past : List Entry) (k : ℕ) → runs past k ≡ true → rows_of (Cancel k ∷ past) ≡ with_cancel k (rows_of past)
-flag_rows past k r =
-    map_some (at_call k cancelled) (row_in (Cancel k ∷ past)) (row_in past) (reverse (accepted past)) (λ m. elim (eqb_tells k m) [
-      | inl e ↦ subst (λ n. row_in (Cancel k ∷ past) n ≡ option_map (at_call k cancelled) (row_in past n)) e.1 (flag_here past k (asked past k) r ∙ sym (at_here cancelled past k (asked past k)))
-      | inr e ↦ cancel_other past k m (asked past m) refl e.0 ∙ sym (at_other cancelled past k m (asked past m) (turned k m e.0))
+pub flag_rows : (j : History) (k : ℕ) → runs j k ≡ true → rows_of (with_entry j (Cancel k)) ≡ with_cancel k (rows_of j)
+flag_rows j k r =
+    map_some (at_call k cancelled) (row_in (with_entry j (Cancel k))) (row_in j) (reverse (accepted j)) (λ m. elim (eqb_tells k m) [
+      | inl e ↦ subst (λ n. row_in (with_entry j (Cancel k)) n ≡ option_map (at_call k cancelled) (row_in j n)) e.1 (flag_here j k (asked j k) r ∙ sym (at_here cancelled j k (asked j k)))
+      | inr e ↦ cancel_other j k m (asked j m) refl e.0 ∙ sym (at_other cancelled j k m (asked j m) (turned k m e.0))
     ])
 
 -- an orphan of a waiting call, and of a running one
-pub orphan_rows : (past : List Entry) (k : ℕ) → waits past k ≡ true → rows_of (Orphan k ∷ past) ≡ without k (rows_of past)
-orphan_rows past k w =
-    keep_some (is_other k) (row_in (Orphan k ∷ past)) (row_in past) (reverse (accepted past)) (λ m. elim (eqb_tells k m) [
-      | inl e ↦ subst (λ n. row_in (Orphan k ∷ past) n ≡ keep (is_other k) (row_in past n)) e.1 (orphan_here past k (asked past k) w ∙ sym (kept_here past k (asked past k)))
-      | inr e ↦ orphan_other past k m (asked past m) refl e.0 ∙ sym (kept_other past k m (asked past m) (turned k m e.0))
+pub orphan_rows : (j : History) (k : ℕ) → waits j k ≡ true → rows_of (with_entry j (Orphan k)) ≡ without k (rows_of j)
+orphan_rows j k w =
+    keep_some (is_other k) (row_in (with_entry j (Orphan k))) (row_in j) (reverse (accepted j)) (λ m. elim (eqb_tells k m) [
+      | inl e ↦ subst (λ n. row_in (with_entry j (Orphan k)) n ≡ keep (is_other k) (row_in j n)) e.1 (orphan_here j k (asked j k) w ∙ sym (kept_here j k (asked j k)))
+      | inr e ↦ orphan_other j k m (asked j m) refl e.0 ∙ sym (kept_other j k m (asked j m) (turned k m e.0))
     ])
 
-pub drop_rows : (past : List Entry) (k : ℕ) → runs past k ≡ true → rows_of (Orphan k ∷ past) ≡ with_orphan k (rows_of past)
-drop_rows past k r =
-    map_some (at_call k orphaned) (row_in (Orphan k ∷ past)) (row_in past) (reverse (accepted past)) (λ m. elim (eqb_tells k m) [
-      | inl e ↦ subst (λ n. row_in (Orphan k ∷ past) n ≡ option_map (at_call k orphaned) (row_in past n)) e.1 (drop_here past k (asked past k) r ∙ sym (at_here orphaned past k (asked past k)))
-      | inr e ↦ orphan_other past k m (asked past m) refl e.0 ∙ sym (at_other orphaned past k m (asked past m) (turned k m e.0))
+pub drop_rows : (j : History) (k : ℕ) → runs j k ≡ true → rows_of (with_entry j (Orphan k)) ≡ with_orphan k (rows_of j)
+drop_rows j k r =
+    map_some (at_call k orphaned) (row_in (with_entry j (Orphan k))) (row_in j) (reverse (accepted j)) (λ m. elim (eqb_tells k m) [
+      | inl e ↦ subst (λ n. row_in (with_entry j (Orphan k)) n ≡ option_map (at_call k orphaned) (row_in j n)) e.1 (drop_here j k (asked j k) r ∙ sym (at_here orphaned j k (asked j k)))
+      | inr e ↦ orphan_other j k m (asked j m) refl e.0 ∙ sym (at_other orphaned j k m (asked j m) (turned k m e.0))
     ])
 
-pub end_rows : (past : List Entry) (k : ℕ) (results : List Outcome) (said : Said) → runs past k ≡ true → rows_of (End k results said ∷ past) ≡ without k (rows_of past)
-end_rows past k results said r =
-    keep_some (is_other k) (row_in (End k results said ∷ past)) (row_in past) (reverse (accepted past)) (λ m. elim (eqb_tells k m) [
-      | inl e ↦ subst (λ n. row_in (End k results said ∷ past) n ≡ keep (is_other k) (row_in past n)) e.1 (end_here past k results said (asked past k) r ∙ sym (kept_here past k (asked past k)))
-      | inr e ↦ end_other past k m results said (asked past m) refl e.0 ∙ sym (kept_other past k m (asked past m) (turned k m e.0))
+pub end_rows : (j : History) (k : ℕ) (results : List Outcome) (said : Said) → runs j k ≡ true → rows_of (with_entry j (End k results said)) ≡ without k (rows_of j)
+end_rows j k results said r =
+    keep_some (is_other k) (row_in (with_entry j (End k results said))) (row_in j) (reverse (accepted j)) (λ m. elim (eqb_tells k m) [
+      | inl e ↦ subst (λ n. row_in (with_entry j (End k results said)) n ≡ keep (is_other k) (row_in j n)) e.1 (end_here j k results said (asked j k) r ∙ sym (kept_here j k (asked j k)))
+      | inr e ↦ end_other j k m results said (asked j m) refl e.0 ∙ sym (kept_other j k m (asked j m) (turned k m e.0))
     ])
 
 -- a connection leaves
@@ -399,8 +295,8 @@ left_bools false false c h = refl
 eq_turned : (a b : ℕ) → (a == b) ≡ (b == a)
 eq_turned a b = elim (eqb_tells a b) [ inl e ↦ e.0 ∙ sym (eq-eqb b a (sym e.1)) | inr e ↦ e.0 ∙ sym (turned a b e.0) ]
 
-leave_waits : (past : List Entry) (c m : ℕ) (a : Asked) → asked past m ≡ Some a → waits (Leave c ∷ past) m ≡ (waits past m && not (c == a.conn))
-leave_waits past c m a e = rw e (bools (c == a.conn) (list_any (leaves a.conn) past) (list_any (decides m) past))
+leave_waits : (j : History) (c m : ℕ) (a : Asked) → asked j m ≡ Some a → waits (with_entry j (Leave c)) m ≡ (waits j m && not (c == a.conn))
+leave_waits j c m a e = rw e (bools (c == a.conn) (list_any (leaves a.conn) j.past) (is_decided j m))
   where
     bools : (c d x : Bool) → (true && not (c || d) && not x) ≡ ((true && not d && not x) && not c)
     bools true true true = refl
@@ -412,21 +308,21 @@ leave_waits past c m a e = rw e (bools (c == a.conn) (list_any (leaves a.conn) p
     bools false false true = refl
     bools false false false = refl
 
-leave_one : (past : List Entry) (c m : ℕ) (o : Option Asked) → asked past m ≡ o → row_as (Leave c ∷ past) m o ≡ keep (stays c) (row_as past m o)
-leave_one past c m None e = refl
-leave_one past c m (Some a) e =
-    let w = leave_waits past c m a e in
+leave_one : (j : History) (c m : ℕ) (o : Option Asked) → asked j m ≡ o → row_as (with_entry j (Leave c)) m o ≡ keep (stays c) (row_as j m o)
+leave_one j c m None e = refl
+leave_one j c m (Some a) e =
+    let w = leave_waits j c m a e in
     let turn = eq_turned c a.conn in
-    let b = left_bools (waits past m) (runs past m) (a.conn == c) (waits_idle past m) in
-    let now : (waits (Leave c ∷ past) m || runs past m) ≡ ((waits past m || runs past m) && not (not (runs past m) && (a.conn == c))) =
-    ap (λ x. x || runs past m) (w ∙ ap (λ x. waits past m && not x) turn) ∙ b in
-    elim (cases_Bool (waits past m || runs past m)) [
-      | inl t ↦ elim (cases_Bool (stays c (call_row past m a))) [
-        | inl s ↦ let yes : (waits (Leave c ∷ past) m || runs past m) ≡ true = now ∙ rw (t, s) refl in rw (t, s) (row_there (Leave c ∷ past) m a yes)
-        | inr s ↦ let no : (waits (Leave c ∷ past) m || runs past m) ≡ false = now ∙ rw (t, s) refl in rw (t, s) (rw no refl)
+    let b = left_bools (waits j m) (runs j m) (a.conn == c) (waits_idle j m) in
+    let now : (waits (with_entry j (Leave c)) m || runs j m) ≡ ((waits j m || runs j m) && not (not (runs j m) && (a.conn == c))) =
+    ap (λ x. x || runs j m) (w ∙ ap (λ x. waits j m && not x) turn) ∙ b in
+    elim (cases_Bool (waits j m || runs j m)) [
+      | inl t ↦ elim (cases_Bool (stays c (call_row j m a))) [
+        | inl s ↦ let yes : (waits (with_entry j (Leave c)) m || runs j m) ≡ true = now ∙ rw (t, s) refl in rw (t, s) (row_there (with_entry j (Leave c)) m a yes)
+        | inr s ↦ let no : (waits (with_entry j (Leave c)) m || runs j m) ≡ false = now ∙ rw (t, s) refl in rw (t, s) (rw no refl)
       ]
-      | inr f ↦ let no : (waits (Leave c ∷ past) m || runs past m) ≡ false = now ∙ rw f refl in rw f (rw no refl)
+      | inr f ↦ let no : (waits (with_entry j (Leave c)) m || runs j m) ≡ false = now ∙ rw f refl in rw f (rw no refl)
     ]
 
-pub leave_rows : (past : List Entry) (c : ℕ) → rows_of (Leave c ∷ past) ≡ left c (rows_of past)
-leave_rows past c = keep_some (stays c) (row_in (Leave c ∷ past)) (row_in past) (reverse (accepted past)) (λ m. leave_one past c m (asked past m) refl)
+pub leave_rows : (j : History) (c : ℕ) → rows_of (with_entry j (Leave c)) ≡ left c (rows_of j)
+leave_rows j c = keep_some (stays c) (row_in (with_entry j (Leave c))) (row_in j) (reverse (accepted j)) (λ m. leave_one j c m (asked j m) refl)

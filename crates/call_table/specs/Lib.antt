@@ -1,4 +1,5 @@
 pub mod Rows
 pub mod Kept
 pub mod Shown
+pub mod Based
 pub mod Laws

@@ -111,17 +111,21 @@ owed_of (r ∷ rows) = owed_by r + owed_of rows
 abbrev pub no_cookies : List Slot → List (Option ℕ)
 no_cookies ss = map (λ (s : Slot). None) ss
 
+-- where the Accepts of the running calls stand
+abbrev pub running_places : List Row → List ℕ
+running_places rows = map (λ (r : Row). r.place) (filter is_running rows)
+
 -- EDITS
 
 -- a call is taken, is cancelled, is orphaned
 abbrev pub taken : Row → Row
-taken r = record { call = r.call; conn = r.conn; slots = r.slots; runs = true; cancelled = r.cancelled; orphaned = r.orphaned }
+taken r = record { call = r.call; conn = r.conn; slots = r.slots; place = r.place; runs = true; cancelled = r.cancelled; orphaned = r.orphaned }
 
 abbrev pub cancelled : Row → Row
-cancelled r = record { call = r.call; conn = r.conn; slots = r.slots; runs = r.runs; cancelled = true; orphaned = r.orphaned }
+cancelled r = record { call = r.call; conn = r.conn; slots = r.slots; place = r.place; runs = r.runs; cancelled = true; orphaned = r.orphaned }
 
 abbrev pub orphaned : Row → Row
-orphaned r = record { call = r.call; conn = r.conn; slots = r.slots; runs = r.runs; cancelled = r.cancelled; orphaned = true }
+orphaned r = record { call = r.call; conn = r.conn; slots = r.slots; place = r.place; runs = r.runs; cancelled = r.cancelled; orphaned = true }
 
 -- the row of this call as f makes it, and any other as it is
 abbrev pub at_call : ℕ → (Row → Row) → Row → Row

@@ -1,5 +1,10 @@
 //! What the table of a legal journal shows, each law the contract of a function that does nothing.
-ghost use Rattle.call_table.specs.Laws.{ShowsRow, ShowsStage, ShowsSlots, ShowsBlocker, ShowsCounts, FollowsEntries, NumbersRise};
+ghost use Rattle.call_table.specs.Laws.{ShowsBase, ShowsRow, ShowsStage, ShowsSlots, ShowsBlocker, ShowsCounts, FollowsEntries, NumbersRise, ShowsCalls};
+
+/// The rows of a base are those of its calls.
+pub fn shows_base()
+    ensures { ShowsBase }
+{}
 
 /// A call has the row that the journal gives it, and none where it is over.
 pub fn shows_row()
@@ -34,4 +39,9 @@ pub fn follows_entries()
 /// The number of a new call is above those of the table.
 pub fn numbers_rise()
     ensures { NumbersRise }
+{}
+
+/// The calls, with what they asked, are those of the base that the journal gives.
+pub fn shows_calls()
+    ensures { ShowsCalls }
 {}

@@ -1,7 +1,8 @@
 //! The calls of an association group that wait or run, so that none is looked for in its journal. A
-//! table takes memory in `reserve` alone.
+//! table takes memory in `of` and `reserve` alone.
 #![tactic(auto)]
 
+mod based;
 mod blocks;
 mod laws;
 mod lists;
@@ -10,7 +11,8 @@ mod rows;
 mod table;
 
 pub use laws::{
-    follows_entries, numbers_rise, shows_blocker, shows_counts, shows_row, shows_slots, shows_stage,
+    follows_entries, numbers_rise, shows_base, shows_blocker, shows_calls, shows_counts, shows_row,
+    shows_slots, shows_stage,
 };
 pub use row::{CallSlots, Row};
 pub use table::CallTable;

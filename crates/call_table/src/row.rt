@@ -63,6 +63,8 @@ pub struct Row {
     /// The number of its connection.
     pub conn: u32,
     pub slots: CallSlots,
+    /// Where its Accept stands among the entries of the group, from 0.
+    pub place: u128,
     /// Whether it was taken.
     pub runs: bool,
     /// Whether it was cancelled since.

@@ -1,10 +1,36 @@
 //! The rows as a slice.
-ghost use Rattle.std.specs.Prelude.{◌≡◌, true, filter, length};
-ghost use Rattle.std.specs.List.{list_any, position};
-ghost use Rattle.call_table.specs.Kept.{IsRow};
+ghost use Rattle.std.specs.Prelude.{◌≡◌, true, IfOk};
+ghost use Rattle.std.specs.List.{list_any, list_all, position};
+ghost use Rattle.handle_model.specs.Sound.{is_within};
+ghost use Rattle.call_table.specs.Shown.{base_rows};
+ghost use Rattle.call_table.specs.Kept.{IsRow, Rises};
 ghost use Rattle.call_table.specs.Rows as spec;
 
-use crate::row::Row;
+use crate::row::{CallSlots, Row};
+use handle_model::Base;
+use rpc_base::NoMemory;
+use std::alloc::Global;
+
+/// The rows of a base's calls.
+#[tactic(auto, using(handle_model::proofs::Rest::resting))]
+pub fn rows_of(alloc: Global, base: &Base) -> Result<Vec<Row>, NoMemory>
+    requires { list_all (is_within base.now) base.now.calls ≡ true }
+    ensures { IfOk result (λ rows. rows.items ≡ base_rows base.now) }
+{
+    let mut rows = Vec::new(alloc);
+    for call in base.calls.as_slice() {
+        rows.push(Row {
+            call: call.call,
+            conn: call.asked.conn,
+            slots: CallSlots::of(call.asked.slots.as_slice()),
+            place: u128::from(base.count),
+            runs: call.taken,
+            cancelled: call.cancelled,
+            orphaned: call.orphaned,
+        })?;
+    }
+    Ok(rows)
+}
 
 /// The place of the call's row.
 pub fn place(rows: &[Row], call: u32) -> usize
@@ -21,13 +47,6 @@ fn position_of(rows: &[Row], call: u32) -> Option<usize>
     ensures { result ≡ position (spec.is_call call) rows.now }
 {
     rows.iter().position(|row| row.call == call)
-}
-
-/// How many of the calls wait.
-pub fn waiting_count(rows: &[Row]) -> usize
-    ensures { result ≡ length (filter spec.is_waiting rows.now) }
-{
-    rows.iter().filter(|row| !row.runs).count()
 }
 
 /// How many handles the calls may issue.
@@ -52,4 +71,16 @@ pub fn owed_of(rows: &[Row]) -> usize
         total += row.owed();
     }
     total
+}
+
+/// Whether the numbers are all below this one: the last one is.
+#[tactic(auto, using(crate::proofs::Order::last_below))]
+pub fn all_below(rows: &[Row], call: u32) -> bool
+    requires { Rises 0 rows.now }
+    ensures { result ≡ spec.over call rows.now }
+{
+    match rows.split_last() {
+        Some((row, _)) => row.call < call,
+        None => true,
+    }
 }

@@ -1,13 +1,19 @@
 //! The table.
-ghost use Rattle.std.specs.Prelude.{◌≡◌, ◌+◌, ◌<◌, ◌≤◌, ◌++◌, ◌∷◌, ◌==◌, [], length, true, false, OnOk, OnErr};
-ghost use Rattle.std.specs.List.{list_any};
+ghost use Rattle.std.specs.Prelude.{◌≡◌, ◌+◌, ◌<◌, ◌≤◌, ◌^◌, ◌++◌, ◌∷◌, ◌==◌, [], length, true, false, IfOk, OnOk, OnErr};
+ghost use Rattle.std.specs.List.{list_any, list_all};
+ghost use Rattle.handle_model.specs.Bases.{numbers_of};
+ghost use Rattle.handle_model.specs.Sound.{rise, at_most, is_within};
+ghost use Rattle.handle_model.specs.Journal.{least};
+ghost use Rattle.call_table.specs.Shown.{base_rows};
+ghost use Rattle.call_table.specs.Based.{stored_calls};
 ghost use Rattle.std.specs.Option.{option_copied};
 
+use crate::based::{least_place, stored_calls};
 use crate::blocks::blocker_of;
 use crate::lists::{cut, fill};
 use crate::row::{CallSlots, Row};
-use crate::rows::{openings_of, owed_of, place, waiting_count};
-use handle_model::{Cookies, Slots};
+use crate::rows::{all_below, openings_of, owed_of, place, rows_of};
+use handle_model::{Base, BaseCalls, Cookies, Entry, Slots};
 use rpc_base::{Items, NoMemory};
 use std::alloc::Global;
 use std::marker::Model;
@@ -47,6 +53,25 @@ impl CallTable {
         }
     }
 
+    /// The calls of a base. For no further call there is room.
+    pub fn of(alloc: Global, base: &Base) -> Result<CallTable, NoMemory>
+        requires rise { rise (numbers_of base.now.calls) ≡ true }
+        requires counted { at_most base.now.accepts (numbers_of base.now.calls) ≡ true }
+        requires small { base.now.accepts < 2 ^ 32 }
+        requires within { list_all (is_within base.now) base.now.calls ≡ true }
+        ensures { IfOk result (λ table. table ≡ record { rows = base_rows base.now; room = 0 }) }
+    {
+        let rows = rows_of(alloc, base)?;
+        let mut lists = Vec::new(alloc);
+        fill(alloc, &mut lists, rows.len())?;
+        Ok(CallTable {
+            rows,
+            lists,
+            room: 0,
+            alloc,
+        })
+    }
+
     /// Makes room for `n` calls more, and for the cookies that they will be given.
     pub fn reserve(&mut self, n: usize) -> Result<(), NoMemory>
         ensures ok { OnOk result (n ≤ self.new.room) }
@@ -58,8 +83,7 @@ impl CallTable {
             return Ok(());
         }
         self.rows.reserve(n)?;
-        let wanted = waiting_count(self.rows.as_slice());
-        let Some(wanted) = wanted.checked_add(n) else {
+        let Some(wanted) = self.rows.len().checked_add(n) else {
             return Err(NoMemory);
         };
         fill(self.alloc, &mut self.lists, wanted)?;
@@ -106,6 +130,40 @@ impl CallTable {
         self.rows.iter().any(|row| row.runs)
     }
 
+    /// Whether their numbers are all below this one.
+    pub fn is_below(&self, call: u32) -> bool
+        ensures { result ≡ spec.over call self.now.rows }
+    {
+        all_below(self.rows.as_slice(), call)
+    }
+
+    /// The least place of the Accept of a running call.
+    pub fn least_place(&self) -> Option<u128>
+        ensures { result ≡ least (spec.running_places self.now.rows) }
+    {
+        least_place(self.rows.as_slice())
+    }
+
+    /// The calls as a base has them: what they asked stands in that base, or in their Accepts among the
+    /// entries since then.
+    pub fn calls(
+        &self,
+        alloc: Global,
+        base: &Base,
+        entries: &[Entry],
+    ) -> Result<BaseCalls, NoMemory>
+        ensures { IfOk result (λ calls. calls ≡ stored_calls base.now entries.now self.now.rows) }
+    {
+        stored_calls(alloc, base, entries, self.rows.as_slice())
+    }
+
+    /// How many entries may still come of the waiting and running calls.
+    pub fn owed(&self) -> usize
+        ensures { result ≡ spec.owed_of self.now.rows }
+    {
+        owed_of(self.rows.as_slice())
+    }
+
     /// How many handles the waiting and running calls may issue.
     pub fn openings(&self) -> usize
         ensures { result ≡ spec.openings_of self.now.rows }
@@ -113,12 +171,12 @@ impl CallTable {
         openings_of(self.rows.as_slice())
     }
 
-    /// A call waits from now on.
-    pub fn accept(&mut self, call: u32, conn: u32, slots: &Slots)
+    /// A call waits from now on. Its Accept stands at that place.
+    pub fn accept(&mut self, call: u32, conn: u32, slots: &Slots, place: u128)
         requires room { 0 < self.old.room }
         requires few { length slots.now ≤ 4 }
         requires last { spec.over call self.old.rows ≡ true }
-        ensures rows { self.new.rows ≡ self.old.rows ++ record { call = call; conn = conn; slots = slots.now; runs = false; cancelled = false; orphaned = false } ∷ [] }
+        ensures rows { self.new.rows ≡ self.old.rows ++ record { call = call; conn = conn; slots = slots.now; place = place; runs = false; cancelled = false; orphaned = false } ∷ [] }
         ensures room { self.new.room + 1 ≡ self.old.room }
     {
         self.room -= 1;
@@ -127,6 +185,7 @@ impl CallTable {
                 call,
                 conn,
                 slots: CallSlots::of(slots.as_slice()),
+                place,
                 runs: false,
                 cancelled: false,
                 orphaned: false,

@@ -32,8 +32,8 @@ fn number(words: &[String], at: usize) -> u32 {
 
 /// The first handle is used by a call that runs, and so many others wait for it.
 fn wait(alloc: Global, group: &mut Group, count: u32) -> Result<(), Halt>
-    requires { is_open group.old.past 1 ≡ true }
-    ensures { is_open group.new.past 1 ≡ true }
+    requires { is_open group.old 1 ≡ true }
+    ensures { is_open group.new 1 ≡ true }
 {
     let slot = Slot::Changes {
         kind: 0,
@@ -49,8 +49,8 @@ fn wait(alloc: Global, group: &mut Group, count: u32) -> Result<(), Halt>
 
 /// So many calls use a handle, one after the other.
 fn uses(alloc: Global, group: &mut Group, serial: u32, count: u32) -> Result<(), Halt>
-    requires { is_open group.old.past 1 ≡ true }
-    ensures { is_open group.new.past 1 ≡ true }
+    requires { is_open group.old 1 ≡ true }
+    ensures { is_open group.new 1 ≡ true }
 {
     let slot = Slot::Changes {
         kind: 0,

@@ -1,111 +1,107 @@
 -- Which calls were asked to end, as each entry comes.
-use Rattle.std.proofs.Common.{◌≡◌, ℕ, zero, suc, ◌+◌, ◌-◌, ◌≤◌, ◌<◌, Bool, true, false, ◌||◌, nat_eq, List, [], ◌∷◌, ◌++◌, length, get_or, set, refl, sym, ◌∙◌, ap, subst, arith, reverse, inl, inr}
+use Rattle.std.proofs.Common.{◌≡◌, ℕ, Bool, true, false, ◌||◌, ◌==◌, List, [], ◌∷◌, ◌++◌, refl, sym, ◌∙◌, ap, subst, arith, reverse, inl, inr}
 use Rattle.std.specs.List.{list_any}
 use Rattle.std.proofs.lemmas.Grind.{common_steps}
+use Rattle.std.proofs.lemmas.List.Folds.{list_any-append}
+use Rattle.std.proofs.lemmas.Bool.{false_from_ne_true, not-true}
 use Rattle.std.proofs.lemmas.Bool.Decides.{eqb_tells}
-use Rattle.std.proofs.lemmas.List.{length-append, length-set, get_or-set_same, get_or-set_other}
 use Rattle.handle_model.specs.declared.entry.Home.{Home}
-use Rattle.handle_model.specs.declared.entry.Asked.{Asked}
 use Rattle.handle_model.specs.declared.entry.Entry.{Entry}
 use Rattle.handle_model.specs.declared.entry.Entry.TheVariants.{Join, Accept, Take, Deny, Cancel, Orphan, End, Leave, Shut}
-use Rattle.handle_model.specs.Journal.{takes, accepted, Legal}
+use Rattle.handle_model.specs.declared.base.Base.{Base}
+use Rattle.handle_model.specs.Bases.{empty_base, is_number, taken_before}
+use Rattle.handle_model.specs.Journal.{any_since, takes, is_taken, is_cancelled, is_decided, waits, Legal}
+use Rattle.handle_model.specs.History.{History, since}
 use Rattle.handle_model.proofs.Reversed.{reverse-snoc}
-use Rattle.group_core.specs.Stages.{is_asked}
-use Rattle.group_core.specs.Flags.{is_quiet, IsFlagged}
-use Rattle.group_core.proofs.Owing.{taken_accepted, accepted_within}
+use Rattle.call_table.proofs.Calls.{cancels_decided}
+use Rattle.group_core.specs.Kept.{Logged, Came, Same}
+use Rattle.group_core.specs.Stages.{is_asked_since}
+use Rattle.group_core.specs.Flags.{is_taken_in, is_asked_in, is_quiet_since, is_quiet, Lists}
 
--- WHAT THE MARKS SAY AFTER AN ENTRY
+-- WHAT THE LIST SAYS AFTER AN ENTRY
 
-unmarked : (k : ℕ) → get_or (false ∷ []) k false ≡ false
-unmarked zero = refl
-unmarked (suc k) = refl
+pub lists_none : (spare : ℕ) → Lists [] (record { base = empty_base; entries = []; spare = spare })
+lists_none spare k = refl
 
-pub flags_none : IsFlagged [] []
-flags_none = record { count = refl; each = unmarked }
+asked_came : (log new : Logged) (e : Entry) (k : ℕ) → Came log e new → is_asked_in new k ≡ is_asked_since log.base (e ∷ reverse log.entries) k
+asked_came log new e k c =
+    ap (λ (b : Base). is_asked_since b (reverse new.entries) k) c.0 ∙ ap (λ (es : List Entry). is_asked_since log.base es k) (ap reverse c.1 ∙ reverse-snoc log.entries e)
 
-mark_more : (marks : List Bool) (i : ℕ) → get_or (marks ++ false ∷ []) i false ≡ get_or marks i false
-mark_more [] zero = refl
-mark_more [] (suc i) = refl
-mark_more (m ∷ marks) zero = refl
-mark_more (m ∷ marks) (suc i) = mark_more marks i
-
--- a call is accepted
-pub flags_accept : (entries : List Entry) (marks : List Bool) (k : ℕ) (a : Asked) → IsFlagged entries marks → IsFlagged (entries ++ Accept k a ∷ []) (marks ++ false ∷ [])
-flags_accept entries marks k a flags =
-    let past : reverse (entries ++ Accept k a ∷ []) ≡ Accept k a ∷ reverse entries = reverse-snoc entries (Accept k a) in
-    record {
-      count = length-append marks (false ∷ []) ∙ (ap (λ n. n + 1) flags.count ∙ sym (ap (λ es. length (accepted es)) past ∙ omega arith));
-      each = λ j. mark_more (false ∷ marks) j ∙ (flags.each j ∙ sym (ap (λ es. is_asked es j) past));
-    }
-
-quiet_asked : (past : List Entry) (e : Entry) (k : ℕ) → is_quiet past e ≡ true → is_asked (e ∷ past) k ≡ is_asked past k
-quiet_asked past (Cancel m) k q = grind (arith, common_steps)
-quiet_asked past (Accept m a) k q = refl
-quiet_asked past (Join c) k q = refl
-quiet_asked past (Take m cookies) k q = refl
-quiet_asked past (Deny m j) k q = refl
-quiet_asked past (Orphan m) k q = refl
-quiet_asked past (End m results said) k q = refl
-quiet_asked past (Leave c) k q = refl
-quiet_asked past (Shut items) k q = refl
-
-quiet_accepted : (past : List Entry) (e : Entry) → is_quiet past e ≡ true → accepted (e ∷ past) ≡ accepted past
-quiet_accepted past (Accept m a) q = cc
-quiet_accepted past (Cancel m) q = refl
-quiet_accepted past (Join c) q = refl
-quiet_accepted past (Take m cookies) q = refl
-quiet_accepted past (Deny m j) q = refl
-quiet_accepted past (Orphan m) q = refl
-quiet_accepted past (End m results said) q = refl
-quiet_accepted past (Leave c) q = refl
-quiet_accepted past (Shut items) q = refl
+quiet_asked : (base : Base) (past : List Entry) (e : Entry) (k : ℕ) → is_quiet_since base past e ≡ true → is_asked_since base (e ∷ past) k ≡ is_asked_since base past k
+quiet_asked base past (Cancel m) k q =
+    let untaken = not-true (any_since (taken_before base m) (takes m) past) q in
+    elim (eqb_tells m k) [
+      | inl s ↦ let off : any_since (taken_before base k) (takes k) past ≡ false = subst (λ n. any_since (taken_before base n) (takes n) past ≡ false) s.1 untaken in rw (s.0, off) refl
+      | inr s ↦ rw s.0 refl
+    ]
+quiet_asked base past (Accept m a) k q = refl
+quiet_asked base past (Join c) k q = refl
+quiet_asked base past (Take m cookies) k q = refl
+quiet_asked base past (Deny m slot) k q = refl
+quiet_asked base past (Orphan m) k q = refl
+quiet_asked base past (End m results said) k q = refl
+quiet_asked base past (Leave c) k q = refl
+quiet_asked base past (Shut items) k q = refl
 
 -- an entry comes that says nothing of it
-pub flags_quiet : (entries : List Entry) (marks : List Bool) (e : Entry) → is_quiet (reverse entries) e ≡ true → IsFlagged entries marks → IsFlagged (entries ++ e ∷ []) marks
-flags_quiet entries marks e q flags =
-    let past : reverse (entries ++ e ∷ []) ≡ e ∷ reverse entries = reverse-snoc entries e in
-    record {
-      count = flags.count ∙ sym (ap (λ es. length (accepted es)) past ∙ ap length (quiet_accepted (reverse entries) e q));
-      each = λ k. flags.each k ∙ sym (ap (λ es. is_asked es k) past ∙ quiet_asked (reverse entries) e k q);
-    }
+pub lists_quiet : (log new : Logged) (e : Entry) (calls : List ℕ) → Came log e new → is_quiet log e ≡ true → Lists calls log → Lists calls new
+lists_quiet log new e calls c q l k = l k ∙ (sym (quiet_asked log.base (reverse log.entries) e k q) ∙ sym (asked_came log new e k c))
 
-mark_set : (marks : List Bool) (i k : ℕ) → i < length marks → get_or (false ∷ set marks i true) k false ≡ (nat_eq (i + 1) k || get_or (false ∷ marks) k false)
-mark_set marks i zero h = elim (eqb_tells (i + 1) 0) [ inl e ↦ absurd (omega (arith, e.1)) | inr e ↦ rw e.0 refl ]
-mark_set marks i (suc k) h =
-    elim (eqb_tells (i + 1) (suc k)) [
-      | inl e ↦ let same : k ≡ i = omega (arith, e.1) in rw (e.0, same) (get_or-set_same marks i true false h)
-      | inr e ↦ rw e.0 (get_or-set_other marks i k true false (λ q. e.1 (omega (arith, q))))
+-- nothing comes
+pub lists_same : (log new : Logged) (calls : List ℕ) → Same log new → Lists calls log → Lists calls new
+lists_same log new calls c l k =
+    l k ∙ sym (ap (λ (b : Base). is_asked_since b (reverse new.entries) k) c.0 ∙ ap (λ (es : List Entry). is_asked_since log.base (reverse es) k) c.1)
+
+or_last : (a b : Bool) → (a || (b || false)) ≡ (b || a)
+or_last true true = refl
+or_last true false = refl
+or_last false true = refl
+or_last false false = refl
+
+flag_asked : (base : Base) (past : List Entry) (m k : ℕ) → any_since (taken_before base m) (takes m) past ≡ true → (m == k || is_asked_since base past k) ≡ is_asked_since base (Cancel m ∷ past) k
+flag_asked base past m k t =
+    elim (eqb_tells m k) [
+      | inl s ↦ let there : any_since (taken_before base k) (takes k) past ≡ true = subst (λ n. any_since (taken_before base n) (takes n) past ≡ true) s.1 t in rw (s.0, there) refl
+      | inr s ↦ rw s.0 refl
     ]
 
-flag_asked : (past : List Entry) (m k : ℕ) (b : Bool) → list_any (takes m) past ≡ true → 1 ≤ m → b ≡ is_asked past k → (nat_eq (m - 1 + 1) k || b) ≡ is_asked (Cancel m ∷ past) k
-flag_asked past m k b t low e =
-    let one : m - 1 + 1 ≡ m = omega arith in
-    rw (one, e) (elim (eqb_tells m k) [
-      | inl s ↦ let there : list_any (takes k) past ≡ true = subst (λ n. list_any (takes n) past ≡ true) s.1 t in rw (s.0, there) refl
-      | inr s ↦ rw s.0 refl
-    ])
-
 -- a call is asked to end
-pub flags_flag : (entries : List Entry) (marks : List Bool) (m : ℕ) → list_any (takes m) (reverse entries) ≡ true → 1 ≤ m → m ≤ length (accepted (reverse entries)) → IsFlagged entries marks → IsFlagged (entries ++ Cancel m ∷ []) (set marks (m - 1) true)
-flags_flag entries marks m t low high flags =
-    let past : reverse (entries ++ Cancel m ∷ []) ≡ Cancel m ∷ reverse entries = reverse-snoc entries (Cancel m) in
-    record {
-      count = length-set marks (m - 1) true ∙ (flags.count ∙ sym (ap (λ es. length (accepted es)) past));
-      each = λ k.
-          let before = flags.each k in
-          let set_is = mark_set marks (m - 1) k (omega (arith, flags.count)) in
-          set_is ∙ (flag_asked (reverse entries) m k (get_or (false ∷ marks) k false) t low before ∙ sym (ap (λ es. is_asked es k) past));
-    }
+pub lists_flag : (log new : Logged) (m : ℕ) (calls : List ℕ) → Came log (Cancel m) new → is_taken_in log m ≡ true → Lists calls log → Lists (calls ++ m ∷ []) new
+lists_flag log new m calls c t l k =
+    list_any-append (is_number k) calls (m ∷ [])
+    ∙ (or_last (list_any (is_number k) calls) (m == k)
+    ∙ (ap (λ b. m == k || b) (l k) ∙ (flag_asked log.base (reverse log.entries) m k t ∙ sym (asked_came log new (Cancel m) k c))))
 
--- A RUNNING CALL
+-- A CALL THAT WAS TAKEN
 
-accepted_first : (home : Home) (past : List Entry) (k : ℕ) → Legal home past → list_any (nat_eq k) (accepted past) ≡ true → 1 ≤ k
-accepted_first home [] k l h = cc
-accepted_first home (Accept m a ∷ past) k l h = let e = l.0.fits.0 in grind (arith, common_steps, accepted_first home past k l.1)
-accepted_first home (_ ∷ past) k l h = accepted_first home past k l.1 h
+cancelled_of : (home : Home) (base : Base) (past : List Entry) (k : ℕ) → is_asked_since base past k ≡ true → is_cancelled (since home base past) k ≡ true
+cancelled_of home base [] k h = h
+cancelled_of home base (Cancel m ∷ past) k h =
+    elim (eqb_tells m k) [
+      | inl s ↦ rw s.0 refl
+      | inr s ↦ rw s.0 (cancelled_of home base past k (rw s.0 at h))
+    ]
+cancelled_of home base (_ ∷ past) k h = cancelled_of home base past k h
 
-pub taken_first : (home : Home) (past : List Entry) (k : ℕ) → Legal home past → list_any (takes k) past ≡ true → 1 ≤ k
-taken_first home past k l t = accepted_first home past k l (taken_accepted home past k l t)
+undecided : (j : History) (k : ℕ) → waits j k ≡ true → is_decided j k ≡ false
+undecided j k w = grind (arith, common_steps)
 
-pub taken_last : (home : Home) (past : List Entry) (k : ℕ) → Legal home past → list_any (takes k) past ≡ true → k ≤ length (accepted past)
-taken_last home past k l t = accepted_within home past k l (taken_accepted home past k l t)
+-- of a call that was taken a Cancel came after its Take
+pub asked_cancelled : (home : Home) (base : Base) (past : List Entry) (k : ℕ) → Legal (since home base past) → is_taken (since home base past) k ≡ true → is_asked_since base past k ≡ is_cancelled (since home base past) k
+asked_cancelled home base [] k l t = refl
+asked_cancelled home base (Cancel m ∷ past) k l t =
+    elim (eqb_tells m k) [
+      | inl s ↦ let there : any_since (taken_before base k) (takes k) past ≡ true = t in rw (s.0, there) refl
+      | inr s ↦ rw s.0 (asked_cancelled home base past k l.1 t)
+    ]
+asked_cancelled home base (Take m cookies ∷ past) k l t =
+    elim (eqb_tells m k) [
+      | inl s ↦
+          let j : History = since home base past in
+          let open_ : is_decided j k ≡ false = subst (λ n. is_decided j n ≡ false) s.1 (undecided j m l.0.fits.0) in
+          let off : is_cancelled j k ≡ false = false_from_ne_true (is_cancelled j k) (λ c. let d = cancels_decided j k l.1 c in cc) in
+          let none : is_asked_since base past k ≡ false = false_from_ne_true (is_asked_since base past k) (λ a. let c = cancelled_of home base past k a in cc) in
+          none ∙ sym off
+      | inr s ↦ asked_cancelled home base past k l.1 (rw s.0 at t)
+    ]
+asked_cancelled home base (_ ∷ past) k l t = asked_cancelled home base past k l.1 t

@@ -4,11 +4,13 @@ use Rattle.std.specs.List.{list_any}
 use Rattle.handle_model.specs.declared.entry.Home.{Home}
 use Rattle.handle_model.specs.declared.entry.Asked.{Asked}
 use Rattle.handle_model.specs.declared.entry.Entry.{Entry}
-use Rattle.handle_model.specs.Journal.{asked, waits, runs, cancels, orphans, is_shut, Legal}
+use Rattle.handle_model.specs.declared.base.Base.{Base}
+use Rattle.handle_model.specs.History.{History, since}
+use Rattle.handle_model.specs.Journal.{asked, waits, runs, is_cancelled, is_orphaned, is_shut, Legal}
 use Rattle.call_table.specs.declared.row.Row.{Row}
 use Rattle.call_table.specs.Shown.{call_row, row_as, row_in}
-use Rattle.call_table.proofs.Found.{runs_asked}
-use Rattle.call_table.proofs.Steps.{waits_idle}
+use Rattle.call_table.proofs.Calls.{runs_asked}
+use Rattle.call_table.proofs.Calls.{waits_idle}
 use Rattle.group_core.specs.Calls.{is_cancellable, is_orphanable}
 use Rattle.group_core.specs.Judges.{waits_in, runs_in, tells_in, drops_in, left_in}
 
@@ -45,54 +47,57 @@ not_true : (b : Bool) → (b ≡ true → ⊥) → b ≡ false
 not_true true h = absurd (h refl)
 not_true false h = refl
 
-unasked_waits : (past : List Entry) (k : ℕ) → asked past k ≡ None → waits past k ≡ false
-unasked_waits past k e = rw e refl
+unasked_waits : (j : History) (k : ℕ) → asked j k ≡ None → waits j k ≡ false
+unasked_waits j k e = rw e refl
 
-unasked_runs : (home : Home) (past : List Entry) (k : ℕ) → Legal home past → asked past k ≡ None → runs past k ≡ false
-unasked_runs home past k l e = not_true (runs past k) (λ r. let s = runs_asked home past k None l e r in cc)
+unasked_runs : (j : History) (k : ℕ) → Legal j → asked j k ≡ None → runs j k ≡ false
+unasked_runs j k l e = not_true (runs j k) (λ r. let s = runs_asked j k None l e r in cc)
 
-waits_row_of : (home : Home) (past : List Entry) (k : ℕ) (o : Option Asked) → asked past k ≡ o → waits_in (row_as past k o) ≡ waits past k
-waits_row_of home past k None e = sym (unasked_waits past k e)
-waits_row_of home past k (Some a) e = pick_waits (waits past k) (runs past k) (call_row past k a) refl (waits_idle past k)
+waits_row_of : (j : History) (k : ℕ) (o : Option Asked) → asked j k ≡ o → waits_in (row_as j k o) ≡ waits j k
+waits_row_of j k None e = sym (unasked_waits j k e)
+waits_row_of j k (Some a) e = pick_waits (waits j k) (runs j k) (call_row j k a) refl (waits_idle j k)
 
-runs_row_of : (home : Home) (past : List Entry) (k : ℕ) (o : Option Asked) → Legal home past → asked past k ≡ o → runs_in (row_as past k o) ≡ runs past k
-runs_row_of home past k None l e = sym (unasked_runs home past k l e)
-runs_row_of home past k (Some a) l e = pick_runs (waits past k) (runs past k) (call_row past k a) refl
+runs_row_of : (j : History) (k : ℕ) (o : Option Asked) → Legal j → asked j k ≡ o → runs_in (row_as j k o) ≡ runs j k
+runs_row_of j k None l e = sym (unasked_runs j k l e)
+runs_row_of j k (Some a) l e = pick_runs (waits j k) (runs j k) (call_row j k a) refl
 
-tells_row_of : (home : Home) (past : List Entry) (k : ℕ) (o : Option Asked) → Legal home past → asked past k ≡ o → tells_in (row_as past k o) ≡ is_cancellable past k
-tells_row_of home past k None l e = let r = unasked_runs home past k l e in sym (rw r refl)
-tells_row_of home past k (Some a) l e = pick_tells (waits past k) (runs past k) (list_any (cancels k) past) (call_row past k a) refl refl
+tells_row_of : (j : History) (k : ℕ) (o : Option Asked) → Legal j → asked j k ≡ o → tells_in (row_as j k o) ≡ is_cancellable j k
+tells_row_of j k None l e = let r = unasked_runs j k l e in sym (rw r refl)
+tells_row_of j k (Some a) l e = pick_tells (waits j k) (runs j k) (is_cancelled j k) (call_row j k a) refl refl
 
-drops_row_of : (home : Home) (past : List Entry) (k : ℕ) (o : Option Asked) → Legal home past → asked past k ≡ o → drops_in (row_as past k o) ≡ is_orphanable past k
-drops_row_of home past k None l e = let r = unasked_runs home past k l e in sym (rw r refl)
-drops_row_of home past k (Some a) l e = pick_drops (waits past k) (runs past k) (list_any (orphans k) past) (call_row past k a) refl refl
+drops_row_of : (j : History) (k : ℕ) (o : Option Asked) → Legal j → asked j k ≡ o → drops_in (row_as j k o) ≡ is_orphanable j k
+drops_row_of j k None l e = let r = unasked_runs j k l e in sym (rw r refl)
+drops_row_of j k (Some a) l e = pick_drops (waits j k) (runs j k) (is_orphaned j k) (call_row j k a) refl refl
 
-left_row_of : (home : Home) (past : List Entry) (k : ℕ) (o : Option Asked) → Legal home past → asked past k ≡ o → runs past k ≡ true → left_in (row_as past k o) ≡ (if list_any (cancels k) past then 0 else 1) + (if list_any (orphans k) past then 0 else 1)
-left_row_of home past k None l e r = let f = unasked_runs home past k l e in cc
-left_row_of home past k (Some a) l e r =
-    pick_left (waits past k) (runs past k) (list_any (cancels k) past) (list_any (orphans k) past) (call_row past k a) refl refl r
+left_row_of : (j : History) (k : ℕ) (o : Option Asked) → Legal j → asked j k ≡ o → runs j k ≡ true → left_in (row_as j k o) ≡ (if is_cancelled j k then 0 else 1) + (if is_orphaned j k then 0 else 1)
+left_row_of j k None l e r = let f = unasked_runs j k l e in cc
+left_row_of j k (Some a) l e r =
+    pick_left (waits j k) (runs j k) (is_cancelled j k) (is_orphaned j k) (call_row j k a) refl refl r
 
 or_false : (b : Bool) → (b || false) ≡ b
 or_false true = refl
 or_false false = refl
 
-pub waits_row : (home : Home) (past : List Entry) (k : ℕ) → waits_in (row_in past k) ≡ waits past k
-waits_row home past k = waits_row_of home past k (asked past k) refl
+pub waits_row : (j : History) (k : ℕ) → waits_in (row_in j k) ≡ waits j k
+waits_row j k = waits_row_of j k (asked j k) refl
 
-pub runs_row : (home : Home) (past : List Entry) (k : ℕ) → Legal home past → runs_in (row_in past k) ≡ runs past k
-runs_row home past k l = runs_row_of home past k (asked past k) l refl
+pub runs_row : (j : History) (k : ℕ) → Legal j → runs_in (row_in j k) ≡ runs j k
+runs_row j k l = runs_row_of j k (asked j k) l refl
 
-pub tells_row : (home : Home) (past : List Entry) (k : ℕ) → Legal home past → tells_in (row_in past k) ≡ is_cancellable past k
-tells_row home past k l = tells_row_of home past k (asked past k) l refl
+pub tells_row : (j : History) (k : ℕ) → Legal j → tells_in (row_in j k) ≡ is_cancellable j k
+tells_row j k l = tells_row_of j k (asked j k) l refl
 
-pub drops_row : (home : Home) (past : List Entry) (k : ℕ) → Legal home past → drops_in (row_in past k) ≡ is_orphanable past k
-drops_row home past k l = drops_row_of home past k (asked past k) l refl
+pub drops_row : (j : History) (k : ℕ) → Legal j → drops_in (row_in j k) ≡ is_orphanable j k
+drops_row j k l = drops_row_of j k (asked j k) l refl
 
-pub left_row : (home : Home) (past : List Entry) (k : ℕ) → Legal home past → runs past k ≡ true → left_in (row_in past k) ≡ (if list_any (cancels k) past then 0 else 1) + (if list_any (orphans k) past then 0 else 1)
-left_row home past k l r = left_row_of home past k (asked past k) l refl r
+pub left_row : (j : History) (k : ℕ) → Legal j → runs j k ≡ true → left_in (row_in j k) ≡ (if is_cancelled j k then 0 else 1) + (if is_orphaned j k then 0 else 1)
+left_row j k l r = left_row_of j k (asked j k) l refl r
 
 -- a Shut is the newest entry
-pub shut_newest : (home : Home) (past before : List Entry) (e : Entry) → Legal home past → past ≡ e ∷ before → list_any is_shut past ≡ is_shut e
-shut_newest home past before e l q =
-    let unshut = (subst (Legal home) q l).0.before_shut in
+shut_since : (home : Home) (base : Base) (past before : List Entry) (e : Entry) → Legal (since home base past) → past ≡ e ∷ before → list_any is_shut past ≡ is_shut e
+shut_since home base past before e l q =
+    let unshut = (subst (λ (es : List Entry). Legal (since home base es)) q l).0.before_shut in
     rw (q, unshut) (or_false (is_shut e))
+
+pub shut_newest : (j : History) (before : List Entry) (e : Entry) → Legal j → j.past ≡ e ∷ before → list_any is_shut j.past ≡ is_shut e
+shut_newest j before e l q = shut_since j.home j.base j.past before e l q

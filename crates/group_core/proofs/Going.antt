@@ -1,5 +1,5 @@
 -- The end of a call or the leave of a connection, and the Shut after it.
-use Rattle.std.proofs.Common.{◌≡◌, ℕ, ◌+◌, ◌≤◌, Bool, true, false, ◌&&◌, not, ◌==◌, if◌then◌else◌, List, [], ◌∷◌, ◌++◌, length, refl, sym, ◌∙◌, ap, subst, arith, reverse}
+use Rattle.std.proofs.Common.{◌≡◌, ℕ, ◌+◌, ◌≤◌, Bool, true, false, ◌&&◌, not, ◌==◌, if◌then◌else◌, List, [], ◌∷◌, length, refl, sym, ◌∙◌, ap, subst, arith}
 use Rattle.std.specs.List.{list_any, filter}
 use Rattle.std.proofs.lemmas.Grind.{common_steps}
 use Rattle.handle_model.specs.declared.entry.Home.{Home}
@@ -8,15 +8,15 @@ use Rattle.handle_model.specs.declared.entry.Said.{Said}
 use Rattle.handle_model.specs.declared.entry.DueItem.{DueItem}
 use Rattle.handle_model.specs.declared.entry.Entry.{Entry}
 use Rattle.handle_model.specs.declared.entry.Entry.TheVariants.{End, Leave, Shut}
-use Rattle.handle_model.specs.Journal.{cancels, orphans, waits, runs, slots, suit, is_open, is_shut, is_empty, joined, conns, running, due, Legal, Fits}
-use Rattle.handle_model.specs.History.{History, IsSound, history_of}
+use Rattle.handle_model.specs.Journal.{is_cancelled, is_orphaned, join_count, waits, runs, slots, suit, is_open, is_shut, is_empty, conns, running, due, Legal, Fits}
+use Rattle.handle_model.specs.History.{History, IsSound, with_entry}
 use Rattle.handle_model.specs.declared.entry.Slot.{Slot}
 use Rattle.handle_model.specs.Slots.{opens}
-use Rattle.handle_model.proofs.Held.{or_right}
+use Rattle.handle_model.proofs.Tests.{or_right}
 use Rattle.handle_table.proofs.Steps.{issued_within}
 use Rattle.call_table.proofs.Found.{slots_shown}
 use Rattle.group_core.proofs.Openings.{without_openings}
-use Rattle.group_core.proofs.Counting.{leave_count}
+use Rattle.group_core.proofs.Counting.{leave_counted as leave_less}
 use Rattle.handle_model.proofs.Steps.{legal_more, open_unshut, runs_unshut}
 use Rattle.handle_table.specs.Handles.{Handles}
 use Rattle.handle_table.specs.Ended.{ended, issue_count}
@@ -29,7 +29,7 @@ use Rattle.group_core.specs.declared.answer.Rest.TheVariants as rest
 use Rattle.group_core.specs.declared.counts.Counts.{Counts}
 use Rattle.group_core.specs.Conns.{Settles}
 use Rattle.group_core.specs.Owed.{owed, shut_owed}
-use Rattle.group_core.specs.Kept.{IsKept, Logged, Shows}
+use Rattle.group_core.specs.Kept.{IsKept, Logged, Came, logged, Shows}
 use Rattle.group_core.specs.Judges.{ShutsIfDue, is_due_at}
 use Rattle.group_core.proofs.Owing.{end_owed, leave_owed, shut_less}
 use Rattle.group_core.proofs.Shown.{end_shows, leave_shows, shut_shows}
@@ -37,24 +37,24 @@ use Rattle.group_core.proofs.Keeping.{newest}
 
 -- after the entry, while a Shut may be due
 pub record Mid (home : Home) (log mid : Logged) (entry : Entry) (handles : Handles) (calls : OpenCalls) (counts : Counts) : Type 0 where
-  pub legal : Legal home (entry ∷ reverse log.entries)
-  pub unshut : list_any is_shut (entry ∷ reverse log.entries) ≡ false
-  pub entries : mid.entries ≡ log.entries ++ entry ∷ []
-  pub owes : owed (entry ∷ reverse log.entries) ≡ mid.spare
-  pub shows : Shows home (entry ∷ reverse log.entries) handles calls counts
+  pub legal : Legal (with_entry (logged home log) entry)
+  pub unshut : list_any is_shut (entry ∷ (logged home log).past) ≡ false
+  pub entries : Came log entry mid
+  pub owes : owed (with_entry (logged home log) entry) ≡ mid.spare
+  pub shows : Shows (with_entry (logged home log) entry) handles calls counts
 
-unshut_one : (past : List Entry) → list_any is_shut past ≡ false → shut_owed past ≡ 1
-unshut_one past u = rw u refl
+unshut_one : (j : History) → list_any is_shut j.past ≡ false → shut_owed j ≡ 1
+unshut_one j u = rw u refl
 
 -- there is room for the Shut
 pub mid_room : (home : Home) (log mid : Logged) (entry : Entry) (handles : Handles) (calls : OpenCalls) (counts : Counts) → Mid home log mid entry handles calls counts → 1 ≤ mid.spare
-mid_room home log mid entry handles calls counts m = let one = unshut_one (entry ∷ reverse log.entries) m.unshut in omega (arith, one, m.owes)
+mid_room home log mid entry handles calls counts m = let one = unshut_one (with_entry (logged home log) entry) m.unshut in omega (arith, one, m.owes)
 
 none : (ns : List ℕ) → (length ns == 0) ≡ is_empty ns
 none [] = refl
 none (n ∷ ns) = grind (arith, common_steps)
 
-due_parts : (j s c r : Bool) → s ≡ false → (not j && c && not (not r)) ≡ (not j && not s && c && r)
+due_parts : (v s c r : Bool) → s ≡ false → (not v && c && not (not r)) ≡ (not v && not s && c && r)
 due_parts true s c r e = refl
 due_parts false true c r e = cc
 due_parts false false true true e = refl
@@ -62,106 +62,104 @@ due_parts false false true false e = refl
 due_parts false false false r e = refl
 
 -- the Shut is due by the counts where it is
-due_is : (home : Home) (past : List Entry) (handles : Handles) (calls : OpenCalls) (counts : Counts) → Shows home past handles calls counts → Legal home past → list_any is_shut past ≡ false → is_due_at counts (list_any is_running calls.rows) ≡ due past
-due_is home past handles calls counts s l u =
-    let j : (counts.joined == 0) ≡ is_empty (joined past) = ap (λ n. n == 0) s.joined_is ∙ none (joined past) in
-    let c : (counts.conns == 0) ≡ is_empty (conns past) = ap (λ n. n == 0) s.conns_are ∙ none (conns past) in
-    let r : list_any is_running calls.rows ≡ not (is_empty (running past)) = ap (list_any is_running) s.rows_are ∙ idle_shown home past l in
-    rw (j, c, r) (due_parts (is_empty (joined past)) (list_any is_shut past) (is_empty (conns past)) (is_empty (running past)) u)
+due_is : (j : History) (handles : Handles) (calls : OpenCalls) (counts : Counts) → Shows j handles calls counts → Legal j → list_any is_shut j.past ≡ false → is_due_at counts (list_any is_running calls.rows) ≡ due j
+due_is j handles calls counts s l u =
+    let v : (counts.joined == 0) ≡ (join_count j == 0) = ap (λ n. n == 0) s.joined_is in
+    let c : (counts.conns == 0) ≡ is_empty (conns j) = ap (λ n. n == 0) s.conns_are ∙ none (conns j) in
+    let r : list_any is_running calls.rows ≡ not (is_empty (running j)) = ap (list_any is_running) s.rows_are ∙ idle_shown j l in
+    rw (v, c, r) (due_parts (join_count j == 0) (list_any is_shut j.past) (is_empty (conns j)) (is_empty (running j)) u)
 
-shut_settled : (past : List Entry) (items : List DueItem) → due (Shut items ∷ past) ≡ false
-shut_settled past items = grind (arith, common_steps)
+shut_settled : (j : History) (items : List DueItem) → due (with_entry j (Shut items)) ≡ false
+shut_settled j items = grind (arith, common_steps)
 
-last : (home : Home) (log mid new : Logged) (entry : Entry) (items : List DueItem) → mid.entries ≡ log.entries ++ entry ∷ [] → new.entries ≡ mid.entries ++ Shut items ∷ [] → reverse new.entries ≡ Shut items ∷ entry ∷ reverse log.entries
-last home log mid new entry items e f = newest mid new (Shut items) f ∙ ap (λ (es : List Entry). Shut items ∷ es) (newest log mid entry e)
+last : (home : Home) (log mid new : Logged) (entry : Entry) (items : List DueItem) → Came log entry mid → Came mid (Shut items) new → logged home new ≡ with_entry (with_entry (logged home log) entry) (Shut items)
+last home log mid new entry items e f = newest home mid new (Shut items) f ∙ ap (λ (x : History). with_entry x (Shut items)) (newest home log mid entry e)
 
 -- what is then kept
 pub closed_kept : (home : Home) (log mid new : Logged) (entry : Entry) (rest : Rest) (handles left : Handles) (calls : OpenCalls) (counts : Counts) → Mid home log mid entry handles calls counts → ShutsIfDue (is_due_at counts (list_any is_running calls.rows)) mid handles rest new left → IsKept home new left calls counts
 closed_kept home log mid new entry rest.Stays handles left calls counts m c =
-    let past : reverse new.entries ≡ entry ∷ reverse log.entries = ap (λ (x : Logged). reverse x.entries) c.1 ∙ newest log mid entry m.entries in
-    let d = sym (due_is home (entry ∷ reverse log.entries) handles calls counts m.shows m.legal m.unshut) ∙ c.0 in
+    let before = with_entry (logged home log) entry in
+    let e = sym (ap (λ (x : Logged). logged home x) c.1 ∙ newest home log mid entry m.entries) in
+    let d = sym (due_is before handles calls counts m.shows m.legal m.unshut) ∙ c.0 in
     let spare : new.spare ≡ mid.spare = ap (λ (x : Logged). x.spare) c.1 in
     record {
-      sound = subst (λ (xs : List Entry). IsSound (record { home = home; past = xs })) (sym past) (record { legal = m.legal; settled = d });
-      owes = subst (λ (xs : List Entry). owed xs ≡ new.spare) (sym past) (m.owes ∙ sym spare);
-      shows = subst (λ (xs : List Entry). Shows home xs left calls counts) (sym past) (subst (λ (x : Handles). Shows home (entry ∷ reverse log.entries) x calls counts) (sym c.2) m.shows);
+      sound = subst IsSound e (record { legal = m.legal; settled = d });
+      owes = subst (λ (x : History). owed x ≡ new.spare) e (m.owes ∙ sym spare);
+      shows = subst (λ (x : History). Shows x left calls counts) e (subst (λ (x : Handles). Shows before x calls counts) (sym c.2) m.shows);
     }
 closed_kept home log mid new entry (rest.Shut items) handles left calls counts m c =
-    let before = entry ∷ reverse log.entries in
-    let past = last home log mid new entry items m.entries c.2 in
-    let d : due before ≡ true = sym (due_is home before handles calls counts m.shows m.legal m.unshut) ∙ c.0 in
-    let legal : Legal home (Shut items ∷ before) = (record { before_shut = m.unshut; shut_when_due = λ _. refl; fits = (d, c.1 ∙ m.shows.items_are) }, m.legal) in
+    let before = with_entry (logged home log) entry in
+    let e = sym (last home log mid new entry items m.entries c.2) in
+    let d : due before ≡ true = sym (due_is before handles calls counts m.shows m.legal m.unshut) ∙ c.0 in
+    let legal : Legal (with_entry before (Shut items)) = (record { before_shut = m.unshut; shut_when_due = λ _. refl; fits = (d, c.1 ∙ m.shows.items_are) }, m.legal) in
     record {
-      sound = subst (λ (xs : List Entry). IsSound (record { home = home; past = xs })) (sym past) (record { legal = legal; settled = shut_settled before items });
-      owes = subst (λ (xs : List Entry). owed xs ≡ new.spare) (sym past) (omega (arith, shut_less before items m.unshut, m.owes, c.3));
-      shows = subst (λ (xs : List Entry). Shows home xs left calls counts) (sym past) (shut_shows home before items handles left calls counts m.shows legal c.4);
+      sound = subst IsSound e (record { legal = legal; settled = shut_settled before items });
+      owes = subst (λ (x : History). owed x ≡ new.spare) e (omega (arith, shut_less before items m.unshut, m.owes, c.3));
+      shows = subst (λ (x : History). Shows x left calls counts) e (shut_shows before items handles left calls counts m.shows legal c.4);
     }
 
 -- and what was added
-pub closed_settles : (home : Home) (log mid new : Logged) (entry : Entry) (rest : Rest) (handles left : Handles) (calls : OpenCalls) (counts : Counts) → Mid home log mid entry handles calls counts → ShutsIfDue (is_due_at counts (list_any is_running calls.rows)) mid handles rest new left → Settles (history_of home log.entries) entry rest (history_of home new.entries)
-closed_settles home log mid new entry rest.Stays handles left calls counts m c =
-    let past : reverse new.entries ≡ entry ∷ reverse log.entries = ap (λ (x : Logged). reverse x.entries) c.1 ∙ newest log mid entry m.entries in (
-      sym (due_is home (entry ∷ reverse log.entries) handles calls counts m.shows m.legal m.unshut) ∙ c.0,
-      ap (λ (es : List Entry). let h : History = record { home = home; past = es } in h) past,
-    )
-closed_settles home log mid new entry (rest.Shut items) handles left calls counts m c =
-    let before = entry ∷ reverse log.entries in
-    let past = last home log mid new entry items m.entries c.2 in (
-      sym (due_is home before handles calls counts m.shows m.legal m.unshut) ∙ c.0,
-      c.1 ∙ m.shows.items_are,
-      ap (λ (es : List Entry). let h : History = record { home = home; past = es } in h) past,
-    )
+pub closed_settles : (home : Home) (log mid new : Logged) (entry : Entry) (rest : Rest) (handles left : Handles) (calls : OpenCalls) (counts : Counts) → Mid home log mid entry handles calls counts → ShutsIfDue (is_due_at counts (list_any is_running calls.rows)) mid handles rest new left → Settles (logged home log) entry rest (logged home new)
+closed_settles home log mid new entry rest.Stays handles left calls counts m c = (
+  sym (due_is (with_entry (logged home log) entry) handles calls counts m.shows m.legal m.unshut) ∙ c.0,
+  ap (λ (x : Logged). logged home x) c.1 ∙ newest home log mid entry m.entries,
+)
+closed_settles home log mid new entry (rest.Shut items) handles left calls counts m c = (
+  sym (due_is (with_entry (logged home log) entry) handles calls counts m.shows m.legal m.unshut) ∙ c.0,
+  c.1 ∙ m.shows.items_are,
+  last home log mid new entry items m.entries c.2,
+)
 
 -- THE TWO ENTRIES
 
-pub end_room : (home : Home) (log : Logged) (k : ℕ) (results : List Outcome) (said : Said) (handles : Handles) (calls : OpenCalls) (counts : Counts) → IsKept home log handles calls counts → runs (reverse log.entries) k ≡ true → 1 + ((if list_any (cancels k) (reverse log.entries) then 0 else 1) + (if list_any (orphans k) (reverse log.entries) then 0 else 1)) ≤ log.spare
+pub end_room : (home : Home) (log : Logged) (k : ℕ) (results : List Outcome) (said : Said) (handles : Handles) (calls : OpenCalls) (counts : Counts) → IsKept home log handles calls counts → runs (logged home log) k ≡ true → 1 + ((if is_cancelled (logged home log) k then 0 else 1) + (if is_orphaned (logged home log) k then 0 else 1)) ≤ log.spare
 end_room home log k results said handles calls counts kept r =
-    let past = reverse log.entries in omega (arith, end_owed home past k results said kept.sound.legal r, kept.owes)
+    let j = logged home log in omega (arith, end_owed j k results said kept.sound.legal r, kept.owes)
 
-pub end_mid : (home : Home) (log mid : Logged) (k : ℕ) (results : List Outcome) (said : Said) (freed : ℕ) (handles handles' : Handles) (calls calls' : OpenCalls) (counts : Counts) → IsKept home log handles calls counts → Fits home (reverse log.entries) (End k results said) → mid.entries ≡ log.entries ++ End k results said ∷ [] → freed ≡ (if list_any (cancels k) (reverse log.entries) then 0 else 1) + (if list_any (orphans k) (reverse log.entries) then 0 else 1) → mid.spare + freed + 1 ≡ log.spare → handles'.home ≡ handles.home → handles'.items ≡ ended handles.home (slots_at calls.rows k) results handles.items → handles.room ≤ handles'.room + issue_count results → calls'.rows ≡ without k calls.rows → Mid home log mid (End k results said) handles' calls' counts
+pub end_mid : (home : Home) (log mid : Logged) (k : ℕ) (results : List Outcome) (said : Said) (freed : ℕ) (handles handles' : Handles) (calls calls' : OpenCalls) (counts : Counts) → IsKept home log handles calls counts → Fits (logged home log) (End k results said) → Came log (End k results said) mid → freed ≡ (if is_cancelled (logged home log) k then 0 else 1) + (if is_orphaned (logged home log) k then 0 else 1) → mid.spare + freed + 1 ≡ log.spare → handles'.home ≡ handles.home → handles'.items ≡ ended handles.home (slots_at calls.rows k) results handles.items → handles.room ≤ handles'.room + issue_count results → calls'.rows ≡ without k calls.rows → Mid home log mid (End k results said) handles' calls' counts
 end_mid home log mid k results said freed handles handles' calls calls' counts kept fits entries f spare h i m r =
-    let past = reverse log.entries in
-    let u = runs_unshut home past k kept.sound.legal fits.0 in
-    let legal = legal_more (history_of home log.entries) (End k results said) kept.sound u fits in
+    let j = logged home log in
+    let u = runs_unshut j.home j.base j.past k kept.sound.legal fits.0 in
+    let legal = legal_more (logged home log) (End k results said) kept.sound u fits in
     record {
       legal = legal;
       unshut = u;
       entries = entries;
-      owes = omega (arith, end_owed home past k results said kept.sound.legal fits.0, kept.owes, f, spare);
-      shows = end_shows home past k results said handles handles' calls calls' counts kept.shows legal h i m r;
+      owes = omega (arith, end_owed j k results said kept.sound.legal fits.0, kept.owes, f, spare);
+      shows = end_shows j k results said handles handles' calls calls' counts kept.shows legal h i m r;
     }
 
-pub leave_room : (home : Home) (log : Logged) (c : ℕ) (handles : Handles) (calls : OpenCalls) (counts : Counts) → IsKept home log handles calls counts → is_open (reverse log.entries) c ≡ true → (freed : ℕ) → freed + owed_of (left c calls.rows) ≡ owed_of calls.rows → freed + 1 ≤ log.spare
+pub leave_room : (home : Home) (log : Logged) (c : ℕ) (handles : Handles) (calls : OpenCalls) (counts : Counts) → IsKept home log handles calls counts → is_open (logged home log) c ≡ true → (freed : ℕ) → freed + owed_of (left c calls.rows) ≡ owed_of calls.rows → freed + 1 ≤ log.spare
 leave_room home log c handles calls counts kept o freed f =
-    let past = reverse log.entries in
-    let all : freed + owed_of (left c (rows_of past)) ≡ owed_of (rows_of past) = subst (λ (rs : List Row). freed + owed_of (left c rs) ≡ owed_of rs) kept.shows.rows_are f in
-    omega (arith, leave_owed home past c freed kept.sound.legal o all, kept.owes)
+    let j = logged home log in
+    let all : freed + owed_of (left c (rows_of j)) ≡ owed_of (rows_of j) = subst (λ (rs : List Row). freed + owed_of (left c rs) ≡ owed_of rs) kept.shows.rows_are f in
+    omega (arith, leave_owed j c freed kept.sound.legal o all, kept.owes)
 
-pub leave_mid : (home : Home) (log mid : Logged) (c : ℕ) (handles : Handles) (calls calls' : OpenCalls) (counts : Counts) (n freed : ℕ) → IsKept home log handles calls counts → is_open (reverse log.entries) c ≡ true → mid.entries ≡ log.entries ++ Leave c ∷ [] → freed + owed_of calls'.rows ≡ owed_of calls.rows → mid.spare + freed + 1 ≡ log.spare → calls'.rows ≡ left c calls.rows → n + 1 ≡ counts.conns → Mid home log mid (Leave c) handles calls' (record { joined = counts.joined; conns = n; accepted = counts.accepted; opened = counts.opened })
+pub leave_mid : (home : Home) (log mid : Logged) (c : ℕ) (handles : Handles) (calls calls' : OpenCalls) (counts : Counts) (n freed : ℕ) → IsKept home log handles calls counts → is_open (logged home log) c ≡ true → Came log (Leave c) mid → freed + owed_of calls'.rows ≡ owed_of calls.rows → mid.spare + freed + 1 ≡ log.spare → calls'.rows ≡ left c calls.rows → n + 1 ≡ counts.conns → Mid home log mid (Leave c) handles calls' (record { joined = counts.joined; conns = n; accepted = counts.accepted; opened = counts.opened })
 leave_mid home log mid c handles calls calls' counts n freed kept o entries f spare r e =
-    let past = reverse log.entries in
-    let u = open_unshut home past c kept.sound.legal o in
-    let legal = legal_more (history_of home log.entries) (Leave c) kept.sound u o in
+    let j = logged home log in
+    let u = open_unshut j.home j.base j.past c kept.sound.legal o in
+    let legal = legal_more (logged home log) (Leave c) kept.sound u o in
     record {
       legal = legal;
       unshut = u;
       entries = entries;
       owes =
-          let all : freed + owed_of (left c (rows_of past)) ≡ owed_of (rows_of past) = subst (λ (rs : List Row). freed + owed_of (left c rs) ≡ owed_of rs) kept.shows.rows_are (rw r at f) in
-          omega (arith, leave_owed home past c freed kept.sound.legal o all, kept.owes, spare);
-      shows = leave_shows home past c handles calls calls' counts n kept.shows legal r e;
+          let all : freed + owed_of (left c (rows_of j)) ≡ owed_of (rows_of j) = subst (λ (rs : List Row). freed + owed_of (left c rs) ≡ owed_of rs) kept.shows.rows_are (rw r at f) in
+          omega (arith, leave_owed j c freed kept.sound.legal o all, kept.owes, spare);
+      shows = leave_shows j c handles calls calls' counts n kept.shows legal r e;
     }
 
 -- the results issue no more than there is room for
-pub end_issues : (home : Home) (log : Logged) (k : ℕ) (results : List Outcome) (handles : Handles) (calls : OpenCalls) (counts : Counts) → IsKept home log handles calls counts → runs (reverse log.entries) k ≡ true → suit (slots (reverse log.entries) k) results ≡ true → issue_count results ≤ handles.room
+pub end_issues : (home : Home) (log : Logged) (k : ℕ) (results : List Outcome) (handles : Handles) (calls : OpenCalls) (counts : Counts) → IsKept home log handles calls counts → runs (logged home log) k ≡ true → suit (slots (logged home log) k) results ≡ true → issue_count results ≤ handles.room
 end_issues home log k results handles calls counts kept r s =
-    let past = reverse log.entries in
-    let u = runs_unshut home past k kept.sound.legal r in
-    let those : slots_at (rows_of past) k ≡ slots past k = slots_shown home past k kept.sound.legal (or_right (waits past k) (runs past k) r) in
-    let all : length (filter opens (slots_at (rows_of past) k)) ≡ length (filter opens (slots past k)) = ap (λ (ss : List Slot). length (filter opens ss)) those in
-    omega (arith, without_openings k (rows_of past), kept.shows.issues u, issued_within (slots past k) results s, all)
+    let j = logged home log in
+    let u = runs_unshut j.home j.base j.past k kept.sound.legal r in
+    let those : slots_at (rows_of j) k ≡ slots j k = slots_shown j k kept.sound.legal (or_right (waits j k) (runs j k) r) in
+    let all : length (filter opens (slots_at (rows_of j) k)) ≡ length (filter opens (slots j k)) = ap (λ (ss : List Slot). length (filter opens ss)) those in
+    omega (arith, without_openings k (rows_of j), kept.shows.issues u, issued_within (slots j k) results s, all)
 
 -- an open connection is counted
-pub leave_counted : (home : Home) (log : Logged) (c : ℕ) (handles : Handles) (calls : OpenCalls) (counts : Counts) → IsKept home log handles calls counts → is_open (reverse log.entries) c ≡ true → 1 ≤ counts.conns
+pub leave_counted : (home : Home) (log : Logged) (c : ℕ) (handles : Handles) (calls : OpenCalls) (counts : Counts) → IsKept home log handles calls counts → is_open (logged home log) c ≡ true → 1 ≤ counts.conns
 leave_counted home log c handles calls counts kept o =
-    omega (arith, kept.shows.conns_are, leave_count home (reverse log.entries) c kept.sound.legal o)
+    omega (arith, kept.shows.conns_are, leave_less (logged home log) c kept.sound.legal o)

@@ -1,58 +1,31 @@
 -- What each entry takes from what is owed.
-use Rattle.std.proofs.Common.{◌≡◌, if◌then◌else◌, ℕ, ◌+◌, ◌≤◌, Bool, true, false, not, nat_eq, Option, Some, None, List, [], ◌∷◌, ◌++◌, length, map, refl, ◌∙◌, ap, arith, inl, inr}
+use Rattle.std.proofs.Common.{◌≡◌, if◌then◌else◌, ℕ, ◌+◌, Bool, true, false, not, Option, Some, List, [], ◌∷◌, ◌++◌, length, map, refl, ◌∙◌, ap, arith, inl, inr}
 use Rattle.std.specs.List.{list_any}
 use Rattle.std.proofs.lemmas.Grind.{common_steps}
-use Rattle.std.proofs.lemmas.Bool.{cases_Bool}
-use Rattle.handle_model.specs.declared.entry.Home.{Home}
+use Rattle.std.proofs.lemmas.Bool.{cases_Bool, false_from_ne_true}
 use Rattle.handle_model.specs.declared.entry.Asked.{Asked}
 use Rattle.handle_model.specs.declared.entry.Outcome.{Outcome}
 use Rattle.handle_model.specs.declared.entry.Said.{Said}
 use Rattle.handle_model.specs.declared.entry.DueItem.{DueItem}
-use Rattle.handle_model.specs.declared.entry.Entry.{Entry}
 use Rattle.handle_model.specs.declared.entry.Entry.TheVariants.{Join, Accept, Take, Deny, Cancel, Orphan, End, Leave, Shut}
-use Rattle.handle_model.specs.Journal.{takes, ends, cancels, orphans, decides, waits, runs, asked, accepted, joined, conns, is_open, is_shut, Legal}
-use Rattle.handle_model.proofs.Held.{and_left, and_right}
+use Rattle.handle_model.specs.Journal.{waits, runs, is_taken, is_cancelled, is_orphaned, join_count, conns, is_open, is_shut, Legal}
+use Rattle.handle_model.specs.History.{History, with_entry, size}
+use Rattle.handle_model.proofs.Tests.{and_left, and_right}
 use Rattle.call_table.specs.declared.row.Row.{Row}
 use Rattle.call_table.specs.Rows.{row_at, at_call, taken, cancelled, orphaned, without, left, owed_by, owed_of}
 use Rattle.call_table.specs.Shown.{rows_of}
-use Rattle.call_table.proofs.Steps.{join_rows, accept_rows, take_rows, deny_rows, cancel_rows, flag_rows, orphan_rows, drop_rows, end_rows, leave_rows, shut_rows, taken_decided}
+use Rattle.call_table.proofs.Steps.{join_rows, accept_rows, take_rows, deny_rows, cancel_rows, flag_rows, orphan_rows, drop_rows, end_rows, leave_rows, shut_rows}
+use Rattle.call_table.proofs.Calls.{taken_decided}
 use Rattle.call_table.proofs.Owed.{rises_shown, owed_append, owed_marked, owed_without, waiting_row, running_row}
 use Rattle.group_core.specs.Owed.{shut_owed, owed}
 use Rattle.group_core.specs.Calls.{is_cancellable, is_orphanable}
-use Rattle.group_core.proofs.Counting.{join_count, leave_count}
+use Rattle.group_core.proofs.Counting.{join_counted, leave_counted}
 
--- WHICH NUMBERS STAND IN A JOURNAL
-
-pub asked_accepted : (past : List Entry) (k : ℕ) (a : Asked) → asked past k ≡ Some a → list_any (nat_eq k) (accepted past) ≡ true
-asked_accepted [] k a h = cc
-asked_accepted (Accept m b ∷ past) k a h = grind (arith, common_steps, asked_accepted past k a)
-asked_accepted (_ ∷ past) k a h = asked_accepted past k a h
-
-waits_among : (past : List Entry) (k : ℕ) (o : Option Asked) → asked past k ≡ o → waits past k ≡ true → list_any (nat_eq k) (accepted past) ≡ true
-waits_among past k None e h = grind (arith, common_steps)
-waits_among past k (Some a) e h = asked_accepted past k a e
-
-pub waits_accepted : (past : List Entry) (k : ℕ) → waits past k ≡ true → list_any (nat_eq k) (accepted past) ≡ true
-waits_accepted past k h = waits_among past k (asked past k) refl h
-
-pub taken_accepted : (home : Home) (past : List Entry) (k : ℕ) → Legal home past → list_any (takes k) past ≡ true → list_any (nat_eq k) (accepted past) ≡ true
-taken_accepted home [] k l h = cc
-taken_accepted home (Take m cookies ∷ past) k l h = let w = waits_accepted past m l.0.fits.0 in grind (arith, common_steps, taken_accepted home past k l.1)
-taken_accepted home (Accept m a ∷ past) k l h = let w = taken_accepted home past k l.1 h in grind (arith, common_steps)
-taken_accepted home (_ ∷ past) k l h = taken_accepted home past k l.1 h
-
-pub accepted_within : (home : Home) (past : List Entry) (k : ℕ) → Legal home past → list_any (nat_eq k) (accepted past) ≡ true → k ≤ length (accepted past)
-accepted_within home [] k l h = cc
-accepted_within home (Accept m a ∷ past) k l h = let e = l.0.fits.0 in grind (arith, common_steps, accepted_within home past k l.1)
-accepted_within home (_ ∷ past) k l h = accepted_within home past k l.1 h
+-- CALLS
 
 -- a waiting call was not taken
-untaken : (past : List Entry) (k : ℕ) (t : Bool) → list_any (takes k) past ≡ t → waits past k ≡ true → t ≡ false
-untaken past k false e w = refl
-untaken past k true e w = let d = taken_decided past k e in grind (arith, common_steps)
-
-pub waits_untaken : (past : List Entry) (k : ℕ) → waits past k ≡ true → list_any (takes k) past ≡ false
-waits_untaken past k w = untaken past k (list_any (takes k) past) refl w
+pub waits_untaken : (j : History) (k : ℕ) → waits j k ≡ true → is_taken j k ≡ false
+waits_untaken j k w = false_from_ne_true (is_taken j k) (λ t. let d = taken_decided j k t in grind (arith, common_steps))
 
 -- WHAT IS OWED OF ONE CALL
 
@@ -81,93 +54,93 @@ not_is false h = refl
 -- WHAT EACH ENTRY TAKES
 
 -- an entry with these rows, beside which the connections and the Shut stay as they are
-from_rows : (before after : List Entry) (m : ℕ) → owed_of (rows_of after) + m ≡ owed_of (rows_of before) → length (conns after) ≡ length (conns before) → shut_owed after ≡ shut_owed before → owed after + m ≡ owed before
+from_rows : (before after : History) (m : ℕ) → owed_of (rows_of after) + m ≡ owed_of (rows_of before) → length (conns after) ≡ length (conns before) → shut_owed after ≡ shut_owed before → owed after + m ≡ owed before
 from_rows before after m r c s = omega (arith, r, c, s)
 
-gone : (home : Home) (past after : List Entry) (k n : ℕ) (r : Row) → Legal home past → rows_of after ≡ without k (rows_of past) → row_at (rows_of past) k ≡ Some r → owed_by r ≡ n → owed_of (rows_of after) + n ≡ owed_of (rows_of past)
-gone home past after k n r l e there is =
-    let less = owed_without 0 (rows_of past) k r (rises_shown home past l) there in
-    let rows : owed_of (rows_of after) ≡ owed_of (without k (rows_of past)) = ap owed_of e in omega (arith, less, rows, is)
+gone : (j after : History) (k n : ℕ) (r : Row) → Legal j → rows_of after ≡ without k (rows_of j) → row_at (rows_of j) k ≡ Some r → owed_by r ≡ n → owed_of (rows_of after) + n ≡ owed_of (rows_of j)
+gone j after k n r l e there is =
+    let less = owed_without 0 (rows_of j) k r (rises_shown j l) there in
+    let rows : owed_of (rows_of after) ≡ owed_of (without k (rows_of j)) = ap owed_of e in omega (arith, less, rows, is)
 
-marked : (home : Home) (past after : List Entry) (f : Row → Row) (k : ℕ) (r : Row) → Legal home past → rows_of after ≡ map (at_call k f) (rows_of past) → row_at (rows_of past) k ≡ Some r → owed_by r ≡ owed_by (f r) + 1 → owed_of (rows_of after) + 1 ≡ owed_of (rows_of past)
-marked home past after f k r l e there is =
-    let one = owed_marked f 0 (rows_of past) k r (rises_shown home past l) there in
-    let rows : owed_of (rows_of after) ≡ owed_of (map (at_call k f) (rows_of past)) = ap owed_of e in omega (arith, one, rows, is)
+marked : (j after : History) (f : Row → Row) (k : ℕ) (r : Row) → Legal j → rows_of after ≡ map (at_call k f) (rows_of j) → row_at (rows_of j) k ≡ Some r → owed_by r ≡ owed_by (f r) + 1 → owed_of (rows_of after) + 1 ≡ owed_of (rows_of j)
+marked j after f k r l e there is =
+    let one = owed_marked f 0 (rows_of j) k r (rises_shown j l) there in
+    let rows : owed_of (rows_of after) ≡ owed_of (map (at_call k f) (rows_of j)) = ap owed_of e in omega (arith, one, rows, is)
 
-pub take_owed : (home : Home) (past : List Entry) (k : ℕ) (cookies : List (Option ℕ)) → Legal home past → waits past k ≡ true → owed (Take k cookies ∷ past) + 1 ≡ owed past
-take_owed home past k cookies l w =
-    let r = waiting_row past k w in
-    from_rows past (Take k cookies ∷ past) 1
-    (marked home past (Take k cookies ∷ past) taken k r.row l (take_rows home past k cookies l w) r.there (take_by r.row r.waits_ r.uncancelled r.unorphaned)) refl refl
+pub take_owed : (j : History) (k : ℕ) (cookies : List (Option ℕ)) → Legal j → waits j k ≡ true → owed (with_entry j (Take k cookies)) + 1 ≡ owed j
+take_owed j k cookies l w =
+    let r = waiting_row j k l w in
+    from_rows j (with_entry j (Take k cookies)) 1
+    (marked j (with_entry j (Take k cookies)) taken k r.row l (take_rows j k cookies l w) r.there (take_by r.row r.waits_ r.uncancelled r.unorphaned)) refl refl
 
-pub deny_owed : (home : Home) (past : List Entry) (k j : ℕ) → Legal home past → waits past k ≡ true → owed (Deny k j ∷ past) + 4 ≡ owed past
-deny_owed home past k j l w =
-    let r = waiting_row past k w in
-    from_rows past (Deny k j ∷ past) 4 (gone home past (Deny k j ∷ past) k 4 r.row l (deny_rows past k j w) r.there (waits_by r.row r.waits_)) refl refl
+pub deny_owed : (j : History) (k v : ℕ) → Legal j → waits j k ≡ true → owed (with_entry j (Deny k v)) + 4 ≡ owed j
+deny_owed j k v l w =
+    let r = waiting_row j k l w in
+    from_rows j (with_entry j (Deny k v)) 4 (gone j (with_entry j (Deny k v)) k 4 r.row l (deny_rows j k v w) r.there (waits_by r.row r.waits_)) refl refl
 
-pub ended_owed : (home : Home) (past : List Entry) (k : ℕ) → Legal home past → waits past k ≡ true → owed (Cancel k ∷ past) + 4 ≡ owed past
-ended_owed home past k l w =
-    let r = waiting_row past k w in
-    from_rows past (Cancel k ∷ past) 4 (gone home past (Cancel k ∷ past) k 4 r.row l (cancel_rows past k w) r.there (waits_by r.row r.waits_)) refl refl
+pub ended_owed : (j : History) (k : ℕ) → Legal j → waits j k ≡ true → owed (with_entry j (Cancel k)) + 4 ≡ owed j
+ended_owed j k l w =
+    let r = waiting_row j k l w in
+    from_rows j (with_entry j (Cancel k)) 4 (gone j (with_entry j (Cancel k)) k 4 r.row l (cancel_rows j k w) r.there (waits_by r.row r.waits_)) refl refl
 
-pub dropped_owed : (home : Home) (past : List Entry) (k : ℕ) → Legal home past → waits past k ≡ true → owed (Orphan k ∷ past) + 4 ≡ owed past
-dropped_owed home past k l w =
-    let r = waiting_row past k w in
-    from_rows past (Orphan k ∷ past) 4 (gone home past (Orphan k ∷ past) k 4 r.row l (orphan_rows past k w) r.there (waits_by r.row r.waits_)) refl refl
+pub dropped_owed : (j : History) (k : ℕ) → Legal j → waits j k ≡ true → owed (with_entry j (Orphan k)) + 4 ≡ owed j
+dropped_owed j k l w =
+    let r = waiting_row j k l w in
+    from_rows j (with_entry j (Orphan k)) 4 (gone j (with_entry j (Orphan k)) k 4 r.row l (orphan_rows j k w) r.there (waits_by r.row r.waits_)) refl refl
 
-pub flagged_owed : (home : Home) (past : List Entry) (k : ℕ) → Legal home past → is_cancellable past k ≡ true → owed (Cancel k ∷ past) + 1 ≡ owed past
-flagged_owed home past k l c =
-    let runs_ = and_left (runs past k) _ c in
-    let first = not_is (list_any (cancels k) past) (and_right (runs past k) _ c) in
-    let r = running_row home past k l runs_ in
-    from_rows past (Cancel k ∷ past) 1
-    (marked home past (Cancel k ∷ past) cancelled k r.row l (flag_rows past k runs_) r.there (flag_by r.row r.runs_ (r.cancelled_ ∙ first))) refl refl
+pub flagged_owed : (j : History) (k : ℕ) → Legal j → is_cancellable j k ≡ true → owed (with_entry j (Cancel k)) + 1 ≡ owed j
+flagged_owed j k l c =
+    let runs_ = and_left (runs j k) _ c in
+    let first = not_is (is_cancelled j k) (and_right (runs j k) _ c) in
+    let r = running_row j k l runs_ in
+    from_rows j (with_entry j (Cancel k)) 1
+    (marked j (with_entry j (Cancel k)) cancelled k r.row l (flag_rows j k runs_) r.there (flag_by r.row r.runs_ (r.cancelled_ ∙ first))) refl refl
 
-pub unanswered_owed : (home : Home) (past : List Entry) (k : ℕ) → Legal home past → is_orphanable past k ≡ true → owed (Orphan k ∷ past) + 1 ≡ owed past
-unanswered_owed home past k l c =
-    let runs_ = and_left (runs past k) _ c in
-    let first = not_is (list_any (orphans k) past) (and_right (runs past k) _ c) in
-    let r = running_row home past k l runs_ in
-    from_rows past (Orphan k ∷ past) 1
-    (marked home past (Orphan k ∷ past) orphaned k r.row l (drop_rows past k runs_) r.there (drop_by r.row r.runs_ (r.orphaned_ ∙ first))) refl refl
+pub unanswered_owed : (j : History) (k : ℕ) → Legal j → is_orphanable j k ≡ true → owed (with_entry j (Orphan k)) + 1 ≡ owed j
+unanswered_owed j k l c =
+    let runs_ = and_left (runs j k) _ c in
+    let first = not_is (is_orphaned j k) (and_right (runs j k) _ c) in
+    let r = running_row j k l runs_ in
+    from_rows j (with_entry j (Orphan k)) 1
+    (marked j (with_entry j (Orphan k)) orphaned k r.row l (drop_rows j k runs_) r.there (drop_by r.row r.runs_ (r.orphaned_ ∙ first))) refl refl
 
 -- what is left of a running call
-abbrev pub left_of : List Entry → ℕ → ℕ
-left_of past k = 1 + ((if list_any (cancels k) past then 0 else 1) + (if list_any (orphans k) past then 0 else 1))
+abbrev pub left_of : History → ℕ → ℕ
+left_of j k = 1 + ((if is_cancelled j k then 0 else 1) + (if is_orphaned j k then 0 else 1))
 
-pub end_owed : (home : Home) (past : List Entry) (k : ℕ) (results : List Outcome) (said : Said) → Legal home past → runs past k ≡ true → owed (End k results said ∷ past) + left_of past k ≡ owed past
-end_owed home past k results said l runs_ =
-    let r = running_row home past k l runs_ in
-    from_rows past (End k results said ∷ past) (left_of past k)
-    (gone home past (End k results said ∷ past) k (left_of past k) r.row l (end_rows past k results said runs_) r.there
-    (runs_by r.row (list_any (cancels k) past) (list_any (orphans k) past) r.runs_ r.cancelled_ r.orphaned_)) refl refl
+pub end_owed : (j : History) (k : ℕ) (results : List Outcome) (said : Said) → Legal j → runs j k ≡ true → owed (with_entry j (End k results said)) + left_of j k ≡ owed j
+end_owed j k results said l runs_ =
+    let r = running_row j k l runs_ in
+    from_rows j (with_entry j (End k results said)) (left_of j k)
+    (gone j (with_entry j (End k results said)) k (left_of j k) r.row l (end_rows j k results said runs_) r.there
+    (runs_by r.row (is_cancelled j k) (is_orphaned j k) r.runs_ r.cancelled_ r.orphaned_)) refl refl
 
-pub accept_owed : (home : Home) (past : List Entry) (k : ℕ) (a : Asked) → Legal home (Accept k a ∷ past) → owed (Accept k a ∷ past) ≡ owed past + 4
-accept_owed home past k a l =
-    let row : Row = record { call = k; conn = a.conn; slots = a.slots; runs = false; cancelled = false; orphaned = false } in
-    let rows : owed_of (rows_of (Accept k a ∷ past)) ≡ owed_of (rows_of past ++ row ∷ []) = ap owed_of (accept_rows home past k a l) in
-    let conns_ : length (conns (Accept k a ∷ past)) ≡ length (conns past) = refl in
-    let shut : shut_owed (Accept k a ∷ past) ≡ shut_owed past = refl in
-    omega (arith, rows, owed_append (rows_of past) row, conns_, shut)
+pub accept_owed : (j : History) (k : ℕ) (a : Asked) → Legal (with_entry j (Accept k a)) → owed (with_entry j (Accept k a)) ≡ owed j + 4
+accept_owed j k a l =
+    let row : Row = record { call = k; conn = a.conn; slots = a.slots; place = size j; runs = false; cancelled = false; orphaned = false } in
+    let rows : owed_of (rows_of (with_entry j (Accept k a))) ≡ owed_of (rows_of j ++ row ∷ []) = ap owed_of (accept_rows j k a l) in
+    let conns_ : length (conns (with_entry j (Accept k a))) ≡ length (conns j) = refl in
+    let shut : shut_owed (with_entry j (Accept k a)) ≡ shut_owed j = refl in
+    omega (arith, rows, owed_append (rows_of j) row, conns_, shut)
 
 -- CONNECTIONS AND THE SHUT
 
-pub join_owed : (home : Home) (past : List Entry) (c : ℕ) → Legal home past → c ≡ length (joined past) + 1 → owed (Join c ∷ past) ≡ owed past + 1
-join_owed home past c l e =
-    let rows : owed_of (rows_of (Join c ∷ past)) ≡ owed_of (rows_of past) = ap owed_of (join_rows past c) in
-    let shut : shut_owed (Join c ∷ past) ≡ shut_owed past = refl in
-    omega (arith, rows, join_count home past c l e, shut)
+pub join_owed : (j : History) (c : ℕ) → Legal j → c ≡ join_count j + 1 → owed (with_entry j (Join c)) ≡ owed j + 1
+join_owed j c l e =
+    let rows : owed_of (rows_of (with_entry j (Join c))) ≡ owed_of (rows_of j) = ap owed_of (join_rows j c) in
+    let shut : shut_owed (with_entry j (Join c)) ≡ shut_owed j = refl in
+    omega (arith, rows, join_counted j c l e, shut)
 
-pub leave_owed : (home : Home) (past : List Entry) (c freed : ℕ) → Legal home past → is_open past c ≡ true → freed + owed_of (left c (rows_of past)) ≡ owed_of (rows_of past) → owed (Leave c ∷ past) + (freed + 1) ≡ owed past
-leave_owed home past c freed l o f =
-    let rows : owed_of (rows_of (Leave c ∷ past)) ≡ owed_of (left c (rows_of past)) = ap owed_of (leave_rows past c) in
-    let shut : shut_owed (Leave c ∷ past) ≡ shut_owed past = refl in
-    omega (arith, rows, leave_count home past c l o, shut, f)
+pub leave_owed : (j : History) (c freed : ℕ) → Legal j → is_open j c ≡ true → freed + owed_of (left c (rows_of j)) ≡ owed_of (rows_of j) → owed (with_entry j (Leave c)) + (freed + 1) ≡ owed j
+leave_owed j c freed l o f =
+    let rows : owed_of (rows_of (with_entry j (Leave c))) ≡ owed_of (left c (rows_of j)) = ap owed_of (leave_rows j c) in
+    let shut : shut_owed (with_entry j (Leave c)) ≡ shut_owed j = refl in
+    omega (arith, rows, leave_counted j c l o, shut, f)
 
-pub shut_less : (past : List Entry) (items : List DueItem) → list_any is_shut past ≡ false → owed (Shut items ∷ past) + 1 ≡ owed past
-shut_less past items u =
-    let rows : owed_of (rows_of (Shut items ∷ past)) ≡ owed_of (rows_of past) = ap owed_of (shut_rows past items) in
-    let conns_ : length (conns (Shut items ∷ past)) ≡ length (conns past) = refl in
-    let now : shut_owed (Shut items ∷ past) ≡ 0 = refl in
-    let before : shut_owed past ≡ 1 = rw u refl in
+pub shut_less : (j : History) (items : List DueItem) → list_any is_shut j.past ≡ false → owed (with_entry j (Shut items)) + 1 ≡ owed j
+shut_less j items u =
+    let rows : owed_of (rows_of (with_entry j (Shut items))) ≡ owed_of (rows_of j) = ap owed_of (shut_rows j items) in
+    let conns_ : length (conns (with_entry j (Shut items))) ≡ length (conns j) = refl in
+    let now : shut_owed (with_entry j (Shut items)) ≡ 0 = refl in
+    let before : shut_owed j ≡ 1 = rw u refl in
     omega (arith, rows, conns_, now, before)

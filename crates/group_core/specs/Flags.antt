@@ -1,18 +1,30 @@
--- Which calls were asked to end, as marks that are kept beside the entries.
-use Rattle.std.specs.Prelude.{◌≡◌, ℕ, Bool, true, false, not, List, ◌∷◌, length, reverse, get_or}
+-- Which calls were asked to end, as a list that is kept beside the entries.
+use Rattle.std.specs.Prelude.{◌≡◌, ℕ, Bool, true, not, List, reverse}
 use Rattle.std.specs.List.{list_any}
 use Rattle.handle_model.specs.declared.entry.Entry.{Entry}
-use Rattle.handle_model.specs.declared.entry.Entry.TheVariants.{Accept, Cancel}
-use Rattle.handle_model.specs.Journal.{takes, accepted}
-use Rattle.group_core.specs.Stages.{is_asked}
+use Rattle.handle_model.specs.declared.entry.Entry.TheVariants.{Cancel}
+use Rattle.handle_model.specs.declared.base.Base.{Base}
+use Rattle.handle_model.specs.Bases.{is_number, taken_before}
+use Rattle.handle_model.specs.Journal.{any_since, takes}
+use Rattle.group_core.specs.Stages.{is_asked_since}
+use Rattle.group_core.specs.Kept.{Logged}
 
--- an entry that neither accepts a call nor asks one to end
-abbrev pub is_quiet : List Entry → Entry → Bool
-is_quiet past (Accept k a) = false
-is_quiet past (Cancel k) = not (list_any (takes k) past)
-is_quiet past _ = true
+-- the call was taken
+abbrev pub is_taken_in : Logged → ℕ → Bool
+is_taken_in log k = any_since (taken_before log.base k) (takes k) (reverse log.entries)
 
--- each accepted call has a mark, by its number from 1, which says whether it was asked to end; no other call was
-pub record IsFlagged (entries : List Entry) (marks : List Bool) : Type 0 where
-  pub count : length marks ≡ length (accepted (reverse entries))
-  pub each : (k : ℕ) → get_or (false ∷ marks) k false ≡ is_asked (reverse entries) k
+-- it was asked to end
+abbrev pub is_asked_in : Logged → ℕ → Bool
+is_asked_in log k = is_asked_since log.base (reverse log.entries) k
+
+-- an entry that asks no call to end
+abbrev pub is_quiet_since : Base → List Entry → Entry → Bool
+is_quiet_since base past (Cancel k) = not (any_since (taken_before base k) (takes k) past)
+is_quiet_since base past _ = true
+
+abbrev pub is_quiet : Logged → Entry → Bool
+is_quiet log entry = is_quiet_since log.base (reverse log.entries) entry
+
+-- the calls that were asked to end, and no others
+abbrev pub Lists : List ℕ → Logged → Type 0
+Lists calls log = (k : ℕ) → list_any (is_number k) calls ≡ is_asked_in log k

@@ -1,5 +1,5 @@
 -- What the tables say of a call before anything is added, and what then comes.
-use Rattle.std.specs.Prelude.{◌≡◌, ℕ, ◌+◌, Bool, true, false, ◌&&◌, not, ◌==◌, Option, Some, None, if◌then◌else◌, List, [], ◌∷◌, ◌++◌}
+use Rattle.std.specs.Prelude.{◌≡◌, ℕ, ◌+◌, Bool, true, false, ◌&&◌, not, ◌==◌, Option, Some, None, if◌then◌else◌, List, []}
 use Rattle.handle_model.specs.declared.entry.Home.{Home}
 use Rattle.handle_model.specs.declared.entry.DueItem.{DueItem}
 use Rattle.handle_model.specs.declared.entry.Entry.TheVariants.{Shut}
@@ -19,7 +19,7 @@ use Rattle.group_core.specs.declared.judge.Judged.{Judged}
 use Rattle.group_core.specs.declared.judge.Judged.TheVariants.{Free, AtFault, Blocked, NotWaiting}
 use Rattle.group_core.specs.declared.counts.Counts.{Counts}
 use Rattle.group_core.specs.Calls.{cookie_row, first_serial}
-use Rattle.group_core.specs.Kept.{Logged}
+use Rattle.group_core.specs.Kept.{Logged, Came}
 
 -- a row is that of a waiting call, of a running one, of one that may yet be cancelled or orphaned
 abbrev pub waits_in : Option Row → Bool
@@ -76,5 +76,5 @@ is_due_at counts running = not (counts.joined == 0) && (counts.conns == 0) && no
 abbrev pub ShutsIfDue : Bool → Logged → Handles → Rest → Logged → Handles → Type 0
 ShutsIfDue due log handles rest.Stays new left = (due ≡ false) × (new ≡ log) × (left ≡ handles)
 ShutsIfDue due log handles (rest.Shut items) new left =
-    (due ≡ true) × (items ≡ handles.items) × (new.entries ≡ log.entries ++ Shut items ∷ []) × (new.spare + 1 ≡ log.spare)
+    (due ≡ true) × (items ≡ handles.items) × Came log (Shut items) new × (new.spare + 1 ≡ log.spare)
     × (left ≡ record { home = handles.home; items = []; room = 0 })

@@ -2,6 +2,7 @@
 ghost use Rattle.std.specs.Prelude.{◌≡◌, ◌+◌, ◌<◌, ◌≤◌, ◌^◌, true, length, filter, OnErr, OnOk};
 ghost use Rattle.handle_model.specs.Slots.{opens};
 ghost use Rattle.handle_model.specs.Journal as spec;
+ghost use Rattle.group_core.specs.Kept.{Same};
 
 use crate::answer::AcceptRefusal;
 use crate::counts::accept_limit;
@@ -20,7 +21,7 @@ impl Group {
     /// may issue a handle get their serials, which count from 1 over the group. There is then room for
     /// all that the call may still bring. What is refused comes back as it was.
     pub fn accept(&mut self, asked: Asked) -> Result<u32, (Asked, AcceptRefusal)>
-        requires open { spec.is_open self.old.past asked.conn ≡ true }
+        requires open { spec.is_open self.old asked.conn ≡ true }
         requires few { length asked.slots ≤ 4 }
         ensures { Accepts self.old asked result self.new }
     {
@@ -41,7 +42,8 @@ impl Group {
         self.counts.accepted += 1;
         self.counts.opened += opens as u32;
         let call = self.counts.accepted;
-        self.calls.accept(call, asked.conn, &asked.slots);
+        let place = self.log.journal().size();
+        self.calls.accept(call, asked.conn, &asked.slots, place);
         self.log.enter(call, asked);
         Ok(call)
     }
@@ -54,7 +56,7 @@ fn make_room(
     calls: &mut CallTable,
     openings: usize,
 ) -> Result<(), NoMemory>
-    ensures entries { log.new.entries ≡ log.old.entries }
+    ensures entries { Same log.old log.new }
     ensures items { (handles.new.home ≡ handles.old.home) × (handles.new.items ≡ handles.old.items) }
     ensures rows { calls.new.rows ≡ calls.old.rows }
     ensures kept { handles.old.room ≤ handles.new.room }

@@ -19,8 +19,8 @@ impl Group {
 
     /// Ends a running call, and the group where that is then due. It takes no memory.
     pub fn end(&mut self, call: u32, results: Outcomes, said: Said) -> Rest
-        requires runs { spec.runs self.old.past call ≡ true }
-        requires suit { spec.suit (spec.slots self.old.past call) results ≡ true }
+        requires runs { spec.runs self.old call ≡ true }
+        requires suit { spec.suit (spec.slots self.old call) results ≡ true }
         ensures { Ends self.old call results said result self.new }
     {
         let freed = settle(&mut self.handles, &mut self.calls, call, results.as_slice());
@@ -36,7 +36,7 @@ impl Group {
 
     /// A connection leaves, and the group ends where that is then due. It takes no memory.
     pub fn leave(&mut self, conn: u32) -> Rest
-        requires { spec.is_open self.old.past conn ≡ true }
+        requires { spec.is_open self.old conn ≡ true }
         ensures { Leaves self.old conn result self.new }
     {
         let freed = self.calls.leave(conn);

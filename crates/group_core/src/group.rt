@@ -2,7 +2,8 @@
 ghost use Rattle.std.specs.Prelude.{◌≡◌, ◌||◌, [], true, false, reverse, IfOk};
 ghost use Rattle.std.specs.List.{list_any};
 ghost use Rattle.handle_model.specs.Journal as journal;
-ghost use Rattle.handle_model.specs.History.{IsSound};
+ghost use Rattle.handle_model.specs.Bases.{empty_base};
+ghost use Rattle.handle_model.specs.History.{IsSound, since};
 ghost use Rattle.group_core.specs.Stages as stages;
 
 use crate::answer::{Cancelled, JoinRefusal, Orphaned, Stage, Taking};
@@ -31,12 +32,12 @@ pub struct Group {
 }
 
 impl Model for Group {
-    ghost use Rattle.handle_model.specs.History.{History, history_of};
-    ghost use Rattle.group_core.specs.Kept.{IsKept};
+    ghost use Rattle.handle_model.specs.History.{History};
+    ghost use Rattle.group_core.specs.Kept.{IsKept, logged};
 
     ghost Value = { History };
 
-    ghost view = { λ g. history_of g.home g.log.entries };
+    ghost view = { λ g. logged g.home g.log };
 
     ghost invariant = { λ g. IsKept g.home g.log g.handles g.calls g.counts };
 }
@@ -47,7 +48,7 @@ impl Group {
 
     /// A group without a connection: the boot word of its server, and its id.
     pub fn begin(alloc: Global, boot: u64, id: u32) -> Result<Group, NoMemory>
-        ensures { IfOk result (λ group. group ≡ record { home = record { boot = boot; group = id }; past = [] }) }
+        ensures { IfOk result (λ group. group ≡ since (record { boot = boot; group = id }) empty_base []) }
     {
         let home = Home { boot, group: id };
         let mut log = Log::new(alloc);
@@ -84,8 +85,9 @@ impl Group {
         }
     }
 
-    /// The entries, oldest first: a legal journal, at whose end no Shut is due.
+    /// What it goes on from, and the entries, oldest first: a legal journal, at whose end no Shut is due.
     pub fn journal(&self) -> &Journal
+        ensures base { result.now.base ≡ self.now.base }
         ensures past { reverse result.now.entries ≡ self.now.past }
         ensures sound { IsSound self.now }
     {
@@ -173,15 +175,15 @@ impl Group {
 
     /// Where a call is. It takes no memory.
     pub fn stage(&self, call: u32) -> Stage
-        ensures { result ≡ stages.stage_of self.now.past call }
+        ensures { result ≡ stages.stage_of self.now call }
     {
         stage_of(&self.calls, call)
     }
 
     /// The slots of a call that waits or runs. It takes no memory.
     pub fn slots(&self, call: u32) -> &[Slot]
-        requires { (journal.waits self.now.past call || journal.runs self.now.past call) ≡ true }
-        ensures { result.now ≡ journal.slots self.now.past call }
+        requires { (journal.waits self.now call || journal.runs self.now call) ≡ true }
+        ensures { result.now ≡ journal.slots self.now call }
     {
         match self.calls.row(call) {
             Some(row) => row.slots.as_slice(),
@@ -191,7 +193,7 @@ impl Group {
 
     /// Whether a call was cancelled after it was taken. It takes no memory.
     pub fn asked(&self, call: u32) -> bool
-        ensures { result ≡ stages.is_asked self.now.past call }
+        ensures { result ≡ stages.is_asked self.now call }
     {
         self.log.asked(call)
     }

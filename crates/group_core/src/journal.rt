@@ -1,16 +1,19 @@
 //! The entries of a group.
 ghost use Rattle.std.specs.Prelude.{◌≡◌, ◌+◌, ◌++◌, ◌≤◌, ◌==◌, [], ◌∷◌, length, slice_get, IfOk, OnOk, OnErr};
 ghost use Rattle.std.specs.Option.{option_copied};
+ghost use Rattle.handle_model.specs.Bases.{empty_base};
+ghost use Rattle.group_core.specs.Kept.{Came, Same};
 
-use handle_model::Entry;
+use handle_model::{Base, Entry};
 use rpc_base::NoMemory;
 use std::alloc::Global;
 use std::marker::Model;
 
-/// The entries of a group, oldest first: its journal. Contracts see their list, and for how many more
-/// there is room.
+/// The journal of a group: what it goes on from, and its entries, oldest first. Contracts see both, and
+/// for how many more there is room.
 #[derive(Drop)]
 pub struct Journal {
+    base: Base,
     entries: Vec<Entry>,
     spare: usize,
 }
@@ -21,27 +24,42 @@ impl Model for Journal {
 
     ghost Value = { Logged };
 
-    ghost view = { λ j. record { entries = j.entries.items; spare = j.spare } };
+    ghost view = { λ j. record { base = j.base; entries = j.entries.items; spare = j.spare } };
 
     ghost invariant = { λ j. vec_len j.entries + j.spare ≤ vec_capacity j.entries };
 }
 
 impl Journal {
-    /// No entry, and no room. It takes no memory.
+    /// No entry before and none since, and no room. It takes no memory.
     pub fn new(alloc: Global) -> Journal
-        ensures { result ≡ record { entries = []; spare = 0 } }
+        ensures { result ≡ record { base = empty_base; entries = []; spare = 0 } }
     {
         Journal {
+            base: Base::empty(alloc),
             entries: Vec::new(alloc),
             spare: 0,
         }
     }
 
-    /// How many entries there are.
+    /// What is left of the entries before these.
+    pub fn base(&self) -> &Base
+        ensures { result.now ≡ self.now.base }
+    {
+        &self.base
+    }
+
+    /// How many entries there are, those of the base apart.
     pub fn len(&self) -> usize
         ensures { result ≡ length self.now.entries }
     {
         self.entries.len()
+    }
+
+    /// How many entries there ever were.
+    pub fn size(&self) -> u128
+        ensures { result ≡ self.now.base.count + length self.now.entries }
+    {
+        u128::from(count_before(&self.base)) + self.entries.len() as u128
     }
 
     /// Whether there is none.
@@ -67,15 +85,20 @@ impl Journal {
 
     /// An equal journal. For no further entry there is room.
     pub fn copy(&self, alloc: Global) -> Result<Journal, NoMemory>
-        ensures { IfOk result (λ copy. copy.entries ≡ self.now.entries) }
+        ensures { IfOk result (λ copy. (copy.base ≡ self.now.base) × (copy.entries ≡ self.now.entries)) }
     {
-        let mut copy = Journal::new(alloc);
+        let mut copy = Journal {
+            base: self.base.copy(alloc)?,
+            entries: Vec::new(alloc),
+            spare: 0,
+        };
         put_copies(alloc, self.entries.as_slice(), &mut copy)?;
         Ok(copy)
     }
 
     /// Adds an entry, in memory of its own: the room stays.
     pub fn push(&mut self, entry: Entry) -> Result<(), NoMemory>
+        ensures base { self.new.base ≡ self.old.base }
         ensures ok { OnOk result (self.new.entries ≡ self.old.entries ++ entry ∷ []) }
         ensures err { OnErr result (self.new.entries ≡ self.old.entries) }
         ensures room { self.new.spare ≡ self.old.spare }
@@ -94,7 +117,7 @@ impl Journal {
 
     /// Makes room for so many more.
     pub(crate) fn reserve(&mut self, more: usize) -> Result<(), NoMemory>
-        ensures entries { self.new.entries ≡ self.old.entries }
+        ensures entries { Same self.old self.new }
         ensures ok { OnOk result (self.new.spare ≡ self.old.spare + more) }
         ensures err { OnErr result (self.new.spare ≡ self.old.spare) }
     {
@@ -109,7 +132,7 @@ impl Journal {
     /// Adds an entry for which there is room, and gives up the room for so many more.
     pub(crate) fn add(&mut self, entry: Entry, freed: usize)
         requires { freed + 1 ≤ self.old.spare }
-        ensures entries { self.new.entries ≡ self.old.entries ++ entry ∷ [] }
+        ensures entries { Came self.old entry self.new }
         ensures spare { self.new.spare + freed + 1 ≡ self.old.spare }
     {
         self.spare = self.spare - freed - 1;
@@ -117,10 +140,17 @@ impl Journal {
     }
 }
 
+fn count_before(base: &Base) -> u64
+    ensures { result ≡ base.now.count }
+{
+    base.count
+}
+
 /// Adds equal entries.
 #[tactic(auto, using(handle_model::proofs::Rest::resting))]
 fn put_copies(alloc: Global, entries: &[Entry], into: &mut Journal) -> Result<(), NoMemory>
-    ensures { OnOk result (into.new.entries ≡ into.old.entries ++ entries.now) }
+    ensures base { into.new.base ≡ into.old.base }
+    ensures entries { OnOk result (into.new.entries ≡ into.old.entries ++ entries.now) }
 {
     for entry in entries {
         into.push(entry.copy(alloc)?)?;

@@ -9,7 +9,7 @@ use Rattle.handle_model.specs.declared.entry.Said.TheVariants.{Out}
 use Rattle.handle_model.specs.declared.entry.Entry.{Entry}
 use Rattle.handle_model.specs.declared.entry.Entry.TheVariants.{Accept, Take, End}
 use Rattle.handle_model.specs.declared.entry.Entry.TheVariants as entry
-use Rattle.handle_model.specs.Journal.{accepted, runs, slots, suit, cookies_for, due, due_items}
+use Rattle.handle_model.specs.Journal.{accept_count, runs, slots, suit, cookies_for, due, due_items}
 use Rattle.handle_model.specs.History.{History, with_entry}
 use Rattle.group_core.specs.Adds.{Adds}
 use Rattle.group_core.specs.Calls.{Accepts, Takes, numbered}
@@ -32,12 +32,12 @@ Stops old k (NotTaken taking) new = Takes old k taking new
 Stops old k _ new = ⊥
 
 -- a call that runs, with results that suit its slots
-abbrev pub may_end : List Entry → ℕ → List Outcome → Bool
-may_end past k results = runs past k && suit (slots past k) results
+abbrev pub may_end : History → ℕ → List Outcome → Bool
+may_end j k results = runs j k && suit (slots j k) results
 
 -- the Take of a call, with the cookies of its slots
 abbrev pub take_of : History → ℕ → Entry
-take_of h k = Take k (cookies_for h.home h.past (slots h.past k))
+take_of h k = Take k (cookies_for h (slots h k))
 
 -- its End, at which the stub answered is empty
 abbrev pub end_of : ℕ → Option Outcome → Entry
@@ -46,19 +46,19 @@ end_of k outcome = End k (option_to_list outcome) (Out [])
 -- nothing came of an end, or the group ends with it
 abbrev pub Remains : History → ℕ → Option Outcome → Halt → History → Type 0
 Remains old k outcome Memory new = Adds old [] new
-Remains old k outcome Unfit new = (may_end old.past k (option_to_list outcome) ≡ false) × Adds old [] new
+Remains old k outcome Unfit new = (may_end old k (option_to_list outcome) ≡ false) × Adds old [] new
 Remains old k outcome Shut new =
-    (due (end_of k outcome ∷ old.past) ≡ true)
-    × Adds old (entry.Shut (due_items old.home (end_of k outcome ∷ old.past)) ∷ end_of k outcome ∷ []) new
+    (due (with_entry old (end_of k outcome)) ≡ true)
+    × Adds old (entry.Shut (due_items (with_entry old (end_of k outcome))) ∷ end_of k outcome ∷ []) new
 Remains old k outcome _ new = ⊥
 
 -- the number of the next call
 abbrev pub next : History → ℕ
-next h = length (accepted h.past) + 1
+next h = accept_count h + 1
 
 -- the history in which it is accepted
 abbrev pub with_call : History → Option Slot → History
-with_call h slot = with_entry h (Accept (next h) (numbered h.past (asked_of slot)))
+with_call h slot = with_entry h (Accept (next h) (numbered h (asked_of slot)))
 
 -- in which it is taken too
 abbrev pub with_take : History → Option Slot → History

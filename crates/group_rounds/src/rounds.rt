@@ -1,6 +1,8 @@
 //! What one call takes: it is accepted, taken and ended.
 ghost use Rattle.std.specs.Prelude.{◌≡◌, ◌+◌, ◌*◌, ◌≤◌, true, [], ◌∷◌, length, Ok, IfOk, OnOk, MatchResult};
 ghost use Rattle.std.specs.Option.{option_to_list};
+ghost use Rattle.handle_model.specs.Bases.{empty_base};
+ghost use Rattle.handle_model.specs.History.{since};
 ghost use Rattle.handle_model.specs.Journal as spec;
 ghost use Rattle.handle_model.specs.declared.entry.Entry.TheVariants.{Join};
 ghost use Rattle.group_core.specs.Adds.{Adds};
@@ -9,7 +11,7 @@ ghost use Rattle.group_rounds.specs.Rounds as rounds;
 
 use group_core::{AcceptRefusal, Group, JoinRefusal, Rest, Stage, Taking};
 use handle_model::{Asked, DueItem, DueList, Home, Outcome, Outcomes, Rundown, Said, Slot};
-use handle_rules::{slots, suit};
+use handle_rules::suit;
 use rpc_base::{Items, NoMemory, Octets, Order};
 use std::alloc::Global;
 
@@ -43,8 +45,8 @@ impl From<NoMemory> for Halt {
 
 /// A group that its first connection has joined.
 pub fn begin(alloc: Global, home: Home) -> Result<Group, Halt>
-    ensures open { IfOk result (λ group. spec.is_open group.past 1 ≡ true) }
-    ensures whole { IfOk result (λ group. group ≡ record { home = home; past = Join 1 ∷ [] }) }
+    ensures open { IfOk result (λ group. spec.is_open group 1 ≡ true) }
+    ensures whole { IfOk result (λ group. group ≡ since home empty_base (Join 1 ∷ [])) }
 {
     let mut group = Group::begin(alloc, home.boot, home.group)?;
     match group.join() {
@@ -76,8 +78,8 @@ pub fn request(alloc: Global, slot: Option<Slot>) -> Result<Asked, NoMemory>
 
 /// Accepts a call with up to one slot, and gives its number.
 pub fn accept(alloc: Global, group: &mut Group, slot: Option<Slot>) -> Result<u32, Halt>
-    requires { spec.is_open group.old.past 1 ≡ true }
-    ensures open { spec.is_open group.new.past 1 ≡ true }
+    requires { spec.is_open group.old 1 ≡ true }
+    ensures open { spec.is_open group.new 1 ≡ true }
     ensures adds { MatchResult result (λ call. Accepts group.old (rounds.asked_of slot) (Ok call) group.new) (λ halt. rounds.Refuses group.old slot halt group.new) }
 {
     let asked = request(alloc, slot)?;
@@ -89,8 +91,8 @@ pub fn accept(alloc: Global, group: &mut Group, slot: Option<Slot>) -> Result<u3
 
 /// Takes a call.
 pub fn start(group: &mut Group, call: u32) -> Result<(), Halt>
-    requires { spec.is_open group.old.past 1 ≡ true }
-    ensures open { spec.is_open group.new.past 1 ≡ true }
+    requires { spec.is_open group.old 1 ≡ true }
+    ensures open { spec.is_open group.new 1 ≡ true }
     ensures adds { MatchResult result (λ _. Adds group.old (rounds.take_of group.old call ∷ []) group.new) (λ halt. rounds.Stops group.old call halt group.new) }
 {
     match group.take(call) {
@@ -131,12 +133,12 @@ fn listed(alloc: Global, outcome: Option<Outcome>) -> Result<Outcomes, NoMemory>
 }
 
 /// Whether the call runs, and the results suit its slots.
-#[tactic(auto, using(call_table::proofs::Steps::waits_idle))]
+#[tactic(auto, using(call_table::proofs::Calls::waits_idle))]
 fn may_end(group: &Group, call: u32, results: &[Outcome]) -> bool
-    ensures { result ≡ rounds.may_end group.now.past call results.now }
+    ensures { result ≡ rounds.may_end group.now call results.now }
 {
     match group.stage(call) {
-        Stage::Running => suit(slots(group.journal().as_slice(), call), results),
+        Stage::Running => suit(group.slots(call), results),
         Stage::Waiting | Stage::Over => false,
     }
 }
@@ -148,8 +150,8 @@ pub fn end(
     call: u32,
     outcome: Option<Outcome>,
 ) -> Result<(), Halt>
-    requires { spec.is_open group.old.past 1 ≡ true }
-    ensures open { spec.is_open group.new.past 1 ≡ true }
+    requires { spec.is_open group.old 1 ≡ true }
+    ensures open { spec.is_open group.new 1 ≡ true }
     ensures adds { MatchResult result (λ _. Adds group.old (rounds.end_of call outcome ∷ []) group.new) (λ halt. rounds.Remains group.old call outcome halt group.new) }
 {
     let results = listed(alloc, outcome)?;
@@ -172,8 +174,8 @@ pub fn round(
     slot: Option<Slot>,
     outcome: Option<Outcome>,
 ) -> Result<(), Halt>
-    requires { spec.is_open group.old.past 1 ≡ true }
-    ensures open { spec.is_open group.new.past 1 ≡ true }
+    requires { spec.is_open group.old 1 ≡ true }
+    ensures open { spec.is_open group.new 1 ≡ true }
     ensures adds { OnOk result (rounds.Rounds group.old slot outcome group.new) }
 {
     let call = accept(alloc, group, slot)?;
@@ -183,10 +185,10 @@ pub fn round(
 
 /// As many calls as there are serials from the first to the last issue a handle each.
 pub fn issue(alloc: Global, group: &mut Group, count: u32) -> Result<(), Halt>
-    requires { spec.is_open group.old.past 1 ≡ true }
-    ensures open { spec.is_open group.new.past 1 ≡ true }
+    requires { spec.is_open group.old 1 ≡ true }
+    ensures open { spec.is_open group.new 1 ≡ true }
     ensures entries { OnOk result (length group.new.past ≡ length group.old.past + 3 * count) }
-    ensures serials { OnOk result (spec.opened group.new.past ≡ spec.opened group.old.past + count) }
+    ensures serials { OnOk result (spec.opened group.new ≡ spec.opened group.old + count) }
 {
     for before in 0..count {
         let serial = before.saturating_add(1);

@@ -1,5 +1,13 @@
 pub mod Slots
+pub mod Since
+pub mod Entries
+pub mod Bases
+pub mod Calls
+pub mod Handles
+pub mod Sound
+pub mod Rules
 pub mod Journal
 pub mod History
+pub mod Folds
 pub mod Limits
 pub mod Replies

@@ -1,14 +1,14 @@
 -- When a group takes no further connection, and no further call.
 use Rattle.std.specs.Prelude.{ℕ, ◌+◌, ◌^◌, Bool, ◌||◌, nat_le, nat_lt, Option, Some, None, if◌then◌else◌, List, [], ◌∷◌, length, filter}
-use Rattle.handle_model.specs.declared.entry.Home.{Home}
 use Rattle.handle_model.specs.declared.entry.Slot.{Slot}
-use Rattle.handle_model.specs.declared.entry.Entry.{Entry}
 use Rattle.handle_model.specs.declared.limits.AcceptLimit.{AcceptLimit}
 use Rattle.handle_model.specs.declared.limits.AcceptLimit.TheVariants as accept
 use Rattle.handle_model.specs.declared.limits.JoinLimit.{JoinLimit}
 use Rattle.handle_model.specs.declared.limits.JoinLimit.TheVariants as join
 use Rattle.handle_model.specs.Slots.{opens}
-use Rattle.handle_model.specs.Journal.{joined, conns, accepted, slots, waiting, running, opened, live}
+use Rattle.handle_model.specs.Since.{History}
+use Rattle.handle_model.specs.Calls.{join_count, conns, accept_count, slots, waiting, running}
+use Rattle.handle_model.specs.Handles.{opened, live}
 
 -- why a further connection is not taken: so many are open, and this would be its number
 abbrev pub join_limit_at : ℕ → ℕ → Option JoinLimit
@@ -27,17 +27,17 @@ accept_limit_at calls handles number last =
 
 -- IN A JOURNAL
 
-abbrev pub join_limit : List Entry → Option JoinLimit
-join_limit past = join_limit_at (length (conns past)) (length (joined past) + 1)
+abbrev pub join_limit : History → Option JoinLimit
+join_limit j = join_limit_at (length (conns j)) (join_count j + 1)
 
 -- how many handles these calls may issue
-abbrev pub openings : List Entry → List ℕ → ℕ
-openings past [] = 0
-openings past (k ∷ ks) = length (filter opens (slots past k)) + openings past ks
+abbrev pub openings : History → List ℕ → ℕ
+openings j [] = 0
+openings j (k ∷ ks) = length (filter opens (slots j k)) + openings j ks
 
 -- for a call with these slots
-abbrev pub accept_limit : Home → List Entry → List Slot → Option AcceptLimit
-accept_limit home past new =
-    accept_limit_at (length (waiting past) + length (running past))
-    (length (live home past) + openings past (waiting past) + openings past (running past) + length (filter opens new))
-    (length (accepted past) + 1) (opened past + length (filter opens new))
+abbrev pub accept_limit : History → List Slot → Option AcceptLimit
+accept_limit j new =
+    accept_limit_at (length (waiting j) + length (running j))
+    (length (live j) + openings j (waiting j) + openings j (running j) + length (filter opens new))
+    (accept_count j + 1) (opened j + length (filter opens new))

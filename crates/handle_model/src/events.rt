@@ -97,6 +97,20 @@ impl Entry {
         matches!(self, Entry::Shut { .. })
     }
 
+    /// Whether it is a Join.
+    pub fn is_join(&self) -> bool
+        ensures { result ≡ spec.is_join self.now }
+    {
+        matches!(self, Entry::Join { .. })
+    }
+
+    /// Whether it is an Accept.
+    pub fn is_accept(&self) -> bool
+        ensures { result ≡ spec.is_accept self.now }
+    {
+        matches!(self, Entry::Accept { .. })
+    }
+
     /// The connection that joins by it.
     pub fn joined(&self) -> Option<u32>
         ensures { result ≡ spec.joined_in self.now }

@@ -2,6 +2,7 @@
 //! (`specs/`), and what each legal journal keeps.
 #![tactic(auto)]
 
+mod base;
 mod due;
 mod entry;
 mod events;
@@ -9,6 +10,7 @@ mod limits;
 mod reply;
 mod slots;
 
+pub use base::{Base, BaseCall, BaseCalls, Conns};
 pub use due::{Due, DueList, Rundown};
 pub use entry::{
     Asked, CookieRow, Cookies, DueItem, DueItems, Entry, Home, Outcome, Outcomes, Said, Slot, Slots,

@@ -1,4 +1,6 @@
-pub mod Counts
+pub mod Based
+pub mod Few
 pub mod Halves
 pub mod Numbered
 pub mod Sets
+pub mod Since

@@ -1,9 +1,12 @@
-//! What the entries say of handles. They come oldest first.
+//! What a journal says of handles.
 ghost use Rattle.std.specs.Prelude.{◌≡◌, reverse, Some, None};
 ghost use Rattle.std.specs.List.{list_any};
 ghost use Rattle.handle_model.specs.Journal as spec;
+ghost use Rattle.handle_rules.specs.Told.{told};
 
+use crate::base::{cookie_before, has_item, kind_before, named_before};
 use crate::calls::{newest, slots};
+use crate::record::Record;
 use handle_model::{Entry, Home, Outcome, Slot};
 use rpc_base::WireHandle;
 
@@ -47,30 +50,39 @@ fn issuer_kind(serial: u32, slots: &[Slot], results: &[Outcome]) -> Option<u32>
     }
 }
 
-fn closes_in(home: Home, before: &[Entry], entry: &Entry, serial: u32) -> bool
-    ensures { result ≡ spec.closes_in home (reverse before.now) entry.now serial }
+fn closes_in(before: Record<'_>, entry: &Entry, serial: u32) -> bool
+    ensures { result ≡ spec.closes_in (told before.entry) entry.now serial }
 {
     match entry {
         Entry::End { call, results, .. } => {
-            any_closes(home.wire(serial), slots(before, *call), results.as_slice())
+            any_closes(
+                before.home.wire(serial),
+                slots(before, *call),
+                results.as_slice(),
+            )
         }
         _ => false,
     }
 }
 
-fn cookie_in(home: Home, before: &[Entry], entry: &Entry, serial: u32) -> Option<u64>
-    ensures { result ≡ spec.cookie_in home (reverse before.now) entry.now serial }
+fn cookie_in(before: Record<'_>, entry: &Entry, serial: u32) -> Option<u64>
+    ensures { result ≡ spec.cookie_in (told before.entry) entry.now serial }
 {
     match entry {
         Entry::End { call, results, .. } => {
-            first_given(home, serial, slots(before, *call), results.as_slice())
+            first_given(
+                before.home,
+                serial,
+                slots(before, *call),
+                results.as_slice(),
+            )
         }
         _ => None,
     }
 }
 
-fn kind_in(before: &[Entry], entry: &Entry, serial: u32) -> Option<u32>
-    ensures { result ≡ spec.kind_in (reverse before.now) entry.now serial }
+fn kind_in(before: Record<'_>, entry: &Entry, serial: u32) -> Option<u32>
+    ensures { result ≡ spec.kind_in (told before.entry) entry.now serial }
 {
     match entry {
         Entry::End { call, results, .. } => {
@@ -94,19 +106,19 @@ fn any_runs_down(entries: &[Entry], serial: u32) -> bool
 
 /// Whether the handle of that serial was issued.
 #[tactic(auto, using(crate::proofs::Sets::reversed))]
-pub fn is_issued(entries: &[Entry], serial: u32) -> bool
-    ensures { result ≡ spec.is_issued (reverse entries.now) serial }
+pub fn is_issued(journal: Record<'_>, serial: u32) -> bool
+    ensures { result ≡ spec.is_issued (told journal.entry) serial }
 {
-    any_issues(entries, serial)
+    any_issues(journal.entries, serial) || has_item(journal.base, serial)
 }
 
 /// Whether the handle of that serial was closed.
-pub fn is_closed(home: Home, entries: &[Entry], serial: u32) -> bool
-    ensures { result ≡ spec.is_closed home (reverse entries.now) serial }
+pub fn is_closed(journal: Record<'_>, serial: u32) -> bool
+    ensures { result ≡ spec.is_closed (told journal.entry) serial }
 {
-    let mut rest = entries;
+    let mut rest = journal.entries;
     while let Some((entry, before)) = newest(rest) {
-        if closes_in(home, before, entry, serial) {
+        if closes_in(journal.at(before), entry, serial) {
             return true;
         }
         rest = before;
@@ -116,42 +128,42 @@ pub fn is_closed(home: Home, entries: &[Entry], serial: u32) -> bool
 
 /// Whether the handle of that serial was issued, and neither closed nor run down.
 #[tactic(auto, using(crate::proofs::Sets::reversed))]
-pub fn is_live(home: Home, entries: &[Entry], serial: u32) -> bool
-    ensures { result ≡ spec.is_live home (reverse entries.now) serial }
+pub fn is_live(journal: Record<'_>, serial: u32) -> bool
+    ensures { result ≡ spec.is_live (told journal.entry) serial }
 {
-    is_issued(entries, serial)
-        && !is_closed(home, entries, serial)
-        && !any_runs_down(entries, serial)
+    is_issued(journal, serial)
+        && !is_closed(journal, serial)
+        && !any_runs_down(journal.entries, serial)
 }
 
 /// The kind of the handle of that serial: that of the slot that issued it.
-pub fn kind(entries: &[Entry], serial: u32) -> Option<u32>
-    ensures { result ≡ spec.kind (reverse entries.now) serial }
+pub fn kind(journal: Record<'_>, serial: u32) -> Option<u32>
+    ensures { result ≡ spec.kind (told journal.entry) serial }
 {
-    let mut rest = entries;
+    let mut rest = journal.entries;
     while let Some((entry, before)) = newest(rest) {
-        let found = kind_in(before, entry, serial);
+        let found = kind_in(journal.at(before), entry, serial);
         if found.is_some() {
             return found;
         }
         rest = before;
     }
-    None
+    kind_before(journal.base, serial)
 }
 
 /// The cookie of the handle of that serial: that of the last end that issued or kept it.
-pub fn cookie(home: Home, entries: &[Entry], serial: u32) -> Option<u64>
-    ensures { result ≡ spec.cookie home (reverse entries.now) serial }
+pub fn cookie(journal: Record<'_>, serial: u32) -> Option<u64>
+    ensures { result ≡ spec.cookie (told journal.entry) serial }
 {
-    let mut rest = entries;
+    let mut rest = journal.entries;
     while let Some((entry, before)) = newest(rest) {
-        let found = cookie_in(home, before, entry, serial);
+        let found = cookie_in(journal.at(before), entry, serial);
         if found.is_some() {
             return found;
         }
         rest = before;
     }
-    None
+    cookie_before(journal.base, serial)
 }
 
 fn named_by(home: Home, slot: &Slot, outcome: &Outcome) -> Option<u32>
@@ -185,53 +197,53 @@ fn serial_in(home: Home, entry: &Entry, slot: &Slot) -> Option<u32>
 }
 
 /// The serial of the issued handle that a slot names.
-pub fn serial_named(home: Home, entries: &[Entry], slot: &Slot) -> Option<u32>
-    ensures { result ≡ spec.serial_named home (reverse entries.now) slot.now }
+pub fn serial_named(journal: Record<'_>, slot: &Slot) -> Option<u32>
+    ensures { result ≡ spec.serial_named (told journal.entry) slot.now }
 {
-    let mut rest = entries;
+    let mut rest = journal.entries;
     while let Some((entry, before)) = newest(rest) {
-        let found = serial_in(home, entry, slot);
+        let found = serial_in(journal.home, entry, slot);
         if found.is_some() {
             return found;
         }
         rest = before;
     }
-    None
+    named_before(journal.home, journal.base, slot)
 }
 
-fn has_kind(entries: &[Entry], serial: u32, wanted: u32) -> bool
-    ensures { result ≡ spec.is_kind (spec.kind (reverse entries.now) serial) wanted }
+fn has_kind(journal: Record<'_>, serial: u32, wanted: u32) -> bool
+    ensures { result ≡ spec.is_kind (spec.kind (told journal.entry) serial) wanted }
 {
-    match kind(entries, serial) {
+    match kind(journal, serial) {
         None => false,
         Some(kind) => kind == wanted,
     }
 }
 
 /// Whether a slot names a live handle of its kind.
-pub fn is_usable(home: Home, entries: &[Entry], slot: &Slot) -> bool
-    ensures { result ≡ spec.is_usable home (reverse entries.now) slot.now }
+pub fn is_usable(journal: Record<'_>, slot: &Slot) -> bool
+    ensures { result ≡ spec.is_usable (told journal.entry) slot.now }
 {
-    match serial_named(home, entries, slot) {
+    match serial_named(journal, slot) {
         None => false,
-        Some(serial) => { is_live(home, entries, serial) && has_kind(entries, serial, slot.kind()) }
+        Some(serial) => is_live(journal, serial) && has_kind(journal, serial, slot.kind()),
     }
 }
 
 /// Whether the slot is at fault, after the earlier slots of its call.
-fn is_at_fault(home: Home, entries: &[Entry], earlier: &[Slot], all: &[Slot], slot: &Slot) -> bool
-    ensures { result ≡ spec.is_at_fault home (reverse entries.now) earlier.now all.now slot.now }
+fn is_at_fault(journal: Record<'_>, earlier: &[Slot], all: &[Slot], slot: &Slot) -> bool
+    ensures { result ≡ spec.is_at_fault (told journal.entry) earlier.now all.now slot.now }
 {
-    slot.named().is_some() && (!is_usable(home, entries, slot) || slot.repeats(earlier, all))
+    slot.named().is_some() && (!is_usable(journal, slot) || slot.repeats(earlier, all))
 }
 
 /// The first slot of a call that is at fault, by its index from 0.
-pub fn fault(home: Home, entries: &[Entry], call: u32) -> Option<usize>
-    ensures { result ≡ spec.fault home (reverse entries.now) call }
+pub fn fault(journal: Record<'_>, call: u32) -> Option<usize>
+    ensures { result ≡ spec.fault (told journal.entry) call }
 {
-    let all = slots(entries, call);
+    let all = slots(journal, call);
     for i in 0..all.len() {
-        if is_at_fault(home, entries, &all[..i], all, &all[i]) {
+        if is_at_fault(journal, &all[..i], all, &all[i]) {
             return Some(i);
         }
     }
@@ -239,11 +251,11 @@ pub fn fault(home: Home, entries: &[Entry], call: u32) -> Option<usize>
 }
 
 /// The cookie that a call is given for a slot.
-pub fn cookie_for(home: Home, entries: &[Entry], slot: &Slot) -> Option<u64>
-    ensures { result ≡ spec.cookie_for home (reverse entries.now) slot.now }
+pub fn cookie_for(journal: Record<'_>, slot: &Slot) -> Option<u64>
+    ensures { result ≡ spec.cookie_for (told journal.entry) slot.now }
 {
-    match serial_named(home, entries, slot) {
+    match serial_named(journal, slot) {
         None => None,
-        Some(serial) => cookie(home, entries, serial),
+        Some(serial) => cookie(journal, serial),
     }
 }

@@ -1,77 +1,62 @@
-//! When a group takes no further connection, and no further call. The entries come oldest first.
+//! When a group takes no further connection, and no further call.
 ghost use Rattle.std.specs.Prelude.{◌≡◌, ◌+◌, ◌<◌, ◌≤◌, ◌^◌, ◌*◌, nat_lt, reverse, length, filter};
 ghost use Rattle.handle_model.specs.Slots.{opens};
-ghost use Rattle.handle_model.specs.Journal as journal;
+ghost use Rattle.handle_model.specs.Journal as calls;
+ghost use Rattle.handle_model.specs.Bases.{numbers_of, taken_calls};
+ghost use Rattle.handle_rules.specs.Told.{told};
 ghost use Rattle.handle_model.specs.Limits as spec;
 
-use crate::calls::{is_open_at, runs_at, slots, waits_at};
+use crate::calls::{runs, runs_at, slots, waits, waits_at};
+use crate::counts::{accept_count, join_count, open_count, opened, running_count, waiting_count};
 use crate::handles::is_live;
-use crate::rules::{accepted_count, joined_count, opened};
-use handle_model::{AcceptLimit, Entry, Home, JoinLimit, MOST_HANDLES, Slot, count_opens};
+use crate::record::Record;
+use handle_model::{AcceptLimit, JoinLimit, MOST_HANDLES, Slot, count_opens};
 
-/// How many connections are open.
-#[tactic(auto, using(crate::proofs::Sets::growing))]
-pub fn open_count(entries: &[Entry]) -> usize
-    ensures bound { result ≤ length entries.now }
-    ensures count { result ≡ length (journal.conns (reverse entries.now)) }
+/// How many handles the base's waiting calls may issue.
+#[tactic(auto, using(crate::proofs::Sets::calling))]
+fn waiting_openings_before(journal: Record<'_>) -> u128
+    ensures bound { result ≤ 2 ^ 64 * 2 ^ 63 }
+    ensures sum { result ≡ spec.openings (told journal.entry) (filter (calls.waits (told journal.entry)) (reverse (numbers_of journal.entry.base.now.calls))) }
 {
-    let mut count = 0usize;
-    for (at, entry) in entries.iter().enumerate() {
-        if let Some(conn) = entry.joined()
-            && is_open_at(entries, at, conn)
-        {
-            count += 1;
+    let mut sum = 0u128;
+    let calls = journal.base.calls.as_slice();
+    for c in calls {
+        if waits(journal, c.call) {
+            sum += count_opens(slots(journal, c.call)) as u128;
         }
     }
-    count
-}
-
-/// How many calls wait.
-#[tactic(auto, using(crate::proofs::Sets::growing))]
-pub fn waiting_count(entries: &[Entry]) -> usize
-    ensures bound { result ≤ length entries.now }
-    ensures count { result ≡ length (journal.waiting (reverse entries.now)) }
-{
-    let mut count = 0usize;
-    for (at, entry) in entries.iter().enumerate() {
-        if let Some(call) = entry.accepted()
-            && waits_at(entries, at, call)
-        {
-            count += 1;
-        }
-    }
-    count
-}
-
-/// How many calls run.
-#[tactic(auto, using(crate::proofs::Sets::growing))]
-pub fn running_count(entries: &[Entry]) -> usize
-    ensures bound { result ≤ length entries.now }
-    ensures count { result ≡ length (journal.running (reverse entries.now)) }
-{
-    let mut count = 0usize;
-    for (at, entry) in entries.iter().enumerate() {
-        if let Some(call) = entry.taken()
-            && runs_at(entries, at, call)
-        {
-            count += 1;
-        }
-    }
-    count
+    sum
 }
 
 /// How many handles the waiting calls may issue.
 #[tactic(auto, using(crate::proofs::Sets::growing))]
-fn waiting_openings(entries: &[Entry]) -> u128
-    ensures bound { result ≤ length entries.now * 2 ^ 63 }
-    ensures sum { result ≡ spec.openings (reverse entries.now) (journal.waiting (reverse entries.now)) }
+fn waiting_openings(journal: Record<'_>) -> u128
+    ensures bound { result ≤ (2 ^ 64 + 2 ^ 64) * 2 ^ 63 }
+    ensures sum { result ≡ spec.openings (told journal.entry) (calls.waiting (told journal.entry)) }
 {
-    let mut sum = 0u128;
+    let mut sum = waiting_openings_before(journal);
+    let entries = journal.entries;
     for (at, entry) in entries.iter().enumerate() {
         if let Some(call) = entry.accepted()
-            && waits_at(entries, at, call)
+            && waits_at(journal, at, call)
         {
-            sum += count_opens(slots(entries, call)) as u128;
+            sum += count_opens(slots(journal, call)) as u128;
+        }
+    }
+    sum
+}
+
+/// How many handles the base's running calls may issue.
+#[tactic(auto, using(crate::proofs::Sets::calling))]
+fn running_openings_before(journal: Record<'_>) -> u128
+    ensures bound { result ≤ 2 ^ 64 * 2 ^ 63 }
+    ensures sum { result ≡ spec.openings (told journal.entry) (filter (calls.runs (told journal.entry)) (reverse (numbers_of (taken_calls journal.entry.base.now)))) }
+{
+    let mut sum = 0u128;
+    let calls = journal.base.calls.as_slice();
+    for c in calls {
+        if c.taken && runs(journal, c.call) {
+            sum += count_opens(slots(journal, c.call)) as u128;
         }
     }
     sum
@@ -79,16 +64,17 @@ fn waiting_openings(entries: &[Entry]) -> u128
 
 /// How many handles the running calls may issue.
 #[tactic(auto, using(crate::proofs::Sets::growing))]
-fn running_openings(entries: &[Entry]) -> u128
-    ensures bound { result ≤ length entries.now * 2 ^ 63 }
-    ensures sum { result ≡ spec.openings (reverse entries.now) (journal.running (reverse entries.now)) }
+fn running_openings(journal: Record<'_>) -> u128
+    ensures bound { result ≤ (2 ^ 64 + 2 ^ 64) * 2 ^ 63 }
+    ensures sum { result ≡ spec.openings (told journal.entry) (calls.running (told journal.entry)) }
 {
-    let mut sum = 0u128;
+    let mut sum = running_openings_before(journal);
+    let entries = journal.entries;
     for (at, entry) in entries.iter().enumerate() {
         if let Some(call) = entry.taken()
-            && runs_at(entries, at, call)
+            && runs_at(journal, at, call)
         {
-            sum += count_opens(slots(entries, call)) as u128;
+            sum += count_opens(slots(journal, call)) as u128;
         }
     }
     sum
@@ -96,13 +82,13 @@ fn running_openings(entries: &[Entry]) -> u128
 
 /// How many handles are live, of those with serials up to one.
 #[tactic(auto, using(crate::proofs::Sets::numbering))]
-fn live_to(home: Home, entries: &[Entry], most: u32) -> u32
+fn live_to(journal: Record<'_>, most: u32) -> u32
     ensures bound { result ≤ most }
-    ensures count { result ≡ length (filter (journal.is_live home (reverse entries.now)) (journal.numbers most)) }
+    ensures count { result ≡ length (filter (calls.is_live (told journal.entry)) (calls.numbers most)) }
 {
     let mut count = 0u32;
     for i in 0..most {
-        if is_live(home, entries, i + 1) {
+        if is_live(journal, i + 1) {
             count += 1;
         }
     }
@@ -112,38 +98,42 @@ fn live_to(home: Home, entries: &[Entry], most: u32) -> u32
 /// How many handles are live or may yet be issued, by the new call too. The live ones are counted one
 /// by one only where so many were opened that they may pass the limit; else all that were opened stand
 /// for them.
-fn handle_count(home: Home, entries: &[Entry], new: &[Slot]) -> u128
-    requires { journal.opened (reverse entries.now) < 2 ^ 32 }
-    ensures { nat_lt 65536 result ≡ nat_lt 65536 (length (journal.live home (reverse entries.now)) + spec.openings (reverse entries.now) (journal.waiting (reverse entries.now)) + spec.openings (reverse entries.now) (journal.running (reverse entries.now)) + length (filter opens new.now)) }
+fn handle_count(journal: Record<'_>, new: &[Slot]) -> u128
+    requires { calls.opened (told journal) < 2 ^ 32 }
+    ensures { nat_lt 65536 result ≡ nat_lt 65536 (length (calls.live (told journal.entry)) + spec.openings (told journal.entry) (calls.waiting (told journal.entry)) + spec.openings (told journal.entry) (calls.running (told journal.entry)) + length (filter opens new.now)) }
 {
-    let opened = opened(entries) as u32;
-    let to_come = waiting_openings(entries) + running_openings(entries) + count_opens(new) as u128;
+    let opened = opened(journal) as u32;
+    let (waiting, running) = (waiting_openings(journal), running_openings(journal));
+    if waiting > MOST_HANDLES {
+        return waiting;
+    }
+    if running > MOST_HANDLES {
+        return running;
+    }
+    let to_come = waiting + running + count_opens(new) as u128;
     if u128::from(opened) + to_come > MOST_HANDLES {
-        u128::from(live_to(home, entries, opened)) + to_come
+        u128::from(live_to(journal, opened)) + to_come
     } else {
         u128::from(opened) + to_come
     }
 }
 
 /// Why the group accepts no further call with these slots.
-pub fn accept_limit(home: Home, entries: &[Entry], new: &[Slot]) -> Option<AcceptLimit>
-    requires { journal.opened (reverse entries.now) < 2 ^ 32 }
-    ensures { result ≡ spec.accept_limit home (reverse entries.now) new.now }
+pub fn accept_limit(journal: Record<'_>, new: &[Slot]) -> Option<AcceptLimit>
+    requires { calls.opened (told journal) < 2 ^ 32 }
+    ensures { result ≡ spec.accept_limit (told journal.entry) new.now }
 {
     handle_model::accept_limit(
-        waiting_count(entries) as u128 + running_count(entries) as u128,
-        handle_count(home, entries, new),
-        accepted_count(entries) as u128 + 1,
-        opened(entries) as u128 + count_opens(new) as u128,
+        waiting_count(journal) + running_count(journal),
+        handle_count(journal, new),
+        accept_count(journal) + 1,
+        opened(journal) as u128 + count_opens(new) as u128,
     )
 }
 
 /// Why the group takes no further connection.
-pub fn join_limit(entries: &[Entry]) -> Option<JoinLimit>
-    ensures { result ≡ spec.join_limit (reverse entries.now) }
+pub fn join_limit(journal: Record<'_>) -> Option<JoinLimit>
+    ensures { result ≡ spec.join_limit (told journal.entry) }
 {
-    handle_model::join_limit(
-        open_count(entries) as u128,
-        joined_count(entries) as u128 + 1,
-    )
+    handle_model::join_limit(open_count(journal), join_count(journal) + 1)
 }

@@ -17,10 +17,11 @@ use Rattle.handle_model.specs.declared.entry.DueItem.{DueItem}
 use Rattle.handle_model.specs.declared.entry.Entry.{Entry}
 use Rattle.handle_model.specs.declared.entry.Entry.TheVariants.{End}
 use Rattle.handle_model.specs.Slots.{wire_of, kind_of, named, names}
+use Rattle.handle_model.specs.History.{History, with_entry}
 use Rattle.handle_model.specs.Journal.{Legal, is_item_of, is_live, is_issued, is_closed, kind, cookie, issuer_kind, first_given, issues, any_closes, runs_down, suit, suits, slots, runs, numbers, opened, due_item, due_items}
 use Rattle.handle_model.proofs.Held.{and_left, and_right, or_right, opened_small}
 use Rattle.journal_laws.specs.Running.{AllUsable}
-use Rattle.journal_laws.proofs.LiveNames.{issued_by, opens_within, issued_once, named_live, no_kind, suit_opens}
+use Rattle.journal_laws.proofs.LiveNames.{issued_within, opens_within, issued_once, named_live, no_kind, suit_opens}
 use Rattle.journal_laws.proofs.Fate.{usable_live, unclosed, kept_up, fate, FateAs}
 use Rattle.handle_table.specs.Handles.{item_at}
 use Rattle.handle_table.specs.Kept.{Rises}
@@ -32,21 +33,21 @@ use Rattle.handle_table.proofs.Edits.{rises_with, rises_without, rises_cookie}
 -- THE LIST OF THE LIVE HANDLES
 
 -- those of the first n that pass
-abbrev pub listed : Home → List Entry → (ℕ → Bool) → ℕ → List DueItem
-listed home past p n = map (due_item home past) (filter p (numbers n))
+abbrev pub listed : History → (ℕ → Bool) → ℕ → List DueItem
+listed j p n = map (due_item j) (filter p (numbers n))
 
-abbrev pub last_of : Home → List Entry → (ℕ → Bool) → ℕ → List DueItem
-last_of home past p m = if p m then due_item home past m ∷ [] else []
+abbrev pub last_of : History → (ℕ → Bool) → ℕ → List DueItem
+last_of j p m = if p m then due_item j m ∷ [] else []
 
-one_last : (home : Home) (past : List Entry) (p : ℕ → Bool) (m : ℕ) → map (due_item home past) (filter p (m ∷ [])) ≡ last_of home past p m
-one_last home past p m = elim (cases_Bool (p m)) [ inl e ↦ rw e refl | inr e ↦ rw e refl ]
+one_last : (j : History) (p : ℕ → Bool) (m : ℕ) → map (due_item j) (filter p (m ∷ [])) ≡ last_of j p m
+one_last j p m = elim (cases_Bool (p m)) [ inl e ↦ rw e refl | inr e ↦ rw e refl ]
 
-listed_more : (home : Home) (past : List Entry) (p : ℕ → Bool) (n : ℕ) → listed home past p (suc n) ≡ listed home past p n ++ last_of home past p (suc n)
-listed_more home past p n =
-    rw (filter-append p (numbers n) (suc n ∷ []), map-append (due_item home past) (filter p (numbers n)) (filter p (suc n ∷ []))) (ap (λ xs. listed home past p n ++ xs) (one_last home past p (suc n)))
+listed_more : (j : History) (p : ℕ → Bool) (n : ℕ) → listed j p (suc n) ≡ listed j p n ++ last_of j p (suc n)
+listed_more j p n =
+    rw (filter-append p (numbers n) (suc n ∷ []), map-append (due_item j) (filter p (numbers n)) (filter p (suc n ∷ []))) (ap (λ xs. listed j p n ++ xs) (one_last j p (suc n)))
 
-last_off : (home : Home) (past : List Entry) (p : ℕ → Bool) (h m : ℕ) → p h ≡ false → item_at (last_of home past p m) h ≡ None
-last_off home past p h m off =
+last_off : (j : History) (p : ℕ → Bool) (h m : ℕ) → p h ≡ false → item_at (last_of j p m) h ≡ None
+last_off j p h m off =
     elim (cases_Bool (p m)) [
       | inl e ↦ elim (eqb_tells m h) [
         | inl f ↦ let same : p m ≡ p h = ap p f.1 in absurd (cc)
@@ -55,60 +56,57 @@ last_off home past p h m off =
       | inr e ↦ rw e refl
     ]
 
-last_other : (home : Home) (past : List Entry) (p : ℕ → Bool) (h m : ℕ) → m ≢ h → item_at (last_of home past p m) h ≡ None
-last_other home past p h m d =
+last_other : (j : History) (p : ℕ → Bool) (h m : ℕ) → m ≢ h → item_at (last_of j p m) h ≡ None
+last_other j p h m d =
     elim (cases_Bool (p m)) [
       | inl e ↦ elim (eqb_tells m h) [ inl f ↦ absurd (d f.1) | inr f ↦ rw (e, f.0) refl ]
       | inr e ↦ rw e refl
     ]
 
-at_off : (home : Home) (past : List Entry) (p : ℕ → Bool) (h n : ℕ) → p h ≡ false → item_at (listed home past p n) h ≡ None
-at_off home past p h zero off = refl
-at_off home past p h (suc n) off =
-    ap (λ xs. item_at xs h) (listed_more home past p n) ∙ (find-append (is_item_of h) (listed home past p n) (last_of home past p (suc n)) ∙ rw (at_off home past p h n off) (last_off home past p h (suc n) off))
+at_off : (j : History) (p : ℕ → Bool) (h n : ℕ) → p h ≡ false → item_at (listed j p n) h ≡ None
+at_off j p h zero off = refl
+at_off j p h (suc n) off =
+    ap (λ xs. item_at xs h) (listed_more j p n) ∙ (find-append (is_item_of h) (listed j p n) (last_of j p (suc n)) ∙ rw (at_off j p h n off) (last_off j p h (suc n) off))
 
-at_beyond : (home : Home) (past : List Entry) (p : ℕ → Bool) (h n : ℕ) → n < h → item_at (listed home past p n) h ≡ None
-at_beyond home past p h zero lt = refl
-at_beyond home past p h (suc n) lt =
+at_beyond : (j : History) (p : ℕ → Bool) (h n : ℕ) → n < h → item_at (listed j p n) h ≡ None
+at_beyond j p h zero lt = refl
+at_beyond j p h (suc n) lt =
     let below : n < h = omega arith in
-    ap (λ xs. item_at xs h) (listed_more home past p n) ∙ (find-append (is_item_of h) (listed home past p n) (last_of home past p (suc n)) ∙ rw (at_beyond home past p h n below) (last_other home past p h (suc n) (λ e. absurd (omega arith))))
+    ap (λ xs. item_at xs h) (listed_more j p n) ∙ (find-append (is_item_of h) (listed j p n) (last_of j p (suc n)) ∙ rw (at_beyond j p h n below) (last_other j p h (suc n) (λ e. absurd (omega arith))))
 
-at_last : (home : Home) (past : List Entry) (p : ℕ → Bool) (h m : ℕ) → p h ≡ true → m ≡ h → item_at (last_of home past p m) h ≡ Some (due_item home past h)
-at_last home past p h m on e =
+at_last : (j : History) (p : ℕ → Bool) (h m : ℕ) → p h ≡ true → m ≡ h → item_at (last_of j p m) h ≡ Some (due_item j h)
+at_last j p h m on e =
     let there : p m ≡ true = ap p e ∙ on in
-    let q = eq-eqb m h e in rw (there, q) (ap (λ n. Some (due_item home past n)) e)
+    let q = eq-eqb m h e in rw (there, q) (ap (λ n. Some (due_item j n)) e)
 
-at_on : (home : Home) (past : List Entry) (p : ℕ → Bool) (h n : ℕ) → p h ≡ true → 0 < h → h ≤ n → item_at (listed home past p n) h ≡ Some (due_item home past h)
-at_on home past p h zero on low high = absurd (omega arith)
-at_on home past p h (suc n) on low high =
-    ap (λ xs. item_at xs h) (listed_more home past p n) ∙ (find-append (is_item_of h) (listed home past p n) (last_of home past p (suc n)) ∙ elim (eqb_tells (suc n) h) [
+at_on : (j : History) (p : ℕ → Bool) (h n : ℕ) → p h ≡ true → 0 < h → h ≤ n → item_at (listed j p n) h ≡ Some (due_item j h)
+at_on j p h zero on low high = absurd (omega arith)
+at_on j p h (suc n) on low high =
+    ap (λ xs. item_at xs h) (listed_more j p n) ∙ (find-append (is_item_of h) (listed j p n) (last_of j p (suc n)) ∙ elim (eqb_tells (suc n) h) [
       | inl e ↦
           let same = e.1 in
           let below : n < h = omega arith in
-          rw (at_beyond home past p h n below) (at_last home past p h (suc n) on e.1)
+          rw (at_beyond j p h n below) (at_last j p h (suc n) on e.1)
       | inr e ↦
           let d = e.1 in
           let within : h ≤ n = elim (cases_lt n h) [ inl lt ↦ let same : suc n ≡ h = omega arith in absurd (d same) | inr le ↦ le ] in
-          rw (at_on home past p h n on low within) refl
+          rw (at_on j p h n on low within) refl
     ])
 
 -- what stands in the list of the live handles
-abbrev pub live_item : Home → List Entry → ℕ → Option DueItem
-live_item home past h = if is_live home past h then Some (due_item home past h) else None
+abbrev pub live_item : History → ℕ → Option DueItem
+live_item j h = if is_live j h then Some (due_item j h) else None
 
-pub live_issued : (home : Home) (past : List Entry) (h : ℕ) → is_live home past h ≡ true → is_issued past h ≡ true
-live_issued home past h v =
-    let before = is_issued past h && not (is_closed home past h) in
-    and_left (is_issued past h) (not (is_closed home past h)) (and_left before (not (list_any (runs_down h) past)) v)
+pub live_issued : (j : History) (h : ℕ) → is_live j h ≡ true → is_issued j h ≡ true
+live_issued j h v =
+    let before = is_issued j h && not (is_closed j h) in
+    and_left (is_issued j h) (not (is_closed j h)) (and_left before (not (list_any (runs_down h) j.past)) v)
 
-pub due_item_at : (home : Home) (past : List Entry) (h : ℕ) → Legal home past → item_at (due_items home past) h ≡ live_item home past h
-due_item_at home past h l =
-    elim (cases_Bool (is_live home past h)) [
-      | inl v ↦
-          let w = issued_by home past h l (live_issued home past h v) in
-          let range = opens_within home past w.call h l w.opened_it in
-          at_on home past (is_live home past) h (opened past) v range.0 range.1 ∙ rw v refl
-      | inr v ↦ at_off home past (is_live home past) h (opened past) v ∙ rw v refl
+pub due_item_at : (j : History) (h : ℕ) → Legal j → item_at (due_items j) h ≡ live_item j h
+due_item_at j h l =
+    elim (cases_Bool (is_live j h)) [
+      | inl v ↦ let range = issued_within j h l (live_issued j h v) in at_on j (is_live j) h (opened j) v range.0 range.1 ∙ rw v refl
+      | inr v ↦ at_off j (is_live j) h (opened j) v ∙ rw v refl
     ]
 
 -- ORDER
@@ -138,25 +136,25 @@ append_none : (xs : List DueItem) → xs ++ [] ≡ xs
 append_none [] = refl
 append_none (x ∷ xs) = ap (λ ys. x ∷ ys) (append_none xs)
 
-listed_rises : (home : Home) (past : List Entry) (p : ℕ → Bool) (n : ℕ) → RisesTo 0 (n + 1) (listed home past p n)
-listed_rises home past p zero = omega arith
-listed_rises home past p (suc n) =
-    let before = listed_rises home past p n in
+listed_rises : (j : History) (p : ℕ → Bool) (n : ℕ) → RisesTo 0 (n + 1) (listed j p n)
+listed_rises j p zero = omega arith
+listed_rises j p (suc n) =
+    let before = listed_rises j p n in
     let next : n + 1 ≡ suc n = add-one n in
-    subst (λ xs. RisesTo 0 (suc n + 1) xs) (sym (listed_more home past p n)) (elim (cases_Bool (p (suc n))) [
-      | inl e ↦ rw e (to_append 0 (suc n) (listed home past p n) (due_item home past (suc n)) refl (subst (λ m. RisesTo 0 m (listed home past p n)) next before))
-      | inr e ↦ rw (e, append_none (listed home past p n)) (to_more 0 (n + 1) (suc n + 1) (listed home past p n) (omega arith) before)
+    subst (λ xs. RisesTo 0 (suc n + 1) xs) (sym (listed_more j p n)) (elim (cases_Bool (p (suc n))) [
+      | inl e ↦ rw e (to_append 0 (suc n) (listed j p n) (due_item j (suc n)) refl (subst (λ m. RisesTo 0 m (listed j p n)) next before))
+      | inr e ↦ rw (e, append_none (listed j p n)) (to_more 0 (n + 1) (suc n + 1) (listed j p n) (omega arith) before)
     ])
 
-pub due_rises : (home : Home) (past : List Entry) → Legal home past → Rises 0 (due_items home past)
-due_rises home past l =
-    let small = opened_small home past l in
-    to_rises 0 (opened past + 1) (due_items home past) (omega arith) (listed_rises home past (is_live home past) (opened past))
+pub due_rises : (j : History) → Legal j → Rises 0 (due_items j)
+due_rises j l =
+    let small = opened_small j.home j.base j.past l in
+    to_rises 0 (opened j + 1) (due_items j) (omega arith) (listed_rises j (is_live j) (opened j))
 
 -- two journals with the same live handles have the same list
-pub same_due : (home : Home) (past newer : List Entry) → Legal home past → Legal home newer → ((h : ℕ) → live_item home newer h ≡ live_item home past h) → due_items home newer ≡ due_items home past
-same_due home past newer l m e =
-    same_items 0 (due_items home newer) (due_items home past) (due_rises home newer m) (due_rises home past l) (λ h. due_item_at home newer h m ∙ (e h ∙ sym (due_item_at home past h l)))
+pub same_due : (j newer : History) → Legal j → Legal newer → ((h : ℕ) → live_item newer h ≡ live_item j h) → due_items newer ≡ due_items j
+same_due j newer l m e =
+    same_items 0 (due_items newer) (due_items j) (due_rises newer m) (due_rises j l) (λ h. due_item_at newer h m ∙ (e h ∙ sym (due_item_at j h l)))
 
 -- THE END OF A CALL
 
@@ -195,10 +193,10 @@ names_named home h (Holds k w) n = refl
 names_named home h (Changes k w) n = refl
 names_named home h (Opens k g) n = n
 
-pub none_names : (home : Home) (past : List Entry) (h : ℕ) (ss : List Slot) → AllUsable home past ss → is_live home past h ≡ false → NoneNames home h ss
-none_names home past h [] u v = tt
-none_names home past h (s ∷ ss) u v =
-    (false_from_ne_true (names (wire_of home h) s) (λ n. let live = usable_live home past s h _ refl (u.0 (names_named home h s n)) n in cc), none_names home past h ss u.1 v)
+pub none_names : (j : History) (h : ℕ) (ss : List Slot) → AllUsable j ss → is_live j h ≡ false → NoneNames j.home h ss
+none_names j h [] u v = tt
+none_names j h (s ∷ ss) u v =
+    (false_from_ne_true (names (wire_of j.home h) s) (λ n. let live = usable_live j s h _ refl (u.0 (names_named j.home h s n)) n in cc), none_names j h ss u.1 v)
 
 -- a handle that the results issue, and no slot names
 pub record Issued (home : Home) (h : ℕ) (ss : List Slot) (os : List Outcome) : Type 0 where
@@ -295,64 +293,64 @@ live_bools true false false true = refl
 live_bools true false false false = refl
 live_bools false c d x = refl
 
-live_after : (home : Home) (past : List Entry) (k h : ℕ) (os : List Outcome) (said : Said) → list_any (issues h) os ≡ false → is_live home (End k os said ∷ past) h ≡ (is_live home past h && not (any_closes (wire_of home h) (slots past k) os))
-live_after home past k h os said i = rw i (live_bools (is_issued past h) (is_closed home past h) (list_any (runs_down h) past) (any_closes (wire_of home h) (slots past k) os))
+live_after : (j : History) (k h : ℕ) (os : List Outcome) (said : Said) → list_any (issues h) os ≡ false → is_live (with_entry j (End k os said)) h ≡ (is_live j h && not (any_closes (wire_of j.home h) (slots j k) os))
+live_after j k h os said i = rw i (live_bools (is_issued j h) (is_closed j h) (list_any (runs_down h) j.past) (any_closes (wire_of j.home h) (slots j k) os))
 
 given_or : (fg ck : Option ℕ) → unwrap_or (option_or fg ck) 0 ≡ unwrap_or fg (unwrap_or ck 0)
 given_or None ck = refl
 given_or (Some c) ck = refl
 
 -- a handle that the results don't issue
-old_item : (home : Home) (past : List Entry) (k h : ℕ) (os : List Outcome) (said : Said) → list_any (issues h) os ≡ false → effects home h (slots past k) os (live_item home past h) ≡ live_item home (End k os said ∷ past) h
-old_item home past k h os said i =
-    let ss = slots past k in
-    let after = live_after home past k h os said i in
-    elim (cases_Bool (is_live home past h)) [
-      | inl v ↦ elim (cases_Bool (any_closes (wire_of home h) ss os)) [
+old_item : (j : History) (k h : ℕ) (os : List Outcome) (said : Said) → list_any (issues h) os ≡ false → effects j.home h (slots j k) os (live_item j h) ≡ live_item (with_entry j (End k os said)) h
+old_item j k h os said i =
+    let ss = slots j k in
+    let after = live_after j k h os said i in
+    elim (cases_Bool (is_live j h)) [
+      | inl v ↦ elim (cases_Bool (any_closes (wire_of j.home h) ss os)) [
         | inl c ↦
-            let gone : is_live home (End k os said ∷ past) h ≡ false = after ∙ rw (v, c) refl in
-            rw (v, gone) (closed_goes home h ss os (Some (due_item home past h)) i c)
+            let gone : is_live (with_entry j (End k os said)) h ≡ false = after ∙ rw (v, c) refl in
+            rw (v, gone) (closed_goes j.home h ss os (Some (due_item j h)) i c)
         | inr c ↦
-            let stays : is_live home (End k os said ∷ past) h ≡ true = after ∙ rw (v, c) refl in
-            let same : due_item home (End k os said ∷ past) h ≡ record { serial = h; kind = unwrap_or (kind past h) 0; cookie = unwrap_or (first_given home h ss os) (unwrap_or (cookie home past h) 0) } =
-            rw (no_kind h ss os i) (ap (λ n. record { serial = h; kind = unwrap_or (kind past h) 0; cookie = n }) (given_or (first_given home h ss os) (cookie home past h))) in
-            rw (v, stays) (kept_item home h ss os (due_item home past h) i c ∙ ap (λ x. Some x) (sym same))
+            let stays : is_live (with_entry j (End k os said)) h ≡ true = after ∙ rw (v, c) refl in
+            let same : due_item (with_entry j (End k os said)) h ≡ record { serial = h; kind = unwrap_or (kind j h) 0; cookie = unwrap_or (first_given j.home h ss os) (unwrap_or (cookie j h) 0) } =
+            rw (no_kind h ss os i) (ap (λ n. record { serial = h; kind = unwrap_or (kind j h) 0; cookie = n }) (given_or (first_given j.home h ss os) (cookie j h))) in
+            rw (v, stays) (kept_item j.home h ss os (due_item j h) i c ∙ ap (λ x. Some x) (sym same))
       ]
       | inr v ↦
-          let gone : is_live home (End k os said ∷ past) h ≡ false = after ∙ rw v refl in
-          rw (v, gone) (none_stays home h ss os i)
+          let gone : is_live (with_entry j (End k os said)) h ≡ false = after ∙ rw v refl in
+          rw (v, gone) (none_stays j.home h ss os i)
     ]
 
 -- and one that they issue
-new_item : (home : Home) (past : List Entry) (k h : ℕ) (os : List Outcome) (said : Said) → Legal home past → runs past k ≡ true → suit (slots past k) os ≡ true → list_any (issues h) os ≡ true → effects home h (slots past k) os (live_item home past h) ≡ live_item home (End k os said ∷ past) h
-new_item home past k h os said l r u i =
-    let ss = slots past k in
-    let before = issued_once home past k h os l r u i in
-    let dead : is_live home past h ≡ false = rw before refl in
-    let none = none_names home past h ss (named_live home past k l r) dead in
-    let w = new_issued home h ss os none u i in
-    let f : FateAs home past h false = subst (λ b. FateAs home past h b) before (fate home past h l) in
-    let lives : is_live home (End k os said ∷ past) h ≡ true = rw (i, none_closes home h ss os none, unclosed home past h f.1, kept_up past h f.2) refl in
-    let it : due_item home (End k os said ∷ past) h ≡ record { serial = h; kind = w.kind; cookie = w.cookie } = rw (w.its_kind, w.its_cookie) refl in
-    rw lives (w.item (live_item home past h) ∙ ap (λ x. Some x) (sym it))
+new_item : (j : History) (k h : ℕ) (os : List Outcome) (said : Said) → Legal j → runs j k ≡ true → suit (slots j k) os ≡ true → list_any (issues h) os ≡ true → effects j.home h (slots j k) os (live_item j h) ≡ live_item (with_entry j (End k os said)) h
+new_item j k h os said l r u i =
+    let ss = slots j k in
+    let before = issued_once j k h os l r u i in
+    let dead : is_live j h ≡ false = rw before refl in
+    let none = none_names j h ss (named_live j k l r) dead in
+    let w = new_issued j.home h ss os none u i in
+    let f : FateAs j h false = subst (λ b. FateAs j h b) before (fate j h l) in
+    let lives : is_live (with_entry j (End k os said)) h ≡ true = rw (i, none_closes j.home h ss os none, unclosed j h f.1, kept_up j.past h f.2) refl in
+    let it : due_item (with_entry j (End k os said)) h ≡ record { serial = h; kind = w.kind; cookie = w.cookie } = rw (w.its_kind, w.its_cookie) refl in
+    rw lives (w.item (live_item j h) ∙ ap (λ x. Some x) (sym it))
 
-ends_as : (home : Home) (past : List Entry) (k h : ℕ) (os : List Outcome) (said : Said) → Legal home past → runs past k ≡ true → suit (slots past k) os ≡ true → effects home h (slots past k) os (live_item home past h) ≡ live_item home (End k os said ∷ past) h
-ends_as home past k h os said l r u =
+ends_as : (j : History) (k h : ℕ) (os : List Outcome) (said : Said) → Legal j → runs j k ≡ true → suit (slots j k) os ≡ true → effects j.home h (slots j k) os (live_item j h) ≡ live_item (with_entry j (End k os said)) h
+ends_as j k h os said l r u =
     elim (cases_Bool (list_any (issues h) os)) [
-      | inl i ↦ new_item home past k h os said l r u i
-      | inr i ↦ old_item home past k h os said i
+      | inl i ↦ new_item j k h os said l r u i
+      | inr i ↦ old_item j k h os said i
     ]
 
-issues_small : (home : Home) (past : List Entry) (k : ℕ) (os : List Outcome) → Legal home past → suit (slots past k) os ≡ true → IssuesSmall os
-issues_small home past k os l u h i =
-    let w = opens_within home past k h l (suit_opens h (slots past k) os u i) in
-    let small = opened_small home past l in
+issues_small : (j : History) (k : ℕ) (os : List Outcome) → Legal j → suit (slots j k) os ≡ true → IssuesSmall os
+issues_small j k os l u h i =
+    let w = opens_within j.home j.base j.past k h l (suit_opens h (slots j k) os u i) in
+    let small = opened_small j.home j.base j.past l in
     let high = w.1 in omega arith
 
 -- the end of a call leaves the table's list as the results do
-pub end_due : (home : Home) (past : List Entry) (k : ℕ) (os : List Outcome) (said : Said) → Legal home (End k os said ∷ past) → due_items home (End k os said ∷ past) ≡ ended home (slots past k) os (due_items home past)
-end_due home past k os said l =
+pub end_due : (j : History) (k : ℕ) (os : List Outcome) (said : Said) → Legal (with_entry j (End k os said)) → due_items (with_entry j (End k os said)) ≡ ended j.home (slots j k) os (due_items j)
+end_due j k os said l =
     let run = l.0.fits.0 in
     let fit = l.0.fits.1 in
-    same_items 0 (due_items home (End k os said ∷ past)) (ended home (slots past k) os (due_items home past)) (due_rises home (End k os said ∷ past) l) (ended_rises home (slots past k) os (due_items home past) (issues_small home past k os l.1 fit) (due_rises home past l.1)) (λ h.
-    due_item_at home (End k os said ∷ past) h l ∙ (sym (ends_as home past k h os said l.1 run fit) ∙ (ap (effects home h (slots past k) os) (sym (due_item_at home past h l.1)) ∙ sym (ended_item home (slots past k) os (due_items home past) h))))
+    same_items 0 (due_items (with_entry j (End k os said))) (ended j.home (slots j k) os (due_items j)) (due_rises (with_entry j (End k os said)) l) (ended_rises j.home (slots j k) os (due_items j) (issues_small j k os l.1 fit) (due_rises j l.1)) (λ h.
+    due_item_at (with_entry j (End k os said)) h l ∙ (sym (ends_as j k h os said l.1 run fit) ∙ (ap (effects j.home h (slots j k) os) (sym (due_item_at j h l.1)) ∙ sym (ended_item j.home (slots j k) os (due_items j) h))))

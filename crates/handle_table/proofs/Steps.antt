@@ -15,6 +15,7 @@ use Rattle.handle_model.specs.declared.entry.DueItem.{DueItem}
 use Rattle.handle_model.specs.declared.entry.Entry.{Entry}
 use Rattle.handle_model.specs.declared.entry.Entry.TheVariants.{Join, Accept, Take, Deny, Cancel, Orphan, End, Leave, Shut}
 use Rattle.handle_model.specs.Slots.{kind_of, opens}
+use Rattle.handle_model.specs.History.{History, with_entry}
 use Rattle.handle_model.specs.Journal.{Legal, is_item_of, is_live, is_issued, is_closed, runs_down, suit, suits, slots, due_item, due_items}
 use Rattle.handle_model.proofs.Held.{and_right}
 use Rattle.handle_table.specs.Handles.{is_below, is_above, is_other, with_item, cookie_set}
@@ -25,26 +26,26 @@ use Rattle.handle_table.proofs.Items.{same_items}
 use Rattle.handle_table.proofs.Live.{due_item_at, due_rises, same_due, end_due}
 
 -- all entries but an End and a Shut leave it as it was
-pub join_due : (home : Home) (past : List Entry) (c : ℕ) → Legal home (Join c ∷ past) → due_items home (Join c ∷ past) ≡ due_items home past
-join_due home past c l = same_due home past (Join c ∷ past) l.1 l (λ h. refl)
+pub join_due : (j : History) (c : ℕ) → Legal (with_entry j (Join c)) → due_items (with_entry j (Join c)) ≡ due_items j
+join_due j c l = same_due j (with_entry j (Join c)) l.1 l (λ h. refl)
 
-pub accept_due : (home : Home) (past : List Entry) (k : ℕ) (a : Asked) → Legal home (Accept k a ∷ past) → due_items home (Accept k a ∷ past) ≡ due_items home past
-accept_due home past k a l = same_due home past (Accept k a ∷ past) l.1 l (λ h. refl)
+pub accept_due : (j : History) (k : ℕ) (a : Asked) → Legal (with_entry j (Accept k a)) → due_items (with_entry j (Accept k a)) ≡ due_items j
+accept_due j k a l = same_due j (with_entry j (Accept k a)) l.1 l (λ h. refl)
 
-pub take_due : (home : Home) (past : List Entry) (k : ℕ) (cookies : List (Option ℕ)) → Legal home (Take k cookies ∷ past) → due_items home (Take k cookies ∷ past) ≡ due_items home past
-take_due home past k cookies l = same_due home past (Take k cookies ∷ past) l.1 l (λ h. refl)
+pub take_due : (j : History) (k : ℕ) (cookies : List (Option ℕ)) → Legal (with_entry j (Take k cookies)) → due_items (with_entry j (Take k cookies)) ≡ due_items j
+take_due j k cookies l = same_due j (with_entry j (Take k cookies)) l.1 l (λ h. refl)
 
-pub deny_due : (home : Home) (past : List Entry) (k j : ℕ) → Legal home (Deny k j ∷ past) → due_items home (Deny k j ∷ past) ≡ due_items home past
-deny_due home past k j l = same_due home past (Deny k j ∷ past) l.1 l (λ h. refl)
+pub deny_due : (j : History) (k slot : ℕ) → Legal (with_entry j (Deny k slot)) → due_items (with_entry j (Deny k slot)) ≡ due_items j
+deny_due j k slot l = same_due j (with_entry j (Deny k slot)) l.1 l (λ h. refl)
 
-pub cancel_due : (home : Home) (past : List Entry) (k : ℕ) → Legal home (Cancel k ∷ past) → due_items home (Cancel k ∷ past) ≡ due_items home past
-cancel_due home past k l = same_due home past (Cancel k ∷ past) l.1 l (λ h. refl)
+pub cancel_due : (j : History) (k : ℕ) → Legal (with_entry j (Cancel k)) → due_items (with_entry j (Cancel k)) ≡ due_items j
+cancel_due j k l = same_due j (with_entry j (Cancel k)) l.1 l (λ h. refl)
 
-pub orphan_due : (home : Home) (past : List Entry) (k : ℕ) → Legal home (Orphan k ∷ past) → due_items home (Orphan k ∷ past) ≡ due_items home past
-orphan_due home past k l = same_due home past (Orphan k ∷ past) l.1 l (λ h. refl)
+pub orphan_due : (j : History) (k : ℕ) → Legal (with_entry j (Orphan k)) → due_items (with_entry j (Orphan k)) ≡ due_items j
+orphan_due j k l = same_due j (with_entry j (Orphan k)) l.1 l (λ h. refl)
 
-pub leave_due : (home : Home) (past : List Entry) (c : ℕ) → Legal home (Leave c ∷ past) → due_items home (Leave c ∷ past) ≡ due_items home past
-leave_due home past c l = same_due home past (Leave c ∷ past) l.1 l (λ h. refl)
+pub leave_due : (j : History) (c : ℕ) → Legal (with_entry j (Leave c)) → due_items (with_entry j (Leave c)) ≡ due_items j
+leave_due j c l = same_due j (with_entry j (Leave c)) l.1 l (λ h. refl)
 
 -- a Shut leaves none
 found_any : (q : DueItem → Bool) (items : List DueItem) (x : DueItem) → find q items ≡ Some x → list_any q items ≡ true
@@ -67,13 +68,13 @@ shut_off true false false true h = refl
 shut_off true false false false h = sym (h refl)
 shut_off false c d t h = refl
 
-pub shut_due : (home : Home) (past : List Entry) (items : List DueItem) → Legal home (Shut items ∷ past) → due_items home (Shut items ∷ past) ≡ []
-shut_due home past items l =
-    same_items 0 (due_items home (Shut items ∷ past)) [] (due_rises home (Shut items ∷ past) l) tt (λ h.
-    let there : is_live home past h ≡ true → list_any (is_item_of h) items ≡ true =
-    λ v. ap (list_any (is_item_of h)) l.0.fits.1 ∙ found_any (is_item_of h) (due_items home past) (due_item home past h) (due_item_at home past h l.1 ∙ rw v refl) in
-    let gone : is_live home (Shut items ∷ past) h ≡ false = shut_off (is_issued past h) (is_closed home past h) (list_any (runs_down h) past) (list_any (is_item_of h) items) there in
-    due_item_at home (Shut items ∷ past) h l ∙ rw gone refl)
+pub shut_due : (j : History) (items : List DueItem) → Legal (with_entry j (Shut items)) → due_items (with_entry j (Shut items)) ≡ []
+shut_due j items l =
+    same_items 0 (due_items (with_entry j (Shut items))) [] (due_rises (with_entry j (Shut items)) l) tt (λ h.
+    let there : is_live j h ≡ true → list_any (is_item_of h) items ≡ true =
+    λ v. ap (list_any (is_item_of h)) l.0.fits.1 ∙ found_any (is_item_of h) (due_items j) (due_item j h) (due_item_at j h l.1 ∙ rw v refl) in
+    let gone : is_live (with_entry j (Shut items)) h ≡ false = shut_off (is_issued j h) (is_closed j h) (list_any (runs_down h) j.past) (list_any (is_item_of h) items) there in
+    due_item_at (with_entry j (Shut items)) h l ∙ rw gone refl)
 
 -- HOW MANY
 
@@ -139,19 +140,19 @@ issued_within (Changes k w ∷ ss) (Close ∷ os) u = let more = issued_within s
 issued_within (Changes k w ∷ ss) (Nothing ∷ os) u = absurd (cc)
 issued_within (Changes k w ∷ ss) (Issue g c ∷ os) u = absurd (cc)
 
-pub end_within : (home : Home) (past : List Entry) (k : ℕ) (os : List Outcome) (said : Said) → Legal home (End k os said ∷ past) → length (due_items home (End k os said ∷ past)) ≤ length (due_items home past) + length (filter opens (slots past k))
-end_within home past k os said l =
-    let all = ap (λ (xs : List DueItem). length xs) (end_due home past k os said l) in
-    let most = ended_within home (slots past k) os (due_items home past) in
-    let few = issued_within (slots past k) os l.0.fits.1 in omega arith
+pub end_within : (j : History) (k : ℕ) (os : List Outcome) (said : Said) → Legal (with_entry j (End k os said)) → length (due_items (with_entry j (End k os said))) ≤ length (due_items j) + length (filter opens (slots j k))
+end_within j k os said l =
+    let all = ap (λ (xs : List DueItem). length xs) (end_due j k os said l) in
+    let most = ended_within j.home (slots j k) os (due_items j) in
+    let few = issued_within (slots j k) os l.0.fits.1 in omega arith
 
-pub follows : (home : Home) (past : List Entry) (e : Entry) → Legal home (e ∷ past) → due_items home (e ∷ past) ≡ left_by home past (due_items home past) e
-follows home past (Join c) l = join_due home past c l
-follows home past (Accept k a) l = accept_due home past k a l
-follows home past (Take k cookies) l = take_due home past k cookies l
-follows home past (Deny k j) l = deny_due home past k j l
-follows home past (Cancel k) l = cancel_due home past k l
-follows home past (Orphan k) l = orphan_due home past k l
-follows home past (End k results said) l = end_due home past k results said l
-follows home past (Leave c) l = leave_due home past c l
-follows home past (Shut items) l = shut_due home past items l
+pub follows : (j : History) (e : Entry) → Legal (with_entry j e) → due_items (with_entry j e) ≡ left_by j (due_items j) e
+follows j (Join c) l = join_due j c l
+follows j (Accept k a) l = accept_due j k a l
+follows j (Take k cookies) l = take_due j k cookies l
+follows j (Deny k slot) l = deny_due j k slot l
+follows j (Cancel k) l = cancel_due j k l
+follows j (Orphan k) l = orphan_due j k l
+follows j (End k results said) l = end_due j k results said l
+follows j (Leave c) l = leave_due j c l
+follows j (Shut items) l = shut_due j items l

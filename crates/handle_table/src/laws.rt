@@ -1,5 +1,10 @@
 //! What the table of a legal journal shows, each law the contract of a function that does nothing.
-ghost use Rattle.handle_table.specs.Laws.{ShowsLive, ShowsKind, ShowsFaults, ShowsCookies, FollowsEntries, GrowsWithin};
+ghost use Rattle.handle_table.specs.Laws.{ShowsBase, ShowsLive, ShowsKind, ShowsFaults, ShowsCookies, FollowsEntries, GrowsWithin};
+
+/// The live handles of a base are its handles.
+pub fn shows_base()
+    ensures { ShowsBase }
+{}
 
 /// A serial is found exactly where its handle is live.
 pub fn shows_live()

@@ -1,5 +1,5 @@
 //! The live handles of an association group, so that none is looked for in its journal. A table
-//! takes memory in `new` and `reserve` alone.
+//! takes memory in `of` and `reserve` alone.
 #![tactic(auto)]
 
 mod ended;
@@ -9,6 +9,6 @@ mod table;
 mod uses;
 
 pub use laws::{
-    follows_entries, grows_within, shows_cookies, shows_faults, shows_kind, shows_live,
+    follows_entries, grows_within, shows_base, shows_cookies, shows_faults, shows_kind, shows_live,
 };
 pub use table::HandleTable;

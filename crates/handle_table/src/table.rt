@@ -1,10 +1,12 @@
 //! The table.
-ghost use Rattle.std.specs.Prelude.{◌≡◌, ◌+◌, ◌<◌, ◌≤◌, [], length, true, false, OnOk, OnErr};
+ghost use Rattle.std.specs.Prelude.{◌≡◌, ◌+◌, ◌<◌, ◌≤◌, ◌^◌, [], length, ◌↔◌, true, false, IsTrue, IfOk, OnOk, OnErr};
+ghost use Rattle.handle_model.specs.Bases.{serials_of};
+ghost use Rattle.handle_model.specs.Sound.{rise_above, at_most};
 
 use crate::seek::{item_at, item_of, seek};
 use crate::uses::{fault_at, item_named};
-use handle_model::{DueItem, DueItems, Home, Slot};
-use rpc_base::{Items, NoMemory, WireHandle};
+use handle_model::{Base, DueItem, DueItems, Home, Slot};
+use rpc_base::{Items, NoMemory, WireHandle, same_items};
 use std::alloc::Global;
 use std::marker::Model;
 use std::mem;
@@ -47,6 +49,25 @@ impl HandleTable {
         }
     }
 
+    /// The handles of a base. For no further one there is room.
+    pub fn of(alloc: Global, home: Home, base: &Base) -> Result<HandleTable, NoMemory>
+        requires rise { rise_above 0 (serials_of base.now.handles) ≡ true }
+        requires counted { at_most base.now.opens (serials_of base.now.handles) ≡ true }
+        requires small { base.now.opens < 2 ^ 32 }
+        ensures { IfOk result (λ table. table ≡ record { home = home; items = base.now.handles; room = 0 }) }
+    {
+        let items = Vec::from_slice(alloc, base.handles.as_slice())?;
+        let mut copies = Vec::new(alloc);
+        copies.reserve(items.len())?;
+        Ok(HandleTable {
+            home,
+            items,
+            copies,
+            room: 0,
+            alloc,
+        })
+    }
+
     /// Makes room for `n` handles more, and for their places in the lists of `drain`.
     pub fn reserve(&mut self, n: usize) -> Result<(), NoMemory>
         ensures ok { OnOk result (n ≤ self.new.room) }
@@ -84,6 +105,27 @@ impl HandleTable {
             Some(item) => Some((item.kind, item.cookie)),
             None => None,
         }
+    }
+
+    /// Whose they are: the boot word of the server, and the id of the group.
+    pub fn home(&self) -> Home
+        ensures { result ≡ self.now.home }
+    {
+        self.home
+    }
+
+    /// Whether the live handles are these, by rising serial.
+    pub fn lists(&self, items: &[DueItem]) -> bool
+        ensures { IsTrue result ↔ (items.now ≡ self.now.items) }
+    {
+        same_items(items, self.items.as_slice())
+    }
+
+    /// A list of the live handles, by rising serial.
+    pub fn copy(&self, alloc: Global) -> Result<DueItems, NoMemory>
+        ensures { IfOk result (λ items. items ≡ self.now.items) }
+    {
+        Ok(Items::from_vec(Vec::from_slice(alloc, self.items.as_slice())?))
     }
 
     /// How many handles are live.

@@ -1,5 +1,5 @@
 -- The text of a journal, octet for octet.
-use Rattle.std.specs.Prelude.{ℕ, Bool, true, false, Option, Some, None, List, [], ◌∷◌, ◌++◌, codes, decimal}
+use Rattle.std.specs.Prelude.{ℕ, Bool, true, false, Option, Some, None, List, [], ◌∷◌, ◌++◌, codes, decimal, ◌==◌, if◌then◌else◌}
 use Rattle.rpc_base.specs.declared.identifiers.WireHandle.{WireHandle}
 use Rattle.rpc_base.specs.declared.identifiers.Order.{Order}
 use Rattle.rpc_base.specs.declared.identifiers.Order.TheVariants.{Big, Little}
@@ -15,6 +15,8 @@ use Rattle.handle_model.specs.declared.entry.Said.{Said}
 use Rattle.handle_model.specs.declared.entry.Said.TheVariants.{Out, Fault}
 use Rattle.handle_model.specs.declared.entry.DueItem.{DueItem}
 use Rattle.handle_model.specs.declared.entry.Entry.{Entry}
+use Rattle.handle_model.specs.declared.base.BaseCall.{BaseCall}
+use Rattle.handle_model.specs.declared.base.Base.{Base}
 use Rattle.handle_model.specs.declared.entry.Entry.TheVariants.{Join, Accept, Take, Deny, Cancel, Orphan, End, Leave, Shut}
 
 -- WORDS
@@ -109,10 +111,50 @@ entry_text entry = line entry ++ codes "\n"
 unfoldable pub group_text : Home → List ℕ
 group_text home = headed (codes "group") home.group ++ codes " boot " ++ hex_u64 home.boot ++ codes "\n"
 
+-- BASES
+
+-- how far a call has come: whether it was taken, cancelled, orphaned
+unfoldable pub stage_text : Bool × Bool × Bool → List ℕ
+stage_text (false, cancelled, orphaned) = codes "waiting"
+stage_text (true, false, false) = codes "taken"
+stage_text (true, true, false) = codes "taken-cancel"
+stage_text (true, false, true) = codes "taken-orphan"
+stage_text (true, true, true) = codes "taken-cancel-orphan"
+
+abbrev pub base_lists : Base → List ℕ
+base_lists b = codes " " ++ list_text decimal b.conns ++ codes " " ++ list_text due_text b.handles
+
+abbrev pub base_end : Base → List ℕ
+base_end b = codes " " ++ decimal b.accepts ++ codes " " ++ decimal b.opens ++ base_lists b
+
+-- both without their line feeds
+abbrev pub base_line : Base → List ℕ
+base_line b = headed (codes "base") b.count ++ codes " " ++ decimal b.joins ++ base_end b
+
+abbrev pub call_line : BaseCall → List ℕ
+call_line c =
+    headed (codes "base-call") c.call ++ codes " " ++ asked_text c.asked ++ codes " " ++ stage_text (c.taken, c.cancelled, c.orphaned)
+
+unfoldable pub base_text : Base → List ℕ
+base_text b = base_line b ++ codes "\n"
+
+unfoldable pub base_call_text : BaseCall → List ℕ
+base_call_text c = call_line c ++ codes "\n"
+
+abbrev pub base_calls_text : List BaseCall → List ℕ
+base_calls_text [] = []
+base_calls_text (c ∷ later) = base_call_text c ++ base_calls_text later
+
+-- the lines of a base, none where there were no entries before
+abbrev pub base_lines : Base → List ℕ
+base_lines b = if b.count == 0 then [] else base_text b ++ base_calls_text b.calls
+
+-- JOURNALS
+
 -- the entries come oldest first
 abbrev pub entries_text : List Entry → List ℕ
 entries_text [] = []
 entries_text (entry ∷ later) = entry_text entry ++ entries_text later
 
-abbrev pub journal_text : Home → List Entry → List ℕ
-journal_text home entries = group_text home ++ entries_text entries
+abbrev pub journal_text : Home → Base → List Entry → List ℕ
+journal_text home base entries = group_text home ++ base_lines base ++ entries_text entries

@@ -1,6 +1,7 @@
-//! The text of a journal: a heading line, and one line for each entry.
+//! The text of a journal: a heading line, the lines of its base, and one line for each entry.
 #![tactic(auto)]
 
+mod base;
 mod line;
 mod part;
 

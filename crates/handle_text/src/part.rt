@@ -131,6 +131,16 @@ impl Text for DueItem {
     }
 }
 
+impl Text for u32 {
+    ghost use Rattle.std.specs.Prelude.{decimal};
+
+    ghost text = { decimal };
+
+    fn put_text(&self, alloc: Global, into: &mut Vec<u8>) -> Result<(), NoMemory> {
+        put_decimal(alloc, u64::from(*self), into)
+    }
+}
+
 impl Text for Said {
     ghost text = { spec.said_text };
 
@@ -171,12 +181,12 @@ pub(crate) fn reply_word(reply: bool) -> &'static [u8]
 pub(crate) fn put_head(
     alloc: Global,
     word: &[u8],
-    number: u32,
+    number: u64,
     into: &mut Vec<u8>,
 ) -> Result<(), NoMemory>
     ensures { OnOk result (into.new.items ≡ into.old.items ++ spec.headed word.now number) }
 {
     put(word, into)?;
     put(b" ", into)?;
-    put_decimal(alloc, u64::from(number), into)
+    put_decimal(alloc, number, into)
 }

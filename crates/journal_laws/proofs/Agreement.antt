@@ -3,12 +3,13 @@ use Rattle.std.proofs.Common.{◌≡◌, ℕ, ◌+◌, ◌≤◌, true, false, O
 use Rattle.std.specs.List.{list_any}
 use Rattle.std.proofs.lemmas.List.{length-append}
 use Rattle.std.proofs.lemmas.Bool.{false_from_ne_true}
-use Rattle.handle_model.specs.declared.entry.Home.{Home}
 use Rattle.handle_model.specs.declared.entry.Asked.{Asked}
 use Rattle.handle_model.specs.declared.entry.Entry.{Entry}
 use Rattle.handle_model.specs.declared.entry.Entry.TheVariants.{End}
+use Rattle.handle_model.specs.History.{History, with_entry}
 use Rattle.handle_model.specs.Journal.{Legal, asked, slots, issues, issues_in, is_issued, kind}
 use Rattle.handle_model.proofs.Held.{or_right}
+use Rattle.journal_laws.specs.Further.{with_entries}
 use Rattle.journal_laws.specs.Moments.{Between, Agree}
 use Rattle.journal_laws.proofs.Accepted.{asked_stays}
 use Rattle.journal_laws.proofs.LiveNames.{issued_once, no_kind}
@@ -28,30 +29,29 @@ moments_in_order (x ∷ newer) older (y ∷ newest) oldest e le =
 
 -- WHAT STAYS
 
-asked_same : (home : Home) (newer older : List Entry) (k : ℕ) (o : Option Asked) → Legal home (newer ++ older) → asked older k ≡ o → is_some (asked older k) ≡ true → asked (newer ++ older) k ≡ asked older k
-asked_same home newer older k None l e s = let none = rw e at s in absurd (cc)
-asked_same home newer older k (Some a) l e s = asked_stays home newer older k a l e ∙ sym e
+asked_same : (j : History) (newer : List Entry) (k : ℕ) (o : Option Asked) → Legal (with_entries j newer) → asked j k ≡ o → is_some (asked j k) ≡ true → asked (with_entries j newer) k ≡ asked j k
+asked_same j newer k None l e s = let none = rw e at s in absurd (cc)
+asked_same j newer k (Some a) l e s = asked_stays j newer k a l e ∙ sym e
 
-issued_stays : (newer older : List Entry) (h : ℕ) → is_issued older h ≡ true → is_issued (newer ++ older) h ≡ true
-issued_stays [] older h i = i
-issued_stays (e ∷ newer) older h i = or_right (issues_in h e) (is_issued (newer ++ older) h) (issued_stays newer older h i)
+issued_stays : (j : History) (newer : List Entry) (h : ℕ) → is_issued j h ≡ true → is_issued (with_entries j newer) h ≡ true
+issued_stays j [] h i = i
+issued_stays j (e ∷ newer) h i = or_right (issues_in h e) (is_issued (with_entries j newer) h) (issued_stays j newer h i)
 
-kind_kept : (home : Home) (past : List Entry) (e : Entry) (h : ℕ) → Legal home (e ∷ past) → is_issued past h ≡ true → kind (e ∷ past) h ≡ kind past h
-kind_kept home past (End k results said) h l i =
+kind_kept : (j : History) (e : Entry) (h : ℕ) → Legal (with_entry j e) → is_issued j h ≡ true → kind (with_entry j e) h ≡ kind j h
+kind_kept j (End k results said) h l i =
     let fresh : list_any (issues h) results ≡ false =
-    false_from_ne_true (list_any (issues h) results) (λ again. let w = issued_once home past k h results l.1 l.0.fits.0 l.0.fits.1 again in absurd (cc)) in
-    rw (no_kind h (slots past k) results fresh) refl
-kind_kept home past _ h l i = refl
+    false_from_ne_true (list_any (issues h) results) (λ again. let w = issued_once j k h results l.1 l.0.fits.0 l.0.fits.1 again in absurd (cc)) in
+    rw (no_kind h (slots j k) results fresh) refl
+kind_kept j _ h l i = refl
 
-pub kind_stays : (home : Home) (newer older : List Entry) (h : ℕ) → Legal home (newer ++ older) → is_issued older h ≡ true → kind (newer ++ older) h ≡ kind older h
-kind_stays home [] older h l i = refl
-kind_stays home (e ∷ newer) older h l i =
-    kind_kept home (newer ++ older) e h l (issued_stays newer older h i) ∙ kind_stays home newer older h l.1 i
+pub kind_stays : (j : History) (newer : List Entry) (h : ℕ) → Legal (with_entries j newer) → is_issued j h ≡ true → kind (with_entries j newer) h ≡ kind j h
+kind_stays j [] h l i = refl
+kind_stays j (e ∷ newer) h l i = kind_kept (with_entries j newer) e h l (issued_stays j newer h i) ∙ kind_stays j newer h l.1 i
 
-pub agree : (home : Home) (newer newest older : List Entry) → Legal home (newer ++ older) → Legal home (newest ++ older) → Agree older (newer ++ older) (newest ++ older)
-agree home newer newest older l m =
+pub agree : (j : History) (newer newest : List Entry) → Legal (with_entries j newer) → Legal (with_entries j newest) → Agree j (with_entries j newer) (with_entries j newest)
+agree j newer newest l m =
     record {
-      same_asked = λ k s. asked_same home newer older k (asked older k) l refl s ∙ sym (asked_same home newest older k (asked older k) m refl s);
-      same_kind = λ h i. kind_stays home newer older h l i ∙ sym (kind_stays home newest older h m i);
-      same_reply = λ k n. reply_stays home newer older k l n ∙ sym (reply_stays home newest older k m n);
+      same_asked = λ k s. asked_same j newer k (asked j k) l refl s ∙ sym (asked_same j newest k (asked j k) m refl s);
+      same_kind = λ h i. kind_stays j newer h l i ∙ sym (kind_stays j newest h m i);
+      same_reply = λ k n. reply_stays j newer k l n ∙ sym (reply_stays j newest k m n);
     }

@@ -1,5 +1,5 @@
 -- Two running calls don't conflict.
-use Rattle.std.proofs.Common.{◌≡◌, ◌≢◌, ℕ, ◌≤◌, ◌<◌, Bool, true, false, ◌||◌, not, nat_eq, Option, Some, None, List, [], ◌∷◌, length, refl, sym, ◌∙◌, subst, arith, ◌⊎◌, inl, inr}
+use Rattle.std.proofs.Common.{◌≡◌, ◌≢◌, ℕ, ◌+◌, ◌≤◌, ◌<◌, Bool, true, false, ◌&&◌, ◌||◌, not, Option, Some, None, List, [], ◌∷◌, refl, sym, ◌∙◌, subst, arith, ◌⊎◌, inl, inr, reverse}
 use Rattle.std.specs.List.{list_any, filter}
 use Rattle.std.specs.Option.{option_or}
 use Rattle.std.proofs.lemmas.Grind.{common_steps}
@@ -12,9 +12,15 @@ use Rattle.handle_model.specs.declared.entry.Said.{Said}
 use Rattle.std.proofs.lemmas.Bool.Decides.{eqb_tells}
 use Rattle.handle_model.specs.declared.entry.Entry.{Entry}
 use Rattle.handle_model.specs.declared.entry.Entry.TheVariants.{Accept, Take, End}
+use Rattle.handle_model.specs.declared.base.BaseCall.{BaseCall}
+use Rattle.handle_model.specs.declared.base.Base.{Base}
+use Rattle.handle_model.specs.Bases.{is_number, is_taken_call, taken_calls, numbers_of}
+use Rattle.handle_model.specs.History.{History, since, with_entry}
 use Rattle.handle_model.specs.Slots.{clash, same_handle, same_wire, is_null, named, is_exclusive}
-use Rattle.handle_model.specs.Journal.{takes, taken, runs, running, slots, asked, conflict, any_clash, least, lesser, ends, waiting_blocker, running_blocker, blocker, accepted, waits, Legal}
+use Rattle.handle_model.specs.Journal.{taken, is_taken, runs, running, slots, asked, conflict, any_clash, least, lesser, ends, waiting_blocker, running_blocker, blocker, accept_count, waits, Legal}
+use Rattle.handle_model.proofs.Reversed.{list_any-reverse}
 use Rattle.handle_model.proofs.Held.{and_left, and_right}
+use Rattle.handle_model.proofs.BaseFacts.{asked_before_within, taken_before_within, apart_before}
 
 -- a list with no least number has no number
 least_some : (n : ℕ) (o : Option ℕ) → lesser n o ≢ None
@@ -25,11 +31,22 @@ pub least_none : (ns : List ℕ) → least ns ≡ None → ns ≡ []
 least_none [] h = refl
 least_none (n ∷ ns) h = absurd (least_some n (least ns) h)
 
+-- what passes both tests is left by both
+both_left : (p q : ℕ → Bool) (ns : List ℕ) (m : ℕ) → filter q (filter p ns) ≡ [] → p m ≡ true → list_any (is_number m) ns ≡ true → q m ≡ false
+both_left p q [] m h e t = absurd (cc)
+both_left p q (n ∷ ns) m h e t = grind (arith, common_steps, both_left p q ns m)
+
+numbered_taken : (cs : List BaseCall) (k : ℕ) → list_any (is_taken_call k) cs ≡ true → list_any (is_number k) (numbers_of (filter (λ (c : BaseCall). c.taken) cs)) ≡ true
+numbered_taken [] k h = absurd (cc)
+numbered_taken (d ∷ cs) k h = grind (arith, common_steps, numbered_taken cs k)
+
 -- no running call conflicts with a call that has no blocker
-pub running_free : (p q : ℕ → Bool) (past : List Entry) (m : ℕ) → filter q (filter p (taken past)) ≡ [] → p m ≡ true → list_any (takes m) past ≡ true → q m ≡ false
-running_free p q [] m h e t = cc
-running_free p q (Take k cookies ∷ past) m h e t = grind (arith, common_steps, running_free p q past m)
-running_free p q (_ ∷ past) m h e t = running_free p q past m h e t
+pub running_free : (home : Home) (base : Base) (p q : ℕ → Bool) (past : List Entry) (m : ℕ) → filter q (filter p (taken (since home base past))) ≡ [] → p m ≡ true → is_taken (since home base past) m ≡ true → q m ≡ false
+running_free home base p q [] m h e t =
+    let ns : List ℕ = numbers_of (taken_calls base) in
+    both_left p q (reverse ns) m h e (list_any-reverse (is_number m) ns ∙ numbered_taken base.calls m t)
+running_free home base p q (Take k cookies ∷ past) m h e t = grind (arith, common_steps, running_free home base p q past m)
+running_free home base p q (_ ∷ past) m h e t = running_free home base p q past m h e t
 
 -- CLASHES GO BOTH WAYS
 
@@ -89,70 +106,81 @@ pub any_clash_comm : (xs ys : List Slot) → any_clash xs ys ≡ any_clash ys xs
 any_clash_comm xs ys =
     any_swapped clash xs ys ∙ any_alike (λ y. list_any (λ x. clash x y) xs) (λ y. list_any (clash y) xs) (λ y. any_alike (λ x. clash x y) (clash y) (λ x. clash_comm x y) xs) ys
 
+-- where one of the two directions is false, both are
+one_way : (a b : Bool) → a ≡ b → (a && b) ≡ false → a ≡ false
+one_way true b e f = e ∙ f
+one_way false b e f = refl
+
 -- CALLS
 
-accepted_more : (past : List Entry) (k : ℕ) (a : Asked) → asked past k ≡ Some a → list_any (nat_eq k) (accepted past) ≡ true
-accepted_more [] k a h = cc
-accepted_more (Accept m b ∷ past) k a h = grind (arith, common_steps, accepted_more past k a)
-accepted_more (_ ∷ past) k a h = accepted_more past k a h
-
 -- a call that was accepted has a number up to how many were
-pub asked_within : (home : Home) (past : List Entry) (k : ℕ) (a : Asked) → Legal home past → asked past k ≡ Some a → k ≤ length (accepted past)
-asked_within home [] k a l h = cc
-asked_within home (Accept m b ∷ past) k a l h = let e = l.0.fits.0 in grind (arith, common_steps, asked_within home past k a l.1)
-asked_within home (_ ∷ past) k a l h = asked_within home past k a l.1 h
+pub asked_within : (home : Home) (base : Base) (past : List Entry) (k : ℕ) (a : Asked) → Legal (since home base past) → asked (since home base past) k ≡ Some a → k ≤ accept_count (since home base past)
+asked_within home base [] k a l h = asked_before_within home base k a l h
+asked_within home base (Accept m b ∷ past) k a l h = let e = l.0.fits.0 in grind (arith, common_steps, asked_within home base past k a l.1)
+asked_within home base (_ ∷ past) k a l h = asked_within home base past k a l.1 h
 
-waits_asked : (home : Home) (past : List Entry) (k : ℕ) (o : Option Asked) → Legal home past → asked past k ≡ o → waits past k ≡ true → k ≤ length (accepted past)
-waits_asked home past k None l e h = grind (arith, common_steps)
-waits_asked home past k (Some a) l e h = asked_within home past k a l e
+waits_asked : (j : History) (k : ℕ) (o : Option Asked) → Legal j → asked j k ≡ o → waits j k ≡ true → k ≤ accept_count j
+waits_asked j k None l e h = grind (arith, common_steps)
+waits_asked j k (Some a) l e h = asked_within j.home j.base j.past k a l e
 
 -- a call that was taken has such a number too
-pub taken_within : (home : Home) (past : List Entry) (k : ℕ) → Legal home past → list_any (takes k) past ≡ true → k ≤ length (accepted past)
-taken_within home [] k l h = cc
-taken_within home (Take m cookies ∷ past) k l h = let w = waits_asked home past m (asked past m) l.1 refl l.0.fits.0 in grind (arith, common_steps, taken_within home past k l.1)
-taken_within home (Accept m a ∷ past) k l h = let w = taken_within home past k l.1 h in omega arith
-taken_within home (_ ∷ past) k l h = taken_within home past k l.1 h
+pub taken_within : (home : Home) (base : Base) (past : List Entry) (k : ℕ) → Legal (since home base past) → is_taken (since home base past) k ≡ true → k ≤ accept_count (since home base past)
+taken_within home base [] k l h = taken_before_within home base k l h
+taken_within home base (Take m cookies ∷ past) k l h =
+    let w = waits_asked (since home base past) m (asked (since home base past) m) l.1 refl l.0.fits.0 in grind (arith, common_steps, taken_within home base past k l.1)
+taken_within home base (Accept m a ∷ past) k l h = let w = taken_within home base past k l.1 h in omega arith
+taken_within home base (_ ∷ past) k l h = taken_within home base past k l.1 h
 
 option_or_none : (o p : Option ℕ) → option_or o p ≡ None → o ≡ None
 option_or_none None p h = refl
 option_or_none (Some n) p h = h
 
+pub runs_taken_before : (j : History) (k : ℕ) → runs j k ≡ true → is_taken j k ≡ true
+runs_taken_before j k r = and_left (is_taken j k) (not (list_any (ends k) j.past)) r
+
 -- a call that may be taken is in conflict with no running call
-pub free_of : (past : List Entry) (k m : ℕ) → blocker past k ≡ None → runs past m ≡ true → conflict past k m ≡ false
-free_of past k m b r =
-    let none = least_none (filter (conflict past k) (running past)) (option_or_none (running_blocker past k) (waiting_blocker past k) b) in
-    running_free (runs past) (conflict past k) past m none r (and_left (list_any (takes m) past) (not (list_any (ends m) past)) r)
+pub free_of : (j : History) (k m : ℕ) → blocker j k ≡ None → runs j m ≡ true → conflict j k m ≡ false
+free_of j k m b r =
+    let none = least_none (filter (conflict j k) (running j)) (option_or_none (running_blocker j k) (waiting_blocker j k) b) in
+    running_free j.home j.base (runs j) (conflict j k) j.past m none r (runs_taken_before j m r)
 
 -- runs before an End of another call, and before a Take of another call
-pub runs_ended : (j k : ℕ) (results : List Outcome) (said : Said) (past : List Entry) → runs (End j results said ∷ past) k ≡ true → runs past k ≡ true
-runs_ended j k results said past h = grind (arith, common_steps)
+pub runs_ended : (j : History) (m k : ℕ) (results : List Outcome) (said : Said) → runs (with_entry j (End m results said)) k ≡ true → runs j k ≡ true
+runs_ended j m k results said h = grind (arith, common_steps)
 
-pub runs_taken : (j k : ℕ) (cookies : List (Option ℕ)) (past : List Entry) → runs (Take j cookies ∷ past) k ≡ true → (j ≡ k) ⊎ (runs past k ≡ true)
-runs_taken j k cookies past h = elim (eqb_tells j k) [ inl e ↦ inl e.1 | inr e ↦ inr (rw e.0 at h) ]
+pub runs_taken : (j : History) (m k : ℕ) (cookies : List (Option ℕ)) → runs (with_entry j (Take m cookies)) k ≡ true → (m ≡ k) ⊎ (runs j k ≡ true)
+runs_taken j m k cookies h = elim (eqb_tells m k) [ inl e ↦ inl e.1 | inr e ↦ inr (rw e.0 at h) ]
 
-taken_cases : (past : List Entry) (j k m : ℕ) → blocker past j ≡ None → k ≢ m → (runs past k ≡ true → runs past m ≡ true → conflict past k m ≡ false) → (j ≡ k) ⊎ (runs past k ≡ true) → (j ≡ m) ⊎ (runs past m ≡ true) → conflict past k m ≡ false
-taken_cases past j k m b d f (inl e) (inl g) = absurd (d (sym e ∙ g))
-taken_cases past j k m b d f (inl e) (inr s) = subst (λ (i : ℕ). conflict past i m ≡ false) e (free_of past j m b s)
-taken_cases past j k m b d f (inr r) (inl g) =
-    subst (λ (i : ℕ). conflict past k i ≡ false) g (any_clash_comm (slots past k) (slots past j) ∙ free_of past j k b r)
-taken_cases past j k m b d f (inr r) (inr s) = f r s
+taken_cases : (j : History) (i k m : ℕ) → blocker j i ≡ None → k ≢ m → (runs j k ≡ true → runs j m ≡ true → conflict j k m ≡ false) → (i ≡ k) ⊎ (runs j k ≡ true) → (i ≡ m) ⊎ (runs j m ≡ true) → conflict j k m ≡ false
+taken_cases j i k m b d f (inl e) (inl g) = absurd (d (sym e ∙ g))
+taken_cases j i k m b d f (inl e) (inr s) = subst (λ (n : ℕ). conflict j n m ≡ false) e (free_of j i m b s)
+taken_cases j i k m b d f (inr r) (inl g) =
+    subst (λ (n : ℕ). conflict j k n ≡ false) g (any_clash_comm (slots j k) (slots j i) ∙ free_of j i k b r)
+taken_cases j i k m b d f (inr r) (inr s) = f r s
 
 -- what a call of an earlier number asks stays
-pub slots_kept : (j k : ℕ) (a : Asked) (past : List Entry) → k < j → slots (Accept j a ∷ past) k ≡ slots past k
-slots_kept j k a past h = grind (arith, common_steps)
+pub slots_kept : (j : History) (m k : ℕ) (a : Asked) → k < m → slots (with_entry j (Accept m a)) k ≡ slots j k
+slots_kept j m k a h = grind (arith, common_steps)
+
+-- a running call has a lesser number than one that is accepted next
+pub runs_below : (j : History) (m k : ℕ) → Legal j → m ≡ accept_count j + 1 → runs j k ≡ true → k < m
+runs_below j m k l e r = let low = taken_within j.home j.base j.past k l (runs_taken_before j k r) in omega arith
 
 -- two running calls don't conflict
-pub apart : (home : Home) (past : List Entry) (k m : ℕ) → Legal home past → runs past k ≡ true → runs past m ≡ true → k ≢ m → conflict past k m ≡ false
-apart home [] k m l r s d = cc
-apart home (Take j cookies ∷ past) k m l r s d =
-    taken_cases past j k m l.0.fits.1 d (λ x y. apart home past k m l.1 x y d) (runs_taken j k cookies past r) (runs_taken j m cookies past s)
-apart home (Accept j a ∷ past) k m l r s d =
-    let low = taken_within home past k l.1 (and_left (list_any (takes k) past) (not (list_any (ends k) past)) r) in
-    let low' = taken_within home past m l.1 (and_left (list_any (takes m) past) (not (list_any (ends m) past)) s) in
-    let e = l.0.fits.0 in
-    let k_below : k < j = omega arith in
-    let m_below : m < j = omega arith in
-    rw (slots_kept j k a past k_below, slots_kept j m a past m_below) (apart home past k m l.1 r s d)
-apart home (End j results said ∷ past) k m l r s d =
-    apart home past k m l.1 (runs_ended j k results said past r) (runs_ended j m results said past s) d
-apart home (_ ∷ past) k m l r s d = apart home past k m l.1 r s d
+pub apart : (home : Home) (base : Base) (past : List Entry) (k m : ℕ) → Legal (since home base past) → runs (since home base past) k ≡ true → runs (since home base past) m ≡ true → k ≢ m → conflict (since home base past) k m ≡ false
+apart home base [] k m l r s d =
+    let j : History = since home base [] in
+    one_way (conflict j k m) (conflict j m k) (any_clash_comm (slots j k) (slots j m)) (apart_before home base k m l (runs_taken_before j k r) (runs_taken_before j m s) d)
+apart home base (Take i cookies ∷ past) k m l r s d =
+    let j : History = since home base past in
+    taken_cases j i k m l.0.fits.1 d (λ x y. apart home base past k m l.1 x y d) (runs_taken j i k cookies r) (runs_taken j i m cookies s)
+apart home base (Accept i a ∷ past) k m l r s d =
+    let j : History = since home base past in
+    rw (slots_kept j i k a (runs_below j i k l.1 l.0.fits.0 r), slots_kept j i m a (runs_below j i m l.1 l.0.fits.0 s)) (apart home base past k m l.1 r s d)
+apart home base (End i results said ∷ past) k m l r s d =
+    let j : History = since home base past in
+    apart home base past k m l.1 (runs_ended j i k results said r) (runs_ended j i m results said s) d
+apart home base (_ ∷ past) k m l r s d = apart home base past k m l.1 r s d
+
+pub running_apart : (j : History) (k m : ℕ) → Legal j → runs j k ≡ true → runs j m ≡ true → k ≢ m → conflict j k m ≡ false
+running_apart j k m l r s d = apart j.home j.base j.past k m l r s d

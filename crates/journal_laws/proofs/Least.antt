@@ -3,8 +3,7 @@ use Rattle.std.proofs.Common.{◌≡◌, ℕ, ◌≤◌, Bool, true, false, ◌&
 use Rattle.std.specs.List.{list_any, filter}
 use Rattle.std.proofs.lemmas.Bool.{le-ltb, ltb-true, ltb-false, cases_Bool}
 use Rattle.journal_laws.proofs.Apart.{least_none}
-use Rattle.handle_model.specs.declared.entry.Home.{Home}
-use Rattle.handle_model.specs.declared.entry.Entry.{Entry}
+use Rattle.handle_model.specs.History.{History}
 use Rattle.journal_laws.specs.Waiting.{OnlyTake, OnlyDeny}
 use Rattle.handle_model.proofs.Held.{open_not_due}
 use Rattle.handle_model.proofs.Steps.{waits_conn, open_unshut}
@@ -57,19 +56,19 @@ none_below : (k : ℕ) (ns : List ℕ) (q : ℕ → Bool) → NoneBelow k ns →
 none_below k [] q h = refl
 none_below k (n ∷ ns) q h = rw (le-ltb n k h.0) (none_below k ns q h.1)
 
-pub least_free : (past : List Entry) (k : ℕ) → running past ≡ [] → NoneBelow k (waiting past) → blocker past k ≡ None
-least_free past k r w =
-    let a : running_blocker past k ≡ None = rw r refl in
-    let b : waiting_blocker past k ≡ None = ap least (none_below k (waiting past) (conflict past k) w) in rw (a, b) refl
+pub least_free : (j : History) (k : ℕ) → running j ≡ [] → NoneBelow k (waiting j) → blocker j k ≡ None
+least_free j k r w =
+    let a : running_blocker j k ≡ None = rw r refl in
+    let b : waiting_blocker j k ≡ None = ap least (none_below k (waiting j) (conflict j k) w) in rw (a, b) refl
 
-decided : (home : Home) (past : List Entry) (k : ℕ) → waits past k ≡ true → blocker past k ≡ None → list_any is_shut past ≡ false → due past ≡ false → (f : Option ℕ) → fault home past k ≡ f → MatchOption f (OnlyTake home past k) (OnlyDeny home past k)
-decided home past k w b u d None f =
+decided : (j : History) (k : ℕ) → waits j k ≡ true → blocker j k ≡ None → list_any is_shut j.past ≡ false → due j ≡ false → (f : Option ℕ) → fault j k ≡ f → MatchOption f (OnlyTake j k) (OnlyDeny j k)
+decided j k w b u d None f =
     record {
       allowed = record { before_shut = u; shut_when_due = λ e. cc; fits = (w, b, f, refl) };
       no_other = λ cookies a. a.fits.3;
-      no_deny = λ j a. let e = a.fits.2 in cc;
+      no_deny = λ place a. let e = a.fits.2 in cc;
     }
-decided home past k w b u d (Some j) f =
+decided j k w b u d (Some place) f =
     record {
       allowed = record { before_shut = u; shut_when_due = λ e. cc; fits = (w, b, f) };
       no_other = λ i a. let e = a.fits.2 in cc;
@@ -77,9 +76,9 @@ decided home past k w b u d (Some j) f =
     }
 
 -- the least waiting call can be taken or denied in one way
-pub goes_on : (home : Home) (past : List Entry) (k : ℕ) → Legal home past → running past ≡ [] → least (waiting past) ≡ Some k → (blocker past k ≡ None) × MatchOption (fault home past k) (OnlyTake home past k) (OnlyDeny home past k)
-goes_on home past k l r e =
-    let w = least_passes (waits past) (accepted past) k e in
-    let free = least_free past k r (least_bounds (waiting past) k e) in
-    let o = waits_conn home past k l w in
-    (free, decided home past k w free (open_unshut home past o.0 l o.1) (open_not_due past o.0 o.1) (fault home past k) refl)
+pub goes_on : (j : History) (k : ℕ) → Legal j → running j ≡ [] → least (waiting j) ≡ Some k → (blocker j k ≡ None) × MatchOption (fault j k) (OnlyTake j k) (OnlyDeny j k)
+goes_on j k l r e =
+    let w = least_passes (waits j) (accepted j) k e in
+    let free = least_free j k r (least_bounds (waiting j) k e) in
+    let o = waits_conn j k l w in
+    (free, decided j k w free (open_unshut j.home j.base j.past o.0 l o.1) (open_not_due j o.0 o.1) (fault j k) refl)

@@ -10,4 +10,5 @@ pub mod Once
 pub mod OneSlot
 pub mod ReplyStays
 pub mod Stages
+pub mod Taken
 pub mod Usable

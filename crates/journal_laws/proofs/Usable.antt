@@ -1,7 +1,7 @@
 -- Which slots name a live handle of their kind, and which are at fault.
 use Rattle.std.proofs.Common.{◌≡◌, ◌≢◌, ℕ, ◌+◌, ◌*◌, ◌^◌, ◌≤◌, ◌<◌, true, false, ◌&&◌, not, ◌==◌, Option, Some, None, is_some, List, [], ◌∷◌, ◌++◌, length, refl, sym, ◌∙◌, ap, subst, arith, inl, inr, append_assoc}
-use Rattle.std.specs.List.{list_any}
-use Rattle.std.specs.Option.{option_or}
+use Rattle.std.specs.List.{list_any, find}
+use Rattle.std.specs.Option.{option_or, option_map}
 use Rattle.std.proofs.lemmas.List.{append-nil, length_push}
 use Rattle.std.proofs.lemmas.List.Folds.{list_any-append}
 use Rattle.std.proofs.lemmas.Bool.{cases_Bool, cases_order, eqb-true, eq-eqb, and_from, false_from_ne_true}
@@ -13,12 +13,16 @@ use Rattle.handle_model.specs.declared.entry.Outcome.{Outcome}
 use Rattle.handle_model.specs.declared.entry.Outcome.TheVariants.{Issue}
 use Rattle.handle_model.specs.declared.entry.Entry.{Entry}
 use Rattle.handle_model.specs.declared.entry.Entry.TheVariants.{End}
+use Rattle.handle_model.specs.declared.entry.DueItem.{DueItem}
+use Rattle.handle_model.specs.declared.base.Base.{Base}
+use Rattle.handle_model.specs.Bases.{is_named_by}
+use Rattle.handle_model.specs.History.{History, since}
 use Rattle.handle_model.specs.Slots.{wire_of, kind_of, named, names, is_null}
-use Rattle.handle_model.specs.Journal.{Legal, issues, is_issued, is_closed, runs_down, is_live, kind, is_kind, first_named, serial_named, is_usable_as, is_usable, repeats, is_at_fault, fault_from, fault, slots}
+use Rattle.handle_model.specs.Journal.{Legal, issues, is_item_of, is_issued, is_closed, runs_down, is_live, kind, is_kind, first_named, serial_named, is_usable_as, is_usable, repeats, is_at_fault, fault_from, fault, slots}
 use Rattle.handle_model.proofs.Held.{and_left, and_right, or_right, or_cases, opened_small}
 use Rattle.journal_laws.specs.Refused.{NamesLive, RefusedBy, any_alone}
 use Rattle.journal_laws.proofs.Apart.{same_wire_from}
-use Rattle.journal_laws.proofs.LiveNames.{names_one, first_named_is, serial_named_is, issued_by, opens_within}
+use Rattle.journal_laws.proofs.LiveNames.{names_one, first_named_is, serial_named_is, issued_within}
 use Rattle.journal_laws.proofs.OneSlot.{wire_is}
 
 -- NAMES
@@ -49,20 +53,31 @@ first_found home s (Issue g c ∷ os) h i n =
     ]
 first_found home s (_ ∷ os) h i n = first_found home s os h i n
 
-from_first : (home : Home) (past : List Entry) (s : Slot) (h : ℕ) (os : List Outcome) (o : Option ℕ) → first_named home s os ≡ o → names (wire_of home h) s ≡ true → (o ≡ None → serial_named home past s ≡ Some h) → option_or o (serial_named home past s) ≡ Some h
-from_first home past s h os None e n f = f refl
-from_first home past s h os (Some g) e n f =
+from_first : (home : Home) (s : Slot) (h : ℕ) (os : List Outcome) (o before : Option ℕ) → first_named home s os ≡ o → names (wire_of home h) s ≡ true → (o ≡ None → before ≡ Some h) → option_or o before ≡ Some h
+from_first home s h os None before e n f = f refl
+from_first home s h os (Some g) before e n f =
     let w = first_named_is home s os g e in ap (λ x. Some x) (sym (names_one home h g s n w.0))
 
+item_named : (home : Home) (s : Slot) (items : List DueItem) (h : ℕ) → list_any (is_item_of h) items ≡ true → names (wire_of home h) s ≡ true → option_map (λ (i : DueItem). i.serial) (find (is_named_by home s) items) ≡ Some h
+item_named home s [] h i n = absurd (cc)
+item_named home s (x ∷ items) h i n =
+    elim (cases_Bool (is_named_by home s x)) [
+      | inl m ↦ rw m (ap (λ g. Some g) (sym (names_one home h x.serial s n m)))
+      | inr m ↦ elim (or_cases (is_item_of h x) (list_any (is_item_of h) items) i) [
+        | inl e ↦ let there : is_named_by home s x ≡ true = subst (λ g. names (wire_of home g) s ≡ true) (sym (eqb-true x.serial h e)) n in absurd (cc)
+        | inr r ↦ rw m (item_named home s items h r n)
+      ]
+    ]
+
 -- a slot that names an issued handle names its serial
-pub named_issued : (home : Home) (past : List Entry) (s : Slot) (h : ℕ) → is_issued past h ≡ true → names (wire_of home h) s ≡ true → serial_named home past s ≡ Some h
-named_issued home [] s h i n = absurd (cc)
-named_issued home (End k os said ∷ past) s h i n =
-    from_first home past s h os (first_named home s os) refl n (λ none. elim (or_cases (list_any (issues h) os) (is_issued past h) i) [
+pub named_issued : (home : Home) (base : Base) (past : List Entry) (s : Slot) (h : ℕ) → is_issued (since home base past) h ≡ true → names (wire_of home h) s ≡ true → serial_named (since home base past) s ≡ Some h
+named_issued home base [] s h i n = item_named home s base.handles h i n
+named_issued home base (End k os said ∷ past) s h i n =
+    from_first home s h os (first_named home s os) (serial_named (since home base past) s) refl n (λ none. elim (or_cases (list_any (issues h) os) (is_issued (since home base past) h) i) [
       | inl e ↦ let some = first_found home s os h e n in let f = rw none at some in absurd (cc)
-      | inr r ↦ named_issued home past s h r n
+      | inr r ↦ named_issued home base past s h r n
     ])
-named_issued home (_ ∷ past) s h i n = named_issued home past s h i n
+named_issued home base (_ ∷ past) s h i n = named_issued home base past s h i n
 
 -- A SLOT THAT NAMES A LIVE HANDLE OF ITS KIND
 
@@ -74,50 +89,49 @@ of_kind : (o : Option ℕ) (n : ℕ) → o ≡ Some n → is_kind o n ≡ true
 of_kind None n e = absurd (cc)
 of_kind (Some m) n e = let q : m ≡ n = cc in eq-eqb m n q
 
-usable_by : (home : Home) (past : List Entry) (s : Slot) (o : Option ℕ) → serial_named home past s ≡ o → is_usable_as home past (kind_of s) o ≡ true → NamesLive home past s
-usable_by home past s None e u = absurd (cc)
-usable_by home past s (Some h) e u =
+usable_by : (j : History) (s : Slot) (o : Option ℕ) → serial_named j s ≡ o → is_usable_as j (kind_of s) o ≡ true → NamesLive j s
+usable_by j s None e u = absurd (cc)
+usable_by j s (Some h) e u =
     record {
       serial = h;
-      name = names_named (wire_of home h) s (serial_named_is home past s h e);
-      live = and_left (is_live home past h) (is_kind (kind past h) (kind_of s)) u;
-      its_kind = kind_is (kind past h) (kind_of s) (and_right (is_live home past h) (is_kind (kind past h) (kind_of s)) u);
+      name = names_named (wire_of j.home h) s (serial_named_is j.home j.base j.past s h e);
+      live = and_left (is_live j h) (is_kind (kind j h) (kind_of s)) u;
+      its_kind = kind_is (kind j h) (kind_of s) (and_right (is_live j h) (is_kind (kind j h) (kind_of s)) u);
     }
 
-live_issued : (home : Home) (past : List Entry) (h : ℕ) → is_live home past h ≡ true → is_issued past h ≡ true
-live_issued home past h v =
-    and_left (is_issued past h) (not (is_closed home past h)) (and_left (is_issued past h && not (is_closed home past h)) (not (list_any (runs_down h) past)) v)
+pub live_issued : (j : History) (h : ℕ) → is_live j h ≡ true → is_issued j h ≡ true
+live_issued j h v =
+    and_left (is_issued j h) (not (is_closed j h)) (and_left (is_issued j h && not (is_closed j h)) (not (list_any (runs_down h) j.past)) v)
 
-pub usable_named : (home : Home) (past : List Entry) (s : Slot) → is_usable home past s ≡ true → NamesLive home past s
-usable_named home past s u = usable_by home past s (serial_named home past s) refl u
+pub usable_named : (j : History) (s : Slot) → is_usable j s ≡ true → NamesLive j s
+usable_named j s u = usable_by j s (serial_named j s) refl u
 
-pub named_usable : (home : Home) (past : List Entry) (s : Slot) → NamesLive home past s → is_usable home past s ≡ true
-named_usable home past s v =
-    let e = named_issued home past s v.serial (live_issued home past v.serial v.live) (named_names (wire_of home v.serial) s v.name) in
-    rw e (and_from (is_live home past v.serial) (is_kind (kind past v.serial) (kind_of s)) v.live (of_kind (kind past v.serial) (kind_of s) v.its_kind))
+pub named_usable : (j : History) (s : Slot) → NamesLive j s → is_usable j s ≡ true
+named_usable j s v =
+    let e = named_issued j.home j.base j.past s v.serial (live_issued j v.serial v.live) (named_names (wire_of j.home v.serial) s v.name) in
+    rw e (and_from (is_live j v.serial) (is_kind (kind j v.serial) (kind_of s)) v.live (of_kind (kind j v.serial) (kind_of s) v.its_kind))
 
 -- FOREIGN HANDLES
 
 -- a live handle has a serial from 1 within 32 bits
-live_range : (home : Home) (past : List Entry) (h : ℕ) → Legal home past → is_live home past h ≡ true → (0 < h) × (h < 2 ^ 32)
-live_range home past h l v =
-    let w = issued_by home past h l (live_issued home past h v) in
-    let range = opens_within home past w.call h l w.opened_it in
-    let small = opened_small home past l in (range.0, omega (arith, range.1, small))
+live_range : (j : History) (h : ℕ) → Legal j → is_live j h ≡ true → (0 < h) × (h < 2 ^ 32)
+live_range j h l v =
+    let range = issued_within j h l (live_issued j h v) in
+    let small = opened_small j.home j.base j.past l in (range.0, omega (arith, range.1, small))
 
 -- a slot is at fault that names what no live handle is
-unusable : (home : Home) (past : List Entry) (earlier all : List Slot) (s : Slot) (w : WireHandle) → named s ≡ Some w → ((h : ℕ) → is_live home past h ≡ true → w ≢ wire_of home h) → is_at_fault home past earlier all s ≡ true
-unusable home past earlier all s w n f =
-    let off : is_usable home past s ≡ false =
-    false_from_ne_true (is_usable home past s) (λ u. let v = usable_named home past s u in let same : w ≡ wire_of home v.serial = (let a = v.name in cc) in f v.serial v.live same) in
+unusable : (j : History) (earlier all : List Slot) (s : Slot) (w : WireHandle) → named s ≡ Some w → ((h : ℕ) → is_live j h ≡ true → w ≢ wire_of j.home h) → is_at_fault j earlier all s ≡ true
+unusable j earlier all s w n f =
+    let off : is_usable j s ≡ false =
+    false_from_ne_true (is_usable j s) (λ u. let v = usable_named j s u in let same : w ≡ wire_of j.home v.serial = (let a = v.name in cc) in f v.serial v.live same) in
     let some : is_some (named s) ≡ true = rw n refl in rw (some, off) refl
 
-pub null_at_fault : (home : Home) (past : List Entry) (earlier all : List Slot) (s : Slot) (w : WireHandle) → Legal home past → named s ≡ Some w → is_null w ≡ true → is_at_fault home past earlier all s ≡ true
-null_at_fault home past earlier all s w l n z =
-    unusable home past earlier all s w n (λ h v same.
-    let range = live_range home past h l v in
+pub null_at_fault : (j : History) (earlier all : List Slot) (s : Slot) (w : WireHandle) → Legal j → named s ≡ Some w → is_null w ≡ true → is_at_fault j earlier all s ≡ true
+null_at_fault j earlier all s w l n z =
+    unusable j earlier all s w n (λ h v same.
+    let range = live_range j h l v in
     let none : w.id ≡ 0 = eqb-true w.id 0 (and_right (w.attributes == 0) (w.id == 0) z) in
-    let id : w.id ≡ home.boot * 2 ^ 64 + home.group * 2 ^ 32 + h = ap (λ (x : WireHandle). x.id) same in
+    let id : w.id ≡ j.home.boot * 2 ^ 64 + j.home.group * 2 ^ 32 + h = ap (λ (x : WireHandle). x.id) same in
     let low = range.0 in absurd (omega arith))
 
 same_home : (a b : Home) → a.boot ≡ b.boot → a.group ≡ b.group → a ≡ b
@@ -125,15 +139,15 @@ same_home a b p q =
     let made : ℕ → ℕ → Home = λ x y. record { boot = x; group = y } in
     ap (λ x. made x a.group) p ∙ ap (made b.boot) q
 
-pub foreign_at_fault : (home other : Home) (past : List Entry) (earlier all : List Slot) (s : Slot) (h : ℕ) → Legal home past → home.group < 2 ^ 32 → other.group < 2 ^ 32 → h < 2 ^ 32 → other ≢ home → named s ≡ Some (wire_of other h) → is_at_fault home past earlier all s ≡ true
-foreign_at_fault home other past earlier all s h l ours theirs small d n =
-    unusable home past earlier all s (wire_of other h) n (λ g v same.
-    let range = live_range home past g l v in
+pub foreign_at_fault : (j : History) (other : Home) (earlier all : List Slot) (s : Slot) (h : ℕ) → Legal j → j.home.group < 2 ^ 32 → other.group < 2 ^ 32 → h < 2 ^ 32 → other ≢ j.home → named s ≡ Some (wire_of other h) → is_at_fault j earlier all s ≡ true
+foreign_at_fault j other earlier all s h l ours theirs small d n =
+    unusable j earlier all s (wire_of other h) n (λ g v same.
+    let range = live_range j g l v in
     let high = range.1 in
-    let id : other.boot * 2 ^ 64 + other.group * 2 ^ 32 + h ≡ home.boot * 2 ^ 64 + home.group * 2 ^ 32 + g = ap (λ (x : WireHandle). x.id) same in
-    elim (cases_order other.boot home.boot) [
-      | inl b ↦ elim (cases_order other.group home.group) [
-        | inl c ↦ d (same_home other home b c)
+    let id : other.boot * 2 ^ 64 + other.group * 2 ^ 32 + h ≡ j.home.boot * 2 ^ 64 + j.home.group * 2 ^ 32 + g = ap (λ (x : WireHandle). x.id) same in
+    elim (cases_order other.boot j.home.boot) [
+      | inl b ↦ elim (cases_order other.group j.home.group) [
+        | inl c ↦ d (same_home other j.home b c)
         | inr c ↦ elim c [ inl lt ↦ absurd (omega arith) | inr gt ↦ absurd (omega arith) ]
       ]
       | inr b ↦ elim b [ inl lt ↦ absurd (omega arith) | inr gt ↦ absurd (omega arith) ]
@@ -141,41 +155,41 @@ foreign_at_fault home other past earlier all s h l ours theirs small d n =
 
 -- HANDLES NAMED TWICE
 
-pub twice_at_fault : (home : Home) (past : List Entry) (front middle rest : List Slot) (s t : Slot) (w : WireHandle) → named s ≡ Some w → named t ≡ Some w → any_alone w (front ++ s ∷ middle ++ t ∷ rest) ≡ true → is_at_fault home past (front ++ s ∷ middle) (front ++ s ∷ middle ++ t ∷ rest) t ≡ true
-twice_at_fault home past front middle rest s t w m n a =
+pub twice_at_fault : (j : History) (front middle rest : List Slot) (s t : Slot) (w : WireHandle) → named s ≡ Some w → named t ≡ Some w → any_alone w (front ++ s ∷ middle ++ t ∷ rest) ≡ true → is_at_fault j (front ++ s ∷ middle) (front ++ s ∷ middle ++ t ∷ rest) t ≡ true
+twice_at_fault j front middle rest s t w m n a =
     let first : list_any (names w) (front ++ s ∷ middle) ≡ true =
     list_any-append (names w) front (s ∷ middle) ∙ or_right (list_any (names w) front) (list_any (names w) (s ∷ middle)) (rw (named_names w s m) refl) in
     let again : repeats (front ++ s ∷ middle) (front ++ s ∷ middle ++ t ∷ rest) t ≡ true =
     rw n (and_from (list_any (names w) (front ++ s ∷ middle)) (any_alone w (front ++ s ∷ middle ++ t ∷ rest)) first a) in
     let some : is_some (named t) ≡ true = rw n refl in
-    rw some (or_right (not (is_usable home past t)) (repeats (front ++ s ∷ middle) (front ++ s ∷ middle ++ t ∷ rest) t) again)
+    rw some (or_right (not (is_usable j t)) (repeats (front ++ s ∷ middle) (front ++ s ∷ middle ++ t ∷ rest) t) again)
 
 -- A CALL WITH A SLOT AT FAULT
 
 -- the first slot at fault stands at a place up to that one
-pub record FirstFault (home : Home) (past : List Entry) (all earlier later : List Slot) (n : ℕ) : Type 0 where
+pub record FirstFault (j : History) (all earlier later : List Slot) (n : ℕ) : Type 0 where
   pub at : ℕ
-  pub found : fault_from home past all earlier later ≡ Some at
+  pub found : fault_from j all earlier later ≡ Some at
   pub within : at ≤ n
 
-faulty : (home : Home) (past : List Entry) (all earlier front rest : List Slot) (s : Slot) → is_at_fault home past (earlier ++ front) all s ≡ true → FirstFault home past all earlier (front ++ s ∷ rest) (length earlier + length front)
-faulty home past all earlier [] rest s f =
-    let here : is_at_fault home past earlier all s ≡ true = subst (λ xs. is_at_fault home past xs all s ≡ true) (append-nil earlier) f in
+faulty : (j : History) (all earlier front rest : List Slot) (s : Slot) → is_at_fault j (earlier ++ front) all s ≡ true → FirstFault j all earlier (front ++ s ∷ rest) (length earlier + length front)
+faulty j all earlier [] rest s f =
+    let here : is_at_fault j earlier all s ≡ true = subst (λ xs. is_at_fault j xs all s ≡ true) (append-nil earlier) f in
     record { at = length earlier; found = rw here refl; within = omega arith }
-faulty home past all earlier (x ∷ front) rest s f =
-    elim (cases_Bool (is_at_fault home past earlier all x)) [
+faulty j all earlier (x ∷ front) rest s f =
+    elim (cases_Bool (is_at_fault j earlier all x)) [
       | inl here ↦ record { at = length earlier; found = rw here refl; within = omega arith }
       | inr off ↦
-          let moved : is_at_fault home past ((earlier ++ x ∷ []) ++ front) all s ≡ true =
-          subst (λ xs. is_at_fault home past xs all s ≡ true) (sym (append_assoc earlier (x ∷ []) front)) f in
-          let more = faulty home past all (earlier ++ x ∷ []) front rest s moved in
+          let moved : is_at_fault j ((earlier ++ x ∷ []) ++ front) all s ≡ true =
+          subst (λ xs. is_at_fault j xs all s ≡ true) (sym (append_assoc earlier (x ∷ []) front)) f in
+          let more = faulty j all (earlier ++ x ∷ []) front rest s moved in
           let long = length_push earlier x in
           let low = more.within in
           record { at = more.at; found = rw off more.found; within = omega arith }
     ]
 
-pub fault_refuses : (home : Home) (past : List Entry) (k : ℕ) (front rest : List Slot) (s : Slot) → slots past k ≡ front ++ s ∷ rest → is_at_fault home past front (slots past k) s ≡ true → RefusedBy home past k (length front)
-fault_refuses home past k front rest s e f =
-    let first = faulty home past (slots past k) [] front rest s f in
-    let found : fault home past k ≡ Some first.at = ap (fault_from home past (slots past k) []) e ∙ first.found in
+pub fault_refuses : (j : History) (k : ℕ) (front rest : List Slot) (s : Slot) → slots j k ≡ front ++ s ∷ rest → is_at_fault j front (slots j k) s ≡ true → RefusedBy j k (length front)
+fault_refuses j k front rest s e f =
+    let first = faulty j (slots j k) [] front rest s f in
+    let found : fault j k ≡ Some first.at = ap (fault_from j (slots j k) []) e ∙ first.found in
     record { slot = first.at; first = found; within = let low = first.within in omega arith; untaken = λ cookies a. let none = a.fits.2 in cc }

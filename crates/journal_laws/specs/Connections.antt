@@ -1,26 +1,32 @@
 -- In what order the entries of a connection stand in a legal history, whose newest entry is its first:
--- `newer` came after an entry and `older` before it.
-use Rattle.std.specs.Prelude.{◌≡◌, ℕ, ◌≤◌, true, List, ◌∷◌, ◌++◌, length, filter}
-use Rattle.std.specs.List.{list_any}
-use Rattle.handle_model.specs.declared.entry.Home.{Home}
+-- `newer` came after an entry of the history.
+use Rattle.std.specs.Prelude.{◌≡◌, ℕ, ◌+◌, ◌≤◌, true, false, List, length, filter}
 use Rattle.handle_model.specs.declared.entry.Asked.{Asked}
 use Rattle.handle_model.specs.declared.entry.Entry.{Entry}
-use Rattle.handle_model.specs.declared.entry.Entry.TheVariants.{Accept, Leave}
-use Rattle.handle_model.specs.Journal.{Legal, joins, leaves, is_open}
+use Rattle.handle_model.specs.declared.entry.Entry.TheVariants.{Join, Accept, Leave}
+use Rattle.handle_model.specs.Bases.{has_conn}
+use Rattle.handle_model.specs.History.{History, with_entry}
+use Rattle.handle_model.specs.Journal.{Legal, joins, leaves, has_joined, is_open}
+use Rattle.journal_laws.specs.Further.{with_entries, once_where}
 
 -- a connection joins before it leaves
 abbrev pub LeavesAfterJoin : Type 0
-LeavesAfterJoin =
-    (home : Home) (newer older : List Entry) (c : ℕ) → Legal home (newer ++ Leave c ∷ older) → list_any (joins c) older ≡ true
+LeavesAfterJoin = (j : History) (newer : List Entry) (c : ℕ) → Legal (with_entries (with_entry j (Leave c)) newer) → has_joined j c ≡ true
 
--- it joins once, and leaves once
+-- it joins once, before the base or by a Join, and leaves once
 abbrev pub JoinsOnce : Type 0
-JoinsOnce = (home : Home) (past : List Entry) (c : ℕ) → Legal home past → length (filter (joins c) past) ≤ 1
+JoinsOnce = (j : History) (c : ℕ) → Legal j → once_where (has_conn j.base c) + length (filter (joins c) j.past) ≤ 1
 
 abbrev pub LeavesOnce : Type 0
-LeavesOnce = (home : Home) (past : List Entry) (c : ℕ) → Legal home past → length (filter (leaves c) past) ≤ 1
+LeavesOnce = (j : History) (c : ℕ) → Legal j → length (filter (leaves c) j.past) ≤ 1
+
+-- a further one has a new number
+abbrev pub JoinsNew : Type 0
+JoinsNew =
+    (j : History) (newer : List Entry) (c : ℕ) → Legal (with_entries (with_entry j (Join c)) newer) → has_joined j c ≡ false
 
 -- a call is accepted of a connection that is open
 abbrev pub AcceptsOfOpen : Type 0
 AcceptsOfOpen =
-    (home : Home) (newer older : List Entry) (k : ℕ) (a : Asked) → Legal home (newer ++ Accept k a ∷ older) → is_open older a.conn ≡ true
+    (j : History) (newer : List Entry) (k : ℕ) (a : Asked) → Legal (with_entries (with_entry j (Accept k a)) newer)
+    → is_open j a.conn ≡ true

@@ -6,14 +6,19 @@ use Rattle.handle_model.specs.declared.entry.Slot.{Slot}
 use Rattle.handle_model.specs.declared.entry.Outcome.{Outcome}
 use Rattle.handle_model.specs.declared.entry.Entry.{Entry}
 use Rattle.handle_model.specs.declared.entry.Entry.TheVariants.{End, Shut}
+use Rattle.handle_model.specs.declared.base.Base.{Base}
 use Rattle.handle_model.specs.Slots.{wire_of}
+use Rattle.handle_model.specs.History.{History, since}
 use Rattle.handle_model.specs.Journal.{Legal, slots, issues, closes, is_item_of, is_issued, is_live}
 
--- how often the handle was issued
-abbrev pub issuings : List Entry → ℕ → ℕ
-issuings [] h = 0
-issuings (End k results said ∷ past) h = length (filter (issues h) results) + issuings past h
-issuings (_ ∷ past) h = issuings past h
+-- how often the handle was issued: it stands among the base's handles, or an End issued it
+abbrev pub issuings_since : Base → List Entry → ℕ → ℕ
+issuings_since base [] h = length (filter (is_item_of h) base.handles)
+issuings_since base (End k results said ∷ past) h = length (filter (issues h) results) + issuings_since base past h
+issuings_since base (_ ∷ past) h = issuings_since base past h
+
+abbrev pub issuings : History → ℕ → ℕ
+issuings j h = issuings_since j.base j.past h
 
 -- at how many slots it was closed
 abbrev pub closed_slots : WireHandle → List Slot → List Outcome → ℕ
@@ -21,10 +26,14 @@ closed_slots wire (s ∷ ss) (o ∷ os) = (if closes wire s o then 1 else 0) + c
 closed_slots wire [] os = 0
 closed_slots wire (s ∷ ss) [] = 0
 
-abbrev pub closings : Home → List Entry → ℕ → ℕ
-closings home [] h = 0
-closings home (End k results said ∷ past) h = closed_slots (wire_of home h) (slots past k) results + closings home past h
-closings home (_ ∷ past) h = closings home past h
+abbrev pub closings_since : Home → Base → List Entry → ℕ → ℕ
+closings_since home base [] h = 0
+closings_since home base (End k results said ∷ past) h =
+    closed_slots (wire_of home h) (slots (since home base past) k) results + closings_since home base past h
+closings_since home base (_ ∷ past) h = closings_since home base past h
+
+abbrev pub closings : History → ℕ → ℕ
+closings j h = closings_since j.home j.base j.past h
 
 -- how often it stands in a Shut
 abbrev pub rundowns : List Entry → ℕ → ℕ
@@ -35,5 +44,5 @@ rundowns (_ ∷ past) h = rundowns past h
 -- a handle that was issued was issued once, and is live, or closed once, or run down once
 abbrev pub OneFate : Type 0
 OneFate =
-    (home : Home) (past : List Entry) (h : ℕ) → Legal home past → is_issued past h ≡ true
-    → (issuings past h ≡ 1) × (closings home past h + rundowns past h + (if is_live home past h then 1 else 0) ≡ 1)
+    (j : History) (h : ℕ) → Legal j → is_issued j h ≡ true
+    → (issuings j h ≡ 1) × (closings j h + rundowns j.past h + (if is_live j h then 1 else 0) ≡ 1)

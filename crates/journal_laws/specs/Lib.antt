@@ -1,6 +1,7 @@
 pub mod Calls
 pub mod Connections
 pub mod Fates
+pub mod Further
 pub mod Moments
 pub mod Refused
 pub mod Replies

@@ -1,21 +1,21 @@
--- A legal history, whose newest entry is its first, at two moments: `newer` came after an entry and
--- `older` before it.
-use Rattle.std.specs.Prelude.{◌≡◌, ◌≢◌, ℕ, ◌≤◌, true, is_some, List, [], ◌∷◌, ◌++◌, length}
-use Rattle.handle_model.specs.declared.entry.Home.{Home}
+-- A legal history, whose newest entry is its first, at two moments: `newer` came after the history j.
+use Rattle.std.specs.Prelude.{◌≡◌, ◌≢◌, ℕ, ◌≤◌, true, is_some, List, [], ◌++◌, length}
 use Rattle.handle_model.specs.declared.entry.DueItem.{DueItem}
 use Rattle.handle_model.specs.declared.entry.Entry.{Entry}
 use Rattle.handle_model.specs.declared.entry.Entry.TheVariants.{Shut}
 use Rattle.handle_model.specs.declared.reply.Reply.TheVariants.{Open}
+use Rattle.handle_model.specs.History.{History, with_entry}
 use Rattle.handle_model.specs.Journal.{Legal, asked, is_issued, kind}
 use Rattle.handle_model.specs.Replies.{replies}
+use Rattle.journal_laws.specs.Further.{with_entries}
 
 -- nothing comes after a Shut
 abbrev pub ShutIsLast : Type 0
-ShutIsLast = (home : Home) (newer older : List Entry) (items : List DueItem) → Legal home (newer ++ Shut items ∷ older) → newer ≡ []
+ShutIsLast = (j : History) (newer : List Entry) (items : List DueItem) → Legal (with_entries (with_entry j (Shut items)) newer) → newer ≡ []
 
 -- what is legal was legal at each earlier moment
 abbrev pub OlderIsLegal : Type 0
-OlderIsLegal = (home : Home) (newer older : List Entry) → Legal home (newer ++ older) → Legal home older
+OlderIsLegal = (j : History) (newer : List Entry) → Legal (with_entries j newer) → Legal j
 
 -- some entries came between two moments
 pub record Between (oldest older : List Entry) : Type 0 where
@@ -30,12 +30,12 @@ MomentsInOrder =
 -- a handle's kind stays
 abbrev pub KindStays : Type 0
 KindStays =
-    (home : Home) (newer older : List Entry) (h : ℕ) → Legal home (newer ++ older) → is_issued older h ≡ true
-    → kind (newer ++ older) h ≡ kind older h
+    (j : History) (newer : List Entry) (h : ℕ) → Legal (with_entries j newer) → is_issued j h ≡ true
+    → kind (with_entries j newer) h ≡ kind j h
 
 -- two histories say the same of the calls that were accepted in the one before both, of the handles
 -- that were issued in it, and of the replies that were given in it
-pub record Agree (older a b : List Entry) : Type 0 where
+pub record Agree (older a b : History) : Type 0 where
   pub same_asked : (k : ℕ) → is_some (asked older k) ≡ true → asked a k ≡ asked b k
   pub same_kind : (h : ℕ) → is_issued older h ≡ true → kind a h ≡ kind b h
   pub same_reply : (k : ℕ) → replies older k ≢ Open → replies a k ≡ replies b k
@@ -43,5 +43,5 @@ pub record Agree (older a b : List Entry) : Type 0 where
 -- two legal histories agree on what is common to them
 abbrev pub CommonPastAgrees : Type 0
 CommonPastAgrees =
-    (home : Home) (newer newest older : List Entry) → Legal home (newer ++ older) → Legal home (newest ++ older)
-    → Agree older (newer ++ older) (newest ++ older)
+    (j : History) (newer newest : List Entry) → Legal (with_entries j newer) → Legal (with_entries j newest)
+    → Agree j (with_entries j newer) (with_entries j newest)

@@ -1,14 +1,24 @@
 //! In what order the entries of a call stand.
-ghost use Rattle.journal_laws.specs.Calls.{AcceptsOnce, AsksAsAccepted, DecidesAfterAccept, DecidesBeforeLeave, DecidedOnce, CancelsOnce, OrphansOnce, TakesAfterAccept, TakesOnce, EndsAfterTake, EndsOnce};
+ghost use Rattle.journal_laws.specs.Calls.{AcceptsOnce, AcceptsNew, AsksAsAccepted, AskedStays, DecidesAfterAccept, DecidesBeforeLeave, DecidedOnce, CancelsOnce, OrphansOnce, TakesAfterAccept, TakesOnce, EndsAfterTake, EndsOnce};
 
 /// A call is accepted once.
 pub fn accepts_once()
     ensures { AcceptsOnce }
 {}
 
+/// A call that is accepted has a number that none had.
+pub fn accepts_new()
+    ensures { AcceptsNew }
+{}
+
 /// A call asks what its Accept says, whatever comes after.
 pub fn asks_as_accepted()
     ensures { AsksAsAccepted }
+{}
+
+/// What a call asked stays, also what the base says of it.
+pub fn asked_stays()
+    ensures { AskedStays }
 {}
 
 /// A call is accepted before it is taken, denied, cancelled or orphaned.

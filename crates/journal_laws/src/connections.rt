@@ -1,5 +1,5 @@
 //! In what order the entries of a connection stand.
-ghost use Rattle.journal_laws.specs.Connections.{LeavesAfterJoin, JoinsOnce, LeavesOnce, AcceptsOfOpen};
+ghost use Rattle.journal_laws.specs.Connections.{LeavesAfterJoin, JoinsOnce, JoinsNew, LeavesOnce, AcceptsOfOpen};
 
 /// A connection joins before it leaves.
 pub fn leaves_after_join()
@@ -9,6 +9,11 @@ pub fn leaves_after_join()
 /// A connection joins once.
 pub fn joins_once()
     ensures { JoinsOnce }
+{}
+
+/// A connection that joins has a number that none had.
+pub fn joins_new()
+    ensures { JoinsNew }
 {}
 
 /// A connection leaves once.

@@ -1,5 +1,5 @@
 //! What holds while calls run.
-ghost use Rattle.journal_laws.specs.Running.{RunningApart, NamedLive, TakenLive};
+ghost use Rattle.journal_laws.specs.Running.{RunningApart, NamedLive, TakenLive, TakenIssued};
 
 /// Two running calls don't conflict.
 pub fn running_apart()
@@ -14,4 +14,10 @@ pub fn named_live()
 /// It was so when the call was taken.
 pub fn taken_live()
     ensures { TakenLive }
+{}
+
+/// A call that was taken names handles of its group alone, that were issued or are among the
+/// base's.
+pub fn taken_issued()
+    ensures { TakenIssued }
 {}

@@ -19,7 +19,7 @@ use Rattle.handle_model.specs.declared.entry.Outcome.{Outcome}
 use Rattle.handle_model.specs.declared.entry.Outcome.TheVariants.{Keep, Close, Issue, Nothing}
 use Rattle.handle_model.specs.declared.entry.DueItem.{DueItem}
 use Rattle.handle_text.specs.Texts.{wire_text, use_word, slot_text, outcome_text, cookie_text, due_text, list_text, tail_text}
-use Rattle.journal_reader.specs.Fits.{FitsSlot, FitsOutcome, FitsCookie, FitsDue}
+use Rattle.journal_reader.specs.Fits.{FitsSlot, FitsOutcome, FitsCookie, FitsDue, FitsConn}
 use Rattle.journal_reader.specs.Lists.{IsItemText}
 use Rattle.journal_reader.proofs.Marks.{marks_decimal}
 
@@ -101,6 +101,9 @@ above_due d f =
     let b = f.1 in
     joined (((decimal d.serial ++ codes ":") ++ decimal d.kind) ++ codes ":") (decimal d.cookie) (joined ((decimal d.serial ++ codes ":") ++ decimal d.kind) (codes ":") (joined (decimal d.serial ++ codes ":") (decimal d.kind) (joined (decimal d.serial) (codes ":") (number d.serial (omega arith)) (name (codes ":") refl)) (number d.kind (omega arith))) (name (codes ":") refl)) (number d.cookie f.2)
 
+pub above_conn : (c : ℕ) → FitsConn c → IsAbove (decimal c)
+above_conn c f = number c (omega arith)
+
 -- such a text may be an item's
 item : (w : List ℕ) → IsAbove w → IsItemText w
 item w h = ((λ k d lt e. let over = h k d lt in omega arith), λ e. let over = h 0 0 (rw e (omega arith)) in let f = rw e at over in absurd (omega arith))
@@ -116,6 +119,9 @@ cookie_item c f = item (cookie_text c) (above_cookie c f)
 
 pub due_item : (d : DueItem) → FitsDue d → IsItemText (due_text d)
 due_item d f = item (due_text d) (above_due d f)
+
+pub conn_item : (c : ℕ) → FitsConn c → IsItemText (decimal c)
+conn_item c f = item (decimal c) (above_conn c f)
 
 -- LISTS: no space and no line feed stands in one
 

@@ -1,28 +1,27 @@
--- No line has a line feed, so a text is cut into lines in one way.
-use Rattle.std.proofs.Common.{◌≡◌, ◌≢◌, ℕ, List, [], ◌∷◌, ◌++◌, refl, sym, ◌∙◌, ap, subst, arith, append_assoc, codes, decimal}
+-- No line of an entry has a line feed.
+use Rattle.std.proofs.Common.{◌≢◌, ℕ, List, [], ◌∷◌, ◌++◌, refl, subst, arith, codes, decimal}
 use Rattle.std.specs.List.{join_with_byte, AllByRecursion}
 use Rattle.std.proofs.lemmas.List.Elements.{All-cons, All-nil, All-append}
 use Rattle.rpc_words.specs.Reads.{HasNo}
 use Rattle.rpc_words.specs.Words.{octets_text, hex_u32}
-use Rattle.rpc_words.proofs.Cuts.{same_cut, no_cut}
 use Rattle.rpc_words.proofs.Ink.{HasNo-ink, ink_octets, ink_hex_u32}
 use Rattle.handle_model.specs.declared.entry.Asked.{Asked}
 use Rattle.handle_model.specs.declared.entry.Said.{Said}
 use Rattle.handle_model.specs.declared.entry.Said.TheVariants.{Out, Fault}
 use Rattle.handle_model.specs.declared.entry.Entry.{Entry}
 use Rattle.handle_model.specs.declared.entry.Entry.TheVariants.{Join, Accept, Take, Deny, Cancel, Orphan, End, Leave, Shut}
-use Rattle.handle_text.specs.Texts.{line, entry_text, slot_text, outcome_text, cookie_text, due_text, said_text, asked_text, list_text}
+use Rattle.handle_text.specs.Texts.{slot_text, outcome_text, cookie_text, due_text, said_text, asked_text, list_text}
 use Rattle.journal_reader.specs.Fits.{FitsSlot, FitsOutcome, FitsCookie, FitsDue, FitsSaid, FitsAsked, FitsEntry}
 use Rattle.journal_reader.specs.Parts.{asked_parts, entry_parts}
 use Rattle.journal_reader.proofs.Above.{above_slot, above_outcome, above_cookie, above_due, list_no}
 use Rattle.journal_reader.proofs.Marks.{no_name, no_decimal}
-use Rattle.journal_reader.proofs.Words.{no_operation, no_order_feed, no_reply_feed, asked_joined, entry_joined}
+use Rattle.journal_reader.proofs.Words.{no_operation, no_order_feed, no_reply_feed, asked_joined}
 
 -- two words with a space between them
-pair : (x y : List ℕ) → HasNo 10 x → HasNo 10 y → HasNo 10 (x ++ (32 ∷ y))
+pub pair : (x y : List ℕ) → HasNo 10 x → HasNo 10 y → HasNo 10 (x ++ (32 ∷ y))
 pair x y h k = All-append (λ b. b ≢ 10) x (32 ∷ y) h (All-cons (λ b. b ≢ 10) 32 y (λ e. omega arith) k)
 
-row : (ws : List (List ℕ)) → AllByRecursion (HasNo 10) ws → HasNo 10 (join_with_byte 32 ws)
+pub row : (ws : List (List ℕ)) → AllByRecursion (HasNo 10) ws → HasNo 10 (join_with_byte 32 ws)
 row [] h = All-nil (λ b. b ≢ 10)
 row (w ∷ []) h = h.0
 row (w ∷ v ∷ vs) h = pair w (join_with_byte 32 (v ∷ vs)) h.0 (row (v ∷ vs) h.1)
@@ -36,7 +35,7 @@ feed_asked a f =
     let conn = f.0 in
     subst (λ t. HasNo 10 t) (asked_joined a) (row (asked_parts a) (no_decimal 10 a.conn refl (omega arith), (no_operation 10 refl (λ e. omega arith) (a.iface, a.op) f.1, (no_order_feed a.order, (no_reply_feed a.reply, (list_no FitsSlot slot_text 10 (omega arith) above_slot a.slots f.2, (HasNo-ink 10 (octets_text a.stub) (omega arith) (ink_octets a.stub f.3), tt)))))))
 
-HasNo-parts : (e : Entry) → FitsEntry e → AllByRecursion (HasNo 10) (entry_parts e)
+pub HasNo-parts : (e : Entry) → FitsEntry e → AllByRecursion (HasNo 10) (entry_parts e)
 HasNo-parts (Join c) f = (no_name 10 (codes "join") refl, (no_decimal 10 c refl (omega arith), tt))
 HasNo-parts (Accept k a) f = let n = f.0 in (no_name 10 (codes "accept") refl, (pair (decimal k) (asked_text a) (no_decimal 10 k refl (omega arith)) (feed_asked a f.1), tt))
 HasNo-parts (Take k cs) f = let n = f.0 in (no_name 10 (codes "take") refl, (pair (decimal k) (list_text cookie_text cs) (no_decimal 10 k refl (omega arith)) (list_no FitsCookie cookie_text 10 (omega arith) above_cookie cs f.1), tt))
@@ -48,21 +47,3 @@ HasNo-parts (End k rs said) f =
     (no_name 10 (codes "end") refl, (pair (decimal k) (list_text outcome_text rs ++ (32 ∷ said_text said)) (no_decimal 10 k refl (omega arith)) (pair (list_text outcome_text rs) (said_text said) (list_no FitsOutcome outcome_text 10 (omega arith) above_outcome rs f.1) (feed_said said f.2)), tt))
 HasNo-parts (Leave c) f = (no_name 10 (codes "leave") refl, (no_decimal 10 c refl (omega arith), tt))
 HasNo-parts (Shut items) f = (no_name 10 (codes "shut") refl, (list_no FitsDue due_text 10 (omega arith) above_due items f, tt))
-
-HasNo-line : (e : Entry) → FitsEntry e → HasNo 10 (line e)
-HasNo-line e f = subst (λ t. HasNo 10 t) (entry_joined e) (row (entry_parts e) (HasNo-parts e f))
-
--- TEXTS
-
-pub no_line_without_feed : (e : Entry) (tail text : List ℕ) → HasNo 10 text → text ≡ entry_text e ++ tail → ⊥
-unfolding entry_text
-no_line_without_feed e tail text none q = no_cut 10 (line e) tail text none (q ∙ append_assoc (line e) (10 ∷ []) tail)
-
-pub text_of_cut : (e : Entry) (body rest : List ℕ) → line e ≡ body → body ++ (10 ∷ rest) ≡ entry_text e ++ rest
-unfolding entry_text
-text_of_cut e body rest q = ap (λ b. b ++ (10 ∷ rest)) (sym q) ∙ sym (append_assoc (line e) (10 ∷ []) rest)
-
-pub body_of_cut : (e : Entry) (tail body rest : List ℕ) → FitsEntry e → HasNo 10 body → entry_text e ++ tail ≡ body ++ (10 ∷ rest) → line e ≡ body
-unfolding entry_text
-body_of_cut e tail body rest fits none q =
-    (same_cut 10 (line e) body tail rest (HasNo-line e fits) none (sym (append_assoc (line e) (10 ∷ []) tail) ∙ q)).0

@@ -1,6 +1,8 @@
 pub mod Above
+pub mod BaseWords
 pub mod Cutting
 pub mod Feeds
+pub mod Heads
 pub mod Listing
 pub mod Marks
 pub mod Wires

@@ -28,7 +28,7 @@ no_operation c off other x f =
     let b = f.1 in
     All-append (λ b. b ≢ c) (decimal x.0) (46 ∷ decimal x.1) (no_decimal c x.0 off (omega arith)) (All-cons (λ b. b ≢ c) 46 (decimal x.1) other (no_decimal c x.1 off (omega arith)))
 
-no_order : (o : Order) → HasNo 32 (order_text o)
+pub no_order : (o : Order) → HasNo 32 (order_text o)
 unfolding order_text
 no_order Big = no_name 32 (codes "big") refl
 no_order Little = no_name 32 (codes "little") refl
@@ -38,7 +38,7 @@ unfolding order_text
 no_order_feed Big = no_name 10 (codes "big") refl
 no_order_feed Little = no_name 10 (codes "little") refl
 
-no_reply : (b : Bool) → HasNo 32 (reply_text b)
+pub no_reply : (b : Bool) → HasNo 32 (reply_text b)
 unfolding reply_text
 no_reply true = no_name 32 (codes "answer") refl
 no_reply false = no_name 32 (codes "maybe") refl

@@ -1,8 +1,9 @@
 -- The values that have a text: their numbers are in their ranges.
-use Rattle.std.specs.Prelude.{ℕ, ◌^◌, ◌<◌, Option, Some, None, List}
+use Rattle.std.specs.Prelude.{◌≡◌, ℕ, ◌^◌, ◌<◌, Bool, false, Option, Some, None, List, []}
 use Rattle.std.specs.List.{AllByRecursion}
 use Rattle.hex.specs.Hex.{IsBytes}
 use Rattle.rpc_base.specs.declared.identifiers.WireHandle.{WireHandle}
+use Rattle.handle_model.specs.declared.entry.Home.{Home}
 use Rattle.handle_model.specs.declared.entry.Slot.{Slot}
 use Rattle.handle_model.specs.declared.entry.Slot.TheVariants.{Shares, Holds, Changes, Opens}
 use Rattle.handle_model.specs.declared.entry.Outcome.{Outcome}
@@ -13,6 +14,8 @@ use Rattle.handle_model.specs.declared.entry.Said.TheVariants.{Out, Fault}
 use Rattle.handle_model.specs.declared.entry.Entry.{Entry}
 use Rattle.handle_model.specs.declared.entry.Entry.TheVariants.{Join, Accept, Take, Deny, Cancel, Orphan, End, Leave, Shut}
 use Rattle.handle_model.specs.declared.entry.DueItem.{DueItem}
+use Rattle.handle_model.specs.declared.base.BaseCall.{BaseCall}
+use Rattle.handle_model.specs.declared.base.Base.{Base}
 
 abbrev pub FitsWire : WireHandle → Type 0
 FitsWire w = (w.attributes < 2 ^ 32) × (w.id < 2 ^ 128)
@@ -77,3 +80,31 @@ FitsEntry (Orphan call) = call < 2 ^ 32
 FitsEntry (End call results said) = FitsEnd (call, results, said)
 FitsEntry (Leave conn) = conn < 2 ^ 32
 FitsEntry (Shut items) = AllByRecursion FitsDue items
+
+-- WHAT BEGINS A JOURNAL
+
+abbrev pub FitsHome : Home → Type 0
+FitsHome home = (home.group < 2 ^ 32) × (home.boot < 2 ^ 64)
+
+-- a base stands for one entry at least
+abbrev pub FitsCount : ℕ → Type 0
+FitsCount n = (0 < n) × (n < 2 ^ 63)
+
+abbrev pub FitsConn : ℕ → Type 0
+FitsConn c = c < 2 ^ 32
+
+-- a base without its calls
+abbrev pub FitsBase : Base → Type 0
+FitsBase b =
+    FitsCount b.count × (b.joins < 2 ^ 32) × (b.accepts < 2 ^ 32) × (b.opens < 2 ^ 32) × AllByRecursion FitsConn b.conns
+    × AllByRecursion FitsDue b.handles × (b.calls ≡ [])
+
+-- a call that was not taken has neither mark
+abbrev pub FitsStage : Bool × Bool × Bool → Type 0
+FitsStage x = x.0 ≡ false → (x.1 ≡ false) × (x.2 ≡ false)
+
+abbrev pub FitsCalled : Asked × (Bool × Bool × Bool) → Type 0
+FitsCalled x = FitsAsked x.0 × FitsStage x.1
+
+abbrev pub FitsCall : BaseCall → Type 0
+FitsCall c = (c.call < 2 ^ 32) × FitsCalled (c.asked, (c.taken, c.cancelled, c.orphaned))

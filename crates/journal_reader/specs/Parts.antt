@@ -1,8 +1,9 @@
 -- Texts in parts, with an octet between each two. Only the readers' own clauses speak of this.
-use Rattle.std.specs.Prelude.{◌≡◌, ℕ, List, Option, [], ◌∷◌, ◌++◌, length, codes, decimal}
+use Rattle.std.specs.Prelude.{◌≡◌, ℕ, Bool, List, Option, [], ◌∷◌, ◌++◌, length, codes, decimal}
 use Rattle.std.specs.List.{join_with_byte}
 use Rattle.rpc_words.specs.Reads.{HasNo}
-use Rattle.rpc_words.specs.Words.{octets_text, hex_u32}
+use Rattle.rpc_words.specs.Words.{octets_text, hex_u32, hex_u64}
+use Rattle.handle_model.specs.declared.entry.Home.{Home}
 use Rattle.handle_model.specs.declared.entry.Slot.{Slot}
 use Rattle.handle_model.specs.declared.entry.Slot.TheVariants.{Shares, Holds, Changes, Opens}
 use Rattle.handle_model.specs.declared.entry.Outcome.{Outcome}
@@ -13,8 +14,10 @@ use Rattle.handle_model.specs.declared.entry.Asked.{Asked}
 use Rattle.handle_model.specs.declared.entry.Entry.{Entry}
 use Rattle.handle_model.specs.declared.entry.Entry.TheVariants.{Join, Accept, Take, Deny, Cancel, Orphan, End, Leave, Shut}
 use Rattle.handle_model.specs.declared.entry.DueItem.{DueItem}
+use Rattle.handle_model.specs.declared.base.BaseCall.{BaseCall}
+use Rattle.handle_model.specs.declared.base.Base.{Base}
 use Rattle.handle_model.specs.Slots.{kind_of}
-use Rattle.handle_text.specs.Texts.{object_text, slot_text, outcome_text, cookie_text, due_text, order_text, reply_text, said_text, asked_text, list_text}
+use Rattle.handle_text.specs.Texts.{headed, object_text, slot_text, outcome_text, cookie_text, due_text, order_text, reply_text, said_text, asked_text, list_text, stage_text}
 
 -- no part but the last has the octet
 abbrev pub Apart : ℕ → List (List ℕ) → Type 0
@@ -112,3 +115,55 @@ entry_parts (Orphan call) = codes "orphan" ∷ decimal call ∷ []
 entry_parts (End call results said) = codes "end" ∷ end_text (call, results, said) ∷ []
 entry_parts (Leave conn) = codes "leave" ∷ decimal conn ∷ []
 entry_parts (Shut items) = codes "shut" ∷ list_text due_text items ∷ []
+
+-- WHAT BEGINS A JOURNAL
+
+abbrev pub home_parts : Home → List (List ℕ)
+home_parts home = decimal home.group ∷ codes "boot" ∷ hex_u64 home.boot ∷ []
+
+abbrev pub home_text : Home → List ℕ
+home_text home = decimal home.group ++ 32 ∷ (codes "boot" ++ 32 ∷ hex_u64 home.boot)
+
+abbrev pub base_parts : Base → List (List ℕ)
+base_parts b =
+    decimal b.count ∷ decimal b.joins ∷ decimal b.accepts ∷ decimal b.opens ∷ list_text decimal b.conns
+    ∷ list_text due_text b.handles ∷ []
+
+abbrev pub base_rest : Base → List ℕ
+base_rest b = join_with_byte 32 (base_parts b)
+
+abbrev pub called_parts : Asked × (Bool × Bool × Bool) → List (List ℕ)
+called_parts x =
+    decimal x.0.conn ∷ operation_text (x.0.iface, x.0.op) ∷ order_text x.0.order ∷ reply_text x.0.reply
+    ∷ list_text slot_text x.0.slots ∷ octets_text x.0.stub ∷ stage_text x.1 ∷ []
+
+abbrev pub called_text : Asked × (Bool × Bool × Bool) → List ℕ
+called_text x = join_with_byte 32 (called_parts x)
+
+abbrev pub call_parts : BaseCall → List (List ℕ)
+call_parts c = decimal c.call ∷ called_text (c.asked, (c.taken, c.cancelled, c.orphaned)) ∷ []
+
+abbrev pub call_text : BaseCall → List ℕ
+call_text c = decimal c.call ++ 32 ∷ called_text (c.asked, (c.taken, c.cancelled, c.orphaned))
+
+-- LINES: the first word, and the rest
+
+-- without its line feed
+abbrev pub group_line : Home → List ℕ
+group_line home = headed (codes "group") home.group ++ codes " boot " ++ hex_u64 home.boot
+
+abbrev pub group_parts : Home → List (List ℕ)
+group_parts home = codes "group" ∷ home_text home ∷ []
+
+abbrev pub headed_base : Base → List (List ℕ)
+headed_base base = codes "base" ∷ base_rest base ∷ []
+
+abbrev pub headed_call : BaseCall → List (List ℕ)
+headed_call call = codes "base-call" ∷ call_text call ∷ []
+
+-- a text begins with a line and its line feed, and the rest follows; or with no such line
+abbrev pub Begins : {X : Type 0} → (X → Type 0) → (X → List ℕ) → X → List ℕ → List ℕ → Type 0
+Begins fits body x rest text = fits x × (text ≡ body x ++ 10 ∷ rest)
+
+abbrev pub BeginsNot : {X : Type 0} → (X → Type 0) → (X → List ℕ) → List ℕ → Type 0
+BeginsNot {X} fits body text = (x : X) (rest : List ℕ) → fits x → text ≡ body x ++ 10 ∷ rest → ⊥

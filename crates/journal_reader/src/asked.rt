@@ -29,7 +29,7 @@ fn read_operation(text: &[u8]) -> Option<(u16, u16)>
     operation_of(iface, op)
 }
 
-fn asked_of(
+pub(crate) fn asked_of(
     alloc: Global,
     conn: &[u8],
     operation: &[u8],

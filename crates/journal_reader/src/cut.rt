@@ -35,3 +35,25 @@ pub(crate) fn cut_six(octet: u8, text: &[u8]) -> Option<Six<'_>>
     let (fifth, sixth) = cut_two(octet, rest)?;
     Some((first, second, third, fourth, fifth, sixth))
 }
+
+/// A text in seven parts.
+pub(crate) type Seven<'a> = (
+    &'a [u8],
+    &'a [u8],
+    &'a [u8],
+    &'a [u8],
+    &'a [u8],
+    &'a [u8],
+    &'a [u8],
+);
+
+/// Seven parts.
+pub(crate) fn cut_seven(octet: u8, text: &[u8]) -> Option<Seven<'_>>
+    ensures { MatchOption result (NoCut 7 octet text.now)
+        (λ p. IsCut octet text.now (p.0.now ∷ p.1.now ∷ p.2.now ∷ p.3.now ∷ p.4.now ∷ p.5.now ∷ p.6.now ∷ [])) }
+{
+    let (first, second, rest) = cut_three(octet, text)?;
+    let (third, fourth, rest) = cut_three(octet, rest)?;
+    let (fifth, sixth, seventh) = cut_three(octet, rest)?;
+    Some((first, second, third, fourth, fifth, sixth, seventh))
+}

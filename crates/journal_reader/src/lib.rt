@@ -1,12 +1,13 @@
-//! Reads the text of a journal: exactly where it begins with the line of an entry, and as that
-//! entry.
+//! Reads the texts of journals: exactly where a text begins with a line, and as what that line
+//! says.
 #![tactic(auto)]
 
 mod asked;
+mod bases;
 mod cut;
-mod line;
+mod entries;
 mod list;
 mod next;
 mod part;
 
-pub use next::next_entry;
+pub use next::{next_base, next_call, next_entry, next_group};

@@ -1,15 +1,15 @@
 //! Reads the lists of a line.
-ghost use Rattle.std.specs.Prelude.{◌≡◌, IfOk};
+ghost use Rattle.std.specs.Prelude.{◌≡◌, IfOk, decimal};
 ghost use Rattle.std.specs.List.{AllByRecursion};
 ghost use Rattle.rpc_words.specs.Reads.{Reads};
 ghost use Rattle.handle_text.specs.Texts as spec;
-ghost use Rattle.journal_reader.specs.Fits.{FitsSlot, FitsOutcome, FitsCookie, FitsDue};
+ghost use Rattle.journal_reader.specs.Fits.{FitsSlot, FitsOutcome, FitsCookie, FitsDue, FitsConn};
 ghost use Rattle.journal_reader.specs.Lists.{IsItemText};
 
 use crate::part::{read_cookie, read_due, read_outcome, read_slot};
-use handle_model::{Cookies, DueItem, DueItems, Outcome, Outcomes, Slot, Slots};
+use handle_model::{Conns, Cookies, DueItem, DueItems, Outcome, Outcomes, Slot, Slots};
 use rpc_base::{Items, NoMemory};
-use rpc_words::cut_at;
+use rpc_words::{cut_at, read_u32};
 use std::alloc::Global;
 
 /// What stands in a list.
@@ -66,6 +66,16 @@ impl Item for DueItem {
     }
 }
 
+impl Item for u32 {
+    ghost fits_item = { FitsConn };
+
+    ghost text_of = { decimal };
+
+    fn read(text: &[u8]) -> Option<Self> {
+        read_u32(text)
+    }
+}
+
 /// Items joined by commas; `-` where there is none.
 fn read_list<T: Item>(alloc: Global, text: &[u8]) -> Result<Option<Items<T>>, NoMemory>
     requires { (x : T) → T.fits_item x → IsItemText (T.text_of x) }
@@ -110,6 +120,12 @@ pub(crate) fn read_cookies(alloc: Global, text: &[u8]) -> Result<Option<Cookies>
 
 pub(crate) fn read_dues(alloc: Global, text: &[u8]) -> Result<Option<DueItems>, NoMemory>
     ensures { IfOk result (Reads (AllByRecursion FitsDue) (spec.list_text spec.due_text) text.now) }
+{
+    read_list(alloc, text)
+}
+
+pub(crate) fn read_conns(alloc: Global, text: &[u8]) -> Result<Option<Conns>, NoMemory>
+    ensures { IfOk result (Reads (AllByRecursion FitsConn) (spec.list_text decimal) text.now) }
 {
     read_list(alloc, text)
 }

@@ -2,13 +2,15 @@
 ghost use Rattle.std.specs.Prelude.{◌≡◌, ◌++◌, ◌∷◌, [], decimal, IfOk};
 ghost use Rattle.rpc_words.specs.Reads.{Reads};
 ghost use Rattle.handle_text.specs.Texts as spec;
-ghost use Rattle.journal_reader.specs.Fits.{FitsWire, FitsSlot, FitsOutcome, FitsIssue, FitsCookie, FitsDue, FitsSaid, FitsAlways};
+ghost use Rattle.journal_reader.specs.Fits.{FitsWire, FitsSlot, FitsOutcome, FitsIssue, FitsCookie, FitsDue, FitsSaid, FitsAlways, FitsCount, FitsStage};
 ghost use Rattle.journal_reader.specs.Parts as parts;
 
 use crate::cut::{cut_three, cut_two};
 use handle_model::{DueItem, Outcome, Said, Slot};
 use rpc_base::{NoMemory, Order, Status, WireHandle};
-use rpc_words::{cut_at, read_hex_u32, read_hex_u128, read_octets, read_u32, read_u64};
+use rpc_words::{
+    cut_at, read_between, read_hex_u32, read_hex_u128, read_octets, read_u32, read_u64,
+};
 use std::alloc::Global;
 
 fn due_of(serial: &[u8], kind: &[u8], cookie: &[u8]) -> Option<DueItem>
@@ -181,6 +183,35 @@ pub(crate) fn read_reply(text: &[u8]) -> Option<bool>
         Some(true)
     } else if text == b"maybe".as_slice() {
         Some(false)
+    } else {
+        None
+    }
+}
+
+/// How many entries a base stands for: at least one.
+pub(crate) fn read_count(text: &[u8]) -> Option<u64>
+    ensures { Reads FitsCount decimal text.now result }
+{
+    read_between(text, 1, (1 << 63) - 1)
+}
+
+/// How far a call of a base has come: whether it was taken, cancelled, orphaned.
+pub(crate) type Stage = (bool, bool, bool);
+
+#[tactic(auto, unfolding(handle_text::specs::Texts::stage_text))]
+pub(crate) fn read_stage(text: &[u8]) -> Option<Stage>
+    ensures { Reads FitsStage spec.stage_text text.now result }
+{
+    if text == b"waiting".as_slice() {
+        Some((false, false, false))
+    } else if text == b"taken".as_slice() {
+        Some((true, false, false))
+    } else if text == b"taken-cancel".as_slice() {
+        Some((true, true, false))
+    } else if text == b"taken-orphan".as_slice() {
+        Some((true, false, true))
+    } else if text == b"taken-cancel-orphan".as_slice() {
+        Some((true, true, true))
     } else {
         None
     }

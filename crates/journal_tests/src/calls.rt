@@ -1,36 +1,26 @@
 //! Calls on a group whose conditions are tried first.
-ghost use Rattle.std.specs.Prelude.{◌≡◌, reverse};
-ghost use Rattle.std.specs.List.{list_any};
-ghost use Rattle.handle_model.specs.Journal as spec;
+ghost use Rattle.std.specs.Prelude.{◌≡◌};
 ghost use Rattle.handle_model.specs.History.{IsSound};
+ghost use Rattle.handle_rules.specs.Told.{told};
 
 use crate::step::{Answer, Step};
 use group_core::{AcceptRefusal, Group, Rest};
 use group_rounds::{Halt, issue};
-use handle_model::{Asked, DueItem, DueList, Entry, Outcomes, Rundown, Said};
-use handle_rules::{is_open, runs, slots, suit};
+use handle_model::{Asked, DueItem, DueList, Outcomes, Rundown, Said};
+use handle_rules::{Record, is_open, runs, slots, suit};
 use std::alloc::Global;
 
-/// The entries of a group, oldest first.
-pub fn entries_of(group: &Group) -> &[Entry]
-    ensures past { reverse result.now ≡ group.now.past }
+/// The journal of a group.
+pub fn journal_of(group: &Group) -> Record<'_>
+    ensures past { told result ≡ group.now }
     ensures sound { IsSound group.now }
 {
-    group.journal().as_slice()
-}
-
-fn any_shuts(entries: &[Entry]) -> bool
-    ensures { result ≡ list_any spec.is_shut entries.now }
-{
-    entries.iter().any(|entry| entry.is_shut())
-}
-
-/// Whether the group has ended.
-#[tactic(auto, using(handle_model::proofs::Sets::reversed))]
-pub fn any_shut(entries: &[Entry]) -> bool
-    ensures { result ≡ list_any spec.is_shut (reverse entries.now) }
-{
-    any_shuts(entries)
+    let journal = group.journal();
+    Record {
+        home: group.home(),
+        base: journal.base(),
+        entries: journal.as_slice(),
+    }
 }
 
 /// Lists the handles that are run down.
@@ -81,7 +71,7 @@ fn went(alloc: Global, rest: Rest) -> Answer {
 }
 
 fn join(group: &mut Group) -> Answer {
-    if any_shut(entries_of(group)) {
+    if group.has_shut() {
         return Answer::Unfit;
     }
     match group.join() {
@@ -100,7 +90,7 @@ fn refused(alloc: Global, before: &str, back: &Asked, refusal: AcceptRefusal) ->
 }
 
 fn accept(alloc: Global, group: &mut Group, asked: Asked) -> Answer {
-    if !is_open(entries_of(group), asked.conn) || asked.slots.len() > 4 {
+    if !is_open(journal_of(group), asked.conn) || asked.slots.len() > 4 {
         return Answer::Unfit;
     }
     let Ok(before) = format!(in alloc; "{asked:?}") else {
@@ -114,7 +104,7 @@ fn accept(alloc: Global, group: &mut Group, asked: Asked) -> Answer {
 
 /// So many calls of the first connection issue a handle each.
 fn issued(alloc: Global, group: &mut Group, count: u32) -> Answer {
-    if !is_open(entries_of(group), 1) {
+    if !is_open(journal_of(group), 1) {
         return Answer::Unfit;
     }
     match issue(alloc, group, count) {
@@ -125,14 +115,14 @@ fn issued(alloc: Global, group: &mut Group, count: u32) -> Answer {
 }
 
 fn end(alloc: Global, group: &mut Group, call: u32, results: Outcomes, said: Said) -> Answer {
-    if !runs(entries_of(group), call) || !suit(slots(entries_of(group), call), results.as_slice()) {
+    if !runs(journal_of(group), call) || !suit(slots(journal_of(group), call), results.as_slice()) {
         return Answer::Unfit;
     }
     went(alloc, group.end(call, results, said))
 }
 
 fn leave(alloc: Global, group: &mut Group, conn: u32) -> Answer {
-    if !is_open(entries_of(group), conn) {
+    if !is_open(journal_of(group), conn) {
         return Answer::Unfit;
     }
     went(alloc, group.leave(conn))

@@ -1,17 +1,16 @@
 //! What a call on a group has to come to, by the plain rules over the journal before it.
-ghost use Rattle.std.specs.Prelude.{◌<◌, ◌^◌, reverse};
+ghost use Rattle.std.specs.Prelude.{◌<◌, ◌^◌};
+ghost use Rattle.handle_rules.specs.Told.{told};
 ghost use Rattle.handle_model.specs.Journal as spec;
 
-use crate::calls::any_shut;
 use crate::step::{Answer, Step};
 use group_core::{AcceptRefusal, Cancelled, JoinRefusal, Orphaned, Stage, Taking};
 use handle_model::{
-    AcceptLimit, Asked, CookieRow, Cookies, Entry, Home, JoinLimit, Outcomes, Said, Slot,
-    count_opens,
+    AcceptLimit, Asked, CookieRow, Cookies, Entry, JoinLimit, Outcomes, Said, Slot, count_opens,
 };
 use handle_rules::{
-    accept_limit, accepted_count, blocker, cookies_of, fault, is_open, join_limit, joined_count,
-    number_slots, opened, runs, slots, suit, waits,
+    Record, accept_count, accept_limit, blocker, cookies_of, fault, is_cancelled, is_open,
+    is_orphaned, join_count, join_limit, number_slots, opened, runs, slots, suit, waits,
 };
 use rpc_base::NoMemory;
 use std::alloc::Global;
@@ -37,34 +36,38 @@ fn entered(answer: Answer, entry: Entry) -> Came {
     }
 }
 
+fn any_shut(entries: &[Entry]) -> bool {
+    entries.iter().any(|entry| entry.is_shut())
+}
+
 /// The number after so many.
-fn after(count: usize) -> u32 {
+fn after(count: u128) -> u32 {
     u32::try_from(count).unwrap_or(0).saturating_add(1)
 }
 
-fn join(entries: &[Entry]) -> Came {
-    if any_shut(entries) {
+fn join(journal: Record<'_>) -> Came {
+    if any_shut(journal.entries) {
         return nothing(Answer::Unfit);
     }
-    match join_limit(entries) {
+    match join_limit(journal) {
         Some(JoinLimit::TooMany) => nothing(Answer::NoJoin(JoinRefusal::TooMany)),
         Some(JoinLimit::Numbers) => nothing(Answer::NoJoin(JoinRefusal::Numbers)),
         None => {
-            let conn = after(joined_count(entries));
+            let conn = after(join_count(journal));
             entered(Answer::Number(conn), Entry::Join { conn })
         }
     }
 }
 
-fn accept(home: Home, entries: &[Entry], asked: Asked) -> Came
-    requires { spec.opened (reverse entries.now) < 2 ^ 32 }
+fn accept(journal: Record<'_>, asked: Asked) -> Came
+    requires { spec.opened (told journal) < 2 ^ 32 }
 {
     let slots = asked.slots.as_slice();
-    let given = opened(entries);
-    if !is_open(entries, asked.conn) || slots.len() > 4 {
+    let given = opened(journal);
+    if !is_open(journal, asked.conn) || slots.len() > 4 {
         return nothing(Answer::Unfit);
     }
-    match accept_limit(home, entries, slots) {
+    match accept_limit(journal, slots) {
         Some(AcceptLimit::Calls) => return nothing(Answer::NoAccept(AcceptRefusal::Calls)),
         Some(AcceptLimit::Handles) => return nothing(Answer::NoAccept(AcceptRefusal::Handles)),
         Some(AcceptLimit::Numbers) => return nothing(Answer::NoAccept(AcceptRefusal::Numbers)),
@@ -75,7 +78,7 @@ fn accept(home: Home, entries: &[Entry], asked: Asked) -> Came
     }
     let mut asked = asked;
     number_slots(&mut asked.slots, given);
-    let call = after(accepted_count(entries));
+    let call = after(accept_count(journal));
     entered(Answer::Number(call), Entry::Accept { call, asked })
 }
 
@@ -99,33 +102,33 @@ fn first_serial(slots: &[Slot]) -> u32 {
     0
 }
 
-fn take(alloc: Global, home: Home, entries: &[Entry], call: u32) -> Result<Came, NoMemory> {
-    if !waits(entries, call) {
+fn take(alloc: Global, journal: Record<'_>, call: u32) -> Result<Came, NoMemory> {
+    if !waits(journal, call) {
         return Ok(nothing(Answer::Taking(Taking::Dropped)));
     }
-    if let Some(other) = blocker(entries, call) {
+    if let Some(other) = blocker(journal, call) {
         return Ok(nothing(Answer::Taking(Taking::Wait(other))));
     }
-    if let Some(at) = fault(home, entries, call) {
+    if let Some(at) = fault(journal, call) {
         let slot = u8::try_from(at).unwrap_or(u8::MAX);
         return Ok(entered(
             Answer::Taking(Taking::Denied(slot)),
             Entry::Deny { call, slot },
         ));
     }
-    let cookies = cookies_of(alloc, home, entries, call)?;
-    let serial = first_serial(slots(entries, call));
+    let cookies = cookies_of(alloc, journal, call)?;
+    let serial = first_serial(slots(journal, call));
     Ok(entered(
         Answer::Taking(Taking::Run(cookie_row(&cookies), serial)),
         Entry::Take { call, cookies },
     ))
 }
 
-fn cancel(entries: &[Entry], call: u32) -> Came {
-    if waits(entries, call) {
+fn cancel(journal: Record<'_>, call: u32) -> Came {
+    if waits(journal, call) {
         return entered(Answer::Cancelled(Cancelled::Ended), Entry::Cancel { call });
     }
-    if runs(entries, call) && !entries.iter().any(|entry| entry.cancels(call)) {
+    if runs(journal, call) && !is_cancelled(journal, call) {
         return entered(
             Answer::Cancelled(Cancelled::Flagged),
             Entry::Cancel { call },
@@ -134,18 +137,18 @@ fn cancel(entries: &[Entry], call: u32) -> Came {
     nothing(Answer::Cancelled(Cancelled::Late))
 }
 
-fn orphan(entries: &[Entry], call: u32) -> Came {
-    if waits(entries, call) {
+fn orphan(journal: Record<'_>, call: u32) -> Came {
+    if waits(journal, call) {
         return entered(Answer::Orphaned(Orphaned::Dropped), Entry::Orphan { call });
     }
-    if runs(entries, call) && !entries.iter().any(|entry| entry.orphans(call)) {
+    if runs(journal, call) && !is_orphaned(journal, call) {
         return entered(Answer::Orphaned(Orphaned::Running), Entry::Orphan { call });
     }
     nothing(Answer::Orphaned(Orphaned::Late))
 }
 
-fn end(entries: &[Entry], call: u32, results: Outcomes, said: Said) -> Came {
-    if !runs(entries, call) || !suit(slots(entries, call), results.as_slice()) {
+fn end(journal: Record<'_>, call: u32, results: Outcomes, said: Said) -> Came {
+    if !runs(journal, call) || !suit(slots(journal, call), results.as_slice()) {
         return nothing(Answer::Unfit);
     }
     entered(
@@ -158,17 +161,17 @@ fn end(entries: &[Entry], call: u32, results: Outcomes, said: Said) -> Came {
     )
 }
 
-fn leave(entries: &[Entry], conn: u32) -> Came {
-    if !is_open(entries, conn) {
+fn leave(journal: Record<'_>, conn: u32) -> Came {
+    if !is_open(journal, conn) {
         return nothing(Answer::Unfit);
     }
     entered(Answer::Stays, Entry::Leave { conn })
 }
 
 /// Whether a Cancel of the call stands after its Take.
-pub fn is_asked(entries: &[Entry], call: u32) -> bool {
+pub fn is_asked(journal: Record<'_>, call: u32) -> bool {
     let mut taken = false;
-    for entry in entries {
+    for entry in journal.entries {
         if entry.takes(call) {
             taken = true;
         }
@@ -180,10 +183,10 @@ pub fn is_asked(entries: &[Entry], call: u32) -> bool {
 }
 
 /// Where the call is.
-pub fn stage(entries: &[Entry], call: u32) -> Stage {
-    if waits(entries, call) {
+pub fn stage(journal: Record<'_>, call: u32) -> Stage {
+    if waits(journal, call) {
         Stage::Waiting
-    } else if runs(entries, call) {
+    } else if runs(journal, call) {
         Stage::Running
     } else {
         Stage::Over
@@ -191,19 +194,19 @@ pub fn stage(entries: &[Entry], call: u32) -> Stage {
 }
 
 /// What the call has to come to.
-pub fn expected(alloc: Global, home: Home, entries: &[Entry], step: Step) -> Result<Came, NoMemory>
-    requires { spec.opened (reverse entries.now) < 2 ^ 32 }
+pub fn expected(alloc: Global, journal: Record<'_>, step: Step) -> Result<Came, NoMemory>
+    requires { spec.opened (told journal) < 2 ^ 32 }
 {
     match step {
-        Step::Join => Ok(join(entries)),
+        Step::Join => Ok(join(journal)),
         Step::Issue(_) => Ok(nothing(Answer::Unfit)),
-        Step::Accept(asked) => Ok(accept(home, entries, asked)),
-        Step::Take(call) => take(alloc, home, entries, call),
-        Step::Cancel(call) => Ok(cancel(entries, call)),
-        Step::Orphan(call) => Ok(orphan(entries, call)),
-        Step::End(call, results, said) => Ok(end(entries, call, results, said)),
-        Step::Leave(conn) => Ok(leave(entries, conn)),
-        Step::Asked(call) => Ok(nothing(Answer::Asked(is_asked(entries, call)))),
-        Step::Stage(call) => Ok(nothing(Answer::Stage(stage(entries, call)))),
+        Step::Accept(asked) => Ok(accept(journal, asked)),
+        Step::Take(call) => take(alloc, journal, call),
+        Step::Cancel(call) => Ok(cancel(journal, call)),
+        Step::Orphan(call) => Ok(orphan(journal, call)),
+        Step::End(call, results, said) => Ok(end(journal, call, results, said)),
+        Step::Leave(conn) => Ok(leave(journal, conn)),
+        Step::Asked(call) => Ok(nothing(Answer::Asked(is_asked(journal, call)))),
+        Step::Stage(call) => Ok(nothing(Answer::Stage(stage(journal, call)))),
     }
 }

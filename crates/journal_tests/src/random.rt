@@ -1,10 +1,11 @@
 //! Calls on a group picked by a fixed sequence of numbers.
-ghost use Rattle.std.specs.Prelude.{◌<◌, ◌^◌, reverse};
+ghost use Rattle.std.specs.Prelude.{◌<◌, ◌^◌};
+ghost use Rattle.handle_rules.specs.Told.{told};
 ghost use Rattle.handle_model.specs.Journal as spec;
 
 use crate::step::Step;
-use handle_model::{Asked, Entry, Home, Outcome, Outcomes, Said, Slot, Slots, handle_of};
-use handle_rules::{accepted_count, is_open, joined_count, opened, runs, slots, waits};
+use handle_model::{Asked, Home, Outcome, Outcomes, Said, Slot, Slots, handle_of};
+use handle_rules::{Record, accept_count, is_open, join_count, opened, runs, slots, waits};
 use rpc_base::{Items, NoMemory, Octets, Order, Status, WireHandle};
 use std::alloc::Global;
 
@@ -148,15 +149,15 @@ fn results(alloc: Global, random: &mut Random, slots: &[Slot]) -> Result<Outcome
 }
 
 /// One of the last twelve calls that run, or that wait, passing over so many; 0 where there is none.
-fn newest(entries: &[Entry], running: bool, calls: u32, passed: u32) -> u32 {
+fn newest(journal: Record<'_>, running: bool, calls: u32, passed: u32) -> u32 {
     let mut found = 0;
     let mut left = passed;
     for back in 0..12 {
         let call = calls.saturating_sub(back);
         let fits = if running {
-            runs(entries, call)
+            runs(journal, call)
         } else {
-            waits(entries, call)
+            waits(journal, call)
         };
         if fits {
             found = call;
@@ -170,13 +171,13 @@ fn newest(entries: &[Entry], running: bool, calls: u32, passed: u32) -> u32 {
 }
 
 /// A connection: mostly one of the last eight that are open.
-fn conn(random: &mut Random, entries: &[Entry], conns: u32) -> u32 {
+fn conn(random: &mut Random, journal: Record<'_>, conns: u32) -> u32 {
     let mut picked = conns.saturating_add(1).saturating_sub(random.below(8));
     if random.once_in(12) {
         return picked;
     }
     for back in 0..8 {
-        if !is_open(entries, picked) {
+        if !is_open(journal, picked) {
             picked = conns.saturating_sub(back);
         }
     }
@@ -184,16 +185,21 @@ fn conn(random: &mut Random, entries: &[Entry], conns: u32) -> u32 {
 }
 
 /// A call: mostly one that runs, or that waits.
-fn call(random: &mut Random, entries: &[Entry], running: bool, calls: u32) -> u32 {
+fn call(random: &mut Random, journal: Record<'_>, running: bool, calls: u32) -> u32 {
     if random.once_in(6) {
         calls.saturating_add(1).saturating_sub(random.below(12))
     } else {
-        newest(entries, running, calls, random.below(6))
+        newest(journal, running, calls, random.below(6))
     }
 }
 
-fn end(alloc: Global, random: &mut Random, entries: &[Entry], call: u32) -> Result<Step, NoMemory> {
-    let results = results(alloc, random, slots(entries, call))?;
+fn end(
+    alloc: Global,
+    random: &mut Random,
+    journal: Record<'_>,
+    call: u32,
+) -> Result<Step, NoMemory> {
+    let results = results(alloc, random, slots(journal, call))?;
     let said = if random.once_in(4) {
         Said::Fault(Status::NCA_S_FAULT_CANCEL)
     } else {
@@ -203,9 +209,9 @@ fn end(alloc: Global, random: &mut Random, entries: &[Entry], call: u32) -> Resu
 }
 
 /// A call that asks, makes an end, or is of a connection.
-fn other(random: &mut Random, entries: &[Entry], conns: u32, calls: u32) -> Step {
+fn other(random: &mut Random, journal: Record<'_>, conns: u32, calls: u32) -> Step {
     let running = random.once_in(2);
-    let call = call(random, entries, running, calls);
+    let call = call(random, journal, running, calls);
     match random.below(16) {
         0 | 1 => Step::Cancel(call),
         2 | 3 => Step::Orphan(call),
@@ -213,37 +219,38 @@ fn other(random: &mut Random, entries: &[Entry], conns: u32, calls: u32) -> Step
         7 | 8 => Step::Stage(call),
         9 | 10 => Step::Join,
         11 | 12 if !random.brief => Step::Join,
-        _ => Step::Leave(conn(random, entries, conns)),
+        _ => Step::Leave(conn(random, journal, conns)),
     }
 }
 
-fn number(count: usize) -> u32 {
+fn number(count: u128) -> u32 {
     u32::try_from(count).unwrap_or(0)
 }
 
 /// The next call on the group of these entries.
-pub fn next_step(
-    alloc: Global,
-    random: &mut Random,
-    home: Home,
-    entries: &[Entry],
-) -> Result<Step, NoMemory>
-    requires { spec.opened (reverse entries.now) < 2 ^ 32 }
+pub fn next_step(alloc: Global, random: &mut Random, journal: Record<'_>) -> Result<Step, NoMemory>
+    requires { spec.opened (told journal) < 2 ^ 32 }
 {
-    let conns = number(joined_count(entries));
-    let calls = number(accepted_count(entries));
+    let conns = number(join_count(journal));
+    let calls = number(accept_count(journal));
     if conns == 0 {
         return Ok(Step::Join);
     }
-    let waiting = call(random, entries, false, calls);
-    let running = call(random, entries, true, calls);
+    let waiting = call(random, journal, false, calls);
+    let running = call(random, journal, true, calls);
     match random.below(10) {
-        0 | 1 if running != 0 => end(alloc, random, entries, running),
+        0 | 1 if running != 0 => end(alloc, random, journal, running),
         2 | 3 | 4 if waiting != 0 => Ok(Step::Take(waiting)),
-        8 | 9 => Ok(other(random, entries, conns, calls)),
+        8 | 9 => Ok(other(random, journal, conns, calls)),
         _ => {
-            let conn = conn(random, entries, conns);
-            request(alloc, random, home, conn, number(opened(entries)))
+            let conn = conn(random, journal, conns);
+            request(
+                alloc,
+                random,
+                journal.home,
+                conn,
+                number(opened(journal) as u128),
+            )
         }
     }
 }

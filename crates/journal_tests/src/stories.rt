@@ -1,5 +1,5 @@
 //! Groups by hand: the calls on each, with what each has to come to, and the journal that is then there.
-use crate::calls::{entries_of, play};
+use crate::calls::play;
 use crate::step::Answer;
 use crate::words::{HOME, number, read_step};
 use group_core::Group;
@@ -616,7 +616,8 @@ fn tell(alloc: Global, group: &mut Group, lines: &str, text: &mut Vec<u8>) -> Re
 /// Adds an empty line and the journal.
 fn tell_journal(alloc: Global, group: &Group, text: &mut Vec<u8>) -> Result<(), NoMemory> {
     text.push(b'\n')?;
-    journal_text(alloc, HOME, entries_of(group), text)
+    let journal = group.journal();
+    journal_text(alloc, HOME, journal.base(), journal.as_slice(), text)
 }
 
 /// The story as it goes: its calls are made, in turn, and written down with what they come to.

@@ -55,8 +55,8 @@ fn a_later_call_waits_for_an_earlier_one(rt: HostRuntime) -> Result<(), Fail> {
     let asked = slots(alloc)?;
     let mut table = CallTable::new(alloc);
     table.reserve(2)?;
-    table.accept(1, 1, &asked);
-    table.accept(2, 1, &asked);
+    table.accept(1, 1, &asked, 4);
+    table.accept(2, 1, &asked, 5);
     let (first, second) = (table.conflict(1), table.conflict(2));
     let _ = table.start(1);
     let (running, openings) = (table.any_runs(), table.openings());

@@ -1,8 +1,8 @@
 //! Journals by hand, and what the plain rules say of them: of the whole, with one entry changed, and of
 //! their calls.
 use crate::words::{HOME, number, read_asked, read_end, read_list};
-use handle_model::Entry;
-use handle_rules::{Verdict, audited, cookies_of, reply};
+use handle_model::{Base, Entry};
+use handle_rules::{Record, Verdict, audited, cookies_of, reply};
 use std::alloc::Global;
 
 /// An entry of one number.
@@ -97,8 +97,9 @@ fn read_entries(alloc: Global, journal: &str, edit: &str) -> Option<Vec<Entry>> 
 }
 
 /// The verdict on the entries.
+#[tactic(auto, using(handle_model::proofs::Steps::empty_base_sound))]
 fn judged(alloc: Global, entries: &[Entry]) -> Option<String> {
-    match audited(alloc, HOME, entries).ok()? {
+    match audited(alloc, HOME, &Base::empty(alloc), entries).ok()? {
         Verdict::Legal(count) => format!(in alloc; "legal {count}").ok(),
         Verdict::Breach { index } => format!(in alloc; "breach {index}").ok(),
     }
@@ -111,18 +112,23 @@ fn said_of(alloc: Global, journal: &str, ask: &str) -> Option<String> {
         Some(("reply" | "cookies", _)) => read_entries(alloc, journal, "")?,
         _ => read_entries(alloc, journal, ask)?,
     };
-    let entries = entries.as_slice();
+    let base = Base::empty(alloc);
+    let journal = Record {
+        home: HOME,
+        base: &base,
+        entries: entries.as_slice(),
+    };
     match ask.split_once(" ") {
         Some(("reply", call)) => {
-            let reply = reply(alloc, entries, number(call)?).ok()?;
+            let reply = reply(alloc, journal, number(call)?).ok()?;
             format!(in alloc; "{reply:?}").ok()
         }
         Some(("cookies", call)) => {
-            let cookies = cookies_of(alloc, HOME, entries, number(call)?).ok()?;
+            let cookies = cookies_of(alloc, journal, number(call)?).ok()?;
             let cookies = cookies.as_slice();
             format!(in alloc; "{cookies:?}").ok()
         }
-        _ => judged(alloc, entries),
+        _ => judged(alloc, journal.entries),
     }
 }
 

@@ -1,15 +1,16 @@
 //! A fixed walk over all calls of a group: each answer and each entry is compared with what the plain
 //! rules say of the journal before it, and each journal is audited.
-ghost use Rattle.std.specs.Prelude.{◌<◌, ◌^◌, reverse};
+ghost use Rattle.std.specs.Prelude.{◌<◌, ◌^◌};
+ghost use Rattle.handle_rules.specs.Told.{told};
 ghost use Rattle.handle_model.specs.Journal as spec;
 
-use crate::calls::{entries_of, play};
+use crate::calls::{journal_of, play};
 use crate::plain::{Came, expected, is_asked, stage};
 use crate::random::{Random, next_step};
 use crate::step::{Answer, Step};
 use group_core::Group;
-use handle_model::{Entry, Home};
-use handle_rules::{Verdict, accepted_count, audited, is_due};
+use handle_model::{Base, Entry, Home};
+use handle_rules::{Record, Verdict, accept_count, audited, is_due};
 use handle_text::{entry_text, group_text, journal_text};
 use rpc_base::NoMemory;
 use std::alloc::Global;
@@ -51,10 +52,13 @@ fn home(id: u32) -> Home {
 }
 
 /// The Shut that follows the entry at a place, where it is due.
-fn shut_after(entries: &[Entry], at: usize) -> Option<&Entry> {
-    let older = entries.get(..at.saturating_add(1))?;
+fn shut_after(journal: Record<'_>, at: usize) -> Option<&Entry> {
+    let older = Record {
+        entries: journal.entries.get(..at.saturating_add(1))?,
+        ..journal
+    };
     if is_due(older) {
-        entries.get(at.saturating_add(1))
+        journal.entries.get(at.saturating_add(1))
     } else {
         None
     }
@@ -74,7 +78,7 @@ fn with_shut(alloc: Global, shut: &Entry, text: &mut Vec<u8>) -> Result<Answer, 
 fn wanted(
     alloc: Global,
     came: Came,
-    entries: &[Entry],
+    journal: Record<'_>,
     before: usize,
     text: &mut Vec<u8>,
 ) -> Result<Answer, NoMemory> {
@@ -82,7 +86,7 @@ fn wanted(
         return Ok(came.answer);
     };
     entry_text(alloc, entry, text)?;
-    match shut_after(entries, before) {
+    match shut_after(journal, before) {
         Some(shut) => with_shut(alloc, shut, text),
         None => Ok(came.answer),
     }
@@ -92,14 +96,13 @@ fn wanted(
 fn next_two(
     alloc: Global,
     random: &mut Random,
-    home: Home,
-    entries: &[Entry],
+    journal: Record<'_>,
 ) -> Result<(Step, Step), NoMemory>
-    requires { spec.opened (reverse entries.now) < 2 ^ 32 }
+    requires { spec.opened (told journal) < 2 ^ 32 }
 {
     let mut again = *random;
-    let call = next_step(alloc, random, home, entries)?;
-    let same = next_step(alloc, &mut again, home, entries)?;
+    let call = next_step(alloc, random, journal)?;
+    let same = next_step(alloc, &mut again, journal)?;
     Ok((call, same))
 }
 
@@ -108,15 +111,14 @@ fn next_two(
 fn step(
     alloc: Global,
     random: &mut Random,
-    home: Home,
     group: &mut Group,
     text: &mut Vec<u8>,
 ) -> Result<(), Trouble> {
     let before = group.journal().len();
-    let (call, same) = next_two(alloc, random, home, entries_of(group))?;
-    let came = expected(alloc, home, entries_of(group), same)?;
+    let (call, same) = next_two(alloc, random, journal_of(group))?;
+    let came = expected(alloc, journal_of(group), same)?;
     let answer = play(alloc, group, call);
-    let wanted = wanted(alloc, came, entries_of(group), before, text)?;
+    let wanted = wanted(alloc, came, journal_of(group), before, text)?;
     if answer == wanted {
         Ok(())
     } else {
@@ -126,11 +128,11 @@ fn step(
 
 /// The first number that the group and the plain rules tell apart as a call's.
 fn told_apart(group: &Group) -> Option<u32> {
-    let entries = entries_of(group);
-    let calls = u32::try_from(accepted_count(entries)).unwrap_or(0);
+    let journal = journal_of(group);
+    let calls = u32::try_from(accept_count(journal)).unwrap_or(0);
     for call in 0..calls.saturating_add(2) {
-        if group.asked(call) != is_asked(entries, call)
-            || group.stage(call) != stage(entries, call)
+        if group.asked(call) != is_asked(journal, call)
+            || group.stage(call) != stage(journal, call)
         {
             return Some(call);
         }
@@ -139,23 +141,31 @@ fn told_apart(group: &Group) -> Option<u32> {
 }
 
 /// Whether the journal has that text.
-fn has_text(alloc: Global, home: Home, entries: &[Entry], text: &[u8]) -> Result<bool, NoMemory> {
-    let mut journal = Vec::new(alloc);
-    journal_text(alloc, home, entries, &mut journal)?;
-    Ok(journal.as_slice() == text)
+fn has_text(alloc: Global, journal: Record<'_>, text: &[u8]) -> Result<bool, NoMemory> {
+    let mut told = Vec::new(alloc);
+    journal_text(
+        alloc,
+        journal.home,
+        journal.base,
+        journal.entries,
+        &mut told,
+    )?;
+    Ok(told.as_slice() == text)
 }
 
 /// Compares what the group says of each call, and its whole journal.
+#[tactic(auto, using(handle_model::proofs::Steps::empty_base_sound))]
 fn audit(alloc: Global, walk: &Walk) -> Result<(), Trouble> {
     if let Some(call) = told_apart(&walk.group) {
         return Err(Trouble::Call(call));
     }
-    let home = home(walk.id);
-    let entries = entries_of(&walk.group);
-    if audited(alloc, home, entries)? != Verdict::Legal(entries.len()) {
+    let journal = journal_of(&walk.group);
+    let base = Base::empty(alloc);
+    let verdict = audited(alloc, journal.home, &base, journal.entries)?;
+    if verdict != Verdict::Legal(journal.entries.len()) {
         return Err(Trouble::Illegal);
     }
-    if has_text(alloc, home, entries, walk.text.as_slice())? {
+    if has_text(alloc, journal, walk.text.as_slice())? {
         Ok(())
     } else {
         Err(Trouble::OtherText)
@@ -178,10 +188,7 @@ fn begin(alloc: Global, random: Random, id: u32) -> Result<Walk, NoMemory> {
 
 /// Whether the group has ended.
 fn has_ended(walk: &Walk) -> bool {
-    match entries_of(&walk.group).last() {
-        Some(entry) => entry.is_shut(),
-        None => false,
-    }
+    walk.group.has_shut()
 }
 
 /// The group has ended, and the next one begins.
@@ -194,14 +201,7 @@ fn renew(alloc: Global, walk: &mut Walk) -> Result<(), Trouble> {
 
 /// One call; where the group has ended with it, the next one begins.
 fn go(alloc: Global, walk: &mut Walk) -> Result<(), Trouble> {
-    let home = home(walk.id);
-    step(
-        alloc,
-        &mut walk.random,
-        home,
-        &mut walk.group,
-        &mut walk.text,
-    )?;
+    step(alloc, &mut walk.random, &mut walk.group, &mut walk.text)?;
     if has_ended(walk) {
         renew(alloc, walk)
     } else {

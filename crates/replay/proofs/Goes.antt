@@ -9,7 +9,7 @@ use Rattle.replay.specs.declared.phase.ProbeCall.{ProbeCall}
 use Rattle.replay.specs.declared.phase.Phase.{Phase}
 use Rattle.replay.specs.declared.phase.Phase.TheVariants.{Begun, Booted, Opened, Ready, Waiting, Refused, Running, Over}
 use Rattle.replay.specs.Good.{IsGoodAt, IsGood}
-use Rattle.replay.specs.Played.{Played, booted, connected, bound, unblocked, ran, idled, finished, lost, Does, Plays, Leads}
+use Rattle.replay.specs.Played.{Played, journal, booted, connected, bound, unblocked, ran, idled, finished, lost, Does, Plays, Leads}
 use Rattle.replay.proofs.Steps.{plays_good, lost-shut, ran_unblocked, finished-ended}
 use Rattle.replay.proofs.Sample.{sample, sample_body, sample_element, sample_octets, sample_spelled, sample_is_bind, sample_bytes}
 
@@ -64,7 +64,7 @@ goes_waiting p caller k call e g =
     let w = good_at (Waiting caller k call) p e g in
     let q : Played = ran p caller k call in
     let d = does (Waiting caller k call) p (lines.Run 1) q e (refl, refl) in
-    by_line p (lines.Run 1) q first d (goes_unblocked p q caller k call (fault p.home p.past k) (ran_unblocked p caller k call w) (plays_good p (lines.Run 1) q g d))
+    by_line p (lines.Run 1) q first d (goes_unblocked p q caller k call (fault (journal p) k) (ran_unblocked p caller k call w) (plays_good p (lines.Run 1) q g d))
 
 goes_opened : (p : Played) → p.phase ≡ Opened → IsGood p → Goes p
 goes_opened p e g =

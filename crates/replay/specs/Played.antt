@@ -8,7 +8,11 @@ use Rattle.pdu_codec.specs.Pdus.{IsPdu, pdu_octets}
 use Rattle.handle_model.specs.declared.entry.Home.{Home}
 use Rattle.handle_model.specs.declared.entry.Entry.{Entry}
 use Rattle.handle_model.specs.declared.entry.Entry.TheVariants.{Join, Accept, Take, Deny, End, Leave, Shut}
-use Rattle.handle_model.specs.Journal.{joined, accepted, slots, blocker, fault, cookies_for, due, due_items}
+use Rattle.handle_model.specs.Since.{History, since}
+use Rattle.handle_model.specs.Bases.{empty_base}
+use Rattle.handle_model.specs.Calls.{join_count, accept_count, slots, blocker}
+use Rattle.handle_model.specs.Handles.{fault, cookies_for, due_items}
+use Rattle.handle_model.specs.Rules.{due}
 use Rattle.handle_model.specs.Replies.{replies}
 use Rattle.handle_model.specs.Limits.{accept_limit}
 use Rattle.handle_model.specs.declared.limits.AcceptLimit.{AcceptLimit}
@@ -23,14 +27,18 @@ use Rattle.replay.specs.Binds.{TakesBind, bind_ack}
 use Rattle.replay.specs.Probe.{TakesRequest, slot_of, asked_of, results_of, said_of, held_after}
 use Rattle.replay.specs.Answers.{server_too_busy, answer_line, waits_line, idle_line, reply_lines}
 
--- A moment of a replay: how far it is; the group, and its journal, the newest entry first; how many handles the
--- probe has; the lines printed.
+-- A moment of a replay: how far it is; the group, and the entries of its journal, the newest first; how many handles
+-- the probe has; the lines printed.
 pub record Played : Type 0 where
   pub phase : Phase
   pub home : Home
   pub past : List Entry
   pub held : ℕ
   pub out : List ℕ
+
+-- the journal of the group, which goes on from nothing
+abbrev pub journal : Played → History
+journal p = since p.home empty_base p.past
 
 abbrev pub at_start : Played
 at_start = record { phase = Begun; home = record { boot = 0; group = 1 }; past = []; held = 0; out = [] }
@@ -50,13 +58,13 @@ abbrev pub bound : Played → Pdu → BindBody → Element → Played
 bound p pdu bind element =
     record p {
       phase = Ready element.context;
-      past = Join (length (joined p.past) + 1) ∷ p.past;
+      past = Join (join_count (journal p) + 1) ∷ p.past;
       out = p.out ++ answer_line (pdu_octets (bind_ack p.home.group pdu bind));
     }
 
 -- the reply that the journal then has for a call is printed
 abbrev pub answered : Caller → ℕ → Played → Played
-answered caller k p = record p { out = p.out ++ reply_lines caller (replies p.past k) }
+answered caller k p = record p { out = p.out ++ reply_lines caller (replies (journal p) k) }
 
 -- a request is refused at a limit of the group
 abbrev pub refused : Played → Caller → Played
@@ -64,19 +72,19 @@ refused p caller = record p { phase = Refused caller.context; out = p.out ++ rep
 
 -- and else it is the next call
 abbrev pub accepted_as : Played → Caller → ProbeCall → ℕ → Played
-accepted_as p caller call k = record p { phase = Waiting caller k call; past = Accept k (asked_of p.past call) ∷ p.past }
+accepted_as p caller call k = record p { phase = Waiting caller k call; past = Accept k (asked_of (journal p) call) ∷ p.past }
 
 abbrev pub limited : Played → Caller → ProbeCall → Option AcceptLimit → Played
 limited p caller call (Some limit) = refused p caller
-limited p caller call None = accepted_as p caller call (length (accepted p.past) + 1)
+limited p caller call None = accepted_as p caller call (accept_count (journal p) + 1)
 
 abbrev pub requested : Played → Caller → ProbeCall → Played
-requested p caller call = limited p caller call (accept_limit p.home p.past (slot_of p.past call ∷ []))
+requested p caller call = limited p caller call (accept_limit (journal p) (slot_of (journal p) call ∷ []))
 
 -- a waiting call is taken with the cookies of its handles
 abbrev pub taken : Played → Caller → ℕ → ProbeCall → Played
 taken p caller k call =
-    record p { phase = Running caller k call; past = Take k (cookies_for p.home p.past (slots p.past k)) ∷ p.past }
+    record p { phase = Running caller k call; past = Take k (cookies_for (journal p) (slots (journal p) k)) ∷ p.past }
 
 -- or denied at its first slot at fault
 abbrev pub denied : Played → Caller → ℕ → ℕ → Played
@@ -92,10 +100,10 @@ unblocked p caller k call None = taken p caller k call
 
 abbrev pub tried : Played → Caller → ℕ → ProbeCall → Option ℕ → Played
 tried p caller k call (Some m) = blocked p m
-tried p caller k call None = unblocked p caller k call (fault p.home p.past k)
+tried p caller k call None = unblocked p caller k call (fault (journal p) k)
 
 abbrev pub ran : Played → Caller → ℕ → ProbeCall → Played
-ran p caller k call = tried p caller k call (blocker p.past k)
+ran p caller k call = tried p caller k call (blocker (journal p) k)
 
 -- nothing waits
 abbrev pub idled : Played → ℕ → Played
@@ -103,19 +111,19 @@ idled p context = record p { phase = Ready context; out = p.out ++ idle_line }
 
 -- the group ends, and the probe runs down what was live
 abbrev pub shut : Played → Played
-shut p = record p { past = Shut (due_items p.home p.past) ∷ p.past; held = p.held - length (due_items p.home p.past) }
+shut p = record p { past = Shut (due_items (journal p)) ∷ p.past; held = p.held - length (due_items (journal p)) }
 
 -- where its end is due it comes at once
 abbrev pub settled : Played → Played
-settled p = if due p.past then shut p else p
+settled p = if due (journal p) then shut p else p
 
 -- the running call ends as the probe answers it
 abbrev pub ended : Played → Caller → ℕ → ProbeCall → Played
 ended p caller k call =
     record p {
       phase = Ready caller.context;
-      past = End k (results_of p.past k call) (said_of p.home (results_of p.past k call)) ∷ p.past;
-      held = held_after p.held (results_of p.past k call);
+      past = End k (results_of (journal p) k call) (said_of p.home (results_of (journal p) k call)) ∷ p.past;
+      held = held_after p.held (results_of (journal p) k call);
     }
 
 abbrev pub finished : Played → Caller → ℕ → ProbeCall → Played

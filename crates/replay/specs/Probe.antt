@@ -15,9 +15,10 @@ use Rattle.handle_model.specs.declared.entry.Outcome.TheVariants.{Close, Issue, 
 use Rattle.handle_model.specs.declared.entry.Asked.{Asked}
 use Rattle.handle_model.specs.declared.entry.Said.{Said}
 use Rattle.handle_model.specs.declared.entry.Said.TheVariants.{Out}
-use Rattle.handle_model.specs.declared.entry.Entry.{Entry}
 use Rattle.handle_model.specs.Slots.{wire_of, is_null}
-use Rattle.handle_model.specs.Journal.{opened, slots}
+use Rattle.handle_model.specs.Since.{History}
+use Rattle.handle_model.specs.Calls.{slots}
+use Rattle.handle_model.specs.Handles.{opened}
 use Rattle.replay.specs.declared.phase.ProbeCall.{ProbeCall}
 use Rattle.replay.specs.declared.phase.ProbeCall.TheVariants as calls
 
@@ -53,13 +54,13 @@ slot_at serial (calls.Open cookie) = Opens 0 serial
 slot_at serial (calls.Close wire) = if is_null wire then Opens 0 serial else Changes 0 wire
 
 -- with the serial that comes next in the group
-abbrev pub slot_of : List Entry → ProbeCall → Slot
-slot_of past call = slot_at (opened past + 1) call
+abbrev pub slot_of : History → ProbeCall → Slot
+slot_of j call = slot_at (opened j + 1) call
 
 -- the call as the journal has it: of connection 1, for interface 0, with an answer
-abbrev pub asked_of : List Entry → ProbeCall → Asked
-asked_of past call =
-    record { conn = 1; iface = 0; op = op_of call; order = Little; reply = true; slots = slot_of past call ∷ []; stub = stub_of call }
+abbrev pub asked_of : History → ProbeCall → Asked
+asked_of j call =
+    record { conn = 1; iface = 0; op = op_of call; order = Little; reply = true; slots = slot_of j call ∷ []; stub = stub_of call }
 
 -- WHAT THE PROBE DOES
 
@@ -69,8 +70,8 @@ outcome_of (calls.Open cookie) (Opens kind serial) = Issue serial cookie
 outcome_of (calls.Close wire) (Changes kind given) = Close
 outcome_of call slot = Nothing
 
-abbrev pub results_of : List Entry → ℕ → ProbeCall → List Outcome
-results_of past k call = map (outcome_of call) (slots past k)
+abbrev pub results_of : History → ℕ → ProbeCall → List Outcome
+results_of j k call = map (outcome_of call) (slots j k)
 
 -- the handle that the caller then has: the one issued, or none where it is closed or nothing was issued (the probe
 -- keeps no handle with another cookie)

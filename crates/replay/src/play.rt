@@ -2,7 +2,8 @@
 ghost use Rattle.std.specs.Prelude.{◌≡◌, ◌+◌, ◌<◌, ◌^◌, ◌∷◌, ◌++◌, [], length, IfOk, OnOk, IsTrue, ◌↔◌};
 ghost use Rattle.pdu_codec.specs.Pdus.{pdu_octets, IsWritable};
 ghost use Rattle.replay.specs.Answers.{answer_line};
-ghost use Rattle.handle_model.specs.Journal.{opened};
+ghost use Rattle.handle_model.specs.Handles.{opened};
+ghost use Rattle.handle_rules.specs.Told.{told};
 ghost use Rattle.replay.specs.Probe.{left_octets as left, results_of as results};
 ghost use Rattle.replay.specs.Played as spec;
 ghost use Rattle.replay.specs.Replays.{log_text};
@@ -13,8 +14,8 @@ use crate::bind::{bind_ack, bind_in};
 use crate::phase::{Caller, Phase, ProbeCall};
 use crate::print::{fault_before, print_pdu, response, spelled};
 use crate::probe::{asked_of, call_in, held_after, left_octets, limit, results_of};
-use handle_model::{Entry, Home, Said};
-use handle_rules::{accepted_count, cookies_of, due_items, fault};
+use handle_model::{Base, Entry, Home, Said};
+use handle_rules::{Record, accept_count, cookies_of, due_items, fault};
 use handle_text::journal_text;
 use pdu_codec::Pdu;
 use replay_script::Line;
@@ -28,18 +29,22 @@ use std::marker::Model;
 pub struct Playing {
     phase: Phase,
     home: Home,
+    base: Base,
     entries: Vec<Entry>,
     held: u64,
     out: Vec<u8>,
 }
 
 impl Model for Playing {
-    ghost use Rattle.std.specs.Prelude.{reverse};
+    ghost use Rattle.std.specs.Prelude.{◌≡◌, reverse};
+    ghost use Rattle.handle_model.specs.Bases.{empty_base};
     ghost use Rattle.replay.specs.Played.{Played};
 
     ghost Value = { Played };
 
     ghost view = { λ p. record { phase = p.phase; home = p.home; past = reverse p.entries.items; held = p.held; out = p.out.items } };
+
+    ghost invariant = { λ p. p.base ≡ empty_base };
 }
 
 impl Playing {
@@ -50,6 +55,7 @@ impl Playing {
         Playing {
             phase: Phase::Begun,
             home: Home { boot: 0, group: 1 },
+            base: Base::empty(alloc),
             entries: Vec::new(alloc),
             held: 0,
             out: Vec::new(alloc),
@@ -85,7 +91,13 @@ impl Playing {
         ensures log { IfOk result (λ r. r.log ≡ log_text self) }
     {
         let mut log = Vec::new(alloc);
-        journal_text(alloc, self.home, self.entries.as_slice(), &mut log)?;
+        journal_text(
+            alloc,
+            self.home,
+            &self.base,
+            self.entries.as_slice(),
+            &mut log,
+        )?;
         Ok(Replayed {
             out: Octets::from_vec(self.out),
             log: Octets::from_vec(log),
@@ -191,6 +203,17 @@ impl Playing {
 
 // What the lines do.
 impl Playing {
+    /// The journal so far.
+    fn journal(&self) -> Record<'_>
+        ensures { told result ≡ spec.journal self.now }
+    {
+        Record {
+            home: self.home,
+            base: &self.base,
+            entries: self.entries.as_slice(),
+        }
+    }
+
     /// Adds an entry to the journal.
     #[tactic(auto, using(crate::proofs::Sets::entering))]
     fn enter(&mut self, entry: Entry) -> Result<(), NoMemory>
@@ -252,7 +275,7 @@ impl Playing {
         requires { IsBetween self.old }
         ensures { OnOk result (self.new ≡ spec.requested self.old caller call) }
     {
-        match limit(self.home, self.entries.as_slice(), call) {
+        match limit(self.journal(), call) {
             Some(_) => {
                 self.print(alloc, &fault_before(caller, Status::NCA_S_SERVER_TOO_BUSY))?;
                 self.phase = Phase::Refused {
@@ -260,8 +283,8 @@ impl Playing {
                 };
             }
             None => {
-                let number = accepted_count(self.entries.as_slice()) as u32 + 1;
-                let asked = asked_of(alloc, self.entries.as_slice(), call)?;
+                let number = accept_count(self.journal()) as u32 + 1;
+                let asked = asked_of(alloc, self.journal(), call)?;
                 self.enter(Entry::Accept {
                     call: number,
                     asked,
@@ -287,7 +310,7 @@ impl Playing {
         requires { HasWaiting self.old call asked }
         ensures { OnOk result (self.new ≡ spec.ran self.old caller call asked) }
     {
-        match fault(self.home, self.entries.as_slice(), call) {
+        match fault(self.journal(), call) {
             Some(slot) => self.deny(alloc, caller, call, slot as u8)?,
             None => self.start(alloc, caller, call, asked)?,
         }
@@ -319,7 +342,7 @@ impl Playing {
     ) -> Result<(), NoMemory>
         ensures { OnOk result (self.new ≡ spec.taken self.old caller call asked) }
     {
-        let cookies = cookies_of(alloc, self.home, self.entries.as_slice(), call)?;
+        let cookies = cookies_of(alloc, self.journal(), call)?;
         self.phase = Phase::Running {
             caller,
             call,
@@ -358,9 +381,9 @@ impl Playing {
 
     /// The octets of the response to the running call.
     fn answer_to(&self, alloc: Global, call: u32, asked: ProbeCall) -> Result<Octets, NoMemory>
-        ensures { IfOk result (λ answer. answer ≡ left self.now.home (results self.now.past call asked)) }
+        ensures { IfOk result (λ answer. answer ≡ left self.now.home (results (spec.journal self.now) call asked)) }
     {
-        let results = results_of(alloc, self.entries.as_slice(), call, asked)?;
+        let results = results_of(alloc, self.journal(), call, asked)?;
         let answer = left_octets(alloc, self.home, results.as_slice())?;
         Ok(answer)
     }
@@ -376,7 +399,7 @@ impl Playing {
         requires { HasRunning self.old call asked }
         ensures { OnOk result (self.new ≡ spec.ended self.old caller call asked) }
     {
-        let results = results_of(alloc, self.entries.as_slice(), call, asked)?;
+        let results = results_of(alloc, self.journal(), call, asked)?;
         let said = Said::Out(left_octets(alloc, self.home, results.as_slice())?);
         self.phase = Phase::Ready {
             context: caller.context,
@@ -403,10 +426,10 @@ impl Playing {
 
     /// The group ends.
     fn shut(&mut self, alloc: Global) -> Result<(), NoMemory>
-        requires { opened self.old.past < 2 ^ 32 }
+        requires { opened (spec.journal self.old) < 2 ^ 32 }
         ensures { OnOk result (self.new ≡ spec.shut self.old) }
     {
-        let due = due_items(alloc, self.home, self.entries.as_slice())?;
+        let due = due_items(alloc, self.journal())?;
         self.held = self.held.saturating_sub(due.len() as u64);
         self.enter(Entry::Shut { due })
     }

@@ -1,18 +1,20 @@
 //! The calls of the probe.
-ghost use Rattle.std.specs.Prelude.{◌≡◌, ◌++◌, ◌∷◌, [], ◌+◌, ◌<◌, ◌≤◌, ◌^◌, length, reverse, map, filter, List, ℕ, IfOk, OnOk, MatchOption, IsTrue, ◌↔◌};
+ghost use Rattle.std.specs.Prelude.{◌≡◌, ◌++◌, ◌∷◌, [], ◌+◌, ◌<◌, ◌≤◌, ◌^◌, length, map, filter, List, ℕ, IfOk, OnOk, MatchOption, IsTrue, ◌↔◌};
 ghost use Rattle.std.specs.List.{flat_map};
 ghost use Rattle.pdu_codec.specs.declared.pdu.RequestBody.{RequestBody as ARequest};
 ghost use Rattle.replay.specs.declared.phase.ProbeCall.{ProbeCall as ACall};
 ghost use Rattle.rpc_base.specs.Fields.{handle_octets};
 ghost use Rattle.rpc_base.specs.declared.identifiers.Order.TheVariants as orders;
-ghost use Rattle.handle_model.specs.Journal.{opened as opened_in, slots as slots_of_call};
+ghost use Rattle.handle_model.specs.Calls.{slots as slots_of_call};
+ghost use Rattle.handle_model.specs.Handles.{opened as opened_in};
+ghost use Rattle.handle_rules.specs.Told.{told};
 ghost use Rattle.handle_model.specs.Slots.{opens};
 ghost use Rattle.handle_model.specs.Limits.{accept_limit as limit_spec};
 ghost use Rattle.replay.specs.Probe as spec;
 
 use crate::phase::ProbeCall;
-use handle_model::{AcceptLimit, Asked, Entry, Home, Outcome, Outcomes, Slot};
-use handle_rules::{accept_limit, opened, slots};
+use handle_model::{AcceptLimit, Asked, Home, Outcome, Outcomes, Slot};
+use handle_rules::{Record, accept_limit, opened, slots};
 use pdu_codec::{Body, Pdu};
 use rpc_base::{
     Items, NoMemory, Octets, Order, WireHandle, get_handle, get_u32, put_handle, put_u32,
@@ -57,28 +59,28 @@ pub fn call_in(context: u16, pdu: &Pdu) -> Option<ProbeCall>
 }
 
 /// The serial that comes next in the group.
-fn next_serial(entries: &[Entry]) -> u32
-    requires { opened_in (reverse entries.now) + 1 < 2 ^ 32 }
-    ensures { result ≡ opened_in (reverse entries.now) + 1 }
+fn next_serial(journal: Record<'_>) -> u32
+    requires { opened_in (told journal) + 1 < 2 ^ 32 }
+    ensures { result ≡ opened_in (told journal.entry) + 1 }
 {
-    opened(entries) as u32 + 1
+    opened(journal) as u32 + 1
 }
 
 /// The handle parameter of a call that comes next.
-fn slot_of(entries: &[Entry], call: ProbeCall) -> Slot
-    requires { opened_in (reverse entries.now) + length (filter opens (spec.slot_of (reverse entries.now) call ∷ [])) < 2 ^ 32 }
-    ensures { result ≡ spec.slot_of (reverse entries.now) call }
+fn slot_of(journal: Record<'_>, call: ProbeCall) -> Slot
+    requires { opened_in (told journal) + length (filter opens (spec.slot_of (told journal) call ∷ [])) < 2 ^ 32 }
+    ensures { result ≡ spec.slot_of (told journal.entry) call }
 {
     match call {
         ProbeCall::Open { .. } => Slot::Opens {
             kind: 0,
-            serial: next_serial(entries),
+            serial: next_serial(journal),
         },
         ProbeCall::Close { wire } => {
             if wire.is_null() {
                 Slot::Opens {
                     kind: 0,
-                    serial: next_serial(entries),
+                    serial: next_serial(journal),
                 }
             } else {
                 Slot::Changes { kind: 0, wire }
@@ -105,11 +107,11 @@ fn unnumbered(call: ProbeCall) -> Slot
 
 /// The limit of the group that the call would pass, if any.
 #[tactic(auto, using(crate::proofs::Sets::limiting))]
-pub fn limit(home: Home, entries: &[Entry], call: ProbeCall) -> Option<AcceptLimit>
-    requires { opened_in (reverse entries.now) < 2 ^ 32 }
-    ensures { result ≡ limit_spec home (reverse entries.now) (spec.slot_of (reverse entries.now) call ∷ []) }
+pub fn limit(journal: Record<'_>, call: ProbeCall) -> Option<AcceptLimit>
+    requires { opened_in (told journal) < 2 ^ 32 }
+    ensures { result ≡ limit_spec (told journal.entry) (spec.slot_of (told journal.entry) call ∷ []) }
 {
-    accept_limit(home, entries, &[unnumbered(call)])
+    accept_limit(journal, &[unnumbered(call)])
 }
 
 /// The octets of a call's parameters.
@@ -125,12 +127,12 @@ fn stub_of(alloc: Global, call: ProbeCall) -> Result<Octets, NoMemory>
 }
 
 /// The call as the journal has it.
-pub fn asked_of(alloc: Global, entries: &[Entry], call: ProbeCall) -> Result<Asked, NoMemory>
-    requires { opened_in (reverse entries.now) + length (filter opens (spec.slot_of (reverse entries.now) call ∷ [])) < 2 ^ 32 }
-    ensures { IfOk result (λ asked. asked ≡ spec.asked_of (reverse entries.now) call) }
+pub fn asked_of(alloc: Global, journal: Record<'_>, call: ProbeCall) -> Result<Asked, NoMemory>
+    requires { opened_in (told journal) + length (filter opens (spec.slot_of (told journal) call ∷ [])) < 2 ^ 32 }
+    ensures { IfOk result (λ asked. asked ≡ spec.asked_of (told journal.entry) call) }
 {
     let mut slots = Items::new(alloc);
-    slots.push(slot_of(entries, call))?;
+    slots.push(slot_of(journal, call))?;
     let op = match call {
         ProbeCall::Open { .. } => 0,
         ProbeCall::Close { .. } => 1,
@@ -163,14 +165,14 @@ fn outcome_of(call: ProbeCall, slot: &Slot) -> Outcome
 /// What the probe does at each slot of a call.
 pub fn results_of(
     alloc: Global,
-    entries: &[Entry],
+    journal: Record<'_>,
     number: u32,
     call: ProbeCall,
 ) -> Result<Outcomes, NoMemory>
-    ensures { IfOk result (λ results. results ≡ spec.results_of (reverse entries.now) number call) }
+    ensures { IfOk result (λ results. results ≡ spec.results_of (told journal.entry) number call) }
 {
     let mut results = Items::new(alloc);
-    for slot in slots(entries, number) {
+    for slot in slots(journal, number) {
         results.push(outcome_of(call, slot))?;
     }
     Ok(results)

@@ -3,4 +3,4 @@ use Rattle.handle_model.specs.Journal.{is_open}
 use Rattle.group_bench.proofs.uses.Given as goal
 
 abbrev pub invariant-loop : goal.invariant-loop
-invariant-loop l = is_open l.group.past 1 ≡ true
+invariant-loop l = is_open l.group 1 ≡ true

@@ -2,4 +2,4 @@ use Rattle.journal_laws.proofs.ReplyStays.{cancelled_reply}
 use Rattle.journal_laws.proofs.replies.cancel_replies.Goals as goal
 
 pub returns : goal.returns
-returns c = λ home past k l w. cancelled_reply past k w
+returns c = λ j k l w. cancelled_reply j k l.1 w

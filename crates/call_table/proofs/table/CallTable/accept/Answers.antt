@@ -6,7 +6,7 @@ use Rattle.call_table.proofs.table.CallTable.accept.Goals as goal
 
 pub invariant_of-self : goal.invariant_of-self
 invariant_of-self c =
-    let grown : c.push.new.self.items ≡ c.self.inside.rows.items ++ record { call = c.args.call; conn = c.args.conn; slots = c.of.result; runs = false; cancelled = false; orphaned = false } ∷ [] = grind (arith, common_steps) in
+    let grown : c.push.new.self.items ≡ c.self.inside.rows.items ++ record { call = c.args.call; conn = c.args.conn; slots = c.of.result; place = c.args.place; runs = false; cancelled = false; orphaned = false } ∷ [] = grind (arith, common_steps) in
     let longer : vec_len c.push.new.self ≡ vec_len c.self.inside.rows + 1 = grind (arith, common_steps) in
     let few : length c.of.result ≡ length c.args.slots.now = ap (λ ss. length ss) (c.of.ensures ∙ c.as_slice.ensures) in
     let room : c.self.inside.room ≡ c.args.self.now.room = ap (λ v. v.room) c.self.view_is in

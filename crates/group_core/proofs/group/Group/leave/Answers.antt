@@ -1,24 +1,25 @@
-use Rattle.std.proofs.Common.{◌≡◌, ◌-◌, ◌∙◌, ap, subst, true, reverse, arith}
+use Rattle.std.proofs.Common.{◌≡◌, ◌-◌, ◌∙◌, ap, subst, true, arith}
 use Rattle.handle_model.specs.declared.entry.Entry.TheVariants.{Leave}
 use Rattle.handle_model.specs.Journal.{is_open}
-use Rattle.handle_model.specs.History.{History, history_of}
+use Rattle.handle_model.specs.History.{History}
 use Rattle.group_core.specs.Conns.{Settles}
 use Rattle.group_core.proofs.Going.{leave_room, leave_counted, leave_mid, mid_room, closed_kept, closed_settles}
+use Rattle.group_core.specs.Kept.{logged}
 use Rattle.group_core.proofs.group.Group.leave.Goals as goal
 
 pub overflow_sub-self : goal.overflow_sub-self
 overflow_sub-self c =
-    let o : is_open (reverse c.self.inside.log.entries) c.args.conn ≡ true = ap (λ h. is_open h.past c.args.conn) c.self.view_is ∙ c.requires in
+    let o : is_open (logged c.self.inside.home c.self.inside.log) c.args.conn ≡ true = ap (λ h. is_open h c.args.conn) c.self.view_is ∙ c.requires in
     leave_counted _ _ c.args.conn _ _ _ c.self.invariant o
 
 pub add-requires-clause-room : goal.add-requires-clause-room
 add-requires-clause-room c =
-    let o : is_open (reverse c.self.inside.log.entries) c.args.conn ≡ true = ap (λ h. is_open h.past c.args.conn) c.self.view_is ∙ c.requires in
+    let o : is_open (logged c.self.inside.home c.self.inside.log) c.args.conn ≡ true = ap (λ h. is_open h c.args.conn) c.self.view_is ∙ c.requires in
     leave_room _ _ c.args.conn _ _ _ c.self.invariant o c.leave-freed.result (rw c.leave-freed.ensures.rows at c.leave-freed.ensures.freed)
 
 pub close-requires : goal.close-requires
 close-requires c =
-    let o : is_open (reverse c.self.inside.log.entries) c.args.conn ≡ true = ap (λ h. is_open h.past c.args.conn) c.self.view_is ∙ c.requires in
+    let o : is_open (logged c.self.inside.home c.self.inside.log) c.args.conn ≡ true = ap (λ h. is_open h c.args.conn) c.self.view_is ∙ c.requires in
     let counted = leave_counted _ _ c.args.conn _ _ _ c.self.invariant o in
     let mid = leave_mid c.self.inside.home c.self.inside.log c.add.new.self c.args.conn c.self.inside.handles c.self.inside.calls c.leave-freed.new.self
     c.self.inside.counts (c.self.inside.counts.conns - 1) c.leave-freed.result c.self.invariant o c.add.ensures.entries c.leave-freed.ensures.freed c.add.ensures.spare c.leave-freed.ensures.rows (omega (arith, counted)) in
@@ -26,7 +27,7 @@ close-requires c =
 
 pub invariant_of-self : goal.invariant_of-self
 invariant_of-self c =
-    let o : is_open (reverse c.self.inside.log.entries) c.args.conn ≡ true = ap (λ h. is_open h.past c.args.conn) c.self.view_is ∙ c.requires in
+    let o : is_open (logged c.self.inside.home c.self.inside.log) c.args.conn ≡ true = ap (λ h. is_open h c.args.conn) c.self.view_is ∙ c.requires in
     let counted = leave_counted _ _ c.args.conn _ _ _ c.self.invariant o in
     let mid = leave_mid c.self.inside.home c.self.inside.log c.add.new.self c.args.conn c.self.inside.handles c.self.inside.calls c.leave-freed.new.self
     c.self.inside.counts (c.self.inside.counts.conns - 1) c.leave-freed.result c.self.invariant o c.add.ensures.entries c.leave-freed.ensures.freed c.add.ensures.spare c.leave-freed.ensures.rows (omega (arith, counted)) in
@@ -34,9 +35,9 @@ invariant_of-self c =
 
 pub returns : goal.returns
 returns c =
-    let o : is_open (reverse c.self.inside.log.entries) c.args.conn ≡ true = ap (λ h. is_open h.past c.args.conn) c.self.view_is ∙ c.requires in
+    let o : is_open (logged c.self.inside.home c.self.inside.log) c.args.conn ≡ true = ap (λ h. is_open h c.args.conn) c.self.view_is ∙ c.requires in
     let counted = leave_counted _ _ c.args.conn _ _ _ c.self.invariant o in
     let mid = leave_mid c.self.inside.home c.self.inside.log c.add.new.self c.args.conn c.self.inside.handles c.self.inside.calls c.leave-freed.new.self
     c.self.inside.counts (c.self.inside.counts.conns - 1) c.leave-freed.result c.self.invariant o c.add.ensures.entries c.leave-freed.ensures.freed c.add.ensures.spare c.leave-freed.ensures.rows (omega (arith, counted)) in
-    subst (λ (h : History). Settles h (Leave c.args.conn) c.close.result (history_of c.self.inside.home c.close.new.log.entries)) c.self.view_is
+    subst (λ (h : History). Settles h (Leave c.args.conn) c.close.result (logged c.self.inside.home c.close.new.log)) c.self.view_is
     (closed_settles _ _ _ _ _ _ _ _ _ _ mid (rw c.any_runs-running.ensures at c.close.ensures))

@@ -6,4 +6,4 @@ use Rattle.group_core.proofs.group.Group.stage.Goals as goal
 
 pub returns : goal.returns
 returns c =
-    c.stage_of.ensures ∙ (stage_is _ _ _ _ _ c.args.call c.self.invariant ∙ ap (λ (h : History). spec.stage_of h.past c.args.call) c.self.view_is)
+    c.stage_of.ensures ∙ (stage_is _ _ _ _ _ c.args.call c.self.invariant ∙ ap (λ (h : History). spec.stage_of h c.args.call) c.self.view_is)

@@ -1,0 +1,94 @@
+//! The calls as a base has them.
+ghost use Rattle.std.specs.Prelude.{◌≡◌, Some, slice_get, IfOk};
+ghost use Rattle.std.specs.List.{find};
+ghost use Rattle.std.specs.Option.{option_copied};
+ghost use Rattle.handle_model.specs.Journal.{least, lesser};
+ghost use Rattle.handle_model.specs.Bases as base;
+ghost use Rattle.call_table.specs.Rows.{running_places};
+ghost use Rattle.call_table.specs.Based as spec;
+
+use crate::row::Row;
+use handle_model::{Asked, Base, BaseCall, BaseCalls, Entry};
+use rpc_base::{Items, NoMemory};
+use std::alloc::Global;
+
+/// The calls of these rows with what they asked: those of the base, and of the others by their Accepts
+/// among the entries since then.
+#[tactic(auto, using(handle_model::proofs::Rest::resting))]
+pub fn stored_calls(
+    alloc: Global,
+    base: &Base,
+    entries: &[Entry],
+    rows: &[Row],
+) -> Result<BaseCalls, NoMemory>
+    ensures { IfOk result (λ calls. calls ≡ spec.stored_calls base.now entries.now rows.now) }
+{
+    let mut calls = Items::new(alloc);
+    for row in rows {
+        if let Some(asked) = stored(base, entries, row) {
+            calls.push(BaseCall {
+                call: row.call,
+                asked: asked.copy(alloc)?,
+                taken: row.runs,
+                cancelled: row.cancelled,
+                orphaned: row.orphaned,
+            })?;
+        }
+    }
+    Ok(calls)
+}
+
+/// What the call of the row asked.
+fn stored<'a>(base: &'a Base, entries: &'a [Entry], row: &Row) -> Option<&'a Asked>
+    ensures { option_copied result ≡ spec.stored base.now entries.now row.now }
+{
+    match base_call(base.calls.as_slice(), row.call) {
+        Some(call) => Some(&call.asked),
+        None => asked_at(entries, row.place.saturating_sub(u128::from(base.count))),
+    }
+}
+
+/// The call of a base.
+fn base_call(calls: &[BaseCall], call: u32) -> Option<&BaseCall>
+    ensures { option_copied result ≡ find (base.is_call call) calls.now }
+{
+    calls.iter().find(|c| c.call == call)
+}
+
+/// What the Accept of that index says.
+fn asked_at(entries: &[Entry], at: u128) -> Option<&Asked>
+    ensures { option_copied result ≡ spec.asked_in (slice_get entries.now at) }
+{
+    if at >= entries.len() as u128 {
+        return None;
+    }
+    match entries.get(at as usize) {
+        Some(Entry::Accept { asked, .. }) => Some(asked),
+        _ => None,
+    }
+}
+
+/// The least place of the Accept of a running call.
+#[tactic(auto, using(handle_model::proofs::Rest::resting))]
+pub fn least_place(rows: &[Row]) -> Option<u128>
+    ensures { result ≡ least (running_places rows.now) }
+{
+    let mut found = None;
+    let mut at = rows.len();
+    while at > 0 {
+        at -= 1;
+        if rows[at].runs {
+            found = Some(lesser_place(rows[at].place, found));
+        }
+    }
+    found
+}
+
+fn lesser_place(place: u128, other: Option<u128>) -> u128
+    ensures { Some result ≡ lesser place other }
+{
+    match other {
+        None => place,
+        Some(other) => place.min(other),
+    }
+}

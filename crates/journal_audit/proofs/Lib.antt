@@ -1,0 +1,4 @@
+pub mod Read
+pub mod Seen
+pub mod Sets
+pub mod Sounds

@@ -1,0 +1,5 @@
+pub mod Calls
+pub mod Files
+pub mod SoFar
+pub mod Told
+pub mod Watching

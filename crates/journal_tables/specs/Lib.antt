@@ -1,0 +1,5 @@
+pub mod Conns
+pub mod Tables
+pub mod Shown
+pub mod Floor
+pub mod Laws

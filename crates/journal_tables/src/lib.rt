@@ -1,0 +1,16 @@
+//! The tables of a journal: its live handles, the calls that wait or run, its open connections and its
+//! counts. They judge each entry, and follow it, at a cost that the journal's length has no part in.
+#![tactic(auto)]
+
+mod admits;
+mod conns;
+mod enter;
+mod fits;
+mod fold;
+mod laws;
+mod slots;
+mod tables;
+
+pub use conns::{ConnTable, OpenConn};
+pub use laws::{admits_allowed, follows_entries, shows_base, shows_conns, shows_due, shows_floor};
+pub use tables::Tables;
