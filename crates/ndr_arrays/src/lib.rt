@@ -4,6 +4,8 @@
 
 mod counts;
 mod texts;
+mod write;
 
 pub use counts::{CountFault, Counts, read_counts};
 pub use texts::{TextFault, read_text};
+pub use write::{write_counts, write_text};

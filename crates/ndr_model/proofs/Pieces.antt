@@ -6,7 +6,7 @@ use Rattle.rpc_base.specs.declared.identifiers.Order.{Order}
 use Rattle.rpc_base.specs.declared.identifiers.WireHandle.{WireHandle}
 use Rattle.rpc_base.specs.Fields.{wire_of}
 use Rattle.ndr_value.specs.declared.shape.ArrayKind.{ArrayKind}
-use Rattle.ndr_value.specs.Forms.{Form, OfBool, OfChar, OfInt, OfUint, OfEnum, Forms}
+use Rattle.ndr_value.specs.Forms.{Form, OfBool, OfChar, OfInt, OfUint, OfEnum, OfStruct, Forms}
 use Rattle.ndr_scalars.specs.Scalars.{up, octets_of, signed, number_at, Scalar}
 use Rattle.ndr_scalars.proofs.Laws.{number_stands}
 use Rattle.ndr_arrays.specs.declared.counts.Counts.{Counts}
@@ -21,8 +21,8 @@ use Rattle.ndr_arrays.proofs.Steps.{bind_ok, unless_ok, when_ok, ok_is}
 use Rattle.ndr_arrays.proofs.Laws.{counts_stand, text_stands}
 use Rattle.ndr_model.specs.declared.departure.Departure.{Departure}
 use Rattle.ndr_model.specs.declared.departure.Departure.TheVariants.{Short, Tag, Text}
-use Rattle.ndr_model.specs.Part.{IsWire, IsTag, tag_bool, tag_char, tag_int, tag_uint, tag_enum, Opens, in_a_greater, in_front, not_open, opens_with}
-use Rattle.ndr_model.specs.Reading.{unless_short, of_counts, of_text, number, name_at, wire_at, chars_at, array_at, tag_at, opened_at}
+use Rattle.ndr_model.specs.Part.{IsWire, IsTag, tag_bool, tag_char, tag_int, tag_uint, tag_enum, Opens, in_a_greater, in_front, not_open, opens_with, in_place, Begins}
+use Rattle.ndr_model.specs.Reading.{unless_short, of_counts, of_text, number, name_at, wire_at, chars_at, array_at, tag_at, opened_at, begun, struct_at}
 
 short_ok : {A : Type 0} (n : ℕ) (o : Option A) (x : A) → unless_short n o ≡ Ok x → o ≡ Some x
 short_ok n None x e = absurd cc
@@ -90,3 +90,11 @@ module _ (order : Order) (octets : List ℕ) where
   pub opened_is : (types : List Form) (ss : Forms) (moved : Option ℕ) (i : ℕ) (x : Option ℕ × ℕ) → opened_at order octets types ss moved i ≡ Ok x → Opens types order octets ss moved x.0 i x.1
   opened_is types ss (Some most) i x e = subst (λ (y : Option ℕ × ℕ). Opens types order octets ss (Some most) y.0 i y.1) (ok_is Departure (Some most, i) x e) in_a_greater
   opened_is types ss None i x e = opened_by types ss i (opens_with types ss) x refl e
+
+  pub begins : (types : List Form) (ss : Forms) (moved : Option ℕ) (i : ℕ) (x : Option ℕ × ℕ) → struct_at order octets types ss moved i ≡ Ok x → Begins types order octets ss moved x.0 i x.1
+  begins types ss moved i x e =
+      let a = bind_ok (opened_at order octets types ss moved i) (λ y. begun order octets y.0 (in_place types (OfStruct ss) y.1)) x e in
+      let j = in_place types (OfStruct ss) a.0.1 in
+      let u = unless_ok (nat_lt (length octets) j) (Short (length octets)) (Ok (a.0.0, j)) x a.2 in
+      let long : j ≤ length octets = ltb-false _ _ u.0 in
+      subst (λ (y : Option ℕ × ℕ). Begins types order octets ss moved y.0 i y.1) (ok_is Departure (a.0.0, j) x u.1) (record { k = a.0.1; opens = opened_is types ss moved i a.0 a.1; ends = refl; within = long })

@@ -5,4 +5,8 @@ pub mod Stub
 pub mod Reading
 pub mod Scan
 pub mod Build
+pub mod Named
+pub mod Agree
+pub mod Compare
+pub mod Message
 pub mod Laws

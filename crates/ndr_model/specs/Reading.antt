@@ -4,7 +4,7 @@ use Rattle.rpc_base.specs.declared.identifiers.Order.{Order}
 use Rattle.rpc_base.specs.declared.identifiers.WireHandle.{WireHandle}
 use Rattle.rpc_base.specs.Fields.{wire_of}
 use Rattle.ndr_value.specs.declared.shape.ArrayKind.{ArrayKind}
-use Rattle.ndr_value.specs.Forms.{Form, OfBool, OfChar, OfInt, OfUint, OfEnum, Forms}
+use Rattle.ndr_value.specs.Forms.{Form, OfBool, OfChar, OfInt, OfUint, OfEnum, OfStruct, Forms}
 use Rattle.ndr_scalars.specs.Scalars.{up, octets_of, signed, number_at}
 use Rattle.ndr_arrays.specs.declared.counts.Counts.{Counts}
 use Rattle.ndr_arrays.specs.declared.counts.CountFault.{CountFault}
@@ -16,7 +16,7 @@ use Rattle.ndr_arrays.specs.Counted.{counts_at}
 use Rattle.ndr_arrays.specs.Texts.{text_at}
 use Rattle.ndr_model.specs.declared.departure.Departure.{Departure}
 use Rattle.ndr_model.specs.declared.departure.Departure.TheVariants.{Short, Bound, Tag, Text}
-use Rattle.ndr_model.specs.Part.{opens_with}
+use Rattle.ndr_model.specs.Part.{opens_with, in_place}
 
 abbrev pub unless_short : {A : Type 0} → ℕ → Option A → Result A Departure
 unless_short n None = Err (Short n)
@@ -32,13 +32,6 @@ of_text (Ok x) = Ok x
 of_text (Err (texts.Short n)) = Err (Short n)
 of_text (Err (texts.Bound i)) = Err (Bound i)
 of_text (Err (texts.Text i)) = Err (Text i)
-
--- the size of the number that a tag is
-abbrev pub tag_size : Form → ℕ
-tag_size (OfInt size) = octets_of size
-tag_size (OfUint size) = octets_of size
-tag_size (OfEnum count) = 2
-tag_size _ = 1
 
 module _ (order : Order) (octets : List ℕ) where
   abbrev pub number : ℕ → ℕ → Result (ℕ × ℕ) Departure
@@ -69,3 +62,11 @@ module _ (order : Order) (octets : List ℕ) where
   abbrev pub opened_at : List Form → Forms → Option ℕ → ℕ → Result (Option ℕ × ℕ) Departure
   opened_at types ss (Some most) i = Ok (Some most, i)
   opened_at types ss None i = if opens_with types ss then (number 4 i >>= λ x. Ok (Some x.0, x.1)) else Ok (None, i)
+
+  -- a structure begins within the octets
+  abbrev pub begun : Option ℕ → ℕ → Result (Option ℕ × ℕ) Departure
+  begun own i = if nat_lt (length octets) i then Err (Short (length octets)) else Ok (own, i)
+
+  -- the max_count in front of a structure, and where the structure begins
+  abbrev pub struct_at : List Form → Forms → Option ℕ → ℕ → Result (Option ℕ × ℕ) Departure
+  struct_at types ss moved i = opened_at types ss moved i >>= λ x. begun x.0 (in_place types (OfStruct ss) x.1)

@@ -3,15 +3,14 @@ use Rattle.std.specs.Prelude.{ℕ, zero, suc, List, [], ◌∷◌, ◌++◌, sli
 use Rattle.rpc_base.specs.declared.identifiers.Order.{Order}
 use Rattle.ndr_value.specs.Forms.{Form, OfBool, OfByte, OfChar, OfInt, OfUint, OfEnum, OfNamed, OfStruct, OfUnion, OfArray, OfText, OfRef, OfUnique, OfFull, OfHandle, Forms, no_form, then_form, Body, empty, holds}
 use Rattle.ndr_value.specs.Fits.{arm_of}
-use Rattle.table_form.specs.Aligned.{members_align, align_of}
 use Rattle.ndr_scalars.specs.Scalars.{up}
 use Rattle.ndr_arrays.specs.Bind.{◌>>=◌}
 use Rattle.ndr_model.specs.declared.departure.Departure.{Departure}
 use Rattle.ndr_model.specs.declared.departure.Departure.TheVariants.{Tag, Pointer, TooDeep}
 use Rattle.ndr_model.specs.Places.{Place, past, look}
 use Rattle.ndr_model.specs.Same.{same}
-use Rattle.ndr_model.specs.Part.{for_last}
-use Rattle.ndr_model.specs.Reading.{number, name_at, wire_at, chars_at, array_at, tag_at, tag_size, opened_at}
+use Rattle.ndr_model.specs.Part.{for_last, in_place, tag_size}
+use Rattle.ndr_model.specs.Reading.{number, name_at, wire_at, chars_at, array_at, tag_at, struct_at}
 
 abbrev pub Scanned : Type 0
 Scanned = Result Place Departure
@@ -53,7 +52,7 @@ abbrev pub times : (Place → Scanned) → ℕ → Place → Scanned
 times go zero p = Ok p
 times go (suc n) p = go p >>= λ h. times go n h
 
-module _ (types : List Form) (aligns : List ℕ) (order : Order) (octets : List ℕ) where
+module _ (types : List Form) (order : Order) (octets : List ℕ) where
   abbrev pub past_number : ℕ → Place → Scanned
   past_number size p = number order octets size p.at >>= λ x. Ok (past p x.1)
 
@@ -68,9 +67,9 @@ module _ (types : List Form) (aligns : List ℕ) (order : Order) (octets : List 
   scan_at room moved go (OfHandle kind) p = wire_at order octets p.at >>= λ x. Ok (record { at = x.1; met = p.met; wires = p.wires ++ x.0 ∷ [] })
   scan_at room moved go (OfText size) p = chars_at order octets size moved p.at >>= λ x. Ok (past p x.1)
   scan_at room moved go (OfNamed c switch) p = of_type (slice_get types c) p.at (λ s. go moved s p)
-  scan_at room moved go (OfStruct ss) p = opened_at order octets types ss moved p.at >>= λ x. each go x.0 ss (past p (up x.1 (members_align aligns ss)))
-  scan_at room moved go (OfUnion t arms) p = tag_at order octets t (up p.at (align_of aligns (OfUnion t arms)))
-      >>= λ x. arm_scan (arm_of (OfUnion t arms) x.0) (up (up p.at (align_of aligns (OfUnion t arms))) (tag_size t)) (past p x.1) (go None)
+  scan_at room moved go (OfStruct ss) p = struct_at order octets types ss moved p.at >>= λ x. each go x.0 ss (past p x.1)
+  scan_at room moved go (OfUnion t arms) p = tag_at order octets t (in_place types (OfUnion t arms) p.at)
+      >>= λ x. arm_scan (arm_of (OfUnion t arms) x.0) (up (in_place types (OfUnion t arms) p.at) (tag_size t)) (past p x.1) (go None)
   scan_at room moved go (OfArray kind s) p = array_at order octets kind moved p.at >>= λ x. times (go None s) x.0.actual (past p x.1)
   scan_at room moved go (OfRef s) p = number order octets 4 p.at >>= λ x. level room (up p.at 4) (Ok (past p x.1))
   scan_at room moved go (OfUnique s) p = number order octets 4 p.at >>= λ x. unique_by x.0 room p x.1

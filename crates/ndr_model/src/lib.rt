@@ -4,6 +4,10 @@
 
 mod departure;
 mod laws;
+mod mark;
+mod way;
 
 pub use departure::Departure;
 pub use laws::{read_values_stand, same_is_tested};
+pub use mark::Mark;
+pub use way::Way;

@@ -2,4 +2,12 @@
 #![tactic(auto)]
 
 #[cfg(test)]
+mod leaves;
+#[cfg(test)]
+mod pointers;
+#[cfg(test)]
+mod rows;
+#[cfg(test)]
 mod values;
+#[cfg(test)]
+mod written;

@@ -1,0 +1,156 @@
+//! Messages as a whole.
+ghost use Rattle.std.specs.Prelude.{◌≡◌, [], map, None, Some};
+ghost use Rattle.ndr_value.specs.Forms.{form};
+ghost use Rattle.ndr_value.specs.Values.{val, vals, no_val};
+ghost use Rattle.table_form.specs.Tables.{param_form, result_form, op_form};
+ghost use Rattle.ndr_model.specs.Named.{number};
+ghost use Rattle.ndr_model.specs.Stub as stub;
+ghost use Rattle.ndr_model.specs.Compare as spec;
+ghost use Rattle.ndr_model.specs.Message.{enough};
+ghost use Rattle.ndr_agree.specs.Views.{types_in, call_of, check_of};
+
+use crate::call::Call;
+use crate::check::Check;
+use crate::compare::compare_value;
+use crate::named::{goes, number as number_of};
+use ndr_model::{Departure, Mark, Way};
+use ndr_value::{Shape, Value};
+use table_form::{Bounds, Param};
+
+// Between a pointer and the next stand less than 1024 constructs and names, and there are 256 levels
+// of pointers.
+const ENOUGH: u32 = 257 * 1024;
+
+// What stands in a stub for a parameter: its own reference has no octets.
+fn own_shape(shape: &Shape) -> &Shape
+    ensures { form result.now ≡ stub.of_param (form shape.now) }
+{
+    match shape {
+        Shape::Ref(inner) => inner,
+        _ => shape,
+    }
+}
+
+// A number with a range, which stands at that index.
+fn range_off(call: &Call<'_>, bounds: Bounds, number: Option<i128>, at: usize) -> Option<Departure>
+    ensures { result ≡ spec.range_off (types_in call.now) (call_of call.now) bounds number at }
+{
+    match number {
+        None => Some(Departure::Bound(at)),
+        Some(number) => {
+            if i128::from(bounds.low) <= number && number <= i128::from(bounds.high) {
+                None
+            } else {
+                Some(Departure::Bound(at))
+            }
+        }
+    }
+}
+
+fn compare_range<'m>(
+    call: &Call<'_>,
+    range: Option<Bounds>,
+    value: &Value,
+    check: Check<'m>,
+) -> Check<'m>
+    ensures { check_of result ≡ spec.compare_range (types_in call.now) (call_of call.now) range (val value.now) (check_of check.entry) }
+{
+    match range {
+        None => check,
+        Some(bounds) => match check.left.split_first() {
+            None => check.stray(),
+            Some((mark, rest)) => match mark {
+                Mark::Ranged(at) => check.judged(
+                    range_off(call, bounds, number_of(value), *at),
+                    rest,
+                ),
+                _ => check.stray(),
+            },
+        },
+    }
+}
+
+fn compare_entry<'m>(
+    call: &Call<'_>,
+    shape: &Shape,
+    range: Option<Bounds>,
+    value: &Value,
+    check: Check<'m>,
+) -> Check<'m>
+    ensures { check_of result ≡ spec.compare_range (types_in call.now) (call_of call.now) range (val value.now) (spec.compare (types_in call.now) (call_of call.now) enough 256 no_val None None (form shape.now) (val value.now) (check_of check.entry)) }
+{
+    let compared = compare_value(ENOUGH, call, 256, &[], None, None, shape, value, check);
+    compare_range(call, range, value, compared)
+}
+
+// No value is left.
+fn ended<'m>(call: &Call<'_>, rest: &[Value], check: Check<'m>) -> Check<'m>
+    ensures { check_of result ≡ spec.compare_entries (types_in call.now) (call_of call.now) enough [] (vals rest.now) (check_of check.entry) }
+{
+    if rest.is_empty() {
+        check
+    } else {
+        check.stray()
+    }
+}
+
+fn compare_result<'m>(call: &Call<'_>, rest: &[Value], check: Check<'m>) -> Check<'m>
+    ensures { check_of result ≡ spec.compare_entries (types_in call.now) (call_of call.now) enough (stub.last_entry call.now.way (result_form call.now.op.now.result)) (vals rest.now) (check_of check.entry) }
+{
+    match call.way {
+        Way::Request => ended(call, rest, check),
+        Way::Response => match &call.op.result {
+            None => ended(call, rest, check),
+            Some(shape) => match rest.split_first() {
+                None => check.stray(),
+                Some((value, others)) => ended(
+                    call,
+                    others,
+                    compare_entry(call, shape, None, value, check),
+                ),
+            },
+        },
+    }
+}
+
+fn compare_params<'m>(
+    call: &Call<'_>,
+    params: &[Param],
+    values: &[Value],
+    check: Check<'m>,
+) -> Check<'m>
+    ensures { check_of result ≡ spec.compare_entries (types_in call.now) (call_of call.now) enough (stub.entries_of call.now.way (map param_form params.now) (result_form call.now.op.now.result)) (vals values.now) (check_of check.entry) }
+{
+    let mut rest = values;
+    let mut state = check;
+    for param in params {
+        if goes(call.way, param) {
+            match rest.split_first() {
+                None => return state.stray(),
+                Some((value, others)) => {
+                    state = compare_entry(call, own_shape(&param.shape), param.range, value, state);
+                    rest = others;
+                }
+            }
+        }
+    }
+    compare_result(call, rest, state)
+}
+
+/// The first count, switch value or number with a range that disagrees with what names it, in the order
+/// of the octets. `marks` is what was noted while the message was read. It takes no memory.
+pub fn first_off(call: &Call<'_>, marks: &[Mark]) -> Option<Departure>
+    ensures { result ≡ (spec.compare_entries (types_in call.now) (call_of call.now) enough (stub.entries call.now.way (op_form call.now.op.now)) (vals call.now.said.now.values.items) (record { off = None; left = marks.now })).off }
+{
+    let check = Check {
+        off: None,
+        left: marks,
+    };
+    let found = compare_params(
+        call,
+        call.op.params.as_slice(),
+        call.said.values.as_slice(),
+        check,
+    );
+    found.off
+}

@@ -1,0 +1,105 @@
+//! Messages that are read from stub data.
+ghost use Rattle.std.specs.Prelude.{◌≡◌, ◌<◌, length, slice_get, map, IfOk, Option, Some, None};
+ghost use Rattle.ndr_value.specs.Values.{Msg, msg};
+ghost use Rattle.table_form.specs.Shown.{shown};
+ghost use Rattle.table_form.specs.Tables.{OpForm, op_form};
+ghost use Rattle.ndr_model.specs.Message.{IsStub, read_stub};
+ghost use Rattle.ndr_model.specs.Message as model;
+ghost use Rattle.ndr_agree.specs.Views.{asked_of};
+ghost use Rattle.ndr_codec.specs.Faults.{Decodes, IsThat};
+
+use crate::fault::{NdrFault, departed, unread};
+use ndr_agree::{Call, first_off};
+use ndr_model::Way;
+use ndr_read::{Reading, read};
+use ndr_value::Message;
+use rpc_base::Order;
+use std::alloc::Global;
+use table_form::{Op, Table};
+
+// What was read, where its counts, tags and ranges agree with what names them.
+fn compared(
+    table: &Table,
+    op: &Op,
+    way: Way,
+    asked: Option<&Message>,
+    reading: Reading,
+) -> Result<Message, NdrFault>
+    ensures { Decodes result (model.compared (shown table.now).types (op_form op.now) way (asked_of (λ m. m.now) asked.entry) reading.marks.items (msg reading.message)) }
+{
+    let call = Call {
+        table,
+        op,
+        way,
+        asked,
+        said: &reading.message,
+    };
+    match first_off(&call, reading.marks.as_slice()) {
+        None => Ok(reading.message),
+        Some(departure) => Err(departed(departure)),
+    }
+}
+
+fn decode_op(
+    alloc: Global,
+    table: &Table,
+    op: &Op,
+    way: Way,
+    order: Order,
+    asked: Option<&Message>,
+    stub: &[u8],
+) -> Result<Message, NdrFault>
+    ensures { Decodes result (read_stub (shown table.now).types (op_form op.now) way order (asked_of (λ m. m.now) asked.entry) stub.now) }
+{
+    match read(alloc, table, op, way, order, stub) {
+        Err(error) => Err(unread(error)),
+        Ok(reading) => compared(table, op, way, asked, reading),
+    }
+}
+
+/// The message of the operation of that number that has the octets as its stub of that way. `asked` is
+/// the request, for a response: a count or a switch that is named after a parameter that doesn't come
+/// out is compared with the request's. C706, chapter "Transfer Syntax NDR".
+///
+/// # Errors
+///
+/// The first departure, where the octets are a stub of no message; or want of memory.
+pub fn decode(
+    alloc: Global,
+    table: &Table,
+    op: u16,
+    way: Way,
+    order: Order,
+    asked: Option<&Message>,
+    stub: &[u8],
+) -> Result<Message, NdrFault>
+    requires { op < length (shown table.now).ops }
+    // What is decoded has the octets as a stub, and what has them is decoded.
+    ensures found { IfOk result (λ m. (o : OpForm) → slice_get (shown table.now).ops op ≡ Some o → IsStub (shown table.now).types o way order (asked_of (λ m. m.now) asked.entry) (msg m) stub.now) }
+    ensures only { (o : OpForm) (m : Msg) → slice_get (shown table.now).ops op ≡ Some o → IsStub (shown table.now).types o way order (asked_of (λ m. m.now) asked.entry) m stub.now → IsThat result m }
+    // Which departure it is.
+    ensures exact { (o : OpForm) → slice_get (shown table.now).ops op ≡ Some o → Decodes result (read_stub (shown table.now).types o way order (asked_of (λ m. m.now) asked.entry) stub.now) }
+{
+    // What holds of every table.
+    table.is_whole();
+    table.is_shallow();
+    decode_at(alloc, table, op, way, order, asked, stub)
+}
+
+fn decode_at(
+    alloc: Global,
+    table: &Table,
+    op: u16,
+    way: Way,
+    order: Order,
+    asked: Option<&Message>,
+    stub: &[u8],
+) -> Result<Message, NdrFault>
+    requires { op < length (shown table.now).ops }
+    ensures { (o : OpForm) → slice_get (shown table.now).ops op ≡ Some o → Decodes result (read_stub (shown table.now).types o way order (asked_of (λ m. m.now) asked.entry) stub.now) }
+{
+    match table.op(op) {
+        None => Err(NdrFault::Memory),
+        Some(op) => decode_op(alloc, table, op, way, order, asked, stub),
+    }
+}

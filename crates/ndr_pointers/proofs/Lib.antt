@@ -1,0 +1,2 @@
+pub mod Alikes
+mod Indexes

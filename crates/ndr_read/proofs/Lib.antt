@@ -1,0 +1,5 @@
+mod Follows
+mod Heaps
+mod Octets
+mod Rows
+mod Walks

@@ -1,0 +1,34 @@
+-- Pieces of a flat part: pointers of each kind, handles, and the mark of a max_count in its place.
+use Rattle.std.specs.Prelude.{ℕ, suc, pos, List, [], ◌∷◌, ◌++◌, Option, Some, None, Ok}
+use Rattle.rpc_base.specs.declared.identifiers.Order.{Order}
+use Rattle.ndr_value.specs.Forms.{Form}
+use Rattle.ndr_scalars.specs.Scalars.{up}
+use Rattle.ndr_arrays.specs.Bind.{◌>>=◌}
+use Rattle.ndr_pointers.specs.declared.referents.Points.{Points}
+use Rattle.ndr_pointers.specs.declared.referents.Points.TheVariants.{Ref, Unique, Full}
+use Rattle.ndr_model.specs.declared.mark.Mark.{Mark}
+use Rattle.ndr_model.specs.declared.mark.Mark.TheVariants.{Number}
+use Rattle.ndr_model.specs.Places.{Place, Last, past}
+use Rattle.ndr_model.specs.Reading.{number, wire_at}
+use Rattle.ndr_value.specs.Values.{VHandle}
+use Rattle.ndr_model.specs.Build.{Cursor, Built, ends}
+use Rattle.ndr_model.specs.Scan.{Scanned, level, unique_by, full_by}
+
+abbrev pub pointer_by : Points → ℕ → ℕ → Form → Place → ℕ → Scanned
+pointer_by Ref id room s p j = level room (up p.at 4) (Ok (past p j))
+pointer_by Unique id room s p j = unique_by id room p j
+pointer_by Full id room s p j = full_by id room s p j
+
+abbrev pub pointer_scan : Order → List ℕ → Points → ℕ → Form → Place → Scanned
+pointer_scan order octets points room s p = number order octets 4 p.at >>= λ x. pointer_by points x.0 room s p x.1
+
+abbrev pub wire_scan : Order → List ℕ → Place → Scanned
+wire_scan order octets p = wire_at order octets p.at >>= λ x. Ok (record { at = x.1; met = p.met; wires = p.wires ++ x.0 ∷ [] })
+
+abbrev pub wire_build : Order → List ℕ → Cursor → Last → Built
+wire_build order octets a q = wire_at order octets a.at >>= λ x. Ok (VHandle a.handles, ends (record { at = x.1; ids = a.ids; handles = suc a.handles }) q)
+
+-- a max_count after index i, unless it has moved in front of a structure
+abbrev pub most_marks : Option ℕ → ℕ → ℕ → List Mark
+most_marks (Some most) n i = []
+most_marks None n i = Number (up i 4) (pos n) ∷ []
