@@ -17,4 +17,4 @@ pub use entry::{
 };
 pub use limits::{AcceptLimit, JoinLimit, MOST_HANDLES, accept_limit, join_limit};
 pub use reply::Reply;
-pub use slots::{any_clash, count_opens, handle_of};
+pub use slots::{any_clash, count_opens, follow, handle_of, names_apart, suit};

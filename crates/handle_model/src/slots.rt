@@ -1,8 +1,9 @@
 //! What one slot says, and one result.
-ghost use Rattle.std.specs.Prelude.{◌≡◌, ◌+◌, ◌*◌, ◌<◌, ◌≤◌, ◌&&◌, filter, length};
+ghost use Rattle.std.specs.Prelude.{◌≡◌, ◌+◌, ◌*◌, ◌<◌, ◌≤◌, ◌^◌, ◌&&◌, filter, length};
 ghost use Rattle.std.specs.List.{list_any};
 ghost use Rattle.handle_model.specs.Slots as spec;
 ghost use Rattle.handle_model.specs.Journal as journal;
+ghost use Rattle.handle_model.specs.Sound as sound;
 
 use crate::entry::{Home, Outcome, Slot};
 use rpc_base::WireHandle;
@@ -201,4 +202,41 @@ pub fn count_opens(slots: &[Slot]) -> usize
     ensures bound { result ≤ length slots.now }
 {
     slots.iter().filter(|slot| slot.opens()).count()
+}
+
+/// Whether no two of the slots name one handle, one of the two uses being exclusive.
+pub fn names_apart(slots: &[Slot]) -> bool
+    ensures { result ≡ sound.names_apart slots.now }
+{
+    match slots.split_first() {
+        None => true,
+        Some((slot, later)) => !clashes_any(slot, later) && names_apart(later),
+    }
+}
+
+/// Whether the serials of the slots that may issue a handle go on from the number.
+pub fn follow(number: u64, slots: &[Slot]) -> bool
+    requires { number + length slots.now < 2 ^ 64 }
+    ensures { result ≡ journal.follow number slots.now }
+{
+    match slots.split_first() {
+        None => true,
+        Some((Slot::Opens { serial, .. }, later)) => {
+            u64::from(*serial) == number + 1 && follow(number + 1, later)
+        }
+        Some((_, later)) => follow(number, later),
+    }
+}
+
+/// Whether the results suit the slots, one by one.
+pub fn suit(slots: &[Slot], results: &[Outcome]) -> bool
+    ensures { result ≡ journal.suit slots.now results.now }
+{
+    match (slots.split_first(), results.split_first()) {
+        (None, None) => true,
+        (Some((slot, slots)), Some((outcome, results))) => {
+            slot.suits(outcome) && suit(slots, results)
+        }
+        _ => false,
+    }
 }

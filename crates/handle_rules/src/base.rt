@@ -25,7 +25,7 @@ pub(crate) fn opens_before(base: &Base) -> u32
     base.opens
 }
 
-fn any_number(numbers: &[u32], number: u32) -> bool
+pub(crate) fn any_number(numbers: &[u32], number: u32) -> bool
     ensures { result ≡ list_any (spec.is_number number) numbers.now }
 {
     numbers.iter().any(|n| *n == number)

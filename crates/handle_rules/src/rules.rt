@@ -9,7 +9,9 @@ use crate::calls::{blocker, is_open, runs, slots, waits};
 use crate::counts::{accept_count, any_open, any_running, join_count, opened};
 use crate::handles::{cookie, cookie_for, fault, is_live, kind};
 use crate::record::Record;
-use handle_model::{Asked, Cookies, DueItem, DueItems, Entry, Outcome, Slot, count_opens};
+use handle_model::{
+    Asked, Cookies, DueItem, DueItems, Entry, Outcome, Slot, count_opens, follow, suit,
+};
 use rpc_base::{Items, NoMemory, same_items};
 use std::alloc::Global;
 
@@ -45,20 +47,6 @@ pub fn is_orphaned(journal: Record<'_>, call: u32) -> bool
     ensures { result ≡ spec.is_orphaned (told journal.entry) call }
 {
     any_orphans(journal.entries, call) || orphaned_before(journal.base, call)
-}
-
-/// Whether the serials of the slots that may issue a handle go on from the number.
-fn follow(number: u64, slots: &[Slot]) -> bool
-    requires { number + length slots.now < 2 ^ 64 }
-    ensures { result ≡ spec.follow number slots.now }
-{
-    match slots.split_first() {
-        None => true,
-        Some((Slot::Opens { serial, .. }, later)) => {
-            u64::from(*serial) == number + 1 && follow(number + 1, later)
-        }
-        Some((_, later)) => follow(number, later),
-    }
 }
 
 /// Whether the end of the group is due.
@@ -114,19 +102,6 @@ pub fn cookies_of(alloc: Global, journal: Record<'_>, call: u32) -> Result<Cooki
         cookies.push(cookie_for(journal, slot))?;
     }
     Ok(cookies)
-}
-
-/// Whether the results suit the slots, one by one.
-pub fn suit(slots: &[Slot], results: &[Outcome]) -> bool
-    ensures { result ≡ spec.suit slots.now results.now }
-{
-    match (slots.split_first(), results.split_first()) {
-        (None, None) => true,
-        (Some((slot, slots)), Some((outcome, results))) => {
-            slot.suits(outcome) && suit(slots, results)
-        }
-        _ => false,
-    }
 }
 
 /// Whether the cookies are those of the slots, one by one.

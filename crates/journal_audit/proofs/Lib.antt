@@ -1,4 +1,2 @@
 pub mod Read
 pub mod Seen
-pub mod Sets
-pub mod Sounds

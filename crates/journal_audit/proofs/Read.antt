@@ -19,11 +19,11 @@ use Rattle.handle_rules.specs.Verdicts.{Tells}
 use Rattle.journal_audit.specs.declared.verdict.GroupVerdict.{GroupVerdict}
 use Rattle.journal_audit.specs.declared.verdict.AuditFault.{AuditFault}
 use Rattle.journal_audit.specs.declared.verdict.AuditFault.TheVariants as faults
-use Rattle.journal_audit.specs.SoFar.{with_call, IsSoundSoFar}
+use Rattle.journal_bases.specs.SoFar.{with_call, IsSoundSoFar}
 use Rattle.journal_audit.specs.Files.{Journal, HasBase, GoesOnFrom, HasJournal, journal_size, HasJournals, sizes}
 use Rattle.journal_audit.specs.Told.{TellsOf, TellsAll, Audited, Faulted, ToldOf, JournalFault, BaseRead, BaseFault}
 use Rattle.journal_audit.specs.Watching.{Watched, started, Watches, WatchesAll, said_of, EntriesRead}
-use Rattle.journal_audit.proofs.Sounds.{sound_by_lines}
+use Rattle.journal_bases.proofs.Sounds.{sound_by_lines}
 use Rattle.journal_audit.proofs.Seen.{seen_start, seen_all, seen_told}
 
 -- LENGTHS

@@ -2,10 +2,9 @@
 ghost use Rattle.std.specs.Prelude.{◌≡◌, ◌+◌, ◌≤◌, ◌<◌, ◌^◌, length, MatchResult, IfOk};
 ghost use Rattle.journal_audit.specs.Told.{BaseRead, BaseFault};
 
-use crate::calls::{goes_on, is_held};
-use crate::heads::is_sound_head;
 use crate::verdict::AuditFault;
 use handle_model::{Base, Home};
+use journal_bases::{Growing, is_sound_head};
 use journal_reader::{next_base, next_call};
 use std::alloc::Global;
 
@@ -28,19 +27,19 @@ pub(crate) fn read_base(
     if !is_sound_head(home, &base) {
         return Err(AuditFault::BadText(line + 1));
     }
-    let mut base = base;
+    let mut growing = Growing::of(alloc, home, base)?;
     let mut rest = after;
     let mut now = line + 1;
     while let Some((call, later)) = next_call(alloc, rest)? {
-        if !goes_on(home, &base, &call) {
+        if !growing.goes_on(&call) {
             return Err(AuditFault::BadText(now + 1));
         }
-        base.calls.push(call)?;
+        growing = growing.with(call)?;
         rest = later;
         now += 1;
     }
-    if !is_held(&base) {
+    if !growing.is_held() {
         return Err(AuditFault::BadText(now));
     }
-    Ok((base, now, rest))
+    Ok((growing.into_base(), now, rest))
 }

@@ -138,7 +138,7 @@ asked_slots j k a e = rw e refl
 
 -- CONNECTIONS OF CALLS
 
-conn_since : (home : Home) (base : Base) (past : List Entry) (k : ℕ) (a : Asked) → Legal (since home base past) → asked (since home base past) k ≡ Some a → a.conn ≤ join_count (since home base past)
+pub conn_since : (home : Home) (base : Base) (past : List Entry) (k : ℕ) (a : Asked) → Legal (since home base past) → asked (since home base past) k ≡ Some a → a.conn ≤ join_count (since home base past)
 conn_since home base [] k a l e =
     let w = found_call base k a e in
     let f = found_passes (is_within base) base.calls k w.call l.within w.found in

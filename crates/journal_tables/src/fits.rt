@@ -6,9 +6,9 @@ ghost use Rattle.handle_table.specs.Uses.{fault_at, cookies_at};
 ghost use Rattle.call_table.specs.Rows.{row_at, slots_at, conflict_of};
 ghost use Rattle.journal_tables.specs.Tables as spec;
 
-use crate::slots::{cookies_agree, follow, suit};
+use crate::slots::cookies_agree;
 use call_table::CallTable;
-use handle_model::{Outcome, Slot, count_opens};
+use handle_model::{Outcome, Slot, count_opens, follow, suit};
 use handle_table::HandleTable;
 
 /// Whether the number comes next after a count, and has 32 bits.

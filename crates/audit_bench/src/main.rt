@@ -1,0 +1,50 @@
+//! The program: `audit_bench FILE` audits the journals of a file, and prints how many they are and the
+//! verdict on the last one, or the first line that departs. `bench/audit.sh` times it.
+#![tactic(auto)]
+
+use anyhow::{Context, Result};
+use handle_rules::Verdict;
+use journal_audit::{AuditFault, Verdicts, audit};
+use std::alloc::Global;
+use std::rt::Env;
+use std::{env, fs};
+
+/// The word behind the program's name.
+fn file_name(rt: &(impl Env + AllocGlobal)) -> Result<Option<String>> {
+    let mut name = None;
+    for word in env::args(rt).context("the words")?.skip(1) {
+        name = Some(word);
+    }
+    Ok(name)
+}
+
+fn last(alloc: Global, verdicts: &Verdicts) -> Result<String> {
+    let count = verdicts.len();
+    match verdicts.as_slice().last() {
+        None => Ok(format!(in alloc; "journals 0")?),
+        Some(told) => match told.verdict {
+            Verdict::Legal(entries) => Ok(format!(in alloc; "journals {count} legal {entries}")?),
+            Verdict::Breach { index } => Ok(format!(in alloc; "journals {count} breach {index}")?),
+        },
+    }
+}
+
+fn outcome(alloc: Global, text: &[u8]) -> Result<String> {
+    match audit(alloc, text) {
+        Ok(verdicts) => last(alloc, &verdicts),
+        Err(AuditFault::BadText(line)) => Ok(format!(in alloc; "departs at line {line}")?),
+        Err(AuditFault::Memory) => Ok(format!(in alloc; "no memory")?),
+    }
+}
+
+fn main(rt: HostRuntime) -> Result<()> {
+    let alloc = rt.alloc();
+    let Some(name) = file_name(&rt)? else {
+        println!(rt; "audit_bench FILE")?;
+        return Ok(());
+    };
+    let text = fs::read_to_string(&rt, name.as_str())?;
+    let told = outcome(alloc, text.as_str().as_bytes())?;
+    println!(rt; "{told}")?;
+    Ok(())
+}

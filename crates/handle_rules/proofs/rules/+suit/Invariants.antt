@@ -1,5 +1,0 @@
-use Rattle.std.proofs.Common.{length}
-use Rattle.handle_rules.proofs.rules.+suit.Given as goal
-
-abbrev pub decreases-suit : goal.decreases-suit
-decreases-suit l = length l.slots.now
