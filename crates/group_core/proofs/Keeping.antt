@@ -1,30 +1,32 @@
 -- A group is kept by each entry that fits.
 use Rattle.std.proofs.Common.{◌≡◌, ℕ, ◌+◌, ◌≤◌, true, false, Option, List, [], ◌∷◌, ◌++◌, length, refl, sym, ◌∙◌, ap, subst, arith, reverse}
-use Rattle.std.specs.List.{list_any, filter}
+use Rattle.std.specs.List.{filter}
 use Rattle.std.proofs.lemmas.List.{length-reverse}
 use Rattle.handle_model.specs.declared.entry.Home.{Home}
 use Rattle.handle_model.specs.declared.entry.Asked.{Asked}
 use Rattle.handle_model.specs.declared.entry.Entry.{Entry}
 use Rattle.handle_model.specs.declared.base.Base.{Base}
-use Rattle.handle_model.specs.declared.entry.Entry.TheVariants.{Join, Accept, Take, Deny, Cancel, Orphan}
+use Rattle.handle_model.specs.declared.entry.Entry.TheVariants.{Accept, Take, Deny, Cancel, Orphan}
 use Rattle.handle_model.specs.Slots.{opens}
-use Rattle.handle_model.specs.Journal.{waits, runs, is_shut, Fits}
+use Rattle.handle_model.specs.Journal.{waits, runs, Fits}
 use Rattle.handle_model.specs.History.{History, IsSound, since, with_entry, size}
 use Rattle.handle_model.proofs.Reversed.{reverse-snoc}
 use Rattle.handle_model.proofs.Tests.{and_left, or_right}
-use Rattle.handle_model.proofs.Steps.{join_sound, accept_sound, take_sound, deny_sound, cancel_sound, orphan_sound}
+use Rattle.handle_model.proofs.Steps.{accept_sound, take_sound, deny_sound, cancel_sound, orphan_sound}
 use Rattle.handle_table.specs.Handles.{Handles}
 use Rattle.call_table.specs.Rows.{OpenCalls, openings_of, with_start, with_cancel, with_orphan, without}
+use Rattle.journal_folds.specs.Laws.{BaseBegun}
 use Rattle.group_core.specs.declared.counts.Counts.{Counts}
 use Rattle.group_core.specs.Owed.{owed}
 use Rattle.group_core.specs.Kept.{IsKept, Logged, Came, Same, logged, Shows}
 use Rattle.group_core.specs.Calls.{is_cancellable, is_orphanable}
-use Rattle.group_core.proofs.Owing.{join_owed, accept_owed, take_owed, deny_owed, ended_owed, flagged_owed, dropped_owed, unanswered_owed}
-use Rattle.group_core.proofs.Shown.{join_shows, accept_shows, take_shows, deny_shows, ended_shows, flagged_shows, dropped_shows, unanswered_shows}
+use Rattle.group_core.proofs.Owing.{accept_owed, take_owed, deny_owed, ended_owed, flagged_owed, dropped_owed, unanswered_owed}
+use Rattle.group_core.proofs.Shown.{accept_shows, take_shows, deny_shows, ended_shows, flagged_shows, dropped_shows, unanswered_shows}
 
 -- what one entry more needs
-record Grows (home : Home) (log new : Logged) (entry : Entry) (handles : Handles) (calls : OpenCalls) (counts : Counts) : Type 0 where
+pub record Grows (home : Home) (log new : Logged) (entry : Entry) (handles : Handles) (calls : OpenCalls) (counts : Counts) : Type 0 where
   pub sound : IsSound (with_entry (logged home log) entry)
+  pub begun : BaseBegun log.base
   pub entries : Came log entry new
   pub owes : owed (with_entry (logged home log) entry) ≡ new.spare
   pub shows : Shows (with_entry (logged home log) entry) handles calls counts
@@ -33,11 +35,12 @@ pub newest : (home : Home) (log new : Logged) (entry : Entry) → Came log entry
 newest home log new entry c =
     ap (λ (b : Base). since home b (reverse new.entries)) c.0 ∙ ap (λ (es : List Entry). since home log.base es) (ap reverse c.1 ∙ reverse-snoc log.entries entry)
 
-grown : (home : Home) (log new : Logged) (entry : Entry) (handles : Handles) (calls : OpenCalls) (counts : Counts) → Grows home log new entry handles calls counts → IsKept home new handles calls counts
+pub grown : (home : Home) (log new : Logged) (entry : Entry) (handles : Handles) (calls : OpenCalls) (counts : Counts) → Grows home log new entry handles calls counts → IsKept home new handles calls counts
 grown home log new entry handles calls counts g =
     let e = sym (newest home log new entry g.entries) in
     record {
       sound = subst IsSound e g.sound;
+      begun = subst BaseBegun (sym g.entries.0) g.begun;
       owes = subst (λ (x : History). owed x ≡ new.spare) e g.owes;
       shows = subst (λ (x : History). Shows x handles calls counts) e g.shows;
     }
@@ -62,6 +65,7 @@ roomier home log new handles handles' calls calls' counts kept same spare h i ro
     let e = sym (same_is home log new same) in
     record {
       sound = subst IsSound e kept.sound;
+      begun = subst BaseBegun (sym same.0) kept.begun;
       owes = subst (λ (x : History). owed x ≡ new.spare) e (kept.owes ∙ spare);
       shows = subst (λ (x : History). Shows x handles' calls' counts) e (record {
         home_is = h ∙ kept.shows.home_is;
@@ -75,18 +79,6 @@ roomier home log new handles handles' calls calls' counts kept same spare h i ro
       });
     }
 
-pub join_kept : (home : Home) (log new : Logged) (c : ℕ) (handles : Handles) (calls : OpenCalls) (counts : Counts) → IsKept home log handles calls counts → list_any is_shut (logged home log).past ≡ false → Fits (logged home log) (Join c) → Came log (Join c) new → log.spare + 1 ≡ new.spare → IsKept home new handles calls (record { joined = counts.joined + 1; conns = counts.conns + 1; accepted = counts.accepted; opened = counts.opened })
-join_kept home log new c handles calls counts kept unshut fits entries spare =
-    let j = logged home log in
-    let sound = join_sound (logged home log) c kept.sound unshut fits in
-    grown home log new (Join c) handles calls (record { joined = counts.joined + 1; conns = counts.conns + 1; accepted = counts.accepted; opened = counts.opened })
-    (record {
-      sound = sound;
-      entries = entries;
-      owes = omega (arith, join_owed j c kept.sound.legal fits.0, kept.owes, spare);
-      shows = join_shows j c handles calls counts kept.shows sound.legal;
-    })
-
 pub accept_kept : (home : Home) (log new : Logged) (k : ℕ) (a : Asked) (handles handles' : Handles) (calls calls' : OpenCalls) (counts : Counts) (n : ℕ) → IsKept home log handles calls counts → Fits (logged home log) (Accept k a) → Came log (Accept k a) new → log.spare + 4 ≡ new.spare → handles'.home ≡ handles.home → handles'.items ≡ handles.items → calls'.rows ≡ calls.rows ++ record { call = k; conn = a.conn; slots = a.slots; place = size (logged home log); runs = false; cancelled = false; orphaned = false } ∷ [] → n ≡ length (filter opens a.slots) → openings_of calls.rows + n ≤ handles'.room → IsKept home new handles' calls' (record { joined = counts.joined; conns = counts.conns; accepted = counts.accepted + 1; opened = counts.opened + n })
 accept_kept home log new k a handles handles' calls calls' counts n kept fits entries spare h i r o room =
     let j = logged home log in
@@ -94,6 +86,7 @@ accept_kept home log new k a handles handles' calls calls' counts n kept fits en
     grown home log new (Accept k a) handles' calls' (record { joined = counts.joined; conns = counts.conns; accepted = counts.accepted + 1; opened = counts.opened + n })
     (record {
       sound = sound;
+      begun = kept.begun;
       entries = entries;
       owes = omega (arith, accept_owed j k a sound.legal, kept.owes, spare);
       shows = accept_shows j k a handles handles' calls calls' counts n kept.shows sound.legal h i r o room;
@@ -109,6 +102,7 @@ take_kept home log new k cookies handles calls calls' counts kept fits entries s
     let sound = take_sound (logged home log) k cookies kept.sound fits in
     grown home log new (Take k cookies) handles calls' counts (record {
       sound = sound;
+      begun = kept.begun;
       entries = entries;
       owes = omega (arith, take_owed j k cookies kept.sound.legal fits.0, kept.owes, spare);
       shows = take_shows j k cookies handles calls calls' counts kept.shows sound.legal r;
@@ -124,6 +118,7 @@ deny_kept home log new k v handles calls calls' counts kept fits entries spare r
     let sound = deny_sound (logged home log) k v kept.sound fits in
     grown home log new (Deny k v) handles calls' counts (record {
       sound = sound;
+      begun = kept.begun;
       entries = entries;
       owes = omega (arith, deny_owed j k v kept.sound.legal fits.0, kept.owes, spare);
       shows = deny_shows j k v handles calls calls' counts kept.shows sound.legal r;
@@ -135,6 +130,7 @@ ended_kept home log new k handles calls calls' counts kept w entries spare r =
     let sound = cancel_sound (logged home log) k kept.sound (rw w refl) in
     grown home log new (Cancel k) handles calls' counts (record {
       sound = sound;
+      begun = kept.begun;
       entries = entries;
       owes = omega (arith, ended_owed j k kept.sound.legal w, kept.owes, spare);
       shows = ended_shows j k handles calls calls' counts kept.shows sound.legal w r;
@@ -150,6 +146,7 @@ flagged_kept home log new k handles calls calls' counts kept c entries spare r =
     let sound = cancel_sound (logged home log) k kept.sound (or_right (waits j k) _ c) in
     grown home log new (Cancel k) handles calls' counts (record {
       sound = sound;
+      begun = kept.begun;
       entries = entries;
       owes = omega (arith, flagged_owed j k kept.sound.legal c, kept.owes, spare);
       shows = flagged_shows j k handles calls calls' counts kept.shows sound.legal (and_left (runs j k) _ c) r;
@@ -161,6 +158,7 @@ dropped_kept home log new k handles calls calls' counts kept w entries spare r =
     let sound = orphan_sound (logged home log) k kept.sound (rw w refl) in
     grown home log new (Orphan k) handles calls' counts (record {
       sound = sound;
+      begun = kept.begun;
       entries = entries;
       owes = omega (arith, dropped_owed j k kept.sound.legal w, kept.owes, spare);
       shows = dropped_shows j k handles calls calls' counts kept.shows sound.legal w r;
@@ -176,6 +174,7 @@ unanswered_kept home log new k handles calls calls' counts kept c entries spare 
     let sound = orphan_sound (logged home log) k kept.sound (or_right (waits j k) _ c) in
     grown home log new (Orphan k) handles calls' counts (record {
       sound = sound;
+      begun = kept.begun;
       entries = entries;
       owes = omega (arith, unanswered_owed j k kept.sound.legal c, kept.owes, spare);
       shows = unanswered_shows j k handles calls calls' counts kept.shows sound.legal (and_left (runs j k) _ c) r;

@@ -8,3 +8,8 @@ pub mod Keeping
 pub mod Telling
 pub mod Limits
 pub mod Going
+pub mod Folding
+pub mod Staying
+pub mod Pruning
+pub mod Resting
+pub mod Joining

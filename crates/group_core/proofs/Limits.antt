@@ -7,12 +7,14 @@ use Rattle.handle_model.specs.declared.entry.Slot.{Slot}
 use Rattle.handle_model.specs.declared.entry.Asked.{Asked}
 use Rattle.handle_model.specs.declared.entry.Entry.TheVariants.{Join, Accept}
 use Rattle.handle_model.specs.Slots.{opens}
-use Rattle.handle_model.specs.Journal.{Fits, is_open, join_count, accept_count, opened, waiting, running, live, due_item}
+use Rattle.handle_model.specs.Journal.{Fits, is_open, conns, join_count, accept_count, opened, waiting, running, live, due_item}
 use Rattle.handle_model.specs.Limits.{join_limit_at, join_limit, accept_limit_at, accept_limit, openings}
 use Rattle.handle_model.proofs.Held.{follow-filled, count-filled, length-filled}
 use Rattle.handle_table.specs.Handles.{Handles}
 use Rattle.call_table.specs.Rows.{OpenCalls, openings_of}
 use Rattle.call_table.proofs.Counts.{count_shown, openings_shown}
+use Rattle.journal_tables.specs.declared.conns.OpenConn.{OpenConn}
+use Rattle.journal_tables.proofs.Joined.{count_shown as conns_counted}
 use Rattle.group_core.specs.declared.counts.Counts.{Counts}
 use Rattle.handle_model.specs.declared.limits.AcceptLimit.{AcceptLimit}
 use Rattle.handle_model.specs.declared.limits.AcceptLimit.TheVariants as limit
@@ -21,8 +23,10 @@ use Rattle.group_core.specs.Refusals.{refusal_of}
 use Rattle.group_core.specs.Calls.{numbered, Accepts}
 use Rattle.group_core.specs.Kept.{IsKept, Logged, logged}
 
-pub join_limit_is : (home : Home) (log : Logged) (handles : Handles) (calls : OpenCalls) (counts : Counts) → IsKept home log handles calls counts → join_limit_at counts.conns (counts.joined + 1) ≡ join_limit (logged home log)
-join_limit_is home log handles calls counts kept = rw (kept.shows.conns_are, kept.shows.joined_is) refl
+pub join_limit_is : (home : Home) (log : Logged) (handles : Handles) (calls : OpenCalls) (counts : Counts) → IsKept home log handles calls counts → join_limit_at (length counts.conns.conns) (counts.joined + 1) ≡ join_limit (logged home log)
+join_limit_is home log handles calls counts kept =
+    let open_ : length counts.conns.conns ≡ length (conns (logged home log)) = ap (λ (os : List OpenConn). length os) kept.shows.conns_are ∙ conns_counted (logged home log) in
+    rw (open_, kept.shows.joined_is) refl
 
 item_count : (j : History) (hs : List ℕ) → length (map (due_item j) hs) ≡ length hs
 item_count j [] = refl

@@ -21,23 +21,26 @@ use Rattle.call_table.specs.Rows.{OpenCalls, openings_of, slots_at, with_start, 
 use Rattle.call_table.specs.Shown.{rows_of}
 use Rattle.call_table.proofs.Found.{slots_shown}
 use Rattle.call_table.proofs.Steps.{join_rows, accept_rows, take_rows, deny_rows, cancel_rows, flag_rows, orphan_rows, drop_rows, end_rows, leave_rows, shut_rows}
+use Rattle.journal_tables.specs.declared.conns.OpenConn.{OpenConn}
+use Rattle.journal_tables.specs.Conns as open_conns
+use Rattle.journal_tables.specs.Conns.{OpenConns}
+use Rattle.journal_tables.proofs.Joined.{join_conns, leave_conns}
 use Rattle.group_core.specs.declared.counts.Counts.{Counts}
 use Rattle.group_core.specs.Kept.{Shows}
-use Rattle.group_core.proofs.Counting.{join_counted, leave_counted}
 use Rattle.group_core.proofs.Openings.{start_openings, cancel_openings, orphan_openings, filter_openings, without_openings, append_openings}
 
 -- other rows, which may issue no more
 issues_by : (rows rows' before : List Row) (room : ℕ) → rows ≡ rows' → openings_of rows' ≤ openings_of before → openings_of before ≤ room → openings_of rows ≤ room
 issues_by rows rows' before room e less h = subst (λ (rs : List Row). openings_of rs ≤ room) (sym e) (omega (arith, less, h))
 
-pub join_shows : (j : History) (c : ℕ) (handles : Handles) (calls : OpenCalls) (counts : Counts) → Shows j handles calls counts → Legal (with_entry j (Join c)) → Shows (with_entry j (Join c)) handles calls (record { joined = counts.joined + 1; conns = counts.conns + 1; accepted = counts.accepted; opened = counts.opened })
-join_shows j c handles calls counts s l =
+pub join_shows : (j : History) (c : ℕ) (handles : Handles) (calls : OpenCalls) (counts : Counts) (conns : OpenConns) → Shows j handles calls counts → Legal (with_entry j (Join c)) → conns.conns ≡ counts.conns.conns ++ record { conn = c; place = size j } ∷ [] → Shows (with_entry j (Join c)) handles calls (record { joined = counts.joined + 1; conns = conns; accepted = counts.accepted; opened = counts.opened })
+join_shows j c handles calls counts conns s l o =
     record {
       home_is = s.home_is;
       items_are = s.items_are ∙ sym (join_due j c l);
       rows_are = s.rows_are ∙ sym (join_rows j c);
       joined_is = let e = s.joined_is in grind (arith, common_steps);
-      conns_are = omega (arith, s.conns_are, join_counted j c l.1 l.0.fits.0);
+      conns_are = o ∙ (ap (λ (os : List OpenConn). os ++ record { conn = c; place = size j } ∷ []) s.conns_are ∙ sym (join_conns j c l.1 l.0.fits.0));
       accepted_is = s.accepted_is;
       opened_is = omega (arith, s.opened_is);
       issues = λ u. issues_by (rows_of (with_entry j (Join c))) (rows_of j) (rows_of j) handles.room (join_rows j c) (omega arith) (s.issues u);
@@ -165,15 +168,15 @@ end_shows j k results said handles new calls calls' counts s l h i m r =
           subst (λ (rs : List Row). openings_of rs ≤ new.room) (sym rows) (omega (arith, without_openings k (rows_of j), s.issues u, few, all, m));
     }
 
-pub leave_shows : (j : History) (c : ℕ) (handles : Handles) (calls calls' : OpenCalls) (counts : Counts) (n : ℕ) → Shows j handles calls counts → Legal (with_entry j (Leave c)) → calls'.rows ≡ left c calls.rows → n + 1 ≡ counts.conns → Shows (with_entry j (Leave c)) handles calls' (record { joined = counts.joined; conns = n; accepted = counts.accepted; opened = counts.opened })
-leave_shows j c handles calls calls' counts n s l r o =
+pub leave_shows : (j : History) (c : ℕ) (handles : Handles) (calls calls' : OpenCalls) (counts : Counts) (conns : OpenConns) → Shows j handles calls counts → Legal (with_entry j (Leave c)) → calls'.rows ≡ left c calls.rows → conns.conns ≡ open_conns.without c counts.conns.conns → Shows (with_entry j (Leave c)) handles calls' (record { joined = counts.joined; conns = conns; accepted = counts.accepted; opened = counts.opened })
+leave_shows j c handles calls calls' counts conns s l r o =
     let rows = leave_rows j c in
     record {
       home_is = s.home_is;
       items_are = s.items_are ∙ sym (leave_due j c l);
       rows_are = r ∙ (ap (left c) s.rows_are ∙ sym rows);
       joined_is = s.joined_is;
-      conns_are = omega (arith, s.conns_are, o, leave_counted j c l.1 l.0.fits);
+      conns_are = o ∙ (ap (open_conns.without c) s.conns_are ∙ sym (leave_conns j c));
       accepted_is = s.accepted_is;
       opened_is = omega (arith, s.opened_is);
       issues = λ u. issues_by (rows_of (with_entry j (Leave c))) (left c (rows_of j)) (rows_of j) handles.room rows (filter_openings (stays c) (rows_of j)) (s.issues u);

@@ -5,6 +5,7 @@ use Rattle.handle_model.specs.declared.entry.Entry.TheVariants.{Join, Leave, Shu
 use Rattle.handle_model.specs.declared.limits.JoinLimit.TheVariants as limit
 use Rattle.handle_model.specs.Journal.{join_count, due, due_items}
 use Rattle.handle_model.specs.History.{History, with_entry}
+use Rattle.handle_model.specs.Folds.{folded}
 use Rattle.handle_model.specs.Limits.{join_limit}
 use Rattle.group_core.specs.declared.answer.JoinRefusal.{JoinRefusal}
 use Rattle.group_core.specs.declared.answer.JoinRefusal.TheVariants.{TooMany, Numbers, Memory}
@@ -12,9 +13,9 @@ use Rattle.group_core.specs.declared.answer.Rest.{Rest}
 use Rattle.group_core.specs.declared.answer.Rest.TheVariants as rest
 use Rattle.group_core.specs.Adds.{Adds}
 
--- a connection joins, with the next number
+-- a connection joins, with the next number; first the older entries move into the base, as far as nothing open needs them
 abbrev pub Joins : History → Result ℕ JoinRefusal → History → Type 0
-Joins old (Ok c) new = (join_limit old ≡ None) × (c ≡ join_count old + 1) × Adds old (Join c ∷ []) new
+Joins old (Ok c) new = (join_limit old ≡ None) × (c ≡ join_count old + 1) × Adds (folded old) (Join c ∷ []) new
 Joins old (Err TooMany) new = (join_limit old ≡ Some limit.TooMany) × Adds old [] new
 Joins old (Err Numbers) new = (join_limit old ≡ Some limit.Numbers) × Adds old [] new
 Joins old (Err Memory) new = Adds old [] new

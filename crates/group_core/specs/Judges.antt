@@ -1,5 +1,5 @@
 -- What the tables say of a call before anything is added, and what then comes.
-use Rattle.std.specs.Prelude.{◌≡◌, ℕ, ◌+◌, Bool, true, false, ◌&&◌, not, ◌==◌, Option, Some, None, if◌then◌else◌, List, []}
+use Rattle.std.specs.Prelude.{◌≡◌, ℕ, ◌+◌, Bool, true, false, ◌&&◌, not, ◌==◌, Option, Some, None, if◌then◌else◌, List, [], length}
 use Rattle.handle_model.specs.declared.entry.Home.{Home}
 use Rattle.handle_model.specs.declared.entry.DueItem.{DueItem}
 use Rattle.handle_model.specs.declared.entry.Entry.TheVariants.{Shut}
@@ -70,7 +70,7 @@ left_in (Some r) = (if r.cancelled then 0 else 1) + (if r.orphaned then 0 else 1
 
 -- connections joined, none is open, and no call runs
 abbrev pub is_due_at : Counts → Bool → Bool
-is_due_at counts running = not (counts.joined == 0) && (counts.conns == 0) && not running
+is_due_at counts running = not (counts.joined == 0) && (length counts.conns.conns == 0) && not running
 
 -- the Shut comes where it is due, with all handles
 abbrev pub ShutsIfDue : Bool → Logged → Handles → Rest → Logged → Handles → Type 0

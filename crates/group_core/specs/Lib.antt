@@ -6,4 +6,5 @@ pub mod Owed
 pub mod Kept
 pub mod Judges
 pub mod Refusals
-pub mod Flags
+pub mod Marks
+pub mod Folds

@@ -28,7 +28,9 @@ impl Group {
         let opens = count_opens(asked.slots.as_slice());
         let openings = self.calls.openings();
         let live = self.handles.live();
-        match accept_limit(self.counts, self.calls.len(), live, openings, opens) {
+        let (accepted, opened) = (self.counts.accepted, self.counts.opened);
+        let calls = self.calls.len();
+        match accept_limit(accepted, opened, calls, live, openings, opens) {
             Some(limit) => return Err((asked, AcceptRefusal::of(limit))),
             None => {}
         }

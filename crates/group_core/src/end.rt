@@ -31,7 +31,7 @@ impl Group {
         };
         self.log.add(ended, freed);
         let running = self.calls.any_runs();
-        close(&mut self.log, &mut self.handles, self.counts, running)
+        close(&mut self.log, &mut self.handles, &self.counts, running)
     }
 
     /// A connection leaves, and the group ends where that is then due. It takes no memory.
@@ -40,10 +40,10 @@ impl Group {
         ensures { Leaves self.old conn result self.new }
     {
         let freed = self.calls.leave(conn);
-        self.counts.conns -= 1;
+        self.counts.conns.leave(conn);
         self.log.add(Entry::Leave { conn }, freed);
         let running = self.calls.any_runs();
-        close(&mut self.log, &mut self.handles, self.counts, running)
+        close(&mut self.log, &mut self.handles, &self.counts, running)
     }
 }
 
@@ -75,11 +75,11 @@ fn entries_left(row: &Row) -> usize
 }
 
 /// Enters the Shut where it is due, with all handles that are live.
-fn close(log: &mut Log, handles: &mut HandleTable, counts: Counts, running: bool) -> Rest
+fn close(log: &mut Log, handles: &mut HandleTable, counts: &Counts, running: bool) -> Rest
     requires { 1 ≤ log.old.spare }
-    ensures { ShutsIfDue (is_due_at counts running) log.old handles.old result log.new handles.new }
+    ensures { ShutsIfDue (is_due_at counts.now running) log.old handles.old result log.new handles.new }
 {
-    if counts.joined == 0 || counts.conns != 0 || running {
+    if counts.joined == 0 || !counts.conns.is_empty() || running {
         return Rest::Stays;
     }
     let (due, given) = handles.drain();

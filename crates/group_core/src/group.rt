@@ -4,16 +4,19 @@ ghost use Rattle.std.specs.List.{list_any};
 ghost use Rattle.handle_model.specs.Journal as journal;
 ghost use Rattle.handle_model.specs.Bases.{empty_base};
 ghost use Rattle.handle_model.specs.History.{IsSound, since};
+ghost use Rattle.journal_folds.specs.Laws.{BaseBegun};
 ghost use Rattle.group_core.specs.Stages as stages;
 
 use crate::answer::{Cancelled, JoinRefusal, Orphaned, Stage, Taking};
 use crate::counts::{Counts, join_limit};
+use crate::fold::make_way;
 use crate::journal::Journal;
 use crate::judge::{Judged, entered, judge, judge_cancel, judge_orphan, stage_of};
 use crate::log::Log;
 use call_table::CallTable;
-use handle_model::{Entry, Home, JoinLimit, Slot};
+use handle_model::{Base, Entry, Home, JoinLimit, Slot};
 use handle_table::HandleTable;
+use journal_tables::ConnTable;
 use rpc_base::NoMemory;
 use std::alloc::Global;
 use std::marker::Model;
@@ -24,6 +27,7 @@ use std::marker::Model;
 /// of the live handles and of the calls that are not over, and answers from them.
 #[derive(Drop)]
 pub struct Group {
+    alloc: Global,
     pub(crate) home: Home,
     pub(crate) log: Log,
     pub(crate) handles: HandleTable,
@@ -54,13 +58,14 @@ impl Group {
         let mut log = Log::new(alloc);
         log.reserve(1)?;
         Ok(Group {
+            alloc,
             home,
             log,
             handles: HandleTable::new(alloc, boot, id),
             calls: CallTable::new(alloc),
             counts: Counts {
+                conns: ConnTable::of(alloc, &Base::empty(alloc))?,
                 joined: 0,
-                conns: 0,
                 accepted: 0,
                 opened: 0,
             },
@@ -90,24 +95,36 @@ impl Group {
         ensures base { result.now.base ≡ self.now.base }
         ensures past { reverse result.now.entries ≡ self.now.past }
         ensures sound { IsSound self.now }
+        ensures begun { BaseBegun self.now.base }
     {
         self.log.journal()
     }
 
     /// A connection joins, and has this number; they count from 1. There is then room for its Leave.
+    /// Before it joins, the entries that nothing open needs move into the base: those before the Join
+    /// of each open connection and the Accept of each running call. No other call folds the journal,
+    /// and where the connection is refused it stays as it was.
     pub fn join(&mut self) -> Result<u32, JoinRefusal>
         requires unshut { list_any journal.is_shut self.old.past ≡ false }
         ensures { Joins self.old result self.new }
     {
-        match join_limit(self.counts) {
+        match join_limit(self.counts.conns.len(), self.counts.joined) {
             Some(JoinLimit::TooMany) => return Err(JoinRefusal::TooMany),
             Some(JoinLimit::Numbers) => return Err(JoinRefusal::Numbers),
             None => {}
         }
-        self.log.reserve(2)?;
+        make_way(
+            self.alloc,
+            self.home,
+            &mut self.log,
+            &self.handles,
+            &self.calls,
+            &mut self.counts,
+        )?;
         self.counts.joined += 1;
-        self.counts.conns += 1;
         let conn = self.counts.joined;
+        let place = self.log.journal().size();
+        self.counts.conns.join(conn, place);
         self.log.add(Entry::Join { conn }, 0);
         Ok(conn)
     }

@@ -1,5 +1,5 @@
 //! The entries of a group.
-ghost use Rattle.std.specs.Prelude.{◌≡◌, ◌+◌, ◌++◌, ◌≤◌, ◌==◌, [], ◌∷◌, length, slice_get, IfOk, OnOk, OnErr};
+ghost use Rattle.std.specs.Prelude.{◌≡◌, ◌+◌, ◌++◌, ◌≤◌, ◌==◌, [], ◌∷◌, length, drop, slice_get, IfOk, OnOk, OnErr};
 ghost use Rattle.std.specs.Option.{option_copied};
 ghost use Rattle.handle_model.specs.Bases.{empty_base};
 ghost use Rattle.group_core.specs.Kept.{Came, Same};
@@ -137,6 +137,22 @@ impl Journal {
     {
         self.spare = self.spare - freed - 1;
         self.entries.push_reserved(entry);
+    }
+
+    /// Drops the oldest entries, for a base that stands for them. Memory that is then far too much is
+    /// given back.
+    pub(crate) fn fold(&mut self, base: Base, count: usize)
+        requires { count ≤ length self.old.entries }
+        ensures base { self.new.base ≡ base }
+        ensures entries { self.new.entries ≡ drop count self.old.entries }
+        ensures spare { self.new.spare ≡ self.old.spare }
+    {
+        self.base = base;
+        self.entries.drain(..count);
+        let wanted = self.entries.len() + self.spare;
+        if self.entries.capacity() / 4 > wanted {
+            self.entries.shrink_to(wanted);
+        }
     }
 }
 

@@ -5,10 +5,12 @@ mod accept;
 mod answer;
 mod counts;
 mod end;
+mod fold;
 mod group;
 mod journal;
 mod judge;
 mod log;
+mod marks;
 
 pub use answer::{AcceptRefusal, Cancelled, JoinRefusal, Orphaned, Rest, Stage, Taking};
 pub use group::Group;

@@ -1,33 +1,35 @@
 //! The entries of a journal, with room for those that are sure to come.
-ghost use Rattle.std.specs.Prelude.{◌≡◌, ◌+◌, ◌++◌, ◌≤◌, true, [], OnOk, OnErr};
-ghost use Rattle.std.specs.List.{list_any};
-ghost use Rattle.handle_model.specs.Bases.{empty_base, is_number};
+ghost use Rattle.std.specs.Prelude.{◌≡◌, ◌+◌, ◌≤◌, true, [], drop, length, reverse, OnOk, OnErr, IfOk};
+ghost use Rattle.handle_model.specs.Bases.{empty_base};
 ghost use Rattle.group_core.specs.Kept.{Came, Same};
-ghost use Rattle.group_core.specs.Flags.{is_taken_in, is_asked_in, is_quiet};
+ghost use Rattle.group_core.specs.Kept as kept;
+ghost use Rattle.group_core.specs.Marks.{Tells};
+ghost use Rattle.group_core.specs.Folds.{MarksLeft};
 
 use crate::journal::Journal;
-use handle_model::{Asked, Entry};
+use crate::marks::Marks;
+use handle_model::{Asked, Base, Entry};
 use rpc_base::NoMemory;
 use std::alloc::Global;
 use std::marker::Model;
 
-/// A journal. Beside its entries it keeps the calls that were cancelled after they were taken.
+/// A journal. Beside its entries it keeps which calls were cancelled after they were taken.
 #[derive(Drop)]
 pub struct Log {
     journal: Journal,
-    told: Vec<u32>,
+    marks: Marks,
 }
 
 impl Model for Log {
-    ghost use Rattle.std.specs.Prelude.{◌+◌, ◌≤◌, vec_len, vec_capacity};
+    ghost use Rattle.std.specs.Prelude.{◌≤◌, reverse};
     ghost use Rattle.group_core.specs.Kept.{Logged};
-    ghost use Rattle.group_core.specs.Flags.{Lists};
+    ghost use Rattle.group_core.specs.Marks.{Tells};
 
     ghost Value = { Logged };
 
     ghost view = { λ l. l.journal };
 
-    ghost invariant = { λ l. (vec_len l.told + l.journal.spare ≤ vec_capacity l.told) × Lists l.told.items l.journal };
+    ghost invariant = { λ l. (l.journal.spare ≤ l.marks.room) × Tells l.marks l.journal.base (reverse l.journal.entries) };
 }
 
 impl Log {
@@ -37,7 +39,7 @@ impl Log {
     {
         Log {
             journal: Journal::new(alloc),
-            told: Vec::new(alloc),
+            marks: Marks::new(alloc),
         }
     }
 
@@ -50,14 +52,14 @@ impl Log {
         let Some(wanted) = self.journal.spare().checked_add(more) else {
             return Err(NoMemory);
         };
-        self.told.reserve(wanted)?;
+        self.marks.reserve(wanted)?;
         self.journal.reserve(more)
     }
 
-    /// Adds an entry that asks no call to end, and gives up the room for so many more.
+    /// Adds an entry that accepts no call and asks none to end, and gives up the room for so many more.
     pub fn add(&mut self, entry: Entry, freed: usize)
         requires room { freed + 1 ≤ self.old.spare }
-        requires quiet { is_quiet self.old entry ≡ true }
+        requires quiet { kept.is_quiet self.old entry ≡ true }
         ensures entries { Came self.old entry self.new }
         ensures spare { self.new.spare + freed + 1 ≡ self.old.spare }
     {
@@ -70,25 +72,53 @@ impl Log {
         ensures entries { Came self.old (Entry.Accept call asked) self.new }
         ensures spare { self.new.spare + 1 ≡ self.old.spare }
     {
+        self.marks.accept();
         self.journal.add(Entry::Accept { call, asked }, 0);
     }
 
     /// Adds the Cancel of a call that was taken: it is asked to end.
     pub fn flag(&mut self, call: u32)
         requires room { 1 ≤ self.old.spare }
-        requires taken { is_taken_in self.old call ≡ true }
+        requires taken { kept.is_taken_in self.old call ≡ true }
+        requires known { call ≤ kept.accepted_in self.old }
         ensures entries { Came self.old (Entry.Cancel call) self.new }
         ensures spare { self.new.spare + 1 ≡ self.old.spare }
     {
-        self.told.push_reserved(call);
+        self.marks.mark(call);
         self.journal.add(Entry::Cancel { call }, 0);
+    }
+
+    /// The marks of what is left once the older entries are in that base, with room for so many more.
+    pub fn marks_after(&self, alloc: Global, base: &Base, more: usize) -> Result<Marks, NoMemory>
+        requires { (self.now.base.accepts ≤ base.now.accepts) × (base.now.accepts ≤ kept.accepted_in self.now) }
+        ensures { IfOk result (λ marks. MarksLeft self.now base.now more marks) }
+    {
+        let Some(wanted) = self.journal.spare().checked_add(more) else {
+            return Err(NoMemory);
+        };
+        let mut marks = self.marks.after(alloc, base)?;
+        marks.reserve(wanted)?;
+        Ok(marks)
+    }
+
+    /// Drops the oldest entries, for a base that stands for them. These are the marks of what is left.
+    pub fn fold(&mut self, base: Base, count: usize, marks: Marks)
+        requires few { count ≤ length self.old.entries }
+        requires room { self.old.spare ≤ marks.room }
+        requires tells { Tells marks base (reverse (drop count self.old.entries)) }
+        ensures base { self.new.base ≡ base }
+        ensures entries { self.new.entries ≡ drop count self.old.entries }
+        ensures spare { self.new.spare ≡ self.old.spare }
+    {
+        self.marks = marks;
+        self.journal.fold(base, count);
     }
 
     /// Whether a call was asked to end.
     pub fn asked(&self, call: u32) -> bool
-        ensures { result ≡ is_asked_in self.now call }
+        ensures { result ≡ kept.is_asked_in self.now call }
     {
-        any_number(self.told.as_slice(), call)
+        self.marks.has(call)
     }
 
     /// The journal.
@@ -97,10 +127,4 @@ impl Log {
     {
         &self.journal
     }
-}
-
-fn any_number(numbers: &[u32], number: u32) -> bool
-    ensures { result ≡ list_any (is_number number) numbers.now }
-{
-    numbers.iter().any(|n| *n == number)
 }

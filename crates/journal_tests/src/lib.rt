@@ -23,4 +23,6 @@ mod verdicts;
 #[cfg(test)]
 mod walk;
 #[cfg(test)]
+mod whole;
+#[cfg(test)]
 mod words;

@@ -4,6 +4,7 @@ ghost use Rattle.handle_rules.specs.Told.{told};
 ghost use Rattle.handle_model.specs.Journal as spec;
 
 use crate::step::{Answer, Step};
+use crate::whole::is_known;
 use group_core::{AcceptRefusal, Cancelled, JoinRefusal, Orphaned, Stage, Taking};
 use handle_model::{
     AcceptLimit, Asked, CookieRow, Cookies, Entry, JoinLimit, Outcomes, Said, Slot, count_opens,
@@ -169,7 +170,7 @@ fn leave(journal: Record<'_>, conn: u32) -> Came {
 }
 
 /// Whether a Cancel of the call stands after its Take.
-pub fn is_asked(journal: Record<'_>, call: u32) -> bool {
+fn is_asked(journal: Record<'_>, call: u32) -> bool {
     let mut taken = false;
     for entry in journal.entries {
         if entry.takes(call) {
@@ -180,6 +181,11 @@ pub fn is_asked(journal: Record<'_>, call: u32) -> bool {
         }
     }
     false
+}
+
+/// The same, as a journal says it that is folded behind the entries of the front.
+pub fn is_asked_since(journal: Record<'_>, front: Record<'_>, call: u32) -> bool {
+    is_known(front, call) && is_asked(journal, call)
 }
 
 /// Where the call is.
@@ -193,8 +199,13 @@ pub fn stage(journal: Record<'_>, call: u32) -> Stage {
     }
 }
 
-/// What the call has to come to.
-pub fn expected(alloc: Global, journal: Record<'_>, step: Step) -> Result<Came, NoMemory>
+/// What the call has to come to on a group whose journal is folded behind the entries of the front.
+pub fn expected(
+    alloc: Global,
+    journal: Record<'_>,
+    front: Record<'_>,
+    step: Step,
+) -> Result<Came, NoMemory>
     requires { spec.opened (told journal) < 2 ^ 32 }
 {
     match step {
@@ -206,7 +217,7 @@ pub fn expected(alloc: Global, journal: Record<'_>, step: Step) -> Result<Came, 
         Step::Orphan(call) => Ok(orphan(journal, call)),
         Step::End(call, results, said) => Ok(end(journal, call, results, said)),
         Step::Leave(conn) => Ok(leave(journal, conn)),
-        Step::Asked(call) => Ok(nothing(Answer::Asked(is_asked(journal, call)))),
+        Step::Asked(call) => Ok(nothing(Answer::Asked(is_asked_since(journal, front, call)))),
         Step::Stage(call) => Ok(nothing(Answer::Stage(stage(journal, call)))),
     }
 }

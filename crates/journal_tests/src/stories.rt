@@ -560,6 +560,107 @@ leave 1
 shut 5:0:1,8:1:2
 ";
 
+/// Three connections, one after the other: behind the first one's handle the journal is folded.
+const FOLDED_BEHIND_AN_OPENING: &str = "\
+join -> 1
+accept 1 opens:0 -> 1
+take 1 -> Run([None, None, None, None], 1)
+end 1 issue:1:5 -> stays
+join -> 2
+leave 1 -> stays
+join -> 3
+leave 2 -> stays
+leave 3 -> [DueItem { serial: 1, kind: 0, cookie: 5 }]
+
+group 1 boot 0102030405060708
+base 4 1 1 1 1 1:0:5
+join 2
+leave 1
+join 3
+leave 2
+leave 3
+shut 1:0:5
+";
+
+/// The Accept of a call that runs stays, though its connection has left.
+const FOLDED_BEFORE_A_RUNNING_CALL: &str = "\
+join -> 1
+accept 1 opens:0 -> 1
+take 1 -> Run([None, None, None, None], 1)
+leave 1 -> stays
+join -> 2
+cancel 1 -> Flagged
+asked 1 -> true
+end 1 none -> stays
+leave 2 -> []
+
+group 1 boot 0102030405060708
+base 1 1 0 0 1 -
+accept 1 1 0.0 little answer opens:0:1 -
+take 1 none
+leave 1
+join 2
+cancel 1
+end 1 none out:-
+leave 2
+shut -
+";
+
+/// The base keeps a call that was cancelled while it ran, and one that waits.
+const CALLS_IN_A_BASE: &str = "\
+join -> 1
+accept 1 opens:0 -> 1
+take 1 -> Run([None, None, None, None], 1)
+cancel 1 -> Flagged
+accept 1 - -> 2
+join -> 2
+end 1 none -> stays
+take 2 -> Run([None, None, None, None], 0)
+cancel 2 -> Flagged
+leave 1 -> stays
+end 2 - -> stays
+join -> 3
+asked 1 -> true
+asked 2 -> true
+cancel 1 -> Late
+
+group 1 boot 0102030405060708
+base 5 1 2 1 1 -
+base-call 1 1 0.0 little answer opens:0:1 - taken-cancel
+base-call 2 1 0.0 little answer - - waiting
+join 2
+end 1 none out:-
+take 2 -
+cancel 2
+leave 1
+end 2 - out:-
+join 3
+";
+
+/// Of calls that were over before its base a journal says nothing.
+const CALLS_BEFORE_A_BASE: &str = "\
+join -> 1
+accept 1 - -> 1
+take 1 -> Run([None, None, None, None], 0)
+cancel 1 -> Flagged
+asked 1 -> true
+end 1 - -> stays
+asked 1 -> true
+join -> 2
+leave 1 -> stays
+join -> 3
+asked 1 -> false
+stage 1 -> Over
+accept 2 - -> 2
+
+group 1 boot 0102030405060708
+base 5 1 1 0 1 -
+join 2
+leave 1
+join 3
+accept 2 2 0.0 little answer - -
+";
+
 /// 65,536 handles are live: a call that might issue another is refused, one that doesn't is not.
 const AS_MANY_HANDLES_AS_MAY_BE: &str = "\
 join -> 1
@@ -673,6 +774,10 @@ const STORIES: &[&str] = &[
     CONNECTIONS_THAT_LEFT,
     ENDS_THAT_DO_NOT_FIT,
     SERIALS_GO_ON,
+    FOLDED_BEHIND_AN_OPENING,
+    FOLDED_BEFORE_A_RUNNING_CALL,
+    CALLS_IN_A_BASE,
+    CALLS_BEFORE_A_BASE,
     AS_MANY_HANDLES_AS_MAY_BE,
 ];
 

@@ -1,17 +1,18 @@
-//! A fixed walk over all calls of a group: each answer and each entry is compared with what the plain
-//! rules say of the journal before it, and each journal is audited.
+//! A fixed walk over all calls of a group: each answer is compared with what the plain rules say of the
+//! whole journal before it, which is never folded, and each join with where they fold it.
 ghost use Rattle.std.specs.Prelude.{◌<◌, ◌^◌};
 ghost use Rattle.handle_rules.specs.Told.{told};
 ghost use Rattle.handle_model.specs.Journal as spec;
 
-use crate::calls::{journal_of, play};
-use crate::plain::{Came, expected, is_asked, stage};
+use crate::calls::play;
+use crate::plain::{Came, expected, is_asked_since, stage};
 use crate::random::{Random, next_step};
 use crate::step::{Answer, Step};
+use crate::whole::{Whole, base_of, floor};
 use group_core::Group;
 use handle_model::{Base, Entry, Home};
 use handle_rules::{Record, Verdict, accept_count, audited, is_due};
-use handle_text::{entry_text, group_text, journal_text};
+use handle_text::journal_text;
 use rpc_base::NoMemory;
 use std::alloc::Global;
 
@@ -25,7 +26,7 @@ enum Trouble {
     Call(u32),
     /// The journal isn't legal and settled.
     Illegal,
-    /// The text of the journal is not that of the entries that were expected.
+    /// The text of the journal is not that of the whole one, folded by the plain rules.
     OtherText,
 }
 
@@ -35,13 +36,14 @@ impl From<NoMemory> for Trouble {
     }
 }
 
-/// A group, and the text that its journal has to have.
+/// A group, all its entries, and how many of them are folded away.
 #[derive(Drop)]
 struct Walk {
     random: Random,
     id: u32,
     group: Group,
-    text: Vec<u8>,
+    whole: Whole,
+    folded: usize,
 }
 
 fn home(id: u32) -> Home {
@@ -51,44 +53,33 @@ fn home(id: u32) -> Home {
     }
 }
 
-/// The Shut that follows the entry at a place, where it is due.
-fn shut_after(journal: Record<'_>, at: usize) -> Option<&Entry> {
-    let older = Record {
-        entries: journal.entries.get(..at.saturating_add(1))?,
-        ..journal
-    };
-    if is_due(older) {
-        journal.entries.get(at.saturating_add(1))
-    } else {
-        None
-    }
-}
-
-/// What is to be answered with a Shut, whose text is added.
-fn with_shut(alloc: Global, shut: &Entry, text: &mut Vec<u8>) -> Result<Answer, NoMemory> {
-    entry_text(alloc, shut, text)?;
-    match shut {
-        Entry::Shut { due } => { Ok(Answer::Shut(Vec::from_slice(alloc, due.as_slice())?)) }
+/// The Shut with which the group has ended joins the whole journal.
+fn shut(alloc: Global, walk: &mut Walk) -> Result<Answer, NoMemory> {
+    match walk.group.journal().as_slice().last() {
+        Some(Entry::Shut { due }) => {
+            let items = Vec::from_slice(alloc, due.as_slice())?;
+            let due = due.copy(alloc)?;
+            walk.whole.push(Entry::Shut { due })?;
+            Ok(Answer::Shut(items))
+        }
         _ => Ok(Answer::Unread),
     }
 }
 
-/// What is to be answered where so many entries stood before. The text of those that have to come is
-/// added.
-fn wanted(
-    alloc: Global,
-    came: Came,
-    journal: Record<'_>,
-    before: usize,
-    text: &mut Vec<u8>,
-) -> Result<Answer, NoMemory> {
-    let Some(entry) = &came.entry else {
-        return Ok(came.answer);
+/// What is to be answered. The entries that have to come join the whole journal.
+fn wanted(alloc: Global, came: Came, walk: &mut Walk) -> Result<Answer, NoMemory> {
+    let Came { answer, entry } = came;
+    let Some(entry) = entry else {
+        return Ok(answer);
     };
-    entry_text(alloc, entry, text)?;
-    match shut_after(journal, before) {
-        Some(shut) => with_shut(alloc, shut, text),
-        None => Ok(came.answer),
+    if let Entry::Join { .. } = &entry {
+        walk.folded = floor(walk.whole.record());
+    }
+    walk.whole.push(entry)?;
+    if is_due(walk.whole.record()) {
+        shut(alloc, walk)
+    } else {
+        Ok(answer)
     }
 }
 
@@ -106,19 +97,18 @@ fn next_two(
     Ok((call, same))
 }
 
-/// Makes the next call, and adds the text of the entries that it has to bring.
-#[tactic(auto, using(handle_model::proofs::Held::opened_small))]
-fn step(
-    alloc: Global,
-    random: &mut Random,
-    group: &mut Group,
-    text: &mut Vec<u8>,
-) -> Result<(), Trouble> {
-    let before = group.journal().len();
-    let (call, same) = next_two(alloc, random, journal_of(group))?;
-    let came = expected(alloc, journal_of(group), same)?;
-    let answer = play(alloc, group, call);
-    let wanted = wanted(alloc, came, journal_of(group), before, text)?;
+/// Makes the next call.
+fn step(alloc: Global, walk: &mut Walk) -> Result<(), Trouble> {
+    let before = walk.whole.len();
+    let (call, same) = next_two(alloc, &mut walk.random, walk.whole.record())?;
+    let came = expected(
+        alloc,
+        walk.whole.record(),
+        walk.whole.front(walk.folded),
+        same,
+    )?;
+    let answer = play(alloc, &mut walk.group, call);
+    let wanted = wanted(alloc, came, walk)?;
     if answer == wanted {
         Ok(())
     } else {
@@ -127,12 +117,13 @@ fn step(
 }
 
 /// The first number that the group and the plain rules tell apart as a call's.
-fn told_apart(group: &Group) -> Option<u32> {
-    let journal = journal_of(group);
+fn told_apart(walk: &Walk) -> Option<u32> {
+    let journal = walk.whole.record();
+    let front = walk.whole.front(walk.folded);
     let calls = u32::try_from(accept_count(journal)).unwrap_or(0);
     for call in 0..calls.saturating_add(2) {
-        if group.asked(call) != is_asked(journal, call)
-            || group.stage(call) != stage(journal, call)
+        if walk.group.asked(call) != is_asked_since(journal, front, call)
+            || walk.group.stage(call) != stage(journal, call)
         {
             return Some(call);
         }
@@ -140,32 +131,42 @@ fn told_apart(group: &Group) -> Option<u32> {
     None
 }
 
-/// Whether the journal has that text.
-fn has_text(alloc: Global, journal: Record<'_>, text: &[u8]) -> Result<bool, NoMemory> {
+/// Whether the group's journal is the whole one, folded by the plain rules.
+fn is_folded(alloc: Global, walk: &Walk) -> Result<bool, NoMemory> {
+    let base = base_of(alloc, walk.whole.front(walk.folded))?;
+    let mut wanted = Vec::new(alloc);
+    journal_text(
+        alloc,
+        home(walk.id),
+        &base,
+        walk.whole.rest(walk.folded),
+        &mut wanted,
+    )?;
+    let journal = walk.group.journal();
     let mut told = Vec::new(alloc);
     journal_text(
         alloc,
-        journal.home,
-        journal.base,
-        journal.entries,
+        walk.group.home(),
+        journal.base(),
+        journal.as_slice(),
         &mut told,
     )?;
-    Ok(told.as_slice() == text)
+    Ok(told.as_slice() == wanted.as_slice())
 }
 
 /// Compares what the group says of each call, and its whole journal.
 #[tactic(auto, using(handle_model::proofs::Steps::empty_base_sound))]
 fn audit(alloc: Global, walk: &Walk) -> Result<(), Trouble> {
-    if let Some(call) = told_apart(&walk.group) {
+    if let Some(call) = told_apart(walk) {
         return Err(Trouble::Call(call));
     }
-    let journal = journal_of(&walk.group);
+    let journal = walk.whole.record();
     let base = Base::empty(alloc);
     let verdict = audited(alloc, journal.home, &base, journal.entries)?;
     if verdict != Verdict::Legal(journal.entries.len()) {
         return Err(Trouble::Illegal);
     }
-    if has_text(alloc, journal, walk.text.as_slice())? {
+    if is_folded(alloc, walk)? {
         Ok(())
     } else {
         Err(Trouble::OtherText)
@@ -175,20 +176,13 @@ fn audit(alloc: Global, walk: &Walk) -> Result<(), Trouble> {
 /// A walk that begins with the group of that id.
 fn begin(alloc: Global, random: Random, id: u32) -> Result<Walk, NoMemory> {
     let home = home(id);
-    let mut text = Vec::new(alloc);
-    group_text(alloc, home, &mut text)?;
-    let group = Group::begin(alloc, home.boot, id)?;
     Ok(Walk {
         random,
         id,
-        group,
-        text,
+        group: Group::begin(alloc, home.boot, id)?,
+        whole: Whole::new(alloc, home),
+        folded: 0,
     })
-}
-
-/// Whether the group has ended.
-fn has_ended(walk: &Walk) -> bool {
-    walk.group.has_shut()
 }
 
 /// The group has ended, and the next one begins.
@@ -199,13 +193,18 @@ fn renew(alloc: Global, walk: &mut Walk) -> Result<(), Trouble> {
     Ok(())
 }
 
-/// One call; where the group has ended with it, the next one begins.
+/// One call. Where the group has folded its journal with it, that is compared; where it has ended, the
+/// next one begins.
 fn go(alloc: Global, walk: &mut Walk) -> Result<(), Trouble> {
-    step(alloc, &mut walk.random, &mut walk.group, &mut walk.text)?;
-    if has_ended(walk) {
-        renew(alloc, walk)
-    } else {
+    let before = walk.folded;
+    step(alloc, walk)?;
+    if walk.group.has_shut() {
+        return renew(alloc, walk);
+    }
+    if walk.folded == before || is_folded(alloc, walk)? {
         Ok(())
+    } else {
+        Err(Trouble::OtherText)
     }
 }
 

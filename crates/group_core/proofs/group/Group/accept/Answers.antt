@@ -14,7 +14,7 @@ use Rattle.group_core.proofs.group.Group.accept.Goals as goal
 
 pub returns-in-Some : goal.returns-in-Some
 returns-in-Some c =
-    let found = rw (c.in-Some.is, c.len.ensures, c.live-live.ensures, c.openings-openings.ensures) at c.accept_limit.ensures in
+    let found = rw (c.in-Some.is, c.len-calls.ensures, c.live-live.ensures, c.openings-openings.ensures) at c.accept_limit.ensures in
     let many = rw c.as_slice.ensures at c.count_opens-opens.ensures.count in
     let why = sym (found ∙ accept_limit_is _ _ _ _ _ c.args.asked.slots c.count_opens-opens.result c.self.invariant many) in
     rw c.of.ensures
@@ -38,7 +38,7 @@ pub invariant_of-self-2 : goal.invariant_of-self-2
 invariant_of-self-2 c =
     let j = logged c.self.inside.home c.self.inside.log in
     let open_then : is_open j c.args.asked.conn ≡ true = ap (λ h. is_open h c.args.asked.conn) c.self.view_is ∙ c.requires.open in
-    let found = rw (c.in-None.is, c.len.ensures, c.live-live.ensures, c.openings-openings.ensures) at c.accept_limit.ensures in
+    let found = rw (c.in-None.is, c.len-calls.ensures, c.live-live.ensures, c.openings-openings.ensures) at c.accept_limit.ensures in
     let many = rw c.as_slice.ensures at c.count_opens-opens.ensures.count in
     let free = sym (found ∙ accept_limit_is _ _ _ _ _ c.args.asked.slots c.count_opens-opens.result c.self.invariant many) in
     let number : c.self.inside.counts.accepted + 1 ≡ accept_count j + 1 = ap (λ n. n + 1) c.self.invariant.shows.accepted_is in
@@ -56,7 +56,7 @@ invariant_of-self-2 c =
 pub returns : goal.returns
 returns c =
     let j = logged c.self.inside.home c.self.inside.log in
-    let found = rw (c.in-None.is, c.len.ensures, c.live-live.ensures, c.openings-openings.ensures) at c.accept_limit.ensures in
+    let found = rw (c.in-None.is, c.len-calls.ensures, c.live-live.ensures, c.openings-openings.ensures) at c.accept_limit.ensures in
     let many = rw c.as_slice.ensures at c.count_opens-opens.ensures.count in
     let free = sym (found ∙ accept_limit_is _ _ _ _ _ c.args.asked.slots c.count_opens-opens.result c.self.invariant many) in
     let number : c.self.inside.counts.accepted + 1 ≡ accept_count j + 1 = ap (λ n. n + 1) c.self.invariant.shows.accepted_is in

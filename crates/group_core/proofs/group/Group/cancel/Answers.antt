@@ -3,7 +3,7 @@ use Rattle.handle_model.specs.declared.entry.Entry.TheVariants.{Cancel}
 use Rattle.handle_model.specs.Journal.{waits, runs}
 use Rattle.handle_model.specs.History.{History}
 use Rattle.handle_model.proofs.Tests.{and_left}
-use Rattle.call_table.proofs.Calls.{runs_taken}
+use Rattle.call_table.proofs.Calls.{runs_taken, taken_within}
 use Rattle.group_core.specs.declared.answer.Cancelled.TheVariants as cancelled
 use Rattle.group_core.specs.Calls.{Cancels, is_cancellable}
 use Rattle.group_core.proofs.Owing.{waits_untaken}
@@ -47,6 +47,12 @@ flag-requires-clause-taken c =
     let j = logged c.self.inside.home c.self.inside.log in
     let t : is_cancellable j c.args.call ≡ true = sym (tells_is _ _ _ _ _ c.args.call c.self.invariant) ∙ (rw c.in-Flagged.is at c.judge_cancel-found.ensures) in
     runs_taken j c.args.call (and_left (runs j c.args.call) _ t)
+
+pub flag-requires-clause-known : goal.flag-requires-clause-known
+flag-requires-clause-known c =
+    let j = logged c.self.inside.home c.self.inside.log in
+    let t : is_cancellable j c.args.call ≡ true = sym (tells_is _ _ _ _ _ c.args.call c.self.invariant) ∙ (rw c.in-Flagged.is at c.judge_cancel-found.ensures) in
+    taken_within j c.args.call c.self.invariant.sound.legal (runs_taken j c.args.call (and_left (runs j c.args.call) _ t))
 
 pub invariant_of-self-in-Flagged : goal.invariant_of-self-in-Flagged
 invariant_of-self-in-Flagged c =
