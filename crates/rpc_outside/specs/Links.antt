@@ -97,8 +97,11 @@ abbrev pub PutsAll : Shown → List ℕ → Result Unit Failed → Shown → Typ
 PutsAll a piece (Ok _) b = Put a b piece
 PutsAll a piece (Err _) b = Rose a.faults b.faults × ((n : ℕ) × Put a b (take n piece))
 
+-- it is closed, and all else stays
 pub record Closes (a b : Shown) : Type 0 where
-  pub counts : Counts a b
+  pub faults : b.faults ≡ a.faults
+  pub quiets : b.quiets ≡ a.quiets
+  pub ends : b.ends ≡ a.ends
   pub taken : b.taken ≡ a.taken
   pub left : b.left ≡ a.left
   pub put : b.put ≡ a.put

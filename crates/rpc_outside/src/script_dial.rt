@@ -57,8 +57,9 @@ impl ScriptDial {
 impl Dial for ScriptDial {
     type Link = ScriptLink;
 
-    ghost use Rattle.std.specs.Prelude.{◌+◌, ◌-◌, ◌^◌, ◌↔◌, ◌⊎◌, ◌∷◌, [], min, Contains, IfOk, IsErrOf};
-    ghost use Rattle.rpc_outside.specs.Dials.{Dials};
+    ghost use Rattle.std.specs.Prelude.{◌+◌, ◌-◌, ◌^◌, ◌↔◌, ◌⊎◌, ◌∷◌, [], min, Contains, IfOk, OnErr, IsErrOf};
+    ghost use Rattle.rpc_outside.specs.Dials.{Dials, DialBacks};
+    ghost use Rattle.rpc_outside.specs.Doors.{HasOut};
     ghost use Rattle.rpc_outside.specs.ScriptLinks.{shown};
     ghost use Rattle.rpc_outside.specs.ScriptDials.{dial_shown};
 
@@ -68,6 +69,8 @@ impl Dial for ScriptDial {
         ensures dials { Dials shown (dial_shown self.old) at result (dial_shown self.new) }
         ensures fails { IsErrOf result OutFault.Failed ↔ (Contains self.old.failing (min (self.old.calls + 1) (2 ^ 64 - 1)) ⊎ (self.old.to_come.items ≡ [])) }
         ensures next { IfOk result (λ link. self.old.to_come.items ≡ link ∷ self.new.to_come.items) }
+        ensures waits { OnErr result (self.new.to_come ≡ self.old.to_come) }
+        ensures counted { (self.new.calls ≡ min (self.old.calls + 1) (2 ^ 64 - 1)) × (self.new.failing ≡ self.old.failing) }
     {
         self.calls = self.calls.saturating_add(1);
         if self.failing.as_slice().contains(&self.calls) || self.to_come.is_empty() {
@@ -88,7 +91,11 @@ impl Dial for ScriptDial {
         }
     }
 
-    fn back(&mut self, link: ScriptLink) {
+    fn back(&mut self, link: ScriptLink)
+        requires is_out { HasOut (dial_shown self.old).out }
+        ensures backs { DialBacks (dial_shown self.old) link (dial_shown self.new) }
+        ensures same { (self.new.to_come ≡ self.old.to_come) × (self.new.calls ≡ self.old.calls) × (self.new.failing ≡ self.old.failing) }
+    {
         self.out -= 1;
         self.given_back.add(link);
     }

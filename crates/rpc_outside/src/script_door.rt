@@ -62,6 +62,7 @@ impl ScriptDoor {
         ensures same { DoorSame (door_shown self.old) (door_shown self.new) }
         ensures rose { IsTrue result → Rose self.old.faults self.new.faults }
         ensures listed { IsTrue result ↔ Contains self.old.failing (min (self.old.calls + 1) (2 ^ 64 - 1)) }
+        ensures counted { (self.new.calls ≡ min (self.old.calls + 1) (2 ^ 64 - 1)) × (self.new.failing ≡ self.old.failing) }
     {
         self.calls = self.calls.saturating_add(1);
         let fails = self.failing.as_slice().contains(&self.calls);
@@ -76,7 +77,7 @@ impl Door for ScriptDoor {
     type Link = ScriptLink;
 
     ghost use Rattle.std.specs.Prelude.{◌+◌, ◌-◌, ◌^◌, ◌↔◌, min, Contains, IsErrOf};
-    ghost use Rattle.rpc_outside.specs.Doors.{Listens, Nexts};
+    ghost use Rattle.rpc_outside.specs.Doors.{Listens, Nexts, Backs, HasOut};
     ghost use Rattle.rpc_outside.specs.ScriptLinks.{shown};
     ghost use Rattle.rpc_outside.specs.ScriptDoors.{door_shown};
 
@@ -85,6 +86,7 @@ impl Door for ScriptDoor {
     fn listen(&mut self, at: Address) -> Result<(), OutFault>
         ensures listens { Listens (door_shown self.old) at result (door_shown self.new) }
         ensures fails { IsErrOf result OutFault.Failed ↔ Contains self.old.failing (min (self.old.calls + 1) (2 ^ 64 - 1)) }
+        ensures counted { (self.new.calls ≡ min (self.old.calls + 1) (2 ^ 64 - 1)) × (self.new.failing ≡ self.old.failing) }
     {
         if self.fails() {
             return Err(OutFault::Failed);
@@ -96,6 +98,7 @@ impl Door for ScriptDoor {
     fn next(&mut self) -> Result<Option<ScriptLink>, OutFault>
         ensures nexts { Nexts shown (door_shown self.old) result (door_shown self.new) }
         ensures fails { IsErrOf result OutFault.Failed ↔ Contains self.old.failing (min (self.old.calls + 1) (2 ^ 64 - 1)) }
+        ensures counted { (self.new.calls ≡ min (self.old.calls + 1) (2 ^ 64 - 1)) × (self.new.failing ≡ self.old.failing) }
     {
         if self.fails() {
             return Err(OutFault::Failed);
@@ -112,7 +115,11 @@ impl Door for ScriptDoor {
         Ok(Some(link))
     }
 
-    fn back(&mut self, link: ScriptLink) {
+    fn back(&mut self, link: ScriptLink)
+        requires is_out { HasOut (door_shown self.old).out }
+        ensures backs { Backs (door_shown self.old) link (door_shown self.new) }
+        ensures same { (self.new.calls ≡ self.old.calls) × (self.new.failing ≡ self.old.failing) }
+    {
         self.out -= 1;
         self.given_back.add(link);
     }

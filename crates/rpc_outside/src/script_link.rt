@@ -70,7 +70,7 @@ impl ScriptLink {
 }
 
 impl Link for ScriptLink {
-    ghost use Rattle.std.specs.Prelude.{◌+◌, ◌^◌, ◌-◌, ◌↔◌, min, Contains, IfOk, OnOk, IsErr};
+    ghost use Rattle.std.specs.Prelude.{◌+◌, ◌^◌, ◌-◌, ◌↔◌, true, min, Contains, IfOk, OnOk, OnErr, IsErr};
     ghost use Rattle.rpc_outside.specs.Links.{Takes, Puts};
     ghost use Rattle.rpc_outside.specs.Scripts.{Plays, after_put};
     ghost use Rattle.rpc_outside.specs.ScriptLinks.{shown};
@@ -83,6 +83,9 @@ impl Link for ScriptLink {
         ensures takes { Takes (shown self.old) into.new result (shown self.new) }
         ensures plays { IfOk result (λ taken. Plays self.old.script into.new taken self.new.script) }
         ensures fails { IsErr result ↔ Contains self.old.failing_takes (min (self.old.takes + 1) (2 ^ 64 - 1)) }
+        ensures waits { OnErr result (self.new.script ≡ self.old.script) }
+        ensures counted { (self.new.takes ≡ min (self.old.takes + 1) (2 ^ 64 - 1)) × (self.new.puts ≡ self.old.puts) }
+        ensures same { (self.new.most ≡ self.old.most) × (self.new.failing_takes ≡ self.old.failing_takes) × (self.new.failing_puts ≡ self.old.failing_puts) }
     {
         self.takes = self.takes.saturating_add(1);
         if self.failing_takes.as_slice().contains(&self.takes) {
@@ -108,6 +111,9 @@ impl Link for ScriptLink {
         ensures most { IfOk result (λ count. count ≡ min (length piece.now) self.old.most) }
         ensures plays { OnOk result (self.new.script.rest ≡ after_put self.old.script.rest) }
         ensures fails { Contains self.old.failing_puts (min (self.old.puts + 1) (2 ^ 64 - 1)) → IsErr result }
+        ensures waits { OnErr result (self.new.script ≡ self.old.script) }
+        ensures counted { (self.new.puts ≡ min (self.old.puts + 1) (2 ^ 64 - 1)) × (self.new.takes ≡ self.old.takes) }
+        ensures same { (self.new.most ≡ self.old.most) × (self.new.failing_takes ≡ self.old.failing_takes) × (self.new.failing_puts ≡ self.old.failing_puts) }
     {
         self.puts = self.puts.saturating_add(1);
         let count = piece.len().min(self.most);
@@ -121,7 +127,9 @@ impl Link for ScriptLink {
         Ok(count)
     }
 
-    fn close(&mut self) {
+    fn close(&mut self)
+        ensures same { self.new ≡ record self.old { closed = true } }
+    {
         self.closed = true;
     }
 }

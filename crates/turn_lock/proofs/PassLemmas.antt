@@ -9,7 +9,7 @@ use Rattle.turn_lock.specs.declared.views.View.{View}
 use Rattle.turn_lock.specs.Histories.{times, StartsWith, Closed, Within}
 use Rattle.turn_lock.specs.Rule.{view, Lawful}
 use Rattle.turn_lock.specs.Steps.{joined, saw_all}
-use Rattle.turn_lock.proofs.HistoryLemmas.{times-append, times_either, total_set, total_snoc, starts_self, starts_length, longer_starts, shorter_starts, longer_length}
+use Rattle.turn_lock.proofs.HistoryLemmas.{times-append, times_either, total_at, total_set, total_snoc, once_most, starts_self, starts_length, longer_starts, shorter_starts, longer_length}
 use Rattle.turn_lock.proofs.ViewLemmas.{each}
 
 module _ {T E : Type 0} (tells : T → List E → Type 0) (ties : List E → E → ℕ → Type 0) where
@@ -116,14 +116,24 @@ module _ {T E : Type 0} (tells : T → List E → Type 0) (ties : List E → E �
         tied = each (λ j d. Closed ties r.history d.own) s.views id w (r.tied id v at) (λ j d _ e. r.tied j d e);
       }
 
-  pub looks : (slots id : ℕ) (me : M) → me.0.holds ≡ false → Allows Rule slots id me 0 (λ n. n) (saw_all (step slots 0 0 0 none) me)
-  looks slots id me idle s r _ at _ = (
-    view false r.history me.0.own,
-    keeps,
-    tt,
-    subst (λ (x : List ℕ). Rule record { words = x; homes = s.homes; views = set s.views id (view false r.history me.0.own) }) (sym (set-get_or s.words 0 0)) (shown s r id me.0 at idle),
-    (r.history, refl, (r.fronts id me.0 at).0, r.also id me.0 at),
-  )
+  pub looks : (slots id : ℕ) (me : M) → me.0.holds ≡ false → Allows Rule slots id me 0 (λ n. n) (saw_all ties (step slots 0 0 0 none) me)
+  looks slots id me idle s r _ at _ =
+      let mine = r.fronts id me.0 at in
+      let inside = starts_length r.history me.0.front mine.0 in (
+        view false r.history me.0.own,
+        keeps,
+        tt,
+        subst (λ (x : List ℕ). Rule record { words = x; homes = s.homes; views = set s.views id (view false r.history me.0.own) }) (sym (set-get_or s.words 0 0)) (shown s r id me.0 at idle),
+        (
+          r.history,
+          refl,
+          mine.0,
+          r.also id me.0 at,
+          λ p own. let b = mine.1 p own in omega arith,
+          r.tied id me.0 at,
+          λ p. let a = total_at (owns p) s.views id me.0 at in let b = r.once p in let c = once_most p (length r.history) in omega arith,
+        ),
+      )
 
   -- the table at the start
   pub opens : (x : T) → tells x [] → Rule record { words = 0 ∷ 0 ∷ []; homes = some (Some x) ∷ []; views = view false [] [] ∷ [] }

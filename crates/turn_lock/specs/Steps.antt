@@ -15,9 +15,11 @@ module _ {T E : Type 0} where
   abbrev pub gave_turn : Step (Option T) → Me (Option T) (View E) → ℕ → Me (Option T) (View E) → Type 0
   gave_turn st me r now = now ≡ (view false me.0.front me.0.own, rest me.1)
 
-  -- the front is then the whole history
+module _ {T E : Type 0} (ties : List E → E → ℕ → Type 0) where
+  -- the front is then the whole history, and the own entries stand in it, each once, with what is tied to them
   abbrev pub saw_all : Step (Option T) → Me (Option T) (View E) → ℕ → Me (Option T) (View E) → Type 0
   saw_all st me r now = (whole : List E) × (now ≡ (view false whole me.0.own, me.1)) × StartsWith whole me.0.front × StartsWith whole me.0.also_seen
+      × Within me.0.own (length whole) × Closed ties whole me.0.own × AtMostOnce me.0.own
 
 module _ {T E : Type 0} (tells : T → List E → Type 0) (ties : List E → E → ℕ → Type 0) where
   abbrev M : Type 0

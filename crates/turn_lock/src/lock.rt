@@ -21,7 +21,7 @@ pub struct TurnLock<T: Storied> {
     ghost sized: { (table.shared.table_id.words ≡ 2) × (table.shared.table_id.slots ≡ 1) },
 }
 
-/// The turn at a lock, with its value. A turn that is dropped in place of `exit` never comes back.
+/// The turn at a lock, with its value. It can't be dropped: `exit` alone gives it back.
 pub struct Held<'a, T: Storied> {
     pub(crate) lock: &'a TurnLock<T>,
     /// The pass that entered.
@@ -87,8 +87,9 @@ impl<T: Storied> TurnLock<T> {
         ensures pass { IsPassOf self.now.table.shared.table_id pass.new }
         ensures front { StartsWith (front pass.new) (front pass.old) × StartsWith (front pass.new) (front other) }
         ensures own { own pass.new ≡ own pass.old ++ own other }
+        ensures places { Within (own pass.new) (length (front pass.new)) × Closed T.ties (front pass.new) (own pass.new) × AtMostOnce (own pass.new) }
     {
         self.table.shared.join_seat::<Both>(pass, other);
-        self.table.shared.load::<SeeAll>(pass, 0);
+        self.table.shared.load::<SeeAll<T>>(pass, 0);
     }
 }

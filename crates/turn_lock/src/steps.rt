@@ -52,8 +52,10 @@ impl<E> Join<View<E>> for Both {
 }
 
 /// The turn word is looked at, and the thread has then seen the whole history.
-pub struct SeeAll;
+pub struct SeeAll<T> {
+    of: PhantomData<T>,
+}
 
-impl<T, E> Play<Option<T>, View<E>> for SeeAll {
-    ghost then = { saw_all };
+impl<T: Storied> Play<Option<T>, View<T::Entry>> for SeeAll<T> {
+    ghost then = { saw_all T.ties };
 }
