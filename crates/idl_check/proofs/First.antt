@@ -1,15 +1,14 @@
 -- The least of places, and the first of breaches.
-use Rattle.std.proofs.Common.{◌≡◌, ◌⊎◌, ℕ, ◌+◌, ◌<◌, ◌≤◌, min, List, [], ◌∷◌, ◌++◌, Option, Some, None, refl, ap, sym, ◌∙◌, subst, arith, inl, inr}
+use Rattle.std.proofs.Common.{◌≡◌, ◌⊎◌, ℕ, ◌<◌, ◌≤◌, min, List, [], ◌∷◌, Option, Some, None, refl, ap, sym, ◌∙◌, subst, arith, inl, inr}
 use Rattle.std.proofs.lemmas.Bool.{cases_lt}
-use Rattle.std.proofs.lemmas.Grind.{common_steps}
 use Rattle.idl_tree.specs.declared.declaration.Ast.{Ast}
-use Rattle.idl_forms.specs.Forms.{Same}
+use Rattle.idl_forms.specs.Forms.{Same, tree_form}
 use Rattle.idl_rules.specs.Places.{Among}
 use Rattle.idl_rules.specs.Least.{least, lesser}
-use Rattle.idl_check.specs.declared.firsts.Firsts.{Firsts}
 use Rattle.idl_check.specs.declared.firsts.Breach.{Breach}
-use Rattle.idl_rules.specs.Broken.{Broken, IsLeastBreach, NoneBroken}
-use Rattle.idl_check.specs.Firsts.{first_place, Gives, IsFirstBelow, IsFirst}
+use Rattle.idl_rules.specs.Broken.{IsLeastBreach, NoneBroken}
+use Rattle.idl_rules.proofs.Twins.{broken_too}
+use Rattle.idl_check.specs.Firsts.{first_place, IsFirstBelow, IsFirst}
 
 -- ---- the least of a list
 
@@ -68,8 +67,8 @@ after_all f (Some b) h more = (h.1, λ m at q. one_left f b m at h more q (cases
 no_place : (o : Option ℕ) (n : ℕ) → o ≡ None → (a : ℕ) × (o ≡ Some a) × (a ≤ n) → ⊥
 no_place o n e h = let f = h.1 in absurd (cc)
 
-pub none_broken : (t : Ast) → IsFirst (first_place t) None → NoneBroken t
-none_broken t h = record { none = λ number at b. no_place (first_place t number) at (h number) (least_below _ at b.there) }
+pub none_broken : (t : Ast) → IsFirst (first_place (tree_form t)) None → NoneBroken t
+none_broken t h = record { none = λ number at b. no_place (first_place (tree_form t) number) at (h number) (least_below _ at b.there) }
 
 later_or : (b : Breach) (m at : ℕ) → b.number ≤ m → (b.at < at) ⊎ (at ≤ b.at) → b.at ≤ at → (b.at < at) ⊎ ((b.at ≡ at) × (b.number ≤ m))
 later_or b m at n (inl p) q = inl p
@@ -79,15 +78,15 @@ later : (b : Breach) (m at a : ℕ) → (b.at < a) ⊎ ((b.at ≡ a) × (b.numbe
 later b m at a (inl p) q = inl (omega arith)
 later b m at a (inr p) q = later_or b m at p.1 (cases_lt b.at at) (omega (arith, p.0))
 
-pub least_breach : (t : Ast) (b : Breach) → IsFirst (first_place t) (Some b) → IsLeastBreach t b.number b.at
+pub least_breach : (t : Ast) (b : Breach) → IsFirst (first_place (tree_form t)) (Some b) → IsLeastBreach t b.number b.at
 least_breach t b h = record {
   broken = record { there = least_among _ b.at h.0 };
   first = λ m at k. let l = least_below _ at k.there in later b m at l.0 (h.1 m l.0 l.1) l.2;
 }
 
 -- what is the same breaks no rule either
-pub none_in_copy : (copy t : Ast) → ((x u : Ast) → Same x u → (number at : ℕ) → Broken x number at → Broken u number at) → Same copy t → NoneBroken t → NoneBroken copy
-none_in_copy copy t law same h = record { none = λ number at b. h.none number at (law copy t same number at b) }
+pub none_in_copy : (copy t : Ast) → Same copy t → NoneBroken t → NoneBroken copy
+none_in_copy copy t same h = record { none = λ number at b. h.none number at (broken_too copy t same number at b) }
 
 pub ruleset kept = (none_in_copy)
 

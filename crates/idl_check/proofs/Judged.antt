@@ -1,14 +1,12 @@
 -- What is judged event by event is the first breach of each rule.
-use Rattle.std.proofs.Common.{◌≡◌, ℕ, ◌<◌, ◌≤◌, ◌==◌, Bool, true, false, List, [], ◌∷◌, ◌++◌, Option, Some, None, refl, ap, sym, ◌∙◌, append_assoc, arith}
+use Rattle.std.proofs.Common.{◌≡◌, ℕ, ◌≤◌, List, [], ◌∷◌, ◌++◌, None, refl, ap, subst, sym, ◌∙◌, append_assoc, arith}
 use Rattle.std.proofs.lemmas.Grind.{common_steps}
 use Rattle.std.proofs.lemmas.Bool.Decides.{nat_tests}
-use Rattle.idl_tree.specs.declared.declaration.Ast.{Ast}
+use Rattle.idl_forms.specs.Forms.{TreeForm}
 use Rattle.idl_outline.specs.declared.event.Event.{Event}
 use Rattle.idl_outline.specs.Outline.{outline}
-use Rattle.idl_rules.specs.Least.{least, lesser}
 use Rattle.idl_rules.specs.Places.{gathered}
 use Rattle.idl_rules.specs.BadAttribute.{bad_attribute, bad_file}
-use Rattle.idl_rules.specs.Broken.{places}
 use Rattle.idl_rules.proofs.Leasts.{least_append}
 use Rattle.idl_check.specs.declared.firsts.Firsts.{Firsts}
 use Rattle.idl_check.specs.Firsts.{lesser_of, firsts_at, firsts_of, firsts_of_file, first_place, Gives}
@@ -16,10 +14,10 @@ use Rattle.idl_check.specs.Firsts.{lesser_of, firsts_at, firsts_of, firsts_of_fi
 pub firsts_step : (past : List Event) (e : Event) → firsts_of (e ∷ past) ≡ lesser_of (firsts_at past e) (firsts_of past)
 firsts_step past e = simp least_append
 
-no_rule : (t : Ast) (n : ℕ) → 10 ≤ n → first_place t n ≡ None
+no_rule : (t : TreeForm) (n : ℕ) → 10 ≤ n → first_place t n ≡ None
 no_rule t n h = grind (arith, nat_tests, common_steps)
 
-pub gives : (t : Ast) → Gives (first_place t) (lesser_of (firsts_of_file t) (firsts_of (outline t)))
+pub gives : (t : TreeForm) → Gives (first_place t) (lesser_of (firsts_of_file t) (firsts_of (outline t)))
 gives t = record {
   one = refl;
   two = refl;
@@ -49,4 +47,9 @@ judged_more past now e a b all n p q m =
     ∙ (sym (firsts_step past e)
     ∙ ap firsts_of (sym n)))
 
-pub ruleset judged = (gives)
+-- the interface's own attributes, and its events
+pub judged_all : (t : TreeForm) (past : List Event) (events file all : Firsts) → past ≡ outline t → events ≡ firsts_of past → file ≡ firsts_of_file t → all ≡ lesser_of file events → Gives (first_place t) all
+judged_all t past events file all is e f a =
+    subst (λ (x : Firsts). Gives (first_place t) x)
+    (sym (a ∙ ((λ j. lesser_of (f j) (e j)) ∙ ap (λ (p : List Event). lesser_of (firsts_of_file t) (firsts_of p)) is)))
+    (gives t)

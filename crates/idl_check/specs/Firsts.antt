@@ -1,6 +1,7 @@
 -- The first breach of each rule, and the first of these.
-use Rattle.std.specs.Prelude.{◌≡◌, ◌⊎◌, ℕ, ◌+◌, ◌<◌, ◌≤◌, List, Option, Some, None}
+use Rattle.std.specs.Prelude.{◌≡◌, ◌⊎◌, ℕ, ◌<◌, ◌≤◌, List, Option, Some, None}
 use Rattle.idl_tree.specs.declared.declaration.Ast.{Ast}
+use Rattle.idl_forms.specs.Forms.{TreeForm}
 use Rattle.idl_outline.specs.declared.event.Event.{Event}
 use Rattle.idl_rules.specs.Places.{gathered}
 use Rattle.idl_rules.specs.Least.{least, lesser}
@@ -64,11 +65,11 @@ firsts_of past = record {
 }
 
 -- those of the interface's own attributes
-abbrev pub firsts_of_file : Ast → Firsts
+abbrev pub firsts_of_file : TreeForm → Firsts
 firsts_of_file tree = record no_breach { bad_attribute = least (bad_file tree) }
 
 -- the least place where the interface breaks the rule of that number
-abbrev pub first_place : Ast → ℕ → Option ℕ
+abbrev pub first_place : TreeForm → ℕ → Option ℕ
 first_place tree number = least (places tree number)
 
 -- f gives each rule's first place by its number

@@ -1,6 +1,6 @@
 //! Whether a tree breaks a rule.
 ghost use Rattle.std.specs.Prelude.{IfOk, IfErr, OnOk};
-ghost use Rattle.idl_forms.specs.Forms.{Same};
+ghost use Rattle.idl_forms.specs.Forms.{Same, tree_form};
 ghost use Rattle.idl_rules.specs.Broken.{NoneBroken};
 ghost use Rattle.idl_check.specs.Firsts as spec;
 
@@ -14,7 +14,7 @@ use rpc_base::NoMemory;
 use std::alloc::Global;
 
 fn first_breach(alloc: Global, tree: &Ast) -> Result<Option<Breach>, NoMemory>
-    ensures { IfOk result (spec.IsFirst (spec.first_place tree.now)) }
+    ensures { IfOk result (spec.IsFirst (spec.first_place (tree_form tree.now))) }
 {
     let outline = outline(alloc, tree)?;
     let firsts = judged_tree(alloc, tree, outline)?;

@@ -1,5 +1,6 @@
 //! What the rules say of events.
 ghost use Rattle.std.specs.Prelude.{◌≡◌, IfOk};
+ghost use Rattle.idl_forms.specs.Forms.{tree_form};
 ghost use Rattle.idl_outline.specs.Outline as outlines;
 ghost use Rattle.idl_check.specs.Firsts as spec;
 
@@ -47,7 +48,7 @@ fn judged_events(alloc: Global, outline: Outline) -> Result<Firsts, NoMemory>
 }
 
 fn judged_file(alloc: Global, tree: &Ast) -> Result<Firsts, NoMemory>
-    ensures { IfOk result (λ f. f ≡ spec.firsts_of_file tree.now) }
+    ensures { IfOk result (λ f. f ≡ spec.firsts_of_file (tree_form tree.now)) }
 {
     let attribute = bad_file(alloc, tree)?;
     Ok(Firsts {
@@ -57,10 +58,9 @@ fn judged_file(alloc: Global, tree: &Ast) -> Result<Firsts, NoMemory>
 }
 
 /// The first breach of each rule.
-#[tactic(auto, using(crate::proofs::Judged::judged))]
 pub(crate) fn judged_tree(alloc: Global, tree: &Ast, outline: Outline) -> Result<Firsts, NoMemory>
-    requires { outline ≡ outlines.outline tree.now }
-    ensures { IfOk result (λ f. spec.Gives (spec.first_place tree.now) f) }
+    requires { outline ≡ outlines.outline (tree_form tree.now) }
+    ensures { IfOk result (λ f. spec.Gives (spec.first_place (tree_form tree.now)) f) }
 {
     let events = judged_events(alloc, outline)?;
     let file = judged_file(alloc, tree)?;

@@ -22,13 +22,14 @@ use Rattle.idl_tree.specs.declared.file.FileAttrKind.TheVariants as file_attrs
 use Rattle.idl_tree.specs.Pieces.{Pieces, word_pieces, mark_pieces, ident_pieces, dtor_pieces, text_pieces, end_pieces, within, commas}
 use Rattle.idl_tree.specs.Trees.{spec_pieces, attrs_pieces, dtors_pieces}
 use Rattle.idl_tree.specs.Files.{minor_pieces, file_attr_kind_pieces, file_attr_pieces, param_pieces, params_pieces, decl_kind_pieces, decl_pieces, ast_pieces}
-use Rattle.idl_forms.specs.Forms.{SpecForm, AttrForms, FileKindForm, OfUuid, OfVersion, OfPointerDefault, OfEndpoint, FileForm, ParamForm, DeclKindForm, OfConst, OfTypedef, OfLone, OfOp, DeclForm, TreeForm, if_there, ident_form, num_form, attrs_form, spec_form, file_kind_form, file_form, param_form, decl_kind_form, decl_form, tree_form}
+use Rattle.idl_forms.specs.Forms.{SpecForm, AttrForms, FileKindForm, OfUuid, OfVersion, OfPointerDefault, OfEndpoint, FileForm, ParamForm, DeclKindForm, OfConst, OfTypedef, OfLone, OfOp, DeclForm, TreeForm, if_there, file_kind_form, file_form, param_form, decl_kind_form, decl_form, tree_form}
+use Rattle.idl_forms.specs.Moved.{ident_moved, num_moved, file_kind_moved, file_moved, param_moved, decl_kind_moved, decl_moved, tree_moved}
 use Rattle.idl_forms.proofs.Stream.{Seen, head, tail, class, Clean, Shown, heads, if_true, if_false, off_right}
 use Rattle.idl_forms.proofs.Readers.{mapped, both, behind, upto, chosen, split, maybe, loop, listed, maybe_listed, at_place}
 use Rattle.idl_forms.proofs.Reading.{Reads, heads_append, heads_placed, heads_right, reads_as, reads_any, reads_fewer, reads_mapped, reads_both, reads_then, behind_word, behind_mark, upto_mark, inside, reads_chosen, split_yes, split_no, maybe_none, maybe_some, reads_placed, reads_loop, reads_maybe_listed, reads_upto}
 use Rattle.idl_forms.proofs.Leaves.{a_name, a_text, a_uuid, a_token, a_num, a_pk, a_base, a_dtor, word_then, mark_heads, mark_then, ident_heads, text_heads, dtor_heads, dtors_heads, reads_name, reads_text, reads_uuid, mark_as, reads_num, reads_pk, reads_base, reads_dtor, reads_dtors}
 use Rattle.idl_forms.proofs.OwnWord.{own_word_on, has_own_word, params_off, is_own, is_not_own, param_heads}
-use Rattle.idl_forms.proofs.Specs.{spec_firsts, member_firsts, spec_by, attrs_by, kind_within, spec_heads, typed_heads, reads_spec, reads_attrs, reads_kind}
+use Rattle.idl_forms.proofs.Specs.{spec_read, attrs_read, spec_firsts, member_firsts, spec_by, attrs_by, kind_within, spec_heads, typed_heads, reads_spec, reads_attrs, reads_kind}
 use Rattle.idl_tokens.specs.Terminals.{of_word, of_mark, opening, text_class}
 use Rattle.idl_tree.specs.Grammar.{name_classes}
 
@@ -131,6 +132,30 @@ file_heads : (a : FileAttr) → heads (of_word words.Uuid ∷ of_word words.Vers
 unfolding file_attr_pieces
 file_heads a = heads_placed (of_word words.Uuid ∷ of_word words.Version ∷ of_word words.PointerDefault ∷ of_word words.Endpoint ∷ []) a.at (file_attr_kind_pieces a.what) (file_kind_heads a.what)
 
+-- ---- the form of each part, with each place moved
+
+abbrev file_kind_read : (ℕ → ℕ) → FileAttrKind → FileKindForm
+file_kind_read f k = file_kind_moved f (file_kind_form k)
+
+abbrev file_read : (ℕ → ℕ) → FileAttr → FileForm
+file_read f a = file_moved f (file_form a)
+
+abbrev param_read : (ℕ → ℕ) → ParamNode → ParamForm
+param_read f p = param_moved f (param_form p)
+
+abbrev decl_kind_read : (ℕ → ℕ) → DeclKind → DeclKindForm
+decl_kind_read f d = decl_kind_moved f (decl_kind_form d)
+
+abbrev decl_read : (ℕ → ℕ) → Decl → DeclForm
+decl_read f d = decl_moved f (decl_form d)
+
+abbrev pub tree_read : (ℕ → ℕ) → Ast → TreeForm
+tree_read f t = tree_moved f (tree_form t)
+
+fused : {A B C : Type 0} (g : B → C) (h : A → B) (xs : List A) → map g (map h xs) ≡ map (λ x. g (h x)) xs
+fused g h [] = refl
+fused g h (x ∷ xs) = ap (λ ys. g (h x) ∷ ys) (fused g h xs)
+
 -- ---- each is read off its tokens
 
 texts_are : (ts : List (List ℕ)) → map (λ (t : List ℕ). t) ts ≡ ts
@@ -140,12 +165,12 @@ texts_are (t ∷ ts) = ap (λ v. t ∷ v) (texts_are ts)
 module _ {f : ℕ → ℕ} where
   -- ---- the interface's attributes
 
-  reads_minor : {n : ℕ} (o : Option Num) → Reads f n (of_mark marks.Dot ∷ []) minor_by (minor_pieces o) (if_there (num_form f) o)
+  reads_minor : {n : ℕ} (o : Option Num) → Reads f n (of_mark marks.Dot ∷ []) minor_by (minor_pieces o) (if_there (num_moved f) o)
   unfolding minor_pieces
   reads_minor None = maybe_none (of_mark marks.Dot ∷ []) _
   reads_minor (Some x) = maybe_some (of_mark marks.Dot ∷ []) (mark_then marks.Dot _) (reads_any (of_mark marks.Dot ∷ []) (behind_mark marks.Dot (reads_num x)))
 
-  reads_file_kind : (n : ℕ) (k : FileAttrKind) → Reads f n [] (chosen (file_kind_on n)) (file_attr_kind_pieces k) (file_kind_form f k)
+  reads_file_kind : (n : ℕ) (k : FileAttrKind) → Reads f n [] (chosen (file_kind_on n)) (file_attr_kind_pieces k) (file_kind_read f k)
   unfolding file_attr_kind_pieces
   reads_file_kind n (file_attrs.Uuid id) = reads_chosen (file_kind_on n) (of_word words.Uuid) (word_then words.Uuid _) (behind_word words.Uuid (reads_fewer (inside brackets.Round refl (reads_mapped OfUuid (reads_uuid id)))))
   reads_file_kind n (file_attrs.Version major minor) = reads_chosen (file_kind_on n) (of_word words.Version) (word_then words.Version _) (behind_word words.Version (reads_fewer (inside brackets.Round refl (reads_mapped (λ p. OfVersion p.0 p.1) (reads_then (reads_num major) (reads_minor minor))))))
@@ -153,49 +178,49 @@ module _ {f : ℕ → ℕ} where
   reads_file_kind n (file_attrs.Endpoint texts) = reads_chosen (file_kind_on n) (of_word words.Endpoint) (word_then words.Endpoint _) (behind_word words.Endpoint (reads_fewer (inside brackets.Round refl
       (reads_mapped OfEndpoint (reads_as refl (sym (texts_are texts.items)) (reads_maybe_listed text_pieces (λ (t : List ℕ). t) n [] a_text refl reads_text (text_class ∷ []) text_heads texts.items))))))
 
-  reads_file : (n : ℕ) (a : FileAttr) → Reads f n [] (file_by n) (file_attr_pieces a) (file_form f a)
+  reads_file : (n : ℕ) (a : FileAttr) → Reads f n [] (file_by n) (file_attr_pieces a) (file_read f a)
   unfolding file_attr_pieces
   reads_file n a = reads_mapped as_file (reads_placed (of_word words.Uuid ∷ of_word words.Version ∷ of_word words.PointerDefault ∷ of_word words.Endpoint ∷ []) a.at (file_kind_heads a.what) (reads_file_kind n a.what))
 
   -- ---- declarations
 
-  spec_of : (n : ℕ) (s : Spec) → Reads f n (of_word words.Int ∷ opening brackets.Curly ∷ []) (a_spec n) (spec_pieces s) (spec_form f s)
+  spec_of : (n : ℕ) (s : Spec) → Reads f n (of_word words.Int ∷ opening brackets.Curly ∷ []) (a_spec n) (spec_pieces s) (spec_read f s)
   spec_of n s = reads_spec n (kind_within n) (reads_kind n) s
 
-  attrs_of : (n : ℕ) (as' : List Attr) → Reads f n (opening brackets.Square ∷ []) (attrs n) (attrs_pieces as') (attrs_form f as')
+  attrs_of : (n : ℕ) (as' : List Attr) → Reads f n (opening brackets.Square ∷ []) (attrs n) (attrs_pieces as') (attrs_read f as')
   attrs_of n as' = reads_attrs n (kind_within n) (reads_kind n) as'
 
   -- attributes and a spec, and what follows them
   typed_then : {A : Type 0} {n : ℕ} {off : List ℕ} {d : List Seen → A × List Seen} {a : A} (cs : List ℕ) (as' : List Attr) (s : Spec) (ps : Pieces) → heads cs ps ≡ true → apart cs (of_word words.Int ∷ opening brackets.Curly ∷ []) ≡ true → Reads f n off d ps a
-      → Reads f n off (both (attrs n) (both (a_spec n) d)) (attrs_pieces as' ++ (spec_pieces s ++ ps)) (attrs_form f as', (spec_form f s, a))
+      → Reads f n off (both (attrs n) (both (a_spec n) d)) (attrs_pieces as' ++ (spec_pieces s ++ ps)) (attrs_read f as', (spec_read f s, a))
   typed_then {n = n} cs as' s ps starts far r = reads_both spec_firsts (heads_append spec_firsts (spec_pieces s) ps (spec_heads s)) refl (attrs_of n as') (reads_both cs starts far (spec_of n s) r)
 
-  reads_param : (n : ℕ) (p : ParamNode) → Reads f n (opening brackets.Square ∷ []) (a_param n) (param_pieces p) (param_form f p)
+  reads_param : (n : ℕ) (p : ParamNode) → Reads f n (opening brackets.Square ∷ []) (a_param n) (param_pieces p) (param_read f p)
   unfolding param_pieces
   reads_param n p = reads_mapped as_param (typed_then (of_mark marks.Star ∷ name_classes) p.attrs.items p.spec (dtor_pieces p.dtor) (dtor_heads p.dtor) refl (reads_dtor n p.dtor))
 
-  reads_some_params : (n : ℕ) (ps : List ParamNode) → Reads f n (member_firsts ++ (of_mark marks.Comma ∷ opening brackets.Square ∷ [])) (some_params n) (commas param_pieces ps) (map (param_form f) ps)
-  reads_some_params n ps = reads_maybe_listed param_pieces (param_form f) n (opening brackets.Square ∷ []) (a_param n) refl (reads_param n) member_firsts param_heads ps
+  reads_some_params : (n : ℕ) (ps : List ParamNode) → Reads f n (member_firsts ++ (of_mark marks.Comma ∷ opening brackets.Square ∷ [])) (some_params n) (commas param_pieces ps) (map (param_read f) ps)
+  reads_some_params n ps = reads_maybe_listed param_pieces (param_read f) n (opening brackets.Square ∷ []) (a_param n) refl (reads_param n) member_firsts param_heads ps
 
-  reads_params : (n : ℕ) (v : Bool) (ps : List ParamNode) → Reads f n params_off (params_by n) (params_pieces v ps) (v, map (param_form f) ps)
+  reads_params : (n : ℕ) (v : Bool) (ps : List ParamNode) → Reads f n params_off (params_by n) (params_pieces v ps) (v, map (param_read f) ps)
   unfolding params_by params_pieces word_pieces
   reads_params n true ps = record {
-    read = λ ss rest. elim ss as (λ us. length us ≤ n → Clean us → has (head rest) params_off ≡ false → Shown f (params_pieces true ps) us rest → params_by n us ≡ ((true, map (param_form f) ps), rest)) [
+    read = λ ss rest. elim ss as (λ us. length us ≤ n → Clean us → has (head rest) params_off ≡ false → Shown f (params_pieces true ps) us rest → params_by n us ≡ ((true, map (param_read f) ps), rest)) [
       | [] ↦ λ l c o h. absurd h
       | s ∷ us ↦ λ l c o h.
           let first : class s.what ≡ of_word words.Void = ap class h.0 in
           let own : has_own_word (s ∷ us) ≡ true = ap (λ v. eqb v (of_word words.Void) && own_word_on (head us) (head (tail us))) first ∙ is_own f ps us rest c.1 o h.2 in
-          let read : some_params n us ≡ (map (param_form f) ps, rest) = (reads_some_params n ps).read us rest (omega arith) c.1 (off_right (head rest) (of_mark marks.Star ∷ []) (member_firsts ++ (of_mark marks.Comma ∷ opening brackets.Square ∷ [])) o) h.2 in
+          let read : some_params n us ≡ (map (param_read f) ps, rest) = (reads_some_params n ps).read us rest (omega arith) c.1 (off_right (head rest) (of_mark marks.Star ∷ []) (member_firsts ++ (of_mark marks.Comma ∷ opening brackets.Square ∷ [])) o) h.2 in
           if_true (has_own_word (s ∷ us)) _ _ own ∙ ap (λ v. ((true, v.0), v.1)) read
     ];
   }
   reads_params n false ps = record {
     read = λ ss rest l c o h.
-        let read : some_params n ss ≡ (map (param_form f) ps, rest) = (reads_some_params n ps).read ss rest l c (off_right (head rest) (of_mark marks.Star ∷ []) (member_firsts ++ (of_mark marks.Comma ∷ opening brackets.Square ∷ [])) o) h in
+        let read : some_params n ss ≡ (map (param_read f) ps, rest) = (reads_some_params n ps).read ss rest l c (off_right (head rest) (of_mark marks.Star ∷ []) (member_firsts ++ (of_mark marks.Comma ∷ opening brackets.Square ∷ [])) o) h in
         if_false (has_own_word ss) _ _ (is_not_own f ps ss rest c o h) ∙ ap (λ v. ((false, v.0), v.1)) read;
   }
 
-  reads_op : (n : ℕ) (name : Ident) (v : Bool) (ps : List ParamNode) → Reads f n [] (an_op n) (ident_pieces name ++ (within brackets.Round (params_pieces v ps) ++ mark_pieces marks.Semicolon)) (ident_form f name, (v, map (param_form f) ps))
+  reads_op : (n : ℕ) (name : Ident) (v : Bool) (ps : List ParamNode) → Reads f n [] (an_op n) (ident_pieces name ++ (within brackets.Round (params_pieces v ps) ++ mark_pieces marks.Semicolon)) (ident_moved f name, (v, map (param_read f) ps))
   reads_op n name v ps = reads_then (reads_name name) (upto_mark marks.Semicolon refl (reads_fewer (inside brackets.Round refl (reads_params n v ps))))
 
   -- neither a constant nor a typedef
@@ -203,7 +228,7 @@ module _ {f : ℕ → ℕ} where
       → Reads f n [] (both (attrs n) (both (a_spec n) (split (of_mark marks.Semicolon ∷ []) (a_token None) (mapped Some (an_op n))))) ps a → Reads f n [] (decl_kind_by n) ps (as_other a)
   other n ps a starts r = split_no (of_word words.Const ∷ []) member_firsts _ starts refl (split_no (of_word words.Typedef ∷ []) member_firsts _ starts refl (reads_mapped as_other r))
 
-  reads_decl_kind : (n : ℕ) (d : DeclKind) → Reads f n [] (decl_kind_by n) (decl_kind_pieces d) (decl_kind_form f d)
+  reads_decl_kind : (n : ℕ) (d : DeclKind) → Reads f n [] (decl_kind_by n) (decl_kind_pieces d) (decl_kind_read f d)
   unfolding decl_kind_pieces
   reads_decl_kind n (decls.Const base name value) = split_yes (of_word words.Const ∷ []) _ (word_then words.Const _)
       (behind_word words.Const (reads_mapped (λ p. OfConst p.0 p.1.0 p.1.1) (reads_both name_classes (heads_append name_classes (ident_pieces name) _ (ident_heads name)) refl (reads_base base) (reads_then (reads_name name) (behind_mark marks.Equals (upto_mark marks.Semicolon refl (reads_num value)))))))
@@ -211,16 +236,16 @@ module _ {f : ℕ → ℕ} where
       (behind_word words.Typedef (reads_mapped (λ p. OfTypedef p.0 p.1.0 p.1.1) (typed_then (of_mark marks.Star ∷ name_classes) as'.items s _ (heads_append (of_mark marks.Star ∷ name_classes) (dtors_pieces ds.items) _ (dtors_heads ds.items)) refl (upto_mark marks.Semicolon refl (reads_dtors n ds.items))))))
   reads_decl_kind n (decls.Lone as' s) = other n _ _ (typed_heads as'.items s _)
       (typed_then (of_mark marks.Semicolon ∷ []) as'.items s (mark_pieces marks.Semicolon) (mark_heads marks.Semicolon) refl (split_yes (of_mark marks.Semicolon ∷ []) _ (mark_heads marks.Semicolon) (mark_as None marks.Semicolon)))
-  reads_decl_kind n (decls.Op as' s name v ps) = other n _ _ (typed_heads as'.items s _)
-      (typed_then name_classes as'.items s _ (heads_append name_classes (ident_pieces name) _ (ident_heads name)) refl (split_no (of_mark marks.Semicolon ∷ []) name_classes _ (heads_append name_classes (ident_pieces name) _ (ident_heads name)) refl (reads_mapped Some (reads_op n name v ps.items))))
+  reads_decl_kind n (decls.Op as' s name v ps) = reads_as refl (ap (OfOp (attrs_read f as'.items) (spec_read f s) (ident_moved f name) v) (fused (param_moved f) param_form ps.items)) (other n _ _ (typed_heads as'.items s _)
+      (typed_then name_classes as'.items s _ (heads_append name_classes (ident_pieces name) _ (ident_heads name)) refl (split_no (of_mark marks.Semicolon ∷ []) name_classes _ (heads_append name_classes (ident_pieces name) _ (ident_heads name)) refl (reads_mapped Some (reads_op n name v ps.items)))))
 
-  reads_decl : (n : ℕ) (d : Decl) → Reads f n [] (decl_by n) (decl_pieces d) (decl_form f d)
+  reads_decl : (n : ℕ) (d : Decl) → Reads f n [] (decl_by n) (decl_pieces d) (decl_read f d)
   unfolding decl_pieces
   reads_decl n d = reads_mapped as_decl (reads_placed decl_firsts d.at (decl_kind_heads d.what) (reads_decl_kind n d.what))
 
   -- ---- the whole tree
 
-  pub reads_tree : (n : ℕ) (t : Ast) → Reads f n [] (tree_by n) (ast_pieces t) (tree_form f t)
+  pub reads_tree : (n : ℕ) (t : Ast) → Reads f n [] (tree_by n) (ast_pieces t) (tree_read f t)
   unfolding ast_pieces end_pieces
-  reads_tree n t = reads_mapped as_tree (reads_then (reads_fewer (inside brackets.Square refl (reads_maybe_listed file_attr_pieces (file_form f) n [] (file_by n) refl (reads_file n) (of_word words.Uuid ∷ of_word words.Version ∷ of_word words.PointerDefault ∷ of_word words.Endpoint ∷ []) file_heads t.attributes.items)))
-      (behind_word words.Interface (reads_then (reads_name t.name) (reads_upto _ refl (reads_fewer (inside brackets.Curly refl (reads_loop decl_pieces (decl_form f) n decl_firsts [] (decl_by n) decl_heads refl (reads_decl n) t.decls.items)))))))
+  reads_tree n t = reads_as refl (λ j. record { attributes = fused (file_moved f) file_form t.attributes.items j; name = ident_moved f t.name; decls = fused (decl_moved f) decl_form t.decls.items j }) (reads_mapped as_tree (reads_then (reads_fewer (inside brackets.Square refl (reads_maybe_listed file_attr_pieces (file_read f) n [] (file_by n) refl (reads_file n) (of_word words.Uuid ∷ of_word words.Version ∷ of_word words.PointerDefault ∷ of_word words.Endpoint ∷ []) file_heads t.attributes.items)))
+      (behind_word words.Interface (reads_then (reads_name t.name) (reads_upto _ refl (reads_fewer (inside brackets.Curly refl (reads_loop decl_pieces (decl_read f) n decl_firsts [] (decl_by n) decl_heads refl (reads_decl n) t.decls.items))))))))

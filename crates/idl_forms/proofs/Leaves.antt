@@ -28,7 +28,8 @@ use Rattle.idl_tree.specs.declared.spec.LabelKind.{LabelKind}
 use Rattle.idl_tree.specs.declared.spec.LabelKind.TheVariants as labels
 use Rattle.idl_tree.specs.Pieces.{What, Of, Pieces, alone, placed, word_pieces, mark_pieces, open_pieces, text_pieces, uuid_pieces, number_pieces, ident_pieces, if_ident, num_pieces, pk_word, pk_pieces, int_size_pieces, base_pieces, if_word, if_mark, size_pieces, array_pieces, star_pieces, dtor_pieces, ref_pieces, range_pieces, bounds_pieces, within}
 use Rattle.idl_tree.specs.Trees.{label_kind_pieces, label_pieces, dtors_pieces, names_pieces}
-use Rattle.idl_forms.specs.Forms.{if_there, ident_form, num_form, ref_form, size_form, dtor_form, label_kind_form, label_form}
+use Rattle.idl_forms.specs.Forms.{if_there}
+use Rattle.idl_forms.specs.Moved.{ident_moved, num_moved, ref_moved, size_moved, dtor_moved, label_kind_moved, label_moved}
 use Rattle.idl_forms.proofs.Stream.{has_itself, Seen, class, heads}
 use Rattle.idl_forms.proofs.Readers.{mapped, both, behind, upto, split, single, flag, maybe, loop, listed, maybe_listed, at_place}
 use Rattle.idl_forms.proofs.Reading.{Reads, heads_append, heads_placed, heads_right, reads_as, reads_any, reads_right, reads_fewer, reads_mapped, reads_both, reads_then, behind_word, behind_mark, upto_mark, inside, split_yes, split_no, split_none, reads_single, reads_bad, flag_word, flag_mark, maybe_none, maybe_some, reads_placed, reads_loop, reads_listed, reads_maybe_listed}
@@ -253,7 +254,7 @@ zeros_length (suc n) = ap suc (zeros_length n)
 -- ---- each is read off its tokens
 
 module _ {f : ℕ → ℕ} where
-  pub reads_name : {n : ℕ} (i : Ident) → Reads f n [] a_name (ident_pieces i) (ident_form f i)
+  pub reads_name : {n : ℕ} (i : Ident) → Reads f n [] a_name (ident_pieces i) (ident_moved f i)
   unfolding ident_pieces
   reads_name i = reads_single as_ident _ _ (λ s what at. cc)
 
@@ -281,7 +282,7 @@ module _ {f : ℕ → ℕ} where
   num_of at true v = reads_mapped as_num_of (reads_placed (of_mark marks.Minus ∷ []) at refl (reads_both (number_class ∷ []) refl refl (flag_mark true marks.Minus) (reads_value v)))
   num_of at false v = reads_mapped as_num_of (reads_placed (number_class ∷ []) at refl (reads_both (number_class ∷ []) refl refl (flag_mark false marks.Minus) (reads_value v)))
 
-  pub reads_num : {n : ℕ} (x : Num) → Reads f n [] a_num (num_pieces x) (num_form f x)
+  pub reads_num : {n : ℕ} (x : Num) → Reads f n [] a_num (num_pieces x) (num_moved f x)
   reads_num x = num_of x.at x.minus x.value
 
   pub reads_pk : {n : ℕ} (p : Pk) → Reads f n [] a_pk (pk_pieces p) p
@@ -324,7 +325,7 @@ module _ {f : ℕ → ℕ} where
 
   -- ---- declarators and sizes
 
-  reads_size : {n : ℕ} (s : ArraySize) → Reads f n (number_class ∷ of_mark marks.Minus ∷ (name_classes ++ (of_mark marks.Star ∷ []))) a_size (size_pieces s) (size_form f s)
+  reads_size : {n : ℕ} (s : ArraySize) → Reads f n (number_class ∷ of_mark marks.Minus ∷ (name_classes ++ (of_mark marks.Star ∷ []))) a_size (size_pieces s) (size_moved f s)
   unfolding size_pieces if_mark
   reads_size sizes.Empty = split_none (number_class ∷ of_mark marks.Minus ∷ []) _ (split_none name_classes _ (reads_mapped (λ star. if star then sizes.Star else sizes.Empty) (flag_mark false marks.Star)))
   reads_size (sizes.Number n) = split_yes (number_class ∷ of_mark marks.Minus ∷ []) _ (num_heads n) (reads_any _ (reads_mapped sizes.Number (reads_num n)))
@@ -332,7 +333,7 @@ module _ {f : ℕ → ℕ} where
   reads_size sizes.Star = split_no (number_class ∷ of_mark marks.Minus ∷ []) (of_mark marks.Star ∷ []) _ (mark_heads marks.Star) refl (split_no name_classes (of_mark marks.Star ∷ []) _ (mark_heads marks.Star) refl
       (reads_right (number_class ∷ of_mark marks.Minus ∷ name_classes) (reads_mapped (λ star. if star then sizes.Star else sizes.Empty) (flag_mark true marks.Star))))
 
-  reads_array : {n : ℕ} (a : Option ArraySize) → Reads f n (opening brackets.Square ∷ []) an_array (array_pieces a) (if_there (size_form f) a)
+  reads_array : {n : ℕ} (a : Option ArraySize) → Reads f n (opening brackets.Square ∷ []) an_array (array_pieces a) (if_there (size_moved f) a)
   unfolding array_pieces
   reads_array None = maybe_none (opening brackets.Square ∷ []) _
   reads_array (Some s) = maybe_some (opening brackets.Square ∷ []) (open_heads brackets.Square (size_pieces s)) (reads_any (opening brackets.Square ∷ []) (reads_fewer (inside brackets.Square refl (reads_size s))))
@@ -341,45 +342,45 @@ module _ {f : ℕ → ℕ} where
   reads_stars n stars' =
       reads_as (star_list stars') (sym (zeros_length stars')) (reads_mapped length (reads_loop (λ (x : ℕ). mark_pieces marks.Star) (λ (x : ℕ). zero) n (of_mark marks.Star ∷ []) [] (a_token zero) (λ x. mark_heads marks.Star) refl (λ x. mark_as zero marks.Star) (zeros stars')))
 
-  pub reads_dtor : (n : ℕ) (d : Dtor) → Reads f n (opening brackets.Square ∷ []) (a_dtor n) (dtor_pieces d) (dtor_form f d)
+  pub reads_dtor : (n : ℕ) (d : Dtor) → Reads f n (opening brackets.Square ∷ []) (a_dtor n) (dtor_pieces d) (dtor_moved f d)
   unfolding dtor_pieces
   reads_dtor n d = reads_mapped as_dtor (reads_both name_classes (heads_append name_classes (ident_pieces d.name) (array_pieces d.array) (ident_heads d.name)) refl (reads_stars n d.stars) (reads_then (reads_name d.name) (reads_array d.array)))
 
-  pub reads_dtors : (n : ℕ) (ds : List Dtor) → Reads f n (of_mark marks.Comma ∷ opening brackets.Square ∷ []) (listed n (a_dtor n)) (dtors_pieces ds) (map (dtor_form f) ds)
+  pub reads_dtors : (n : ℕ) (ds : List Dtor) → Reads f n (of_mark marks.Comma ∷ opening brackets.Square ∷ []) (listed n (a_dtor n)) (dtors_pieces ds) (map (dtor_moved f) ds)
   unfolding dtors_pieces
   reads_dtors n [] = reads_bad
-  reads_dtors n (d ∷ ds) = reads_listed dtor_pieces (dtor_form f) n (opening brackets.Square ∷ []) (a_dtor n) refl (reads_dtor n) d ds
+  reads_dtors n (d ∷ ds) = reads_listed dtor_pieces (dtor_moved f) n (opening brackets.Square ∷ []) (a_dtor n) refl (reads_dtor n) d ds
 
-  pub reads_names : (n : ℕ) (is : List Ident) → Reads f n (name_classes ++ (of_mark marks.Comma ∷ [])) (maybe_listed name_classes n a_name) (names_pieces is) (map (ident_form f) is)
+  pub reads_names : (n : ℕ) (is : List Ident) → Reads f n (name_classes ++ (of_mark marks.Comma ∷ [])) (maybe_listed name_classes n a_name) (names_pieces is) (map (ident_moved f) is)
   unfolding names_pieces
-  reads_names n is = reads_maybe_listed ident_pieces (ident_form f) n [] a_name refl reads_name name_classes ident_heads is
+  reads_names n is = reads_maybe_listed ident_pieces (ident_moved f) n [] a_name refl reads_name name_classes ident_heads is
 
-  pub reads_tag : {n : ℕ} (o : Option Ident) → Reads f n name_classes a_tag (if_ident o) (if_there (ident_form f) o)
+  pub reads_tag : {n : ℕ} (o : Option Ident) → Reads f n name_classes a_tag (if_ident o) (if_there (ident_moved f) o)
   unfolding if_ident
   reads_tag None = maybe_none name_classes _
   reads_tag (Some i) = maybe_some name_classes (ident_heads i) (reads_any name_classes (reads_name i))
 
   -- ---- attributes' sizes, and labels
 
-  pub reads_starred : {n : ℕ} (star : Bool) (i : Ident) → Reads f n [] (both (flag (of_mark marks.Star)) a_name) (if_mark star marks.Star ++ ident_pieces i) (star, ident_form f i)
+  pub reads_starred : {n : ℕ} (star : Bool) (i : Ident) → Reads f n [] (both (flag (of_mark marks.Star)) a_name) (if_mark star marks.Star ++ ident_pieces i) (star, ident_moved f i)
   reads_starred star i = reads_both name_classes (ident_heads i) refl (flag_mark star marks.Star) (reads_name i)
 
-  pub reads_ref : {n : ℕ} (r : SizeRef) → Reads f n [] a_ref (ref_pieces r) (ref_form f r)
+  pub reads_ref : {n : ℕ} (r : SizeRef) → Reads f n [] a_ref (ref_pieces r) (ref_moved f r)
   unfolding ref_pieces
   reads_ref (refs.Named star i) = split_no (number_class ∷ of_mark marks.Minus ∷ []) (of_mark marks.Star ∷ name_classes) _ (starred_heads star i) refl (reads_mapped (λ p. refs.Named p.0 p.1) (reads_starred star i))
   reads_ref (refs.Number n) = split_yes (number_class ∷ of_mark marks.Minus ∷ []) _ (num_heads n) (reads_mapped refs.Number (reads_num n))
 
-  reads_label_kind : {n : ℕ} (k : LabelKind) → Reads f n [] a_label_kind (label_kind_pieces k) (label_kind_form f k)
+  reads_label_kind : {n : ℕ} (k : LabelKind) → Reads f n [] a_label_kind (label_kind_pieces k) (label_kind_moved f k)
   unfolding label_kind_pieces
   reads_label_kind (labels.Number n) = split_no (of_word words.Default ∷ []) (of_word words.Case ∷ []) _ (word_then words.Case _) refl (behind_word words.Case (upto_mark marks.Colon refl (split_yes (number_class ∷ of_mark marks.Minus ∷ []) _ (num_heads n) (reads_mapped labels.Number (reads_num n)))))
   reads_label_kind (labels.Named i) = split_no (of_word words.Default ∷ []) (of_word words.Case ∷ []) _ (word_then words.Case _) refl (behind_word words.Case (upto_mark marks.Colon refl (split_no (number_class ∷ of_mark marks.Minus ∷ []) name_classes _ (ident_heads i) refl (reads_mapped labels.Named (reads_name i)))))
   reads_label_kind labels.Default = split_yes (of_word words.Default ∷ []) _ (word_then words.Default _) (behind_word words.Default (mark_as labels.Default marks.Colon))
 
   -- a range's bounds
-  pub reads_bounds : {n : ℕ} (low high : Num) → Reads f n [] a_bounds (bounds_pieces low high) (num_form f low, num_form f high)
+  pub reads_bounds : {n : ℕ} (low high : Num) → Reads f n [] a_bounds (bounds_pieces low high) (num_moved f low, num_moved f high)
   unfolding bounds_pieces
   reads_bounds low high = reads_then (reads_num low) (behind_mark marks.Comma (reads_num high))
 
-  pub reads_label : {n : ℕ} (l : Label) → Reads f n [] a_label (label_pieces l) (label_form f l)
+  pub reads_label : {n : ℕ} (l : Label) → Reads f n [] a_label (label_pieces l) (label_moved f l)
   unfolding label_pieces
   reads_label l = reads_mapped as_label (reads_placed (of_word words.Case ∷ of_word words.Default ∷ []) l.at (label_kind_heads l.what) (reads_label_kind l.what))

@@ -1,3 +1,5 @@
+pub mod Layers
+pub mod Unmoved
 pub mod Stream
 pub mod Readers
 pub mod Reading

@@ -1,30 +1,33 @@
--- The forms of specs and attributes by their parts.
-use Rattle.std.proofs.Common.{◌≡◌, map, Option, None, Some, Vec, Global, Box}
+-- The forms of what code makes of its parts.
+use Rattle.std.proofs.Common.{◌≡◌, map, Option, None, Some, Vec, Global, ap}
 use Rattle.idl_tree.specs.declared.leaf.Ident.{Ident}
+use Rattle.idl_tree.specs.declared.spec.AttrKind.{AttrKind}
+use Rattle.idl_tree.specs.declared.spec.SpecKind.{SpecKind}
 use Rattle.idl_tree.specs.declared.spec.ArmNode.{ArmNode}
+use Rattle.idl_tree.specs.declared.spec.Attr.{Attr}
 use Rattle.idl_tree.specs.declared.spec.Member.{Member}
 use Rattle.idl_tree.specs.declared.spec.Spec.{Spec}
 use Rattle.idl_tree.specs.declared.spec.Switch.{Switch}
 use Rattle.idl_tree.specs.declared.spec.AttrKind.TheViews as views
-use Rattle.idl_tree.specs.declared.spec.SpecKind.TheVariants as spec_kinds
 use Rattle.idl_tree.specs.declared.spec.AttrKind.TheOpen as open_
-use Rattle.idl_tree.specs.declared.spec.AttrKind.TheFolds.{fold-roll-AttrKind, fold-roll-SpecKind}
-use Rattle.idl_forms.specs.Forms.{KindForm, SpecForm, MemberForm, SwitchForm, ArmForm, AttrForm, AttrKindForm, OfEnum, OfSwitchType, if_there, ident_form, struct_form, union_form, attr_kind_layer, kind_layer, arm_layer, attr_layer, member_layer, spec_layer, switch_layer, attr_kind_form, kind_form, arm_form, member_form, spec_form, switch_form, unmoved}
+use Rattle.idl_forms.specs.Forms.{a_member, a_switch, struct_form, union_form, if_there, arm_of, kind_form, attrs_form, member_form, spec_form, switch_form, arm_form}
+use Rattle.idl_forms.proofs.Layers.{struct_none, struct_some, union_none, union_some}
 
-pub struct_made : (tag : Option Ident) (ms : Option (Vec Member Global)) → kind_form unmoved (views.Struct tag ms) ≡ struct_form (if_there (ident_form unmoved) tag) (if_there (λ (v : Vec Member Global). map (member_form unmoved) v.items) ms)
-unfolding views.roll-SpecKind denote.Hole.Carrier.roll
-struct_made tag None = fold-roll-SpecKind AttrKindForm KindForm ArmForm AttrForm MemberForm SpecForm SwitchForm (attr_kind_layer unmoved) (kind_layer unmoved) (arm_layer unmoved) (attr_layer unmoved) (member_layer unmoved) (spec_layer unmoved) (switch_layer unmoved) (open_.Struct tag None)
-struct_made tag (Some v) = fold-roll-SpecKind AttrKindForm KindForm ArmForm AttrForm MemberForm SpecForm SwitchForm (attr_kind_layer unmoved) (kind_layer unmoved) (arm_layer unmoved) (attr_layer unmoved) (member_layer unmoved) (spec_layer unmoved) (switch_layer unmoved) (open_.Struct tag (Some v))
+pub struct_made : (tag : Option Ident) (ms : Option (Vec Member Global)) → kind_form (views.Struct tag ms) ≡ struct_form tag (if_there (λ (v : Vec Member Global). map member_form v.items) ms)
+struct_made tag None = struct_none tag
+struct_made tag (Some v) = struct_some tag v
 
-pub union_made : (tag : Option Ident) (s : Option Switch) (arms : Vec ArmNode Global) → kind_form unmoved (views.Union tag s arms) ≡ union_form (if_there (ident_form unmoved) tag) (if_there (switch_form unmoved) s) (map (arm_form unmoved) arms.items)
-unfolding views.roll-SpecKind denote.Hole.Carrier.roll
-union_made tag None arms = fold-roll-SpecKind AttrKindForm KindForm ArmForm AttrForm MemberForm SpecForm SwitchForm (attr_kind_layer unmoved) (kind_layer unmoved) (arm_layer unmoved) (attr_layer unmoved) (member_layer unmoved) (spec_layer unmoved) (switch_layer unmoved) (open_.Union tag None arms)
-union_made tag (Some s) arms = fold-roll-SpecKind AttrKindForm KindForm ArmForm AttrForm MemberForm SpecForm SwitchForm (attr_kind_layer unmoved) (kind_layer unmoved) (arm_layer unmoved) (attr_layer unmoved) (member_layer unmoved) (spec_layer unmoved) (switch_layer unmoved) (open_.Union tag (Some s) arms)
+pub union_made : (tag : Option Ident) (s : Option Switch) (arms : Vec ArmNode Global) → kind_form (views.Union tag s arms) ≡ union_form tag (if_there switch_form s) (map arm_form arms.items)
+union_made tag None arms = union_none tag arms
+union_made tag (Some s) arms = union_some tag s arms
 
-pub enum_made : (tag : Option Ident) (names : Vec Ident Global) → kind_form unmoved (spec_kinds.Enum tag names) ≡ OfEnum (if_there (ident_form unmoved) tag) (map (ident_form unmoved) names.items)
-unfolding views.roll-SpecKind denote.Hole.Carrier.roll
-enum_made tag names = fold-roll-SpecKind AttrKindForm KindForm ArmForm AttrForm MemberForm SpecForm SwitchForm (attr_kind_layer unmoved) (kind_layer unmoved) (arm_layer unmoved) (attr_layer unmoved) (member_layer unmoved) (spec_layer unmoved) (switch_layer unmoved) (open_.Enum tag names)
+pub made_member : (m : open_.Member-F AttrKind SpecKind ArmNode Attr Member Spec Switch) → member_form (views.roll-Member m) ≡ a_member (attrs_form m.attrs.items) (spec_form m.spec) m.dtors.items
+made_member m = ap (λ (x : open_.Member-F AttrKind SpecKind ArmNode Attr Member Spec Switch). a_member (attrs_form x.attrs.items) (spec_form x.spec) x.dtors.items) (views.out-roll-Member m)
 
-pub switch_type_made : (b : Box Spec Global) → attr_kind_form unmoved (views.SwitchType b) ≡ OfSwitchType (spec_form unmoved b.value)
-unfolding views.roll-AttrKind denote.Hole.Carrier.roll
-switch_type_made b = fold-roll-AttrKind AttrKindForm KindForm ArmForm AttrForm MemberForm SpecForm SwitchForm (attr_kind_layer unmoved) (kind_layer unmoved) (arm_layer unmoved) (attr_layer unmoved) (member_layer unmoved) (spec_layer unmoved) (switch_layer unmoved) (open_.SwitchType b)
+pub made_switch : (s : open_.Switch-F AttrKind SpecKind ArmNode Attr Member Spec Switch) → switch_form (views.roll-Switch s) ≡ a_switch (spec_form s.spec.value) s.name s.body
+made_switch s = ap (λ (x : open_.Switch-F AttrKind SpecKind ArmNode Attr Member Spec Switch). a_switch (spec_form x.spec.value) x.name x.body) (views.out-roll-Switch s)
+
+pub made_arm : (a : open_.ArmNode-F AttrKind SpecKind ArmNode Attr Member Spec Switch) → arm_form (views.roll-ArmNode a) ≡ arm_of a.labels.items (if_there member_form a.member)
+made_arm a = ap (λ (x : open_.ArmNode-F AttrKind SpecKind ArmNode Attr Member Spec Switch). arm_of x.labels.items (if_there member_form x.member)) (views.out-roll-ArmNode a)
+
+pub ruleset made = (made_member, made_switch, made_arm)

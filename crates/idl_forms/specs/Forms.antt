@@ -1,17 +1,11 @@
--- A tree without where its lists lie in memory, and with each place moved as given. Two trees whose forms are equal are the
--- same in every item.
+-- A tree without where its lists lie in memory: two trees whose forms are equal are the same in every item.
 use Rattle.std.specs.Prelude.{◌≡◌, ℕ, Bool, List, [], ◌∷◌, map, Option, Some, None}
-use Rattle.std.specs.declared.vec.Vec.{Vec}
-use Rattle.std.specs.declared.alloc.Global.{Global}
 use Rattle.uuid.specs.declared.Uuid.{Uuid}
 use Rattle.idl_tree.specs.declared.leaf.Ident.{Ident}
 use Rattle.idl_tree.specs.declared.leaf.Num.{Num}
 use Rattle.idl_tree.specs.declared.leaf.Pk.{Pk}
 use Rattle.idl_tree.specs.declared.leaf.Base.{Base}
 use Rattle.idl_tree.specs.declared.leaf.SizeRef.{SizeRef}
-use Rattle.idl_tree.specs.declared.leaf.SizeRef.TheVariants as refs
-use Rattle.idl_tree.specs.declared.leaf.ArraySize.{ArraySize}
-use Rattle.idl_tree.specs.declared.leaf.ArraySize.TheVariants as sizes
 use Rattle.idl_tree.specs.declared.leaf.Dtor.{Dtor}
 use Rattle.idl_tree.specs.declared.spec.SpecKind.{SpecKind}
 use Rattle.idl_tree.specs.declared.spec.AttrKind.{AttrKind}
@@ -21,10 +15,9 @@ use Rattle.idl_tree.specs.declared.spec.Member.{Member}
 use Rattle.idl_tree.specs.declared.spec.Spec.{Spec}
 use Rattle.idl_tree.specs.declared.spec.Switch.{Switch}
 use Rattle.idl_tree.specs.declared.spec.Label.{Label}
-use Rattle.idl_tree.specs.declared.spec.LabelKind.{LabelKind}
-use Rattle.idl_tree.specs.declared.spec.LabelKind.TheVariants as labels
 use Rattle.idl_tree.specs.declared.spec.AttrKind.TheOpen as open_
-use Rattle.idl_tree.specs.declared.spec.AttrKind.TheFolds.{fold-AttrKind, fold-SpecKind, fold-ArmNode, fold-Attr, fold-Member, fold-Spec, fold-Switch}
+use Rattle.idl_tree.specs.declared.spec.AttrKind.TheFolds.{fold-AttrKind, fold-SpecKind}
+use Rattle.idl_tree.specs.declared.spec.AttrKind.TheViews.{out-Member, out-Switch, out-ArmNode}
 use Rattle.idl_tree.specs.declared.declaration.Ast.{Ast}
 use Rattle.idl_tree.specs.declared.declaration.Decl.{Decl}
 use Rattle.idl_tree.specs.declared.declaration.DeclKind.{DeclKind}
@@ -33,8 +26,6 @@ use Rattle.idl_tree.specs.declared.declaration.ParamNode.{ParamNode}
 use Rattle.idl_tree.specs.declared.file.FileAttr.{FileAttr}
 use Rattle.idl_tree.specs.declared.file.FileAttrKind.{FileAttrKind}
 use Rattle.idl_tree.specs.declared.file.FileAttrKind.TheVariants as file_attrs
-
--- ---- forms
 
 mutual
   pub data KindForm : Type 0 where
@@ -46,9 +37,7 @@ mutual
     -- a structure without members, and one with them
     OfTag : Option Ident → KindForm
     OfStruct : Option Ident → MemberForms → KindForm
-    -- a union without its switch, and with it
-    OfUnion : Option Ident → ArmForms → KindForm
-    OfSwitched : Option Ident → SwitchForm → ArmForms → KindForm
+    OfUnion : Option Ident → SwitchForm → ArmForms → KindForm
     OfEnum : Option Ident → List Ident → KindForm
 
   pub data SpecForm : Type 0 where
@@ -61,7 +50,9 @@ mutual
     no_member : MemberForms
     then_member : MemberForm → MemberForms → MemberForms
 
+  -- a union's switch, if it has one: the type and the name of its tag, and the name of its body
   pub data SwitchForm : Type 0 where
+    no_switch : SwitchForm
     a_switch : SpecForm → Ident → Option Ident → SwitchForm
 
   -- an arm without a member, and with one
@@ -139,161 +130,121 @@ pub record TreeForm : Type 0 where
   pub name : Ident
   pub decls : List DeclForm
 
--- ---- the form of each part, where a place is moved by f
+-- ---- one layer, with the forms of what it holds
 
 abbrev pub if_there : {A B : Type 0} → (A → B) → Option A → Option B
 if_there g None = None
 if_there g (Some x) = Some (g x)
-
-abbrev pub items_of : {A : Type 0} → Vec A Global → List A
-items_of v = v.items
 
 abbrev pub struct_form : Option Ident → Option (List MemberForm) → KindForm
 struct_form tag None = OfTag tag
 struct_form tag (Some ms) = OfStruct tag (member_forms ms)
 
 abbrev pub union_form : Option Ident → Option SwitchForm → List ArmForm → KindForm
-union_form tag None as' = OfUnion tag (arm_forms as')
-union_form tag (Some s) as' = OfSwitched tag s (arm_forms as')
+union_form tag None as' = OfUnion tag no_switch (arm_forms as')
+union_form tag (Some s) as' = OfUnion tag s (arm_forms as')
 
 abbrev pub arm_of : List Label → Option MemberForm → ArmForm
 arm_of ls None = empty_arm ls
 arm_of ls (Some m) = member_arm ls m
 
-module _ (f : ℕ → ℕ) where
-  abbrev pub ident_form : Ident → Ident
-  ident_form i = record i { at = f i.at }
+abbrev pub attr_kind_layer : open_.AttrKind-F AttrKindForm KindForm ArmForm AttrForm MemberForm SpecForm SwitchForm → AttrKindForm
+attr_kind_layer open_.In = OfIn
+attr_kind_layer open_.Out = OfOut
+attr_kind_layer (open_.Pointer p) = OfPointer p
+attr_kind_layer open_.Text = OfText
+attr_kind_layer open_.Idempotent = OfIdempotent
+attr_kind_layer open_.Maybe = OfMaybe
+attr_kind_layer open_.Handle = OfContext
+attr_kind_layer open_.HandleSerialize = OfSerialize
+attr_kind_layer open_.HandleNoserialize = OfNoserialize
+attr_kind_layer (open_.SizeIs r) = OfSizeIs r
+attr_kind_layer (open_.MaxIs r) = OfMaxIs r
+attr_kind_layer (open_.LengthIs r) = OfLengthIs r
+attr_kind_layer (open_.SwitchIs star i) = OfSwitchIs star i
+attr_kind_layer (open_.SwitchType spec) = OfSwitchType spec.value
+attr_kind_layer (open_.Range low high) = OfRange low high
 
-  abbrev pub num_form : Num → Num
-  num_form n = record n { at = f n.at }
+abbrev pub kind_layer : open_.SpecKind-F AttrKindForm KindForm ArmForm AttrForm MemberForm SpecForm SwitchForm → KindForm
+kind_layer (open_.Base b) = OfBase b
+kind_layer (open_.Named i) = OfName i
+kind_layer open_.Void = OfVoid
+kind_layer open_.HandleT = OfHandle
+kind_layer open_.ErrorStatus = OfStatus
+kind_layer (open_.Struct tag None) = OfTag tag
+kind_layer (open_.Struct tag (Some ms)) = OfStruct tag (member_forms ms.items)
+kind_layer (open_.Union tag switch arms) = union_form tag switch arms.items
+kind_layer (open_.Enum tag names) = OfEnum tag names.items
 
-  abbrev pub ref_form : SizeRef → SizeRef
-  ref_form (refs.Named star i) = refs.Named star (ident_form i)
-  ref_form (refs.Number n) = refs.Number (num_form n)
+abbrev pub arm_layer : open_.ArmNode-F AttrKindForm KindForm ArmForm AttrForm MemberForm SpecForm SwitchForm → ArmForm
+arm_layer a = arm_of a.labels.items a.member
 
-  abbrev pub size_form : ArraySize → ArraySize
-  size_form sizes.Empty = sizes.Empty
-  size_form (sizes.Number n) = sizes.Number (num_form n)
-  size_form (sizes.Named i) = sizes.Named (ident_form i)
-  size_form sizes.Star = sizes.Star
+abbrev pub attr_layer : open_.Attr-F AttrKindForm KindForm ArmForm AttrForm MemberForm SpecForm SwitchForm → AttrForm
+attr_layer a = an_attr a.at a.what
 
-  abbrev pub dtor_form : Dtor → Dtor
-  dtor_form d = record { stars = d.stars; name = ident_form d.name; array = if_there size_form d.array }
+abbrev pub member_layer : open_.Member-F AttrKindForm KindForm ArmForm AttrForm MemberForm SpecForm SwitchForm → MemberForm
+member_layer m = a_member (attr_forms m.attrs.items) m.spec m.dtors.items
 
-  abbrev pub label_kind_form : LabelKind → LabelKind
-  label_kind_form (labels.Number n) = labels.Number (num_form n)
-  label_kind_form (labels.Named i) = labels.Named (ident_form i)
-  label_kind_form labels.Default = labels.Default
+abbrev pub spec_layer : open_.Spec-F AttrKindForm KindForm ArmForm AttrForm MemberForm SpecForm SwitchForm → SpecForm
+spec_layer s = a_spec s.at s.what
 
-  abbrev pub label_form : Label → Label
-  label_form l = record { at = f l.at; what = label_kind_form l.what }
+abbrev pub switch_layer : open_.Switch-F AttrKindForm KindForm ArmForm AttrForm MemberForm SpecForm SwitchForm → SwitchForm
+switch_layer s = a_switch s.spec.value s.name s.body
 
-  -- ---- one layer, with the forms of what it holds
+abbrev pub attr_kind_form : AttrKind → AttrKindForm
+attr_kind_form = fold-AttrKind AttrKindForm KindForm ArmForm AttrForm MemberForm SpecForm SwitchForm attr_kind_layer kind_layer arm_layer attr_layer member_layer spec_layer switch_layer
 
-  abbrev pub attr_kind_layer : open_.AttrKind-F AttrKindForm KindForm ArmForm AttrForm MemberForm SpecForm SwitchForm → AttrKindForm
-  attr_kind_layer open_.In = OfIn
-  attr_kind_layer open_.Out = OfOut
-  attr_kind_layer (open_.Pointer p) = OfPointer p
-  attr_kind_layer open_.Text = OfText
-  attr_kind_layer open_.Idempotent = OfIdempotent
-  attr_kind_layer open_.Maybe = OfMaybe
-  attr_kind_layer open_.Handle = OfContext
-  attr_kind_layer open_.HandleSerialize = OfSerialize
-  attr_kind_layer open_.HandleNoserialize = OfNoserialize
-  attr_kind_layer (open_.SizeIs r) = OfSizeIs (ref_form r)
-  attr_kind_layer (open_.MaxIs r) = OfMaxIs (ref_form r)
-  attr_kind_layer (open_.LengthIs r) = OfLengthIs (ref_form r)
-  attr_kind_layer (open_.SwitchIs star i) = OfSwitchIs star (ident_form i)
-  attr_kind_layer (open_.SwitchType spec) = OfSwitchType spec.value
-  attr_kind_layer (open_.Range low high) = OfRange (num_form low) (num_form high)
+abbrev pub kind_form : SpecKind → KindForm
+kind_form = fold-SpecKind AttrKindForm KindForm ArmForm AttrForm MemberForm SpecForm SwitchForm attr_kind_layer kind_layer arm_layer attr_layer member_layer spec_layer switch_layer
 
-  abbrev pub kind_layer : open_.SpecKind-F AttrKindForm KindForm ArmForm AttrForm MemberForm SpecForm SwitchForm → KindForm
-  kind_layer (open_.Base b) = OfBase b
-  kind_layer (open_.Named i) = OfName (ident_form i)
-  kind_layer open_.Void = OfVoid
-  kind_layer open_.HandleT = OfHandle
-  kind_layer open_.ErrorStatus = OfStatus
-  kind_layer (open_.Struct tag members) = struct_form (if_there ident_form tag) (if_there items_of members)
-  kind_layer (open_.Union tag switch arms) = union_form (if_there ident_form tag) switch arms.items
-  kind_layer (open_.Enum tag names) = OfEnum (if_there ident_form tag) (map ident_form names.items)
+abbrev pub spec_form : Spec → SpecForm
+spec_form s = a_spec s.at (kind_form s.what)
 
-  abbrev pub arm_layer : open_.ArmNode-F AttrKindForm KindForm ArmForm AttrForm MemberForm SpecForm SwitchForm → ArmForm
-  arm_layer a = arm_of (map label_form a.labels.items) a.member
+abbrev pub attr_form : Attr → AttrForm
+attr_form a = an_attr a.at (attr_kind_form a.what)
 
-  abbrev pub attr_layer : open_.Attr-F AttrKindForm KindForm ArmForm AttrForm MemberForm SpecForm SwitchForm → AttrForm
-  attr_layer a = an_attr (f a.at) a.what
+abbrev pub attrs_form : List Attr → AttrForms
+attrs_form as' = attr_forms (map attr_form as')
 
-  abbrev pub member_layer : open_.Member-F AttrKindForm KindForm ArmForm AttrForm MemberForm SpecForm SwitchForm → MemberForm
-  member_layer m = a_member (attr_forms m.attrs.items) m.spec (map dtor_form m.dtors.items)
+abbrev pub member_form : Member → MemberForm
+member_form m = a_member (attrs_form (out-Member m).attrs.items) (spec_form (out-Member m).spec) (out-Member m).dtors.items
 
-  abbrev pub spec_layer : open_.Spec-F AttrKindForm KindForm ArmForm AttrForm MemberForm SpecForm SwitchForm → SpecForm
-  spec_layer s = a_spec (f s.at) s.what
+abbrev pub members_form : List Member → MemberForms
+members_form ms = member_forms (map member_form ms)
 
-  abbrev pub switch_layer : open_.Switch-F AttrKindForm KindForm ArmForm AttrForm MemberForm SpecForm SwitchForm → SwitchForm
-  switch_layer s = a_switch s.spec.value (ident_form s.name) (if_there ident_form s.body)
+abbrev pub switch_form : Switch → SwitchForm
+switch_form s = a_switch (spec_form (out-Switch s).spec.value) (out-Switch s).name (out-Switch s).body
 
-  -- ---- the form of each
+abbrev pub arm_form : ArmNode → ArmForm
+arm_form a = arm_of (out-ArmNode a).labels.items (if_there member_form (out-ArmNode a).member)
 
-  abbrev pub attr_kind_form : AttrKind → AttrKindForm
-  attr_kind_form = fold-AttrKind AttrKindForm KindForm ArmForm AttrForm MemberForm SpecForm SwitchForm attr_kind_layer kind_layer arm_layer attr_layer member_layer spec_layer switch_layer
+abbrev pub arms_form : List ArmNode → ArmForms
+arms_form as' = arm_forms (map arm_form as')
 
-  abbrev pub kind_form : SpecKind → KindForm
-  kind_form = fold-SpecKind AttrKindForm KindForm ArmForm AttrForm MemberForm SpecForm SwitchForm attr_kind_layer kind_layer arm_layer attr_layer member_layer spec_layer switch_layer
+abbrev pub file_kind_form : FileAttrKind → FileKindForm
+file_kind_form (file_attrs.Uuid id) = OfUuid id
+file_kind_form (file_attrs.Version major minor) = OfVersion major minor
+file_kind_form (file_attrs.PointerDefault p) = OfPointerDefault p
+file_kind_form (file_attrs.Endpoint texts) = OfEndpoint texts.items
 
-  abbrev pub arm_form : ArmNode → ArmForm
-  arm_form = fold-ArmNode AttrKindForm KindForm ArmForm AttrForm MemberForm SpecForm SwitchForm attr_kind_layer kind_layer arm_layer attr_layer member_layer spec_layer switch_layer
+abbrev pub file_form : FileAttr → FileForm
+file_form a = record { at = a.at; what = file_kind_form a.what }
 
-  abbrev pub attr_form : Attr → AttrForm
-  attr_form = fold-Attr AttrKindForm KindForm ArmForm AttrForm MemberForm SpecForm SwitchForm attr_kind_layer kind_layer arm_layer attr_layer member_layer spec_layer switch_layer
+abbrev pub param_form : ParamNode → ParamForm
+param_form p = record { attrs = attrs_form p.attrs.items; spec = spec_form p.spec; dtor = p.dtor }
 
-  abbrev pub member_form : Member → MemberForm
-  member_form = fold-Member AttrKindForm KindForm ArmForm AttrForm MemberForm SpecForm SwitchForm attr_kind_layer kind_layer arm_layer attr_layer member_layer spec_layer switch_layer
+abbrev pub decl_kind_form : DeclKind → DeclKindForm
+decl_kind_form (decls.Const base name value) = OfConst base name value
+decl_kind_form (decls.Typedef attrs spec dtors) = OfTypedef (attrs_form attrs.items) (spec_form spec) dtors.items
+decl_kind_form (decls.Lone attrs spec) = OfLone (attrs_form attrs.items) (spec_form spec)
+decl_kind_form (decls.Op attrs spec name void_word params) = OfOp (attrs_form attrs.items) (spec_form spec) name void_word (map param_form params.items)
 
-  abbrev pub spec_form : Spec → SpecForm
-  spec_form = fold-Spec AttrKindForm KindForm ArmForm AttrForm MemberForm SpecForm SwitchForm attr_kind_layer kind_layer arm_layer attr_layer member_layer spec_layer switch_layer
+abbrev pub decl_form : Decl → DeclForm
+decl_form d = record { at = d.at; what = decl_kind_form d.what }
 
-  abbrev pub switch_form : Switch → SwitchForm
-  switch_form = fold-Switch AttrKindForm KindForm ArmForm AttrForm MemberForm SpecForm SwitchForm attr_kind_layer kind_layer arm_layer attr_layer member_layer spec_layer switch_layer
-
-  -- ---- declarations, and a whole tree
-
-  abbrev pub file_kind_form : FileAttrKind → FileKindForm
-  file_kind_form (file_attrs.Uuid id) = OfUuid id
-  file_kind_form (file_attrs.Version major minor) = OfVersion (num_form major) (if_there num_form minor)
-  file_kind_form (file_attrs.PointerDefault p) = OfPointerDefault p
-  file_kind_form (file_attrs.Endpoint texts) = OfEndpoint texts.items
-
-  abbrev pub file_form : FileAttr → FileForm
-  file_form a = record { at = f a.at; what = file_kind_form a.what }
-
-  abbrev pub attrs_form : List Attr → AttrForms
-  attrs_form as' = attr_forms (map attr_form as')
-
-  abbrev pub param_form : ParamNode → ParamForm
-  param_form p = record { attrs = attrs_form p.attrs.items; spec = spec_form p.spec; dtor = dtor_form p.dtor }
-
-  abbrev pub decl_kind_form : DeclKind → DeclKindForm
-  decl_kind_form (decls.Const base name value) = OfConst base (ident_form name) (num_form value)
-  decl_kind_form (decls.Typedef attrs spec dtors) = OfTypedef (attrs_form attrs.items) (spec_form spec) (map dtor_form dtors.items)
-  decl_kind_form (decls.Lone attrs spec) = OfLone (attrs_form attrs.items) (spec_form spec)
-  decl_kind_form (decls.Op attrs spec name void_word params) = OfOp (attrs_form attrs.items) (spec_form spec) (ident_form name) void_word (map param_form params.items)
-
-  abbrev pub decl_form : Decl → DeclForm
-  decl_form d = record { at = f d.at; what = decl_kind_form d.what }
-
-  abbrev pub tree_form : Ast → TreeForm
-  tree_form t = record { attributes = map file_form t.attributes.items; name = ident_form t.name; decls = map decl_form t.decls.items }
-
-abbrev pub unmoved : ℕ → ℕ
-unmoved at = at
-
-abbrev pub nowhere : ℕ → ℕ
-nowhere at = 0
+abbrev pub tree_form : Ast → TreeForm
+tree_form t = record { attributes = map file_form t.attributes.items; name = t.name; decls = map decl_form t.decls.items }
 
 -- The trees are the same in every item.
 abbrev pub Same : Ast → Ast → Type 0
-Same t u = tree_form unmoved t ≡ tree_form unmoved u
-
--- They are so but for their places.
-abbrev pub Alike : Ast → Ast → Type 0
-Alike t u = tree_form nowhere t ≡ tree_form nowhere u
+Same t u = tree_form t ≡ tree_form u

@@ -4,7 +4,8 @@ use Rattle.idl_tokens.specs.declared.kinds.Kind.{Kind}
 use Rattle.idl_tokens.specs.declared.kinds.Token.{Token}
 use Rattle.idl_tree.specs.Idl.{IsTree, IsIdl}
 use Rattle.idl_tree.specs.declared.declaration.Ast.{Ast}
-use Rattle.idl_forms.specs.Forms.{Same, Alike}
+use Rattle.idl_forms.specs.Forms.{Same}
+use Rattle.idl_forms.specs.Moved.{Alike}
 
 abbrev pub TokensHaveOneTree : Type 0
 TokensHaveOneTree = (tokens : List Token) (t u : Ast) → IsTree tokens t → IsTree tokens u → Same t u

@@ -1,6 +1,6 @@
 //! Copies of declarations and of whole trees.
 ghost use Rattle.std.specs.Prelude.{◌≡◌, map, IfOk};
-ghost use Rattle.idl_forms.specs.Forms.{Same, unmoved, decl_form, decl_kind_form, param_form, file_form, file_kind_form};
+ghost use Rattle.idl_forms.specs.Forms.{Same, decl_form, decl_kind_form, param_form, file_form, file_kind_form};
 
 use crate::copied_leaves::{dtor, dtors, ident, texts};
 use crate::copied_types::{attrs_copied, spec_copied};
@@ -9,7 +9,7 @@ use rpc_base::NoMemory;
 use std::alloc::Global;
 
 fn file_attr_kind(kind: &FileAttrKind, alloc: Global) -> Result<FileAttrKind, NoMemory>
-    ensures { IfOk result (λ copy. file_kind_form unmoved copy ≡ file_kind_form unmoved kind.now) }
+    ensures { IfOk result (λ copy. file_kind_form copy ≡ file_kind_form kind.now) }
 {
     match kind {
         FileAttrKind::Uuid(id) => Ok(FileAttrKind::Uuid(*id)),
@@ -20,7 +20,7 @@ fn file_attr_kind(kind: &FileAttrKind, alloc: Global) -> Result<FileAttrKind, No
 }
 
 fn file_attrs(list: &[FileAttr], alloc: Global) -> Result<Vec<FileAttr>, NoMemory>
-    ensures { IfOk result (λ copy. map (file_form unmoved) copy.items ≡ map (file_form unmoved) list.now) }
+    ensures { IfOk result (λ copy. map file_form copy.items ≡ map file_form list.now) }
 {
     let mut copies = Vec::new(alloc);
     for attr in list {
@@ -31,7 +31,7 @@ fn file_attrs(list: &[FileAttr], alloc: Global) -> Result<Vec<FileAttr>, NoMemor
 }
 
 fn param(param: &ParamNode, alloc: Global) -> Result<ParamNode, NoMemory>
-    ensures { IfOk result (λ copy. param_form unmoved copy ≡ param_form unmoved param.now) }
+    ensures { IfOk result (λ copy. param_form copy ≡ param_form param.now) }
 {
     let attrs = attrs_copied(&param.attrs, alloc)?;
     let spec = spec_copied(&param.spec, alloc)?;
@@ -40,7 +40,7 @@ fn param(param: &ParamNode, alloc: Global) -> Result<ParamNode, NoMemory>
 }
 
 fn params(list: &[ParamNode], alloc: Global) -> Result<Vec<ParamNode>, NoMemory>
-    ensures { IfOk result (λ copy. map (param_form unmoved) copy.items ≡ map (param_form unmoved) list.now) }
+    ensures { IfOk result (λ copy. map param_form copy.items ≡ map param_form list.now) }
 {
     let mut copies = Vec::new(alloc);
     for item in list {
@@ -50,7 +50,7 @@ fn params(list: &[ParamNode], alloc: Global) -> Result<Vec<ParamNode>, NoMemory>
 }
 
 fn decl_kind(kind: &DeclKind, alloc: Global) -> Result<DeclKind, NoMemory>
-    ensures { IfOk result (λ copy. decl_kind_form unmoved copy ≡ decl_kind_form unmoved kind.now) }
+    ensures { IfOk result (λ copy. decl_kind_form copy ≡ decl_kind_form kind.now) }
 {
     match kind {
         DeclKind::Const { base, name, value } => Ok(DeclKind::Const {
@@ -96,7 +96,7 @@ fn decl_kind(kind: &DeclKind, alloc: Global) -> Result<DeclKind, NoMemory>
 }
 
 fn decls(list: &[Decl], alloc: Global) -> Result<Vec<Decl>, NoMemory>
-    ensures { IfOk result (λ copy. map (decl_form unmoved) copy.items ≡ map (decl_form unmoved) list.now) }
+    ensures { IfOk result (λ copy. map decl_form copy.items ≡ map decl_form list.now) }
 {
     let mut copies = Vec::new(alloc);
     for decl in list {

@@ -1,7 +1,7 @@
 //! Copies of type specs and what they hold, which hold one another. The recursion goes as deep as
 //! the tree.
 ghost use Rattle.std.specs.Prelude.{◌≡◌, map, IfOk};
-ghost use Rattle.idl_forms.specs.Forms.{unmoved, spec_form, kind_form, member_form, switch_form, arm_form, attr_form, attr_kind_form, if_there, items_of, ident_form, struct_form, union_form, OfEnum, OfSwitchType};
+ghost use Rattle.idl_forms.specs.Forms.{spec_form, kind_form, member_form, switch_form, arm_form, attr_form, attr_kind_form, if_there, struct_form, union_form, OfEnum, OfSwitchType};
 
 use crate::copied_leaves::{dtors, ident, ident_or_none, idents, labels, size_ref};
 use idl_tree::{ArmNode, Attr, AttrKind, Ident, Member, Spec, SpecKind, Switch};
@@ -10,15 +10,16 @@ use std::alloc::Global;
 
 #[cycle(copy)]
 pub fn spec_copied(spec: &Spec, alloc: Global) -> Result<Spec, NoMemory>
-    ensures { IfOk result (λ copy. spec_form unmoved copy ≡ spec_form unmoved spec.now) }
+    ensures { IfOk result (λ copy. spec_form copy ≡ spec_form spec.now) }
 {
     let what = kind_copied(&spec.what, alloc)?;
     Ok(Spec { at: spec.at, what })
 }
 
 #[cycle(copy)]
+#[tactic(auto, using(crate::proofs::Layers::kinds))]
 fn kind_copied(kind: &SpecKind, alloc: Global) -> Result<SpecKind, NoMemory>
-    ensures { IfOk result (λ copy. kind_form unmoved copy ≡ kind_form unmoved kind.now) }
+    ensures { IfOk result (λ copy. kind_form copy ≡ kind_form kind.now) }
 {
     match kind {
         SpecKind::Base(base) => Ok(SpecKind::Base(*base)),
@@ -28,20 +29,20 @@ fn kind_copied(kind: &SpecKind, alloc: Global) -> Result<SpecKind, NoMemory>
         SpecKind::ErrorStatus => Ok(SpecKind::ErrorStatus),
         SpecKind::Struct { tag, members } => {
             let tag = ident_or_none(tag, alloc)?;
-            let members = match members {
-                None => None,
-                Some(list) => Some(members_copied(list, alloc)?),
-            };
-            Ok(struct_of(tag, members))
+            match members {
+                None => Ok(struct_of(tag, None)),
+                Some(list) => Ok(struct_of(tag, Some(members_copied(list, alloc)?))),
+            }
         }
         SpecKind::Union { tag, switch, arms } => {
             let tag = ident_or_none(tag, alloc)?;
-            let switch = match switch {
-                None => None,
-                Some(switch) => Some(switch_copied(switch, alloc)?),
-            };
-            let arms = arms_copied(arms, alloc)?;
-            Ok(union_of(tag, switch, arms))
+            match switch {
+                None => Ok(union_of(tag, None, arms_copied(arms, alloc)?)),
+                Some(switch) => {
+                    let switch = switch_copied(switch, alloc)?;
+                    Ok(union_of(tag, Some(switch), arms_copied(arms, alloc)?))
+                }
+            }
         }
         SpecKind::Enum { tag, names } => {
             let tag = ident_or_none(tag, alloc)?;
@@ -53,28 +54,28 @@ fn kind_copied(kind: &SpecKind, alloc: Global) -> Result<SpecKind, NoMemory>
 
 // A structure of that tag and these members.
 fn struct_of(tag: Option<Ident>, members: Option<Vec<Member>>) -> SpecKind
-    ensures { kind_form unmoved result ≡ struct_form (if_there (ident_form unmoved) tag) (if_there (λ ms. map (member_form unmoved) ms.items) members) }
+    ensures { kind_form result ≡ struct_form tag (if_there (λ ms. map member_form ms.items) members) }
 {
     SpecKind::Struct { tag, members }
 }
 
 // A union of that tag, that switch and these arms.
 fn union_of(tag: Option<Ident>, switch: Option<Switch>, arms: Vec<ArmNode>) -> SpecKind
-    ensures { kind_form unmoved result ≡ union_form (if_there (ident_form unmoved) tag) (if_there (switch_form unmoved) switch) (map (arm_form unmoved) arms.items) }
+    ensures { kind_form result ≡ union_form tag (if_there switch_form switch) (map arm_form arms.items) }
 {
     SpecKind::Union { tag, switch, arms }
 }
 
 // An enumeration of that tag and these names.
 fn enum_of(tag: Option<Ident>, names: Vec<Ident>) -> SpecKind
-    ensures { kind_form unmoved result ≡ OfEnum (if_there (ident_form unmoved) tag) (map (ident_form unmoved) names.items) }
+    ensures { kind_form result ≡ OfEnum tag names.items }
 {
     SpecKind::Enum { tag, names }
 }
 
 #[cycle(copy)]
 fn members_copied(list: &[Member], alloc: Global) -> Result<Vec<Member>, NoMemory>
-    ensures { IfOk result (λ copy. map (member_form unmoved) copy.items ≡ map (member_form unmoved) list.now) }
+    ensures { IfOk result (λ copy. map member_form copy.items ≡ map member_form list.now) }
 {
     let mut copies = Vec::new(alloc);
     for item in list {
@@ -84,8 +85,9 @@ fn members_copied(list: &[Member], alloc: Global) -> Result<Vec<Member>, NoMemor
 }
 
 #[cycle(copy)]
+#[tactic(auto, using(crate::proofs::Made::made))]
 fn member_copied(member: &Member, alloc: Global) -> Result<Member, NoMemory>
-    ensures { IfOk result (λ copy. member_form unmoved copy ≡ member_form unmoved member.now) }
+    ensures { IfOk result (λ copy. member_form copy ≡ member_form member.now) }
 {
     let attrs = attrs_copied(&member.attrs, alloc)?;
     let spec = spec_copied(&member.spec, alloc)?;
@@ -94,8 +96,9 @@ fn member_copied(member: &Member, alloc: Global) -> Result<Member, NoMemory>
 }
 
 #[cycle(copy)]
+#[tactic(auto, using(crate::proofs::Made::made))]
 fn switch_copied(switch: &Switch, alloc: Global) -> Result<Switch, NoMemory>
-    ensures { IfOk result (λ copy. switch_form unmoved copy ≡ switch_form unmoved switch.now) }
+    ensures { IfOk result (λ copy. switch_form copy ≡ switch_form switch.now) }
 {
     let spec = Box::new(alloc, spec_copied(&switch.spec, alloc)?)?;
     let name = ident(&switch.name, alloc)?;
@@ -105,7 +108,7 @@ fn switch_copied(switch: &Switch, alloc: Global) -> Result<Switch, NoMemory>
 
 #[cycle(copy)]
 fn arms_copied(list: &[ArmNode], alloc: Global) -> Result<Vec<ArmNode>, NoMemory>
-    ensures { IfOk result (λ copy. map (arm_form unmoved) copy.items ≡ map (arm_form unmoved) list.now) }
+    ensures { IfOk result (λ copy. map arm_form copy.items ≡ map arm_form list.now) }
 {
     let mut copies = Vec::new(alloc);
     for item in list {
@@ -115,8 +118,9 @@ fn arms_copied(list: &[ArmNode], alloc: Global) -> Result<Vec<ArmNode>, NoMemory
 }
 
 #[cycle(copy)]
+#[tactic(auto, using(crate::proofs::Made::made))]
 fn arm_copied(arm: &ArmNode, alloc: Global) -> Result<ArmNode, NoMemory>
-    ensures { IfOk result (λ copy. arm_form unmoved copy ≡ arm_form unmoved arm.now) }
+    ensures { IfOk result (λ copy. arm_form copy ≡ arm_form arm.now) }
 {
     let labels = labels(&arm.labels, alloc)?;
     let member = match &arm.member {
@@ -128,7 +132,7 @@ fn arm_copied(arm: &ArmNode, alloc: Global) -> Result<ArmNode, NoMemory>
 
 #[cycle(copy)]
 pub fn attrs_copied(list: &[Attr], alloc: Global) -> Result<Vec<Attr>, NoMemory>
-    ensures { IfOk result (λ copy. map (attr_form unmoved) copy.items ≡ map (attr_form unmoved) list.now) }
+    ensures { IfOk result (λ copy. map attr_form copy.items ≡ map attr_form list.now) }
 {
     let mut copies = Vec::new(alloc);
     for item in list {
@@ -139,7 +143,7 @@ pub fn attrs_copied(list: &[Attr], alloc: Global) -> Result<Vec<Attr>, NoMemory>
 
 #[cycle(copy)]
 fn attr_copied(attr: &Attr, alloc: Global) -> Result<Attr, NoMemory>
-    ensures { IfOk result (λ copy. attr_form unmoved copy ≡ attr_form unmoved attr.now) }
+    ensures { IfOk result (λ copy. attr_form copy ≡ attr_form attr.now) }
 {
     let what = attr_kind_copied(&attr.what, alloc)?;
     Ok(Attr { at: attr.at, what })
@@ -147,7 +151,7 @@ fn attr_copied(attr: &Attr, alloc: Global) -> Result<Attr, NoMemory>
 
 #[cycle(copy)]
 fn attr_kind_copied(kind: &AttrKind, alloc: Global) -> Result<AttrKind, NoMemory>
-    ensures { IfOk result (λ copy. attr_kind_form unmoved copy ≡ attr_kind_form unmoved kind.now) }
+    ensures { IfOk result (λ copy. attr_kind_form copy ≡ attr_kind_form kind.now) }
 {
     match kind {
         AttrKind::In => Ok(AttrKind::In),
@@ -176,7 +180,7 @@ fn attr_kind_copied(kind: &AttrKind, alloc: Global) -> Result<AttrKind, NoMemory
 
 // The attribute `switch_type` of that spec.
 fn switch_type_of(spec: Box<Spec>) -> AttrKind
-    ensures { attr_kind_form unmoved result ≡ OfSwitchType (spec_form unmoved spec.value) }
+    ensures { attr_kind_form result ≡ OfSwitchType (spec_form spec.value) }
 {
     AttrKind::SwitchType(spec)
 }

@@ -8,7 +8,7 @@ use Rattle.idl_tree.specs.Pieces.{What, Of, Opens, Pieces, Stands, Front}
 use Rattle.idl_tree.specs.Files.{ast_pieces}
 use Rattle.idl_tree.specs.Idl.{IsTree, IsIdl}
 use Rattle.idl_tree.specs.declared.declaration.Ast.{Ast}
-use Rattle.idl_forms.specs.Forms.{Alike}
+use Rattle.idl_forms.specs.Moved.{Alike}
 use Rattle.idl_forms.proofs.Top.{same_kinds}
 use Rattle.idl_print.specs.Canonical.{kind_of, kinds_in, canonical_text}
 use Rattle.idl_print.proofs.Same.{spell_the_same, departs_nowhere}

@@ -2,7 +2,7 @@
 use Rattle.std.specs.Prelude.{◌≡◌, ℕ, List}
 use Rattle.idl_tree.specs.Idl.{IsIdl}
 use Rattle.idl_tree.specs.declared.declaration.Ast.{Ast}
-use Rattle.idl_forms.specs.Forms.{Alike}
+use Rattle.idl_forms.specs.Moved.{Alike}
 use Rattle.idl_print.specs.Canonical.{canonical_text}
 use Rattle.idl_reader.specs.Causes.{IsCause}
 use Rattle.idl_reader.specs.declared.fault.IdlFault.{IdlFault}

@@ -1,4 +1,3 @@
-pub mod Plain
 pub mod Names
 pub mod Outline
 pub mod Kept

@@ -1,6 +1,6 @@
 -- What names stand for: a name stands for what its newest declaration of that kind declares. The events before a place of the
 -- text are its past, the newest first.
-use Rattle.std.specs.Prelude.{ℕ, ◌==◌, Bool, true, false, not, ◌||◌, ◌&&◌, List, [], ◌∷◌, Option, Some, None, is_some, map, reverse, if◌then◌else◌, bytes_eq}
+use Rattle.std.specs.Prelude.{ℤ, pos, neg_ℤ, ℕ, ◌==◌, Bool, true, false, not, ◌||◌, ◌&&◌, List, [], ◌∷◌, Option, Some, None, is_some, map, reverse, if◌then◌else◌, bytes_eq}
 use Rattle.std.specs.List.{list_any}
 use Rattle.std.specs.Option.{option_or}
 use Rattle.idl_tree.specs.declared.leaf.Ident.{Ident}
@@ -33,6 +33,10 @@ use Rattle.idl_outline.specs.declared.event.Event.TheVariants as events
 
 abbrev pub Past : Type 0
 Past = List Event
+
+-- the number, with its sign
+abbrev pub value_of : Num → ℤ
+value_of n = if n.minus then neg_ℤ (pos n.value) else pos n.value
 
 -- ---- types
 

@@ -4,6 +4,7 @@ ghost use Rattle.idl_tree.specs.declared.leaf.Dtor.{Dtor};
 ghost use Rattle.idl_outline.specs.Names as spec;
 ghost use Rattle.idl_outline.specs.Outline.{by_value, all_pointed, alone, before_declarators, result_setting, size_of, array_past, size_past, sizes_past, field_of, types_past, result_dtor};
 
+use crate::classes::{class_at, or_class};
 use crate::event::{Event, Tag};
 use crate::field::{
     Attribute, Attributes, Bare, Declared, Extent, Field, Mark, NameRef, Place, Size,
@@ -84,28 +85,6 @@ pub fn tag_given(attributes: &[Attribute]) -> Tag
     match first_tag(attributes) {
         Some(tag) => tag,
         None => Tag::Missing,
-    }
-}
-
-fn class_at(default: Pk, place: Place) -> Pk
-    ensures { result ≡ spec.class_at default place }
-{
-    match place {
-        Place::Parameter => Pk::Ref,
-        Place::Typedef => default,
-        Place::Alone => default,
-        Place::Operation => default,
-        Place::Member => default,
-        Place::Arm => default,
-    }
-}
-
-fn or_class(class: Option<Pk>, other: Pk) -> Pk
-    ensures { result ≡ spec.or_class class other }
-{
-    match class {
-        Some(class) => class,
-        None => other,
     }
 }
 
@@ -265,6 +244,13 @@ pub fn any_by_value(dtors: &[Dtor]) -> bool
     dtors.iter().any(|dtor| dtor.stars == 0)
 }
 
+/// Whether each declarator has a star.
+pub fn all_pointed(dtors: &[Dtor]) -> bool
+    ensures { result ≡ all_pointed dtors.now }
+{
+    !any_by_value(dtors)
+}
+
 /// The setting of a spec that no declarator follows. `given`: the tag from its attributes.
 pub fn setting_alone(default: Pk, given: Tag) -> Setting
     ensures { result ≡ alone default given }
@@ -288,7 +274,7 @@ pub fn setting_of(
 {
     Setting {
         default,
-        pointed: !any_by_value(dtors),
+        pointed: all_pointed(dtors),
         void_allowed,
         given: tag_given(attributes),
     }

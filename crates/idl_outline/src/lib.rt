@@ -3,6 +3,7 @@
 //! interfaces speaks of an outline.
 #![tactic(auto)]
 
+mod classes;
 mod declarators;
 mod entries;
 mod event;
@@ -13,8 +14,9 @@ mod setting;
 mod ty;
 mod types;
 
+pub use classes::{class_at, or_class, pointer_default};
 pub use declarators::{
-    any_by_value, ends_open, field_with, has_handle_word, setting_alone, setting_of,
+    all_pointed, any_by_value, ends_open, field_with, has_handle_word, setting_alone, setting_of,
     setting_of_result, size, size_used, sizes_used, tag_given,
 };
 pub use event::{Event, Events, Label, Labels, Tag};

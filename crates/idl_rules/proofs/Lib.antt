@@ -1,2 +1,4 @@
 pub mod Leasts
+pub mod Mapped
+pub mod Twins
 pub mod Seen

@@ -8,10 +8,7 @@ use Rattle.std.specs.Prelude.{ℕ, ◌==◌, Bool, true, false, not, ◌&&◌, �
 use Rattle.std.specs.List.{list_any, list_all, flat_map}
 use Rattle.idl_tree.specs.declared.leaf.Ident.{Ident}
 use Rattle.idl_tree.specs.declared.leaf.Pk.{Pk}
-use Rattle.idl_tree.specs.declared.file.FileAttr.{FileAttr}
-use Rattle.idl_tree.specs.declared.file.FileAttrKind.{FileAttrKind}
-use Rattle.idl_tree.specs.declared.file.FileAttrKind.TheVariants as file_kinds
-use Rattle.idl_tree.specs.declared.declaration.Ast.{Ast}
+use Rattle.idl_forms.specs.Forms.{FileKindForm, OfUuid, OfVersion, OfPointerDefault, OfEndpoint, FileForm, TreeForm}
 use Rattle.idl_outline.specs.declared.field.Bare.{Bare}
 use Rattle.idl_outline.specs.declared.field.Bare.TheVariants as bares
 use Rattle.idl_outline.specs.declared.field.Mark.{Mark}
@@ -209,20 +206,20 @@ bad_attribute past _ = []
 
 -- ---- the interface's own attributes
 
-abbrev pub file_kind : FileAttrKind → ℕ
-file_kind (file_kinds.Uuid u) = 0
-file_kind (file_kinds.Version major minor) = 1
-file_kind (file_kinds.PointerDefault k) = 2
-file_kind (file_kinds.Endpoint texts) = 3
+abbrev pub file_kind : FileKindForm → ℕ
+file_kind (OfUuid u) = 0
+file_kind (OfVersion major minor) = 1
+file_kind (OfPointerDefault k) = 2
+file_kind (OfEndpoint texts) = 3
 
-abbrev pub is_uuid : FileAttr → Bool
+abbrev pub is_uuid : FileForm → Bool
 is_uuid a = file_kind a.what == 0
 
-abbrev pub same_file_kind : FileAttr → FileAttr → Bool
+abbrev pub same_file_kind : FileForm → FileForm → Bool
 same_file_kind a b = file_kind a.what == file_kind b.what
 
-abbrev pub file_place : FileAttr → ℕ
+abbrev pub file_place : FileForm → ℕ
 file_place a = a.at
 
-abbrev pub bad_file : Ast → List ℕ
-bad_file tree = repeats same_file_kind file_place tree.attributes.items ++ at_if (not (list_any is_uuid tree.attributes.items)) tree.name.at
+abbrev pub bad_file : TreeForm → List ℕ
+bad_file tree = repeats same_file_kind file_place tree.attributes ++ at_if (not (list_any is_uuid tree.attributes)) tree.name.at

@@ -1,6 +1,7 @@
 -- Which rules an interface breaks, and where; and the breach that is named.
 use Rattle.std.specs.Prelude.{◌≡◌, ℕ, ◌<◌, ◌≤◌, ◌==◌, ◌⊎◌, List, [], ◌++◌, if◌then◌else◌}
 use Rattle.idl_tree.specs.declared.declaration.Ast.{Ast}
+use Rattle.idl_forms.specs.Forms.{TreeForm, tree_form}
 use Rattle.idl_outline.specs.Outline.{outline}
 use Rattle.idl_rules.specs.Places.{Among, gathered}
 use Rattle.idl_rules.specs.Unknown.{unknown}
@@ -13,8 +14,8 @@ use Rattle.idl_rules.specs.Recursion.{recursion}
 use Rattle.idl_rules.specs.UnionTag.{union_tag}
 use Rattle.idl_rules.specs.OutsideProfile.{outside_profile}
 
--- the places where the interface breaks the rule of that number
-abbrev pub places : Ast → ℕ → List ℕ
+-- the places where an interface of that form breaks the rule of that number
+abbrev pub places : TreeForm → ℕ → List ℕ
 places tree number =
     if number == 1 then gathered unknown (outline tree) else
     (if number == 2 then gathered duplicate (outline tree) else
@@ -27,7 +28,7 @@ places tree number =
     (if number == 9 then gathered outside_profile (outline tree) else []))))))))
 
 pub record Broken (tree : Ast) (number at : ℕ) : Type 0 where
-  pub there : Among at (places tree number)
+  pub there : Among at (places (tree_form tree) number)
 
 -- the breach with the least place, and at that place the least number
 pub record IsLeastBreach (tree : Ast) (number at : ℕ) : Type 0 where

@@ -4,7 +4,7 @@ use Rattle.std.specs.Ordering.{int_eq}
 use Rattle.std.specs.Cmp.{both_ways}
 use Rattle.std.proofs.Common.{refl, ap}
 use Rattle.std.proofs.lemmas.Bool.Decides.{Decides-eqb, Decides-int_eq}
-use Rattle.idl_tree.specs.declared.file.FileAttr.{FileAttr}
+use Rattle.idl_forms.specs.Forms.{FileForm}
 use Rattle.idl_outline.specs.declared.event.Label.{Label}
 use Rattle.idl_outline.specs.declared.event.Label.TheVariants as labels
 use Rattle.idl_outline.specs.declared.field.Attribute.{Attribute}
@@ -38,5 +38,5 @@ same_number m n =
 pub attributes_by_key : (a b : Attribute) → same_kind a b ≡ same_key (attribute_key a) (attribute_key b)
 attributes_by_key a b = same_number (kind_of a.mark) (kind_of b.mark)
 
-pub files_by_key : (a b : FileAttr) → same_file_kind a b ≡ same_key (file_key a) (file_key b)
+pub files_by_key : (a b : FileForm) → same_file_kind a b ≡ same_key (file_key a) (file_key b)
 files_by_key a b = same_number (file_kind a.what) (file_kind b.what)

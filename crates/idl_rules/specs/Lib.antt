@@ -14,6 +14,7 @@ pub mod Recursion
 pub mod UnionTag
 pub mod OutsideProfile
 pub mod Broken
+pub mod Laws
 pub mod Seen
 pub mod Numbers
 pub mod Ranges

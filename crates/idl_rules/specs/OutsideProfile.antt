@@ -20,9 +20,9 @@ use Rattle.idl_outline.specs.declared.field.Declared.{Declared}
 use Rattle.idl_outline.specs.declared.field.Field.{Field}
 use Rattle.idl_outline.specs.declared.event.Event.{Event}
 use Rattle.idl_outline.specs.declared.event.Event.TheVariants as events
-use Rattle.idl_outline.specs.Names.{is_operation, is_typedef_event}
+use Rattle.idl_outline.specs.Names.{value_of, is_operation, is_typedef_event}
 use Rattle.idl_rules.specs.Places.{at_if}
-use Rattle.idl_rules.specs.Types.{value_of, is_typedef, is_pointer_layer}
+use Rattle.idl_rules.specs.Types.{is_typedef, is_pointer_layer}
 use Rattle.idl_rules.specs.Numbers.{within, int_holds}
 use Rattle.idl_rules.specs.TooManyHandles.{declared_of, place_if}
 

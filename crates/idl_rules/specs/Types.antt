@@ -1,7 +1,6 @@
 -- What is asked of types and attributes.
-use Rattle.std.specs.Prelude.{ℕ, ◌==◌, Bool, true, false, not, ◌&&◌, ◌||◌, List, Option, Some, None, is_none, if◌then◌else◌, ℤ, pos, neg_ℤ}
+use Rattle.std.specs.Prelude.{ℕ, ◌==◌, Bool, true, false, not, ◌&&◌, ◌||◌, List, Option, Some, None, is_none}
 use Rattle.std.specs.List.{list_any}
-use Rattle.idl_tree.specs.declared.leaf.Num.{Num}
 use Rattle.idl_tree.specs.declared.leaf.Pk.{Pk}
 use Rattle.idl_tree.specs.declared.leaf.Pk.TheVariants as pks
 use Rattle.idl_outline.specs.declared.ty.DataType.{DataType}
@@ -19,10 +18,6 @@ use Rattle.idl_outline.specs.declared.field.Attribute.{Attribute}
 use Rattle.idl_outline.specs.declared.field.Field.{Field}
 use Rattle.idl_rules.specs.declared.asked.Asked.{Asked}
 use Rattle.idl_rules.specs.declared.asked.Asked.TheVariants as kinds
-
--- the number, with its sign
-abbrev pub value_of : Num → ℤ
-value_of n = if n.minus then neg_ℤ (pos n.value) else pos n.value
 
 -- neither a pointer nor an array
 abbrev pub by_value : DataType → Bool

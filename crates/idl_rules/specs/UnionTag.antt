@@ -17,9 +17,10 @@ use Rattle.idl_outline.specs.declared.event.Label.{Label}
 use Rattle.idl_outline.specs.declared.event.Label.TheVariants as labels
 use Rattle.idl_outline.specs.declared.event.Event.{Event}
 use Rattle.idl_outline.specs.declared.event.Event.TheVariants as events
+use Rattle.idl_outline.specs.Names.{value_of}
 use Rattle.idl_rules.specs.Numbers.{within, int_holds}
 use Rattle.idl_rules.specs.Places.{at_if, repeats}
-use Rattle.idl_rules.specs.Types.{by_value, is_unknown, is_tag_core, value_of, says_switch_type, has}
+use Rattle.idl_rules.specs.Types.{by_value, is_unknown, is_tag_core, says_switch_type, has}
 
 -- ---- the type of the tag
 

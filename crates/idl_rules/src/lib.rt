@@ -5,6 +5,7 @@
 mod again;
 mod asked;
 mod duplicates;
+mod laws;
 mod least;
 mod numbers;
 mod ranges;
@@ -21,6 +22,7 @@ pub use asked::{
     is_typedef, is_unknown, is_void, says_maybe,
 };
 pub use duplicates::duplicate;
+pub use laws::{same_trees_break_the_same_rules, same_trees_have_one_outline};
 pub use least::{lesser, place_if};
 pub use numbers::{int_holds, within};
 pub use ranges::may_range;

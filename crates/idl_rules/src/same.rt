@@ -1,6 +1,7 @@
 //! Which labels and which attributes are of one kind.
 ghost use Rattle.std.specs.Prelude.{◌≡◌};
-ghost use Rattle.idl_rules.specs.Types as types;
+ghost use Rattle.idl_forms.specs.Forms.{file_form, file_kind_form};
+ghost use Rattle.idl_outline.specs.Names as names;
 ghost use Rattle.idl_rules.specs.UnionTag as tags;
 ghost use Rattle.idl_rules.specs.BadAttribute as attributes;
 ghost use Rattle.idl_rules.specs.Keys as keys;
@@ -11,7 +12,7 @@ use idl_tree::{FileAttr, FileAttrKind, Num};
 
 /// The number, with its sign.
 pub fn value_of(number: Num) -> i128
-    ensures { result ≡ types.value_of number }
+    ensures { result ≡ names.value_of number }
 {
     let size = i128::from(number.value);
     if number.minus { -size } else { size }
@@ -97,7 +98,7 @@ impl Again for Attribute {
 }
 
 fn file_kind(kind: &FileAttrKind) -> u8
-    ensures { result ≡ attributes.file_kind kind.now }
+    ensures { result ≡ attributes.file_kind (file_kind_form kind.now) }
 {
     match kind {
         FileAttrKind::Uuid(_) => 0,
@@ -109,23 +110,24 @@ fn file_kind(kind: &FileAttrKind) -> u8
 
 /// Whether it is the interface's uuid.
 pub fn is_uuid(attribute: &FileAttr) -> bool
-    ensures { result ≡ attributes.is_uuid attribute.now }
+    ensures { result ≡ attributes.is_uuid (file_form attribute.now) }
 {
     file_kind(&attribute.what) == 0
 }
 
 impl Again for FileAttr {
+    ghost use Rattle.idl_forms.specs.Forms.{file_form};
     ghost use Rattle.idl_rules.specs.BadAttribute as attributes;
     ghost use Rattle.idl_rules.specs.Keys as keys;
     ghost use Rattle.idl_rules.specs.ByKey as keyed;
 
-    ghost same = { attributes.same_file_kind };
+    ghost same = { λ a b. attributes.same_file_kind (file_form a) (file_form b) };
 
-    ghost place_of = { attributes.file_place };
+    ghost place_of = { λ a. attributes.file_place (file_form a) };
 
-    ghost key_of = { keys.file_key };
+    ghost key_of = { λ a. keys.file_key (file_form a) };
 
-    ghost by_key = { keyed.files_by_key };
+    ghost by_key = { λ a b. keyed.files_by_key (file_form a) (file_form b) };
 
     fn key(&self) -> Key {
         Key::Number(i128::from(file_kind(&self.what)))

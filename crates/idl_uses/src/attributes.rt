@@ -1,9 +1,11 @@
 //! The third rule: attributes, and what asks for them.
-ghost use Rattle.std.specs.Prelude.{◌≡◌, List, IfOk};
+ghost use Rattle.std.specs.Prelude.{◌≡◌, List, map, IfOk};
 ghost use Rattle.std.specs.List.{flat_map, list_any};
+ghost use Rattle.idl_forms.specs.Forms.{tree_form, file_form};
 ghost use Rattle.idl_outline.specs.declared.event.Event.{Event};
 ghost use Rattle.idl_rules.specs.Types as types;
 ghost use Rattle.idl_rules.specs.Least.{least};
+ghost use Rattle.idl_rules.specs.Places.{repeats};
 ghost use Rattle.idl_rules.specs.BadAttribute as spec;
 ghost use Rattle.idl_uses.specs.Facts as facts;
 
@@ -155,9 +157,26 @@ pub fn bad_attribute(alloc: Global, event: &Event) -> Result<Option<usize>, NoMe
 }
 
 fn any_uuid(attributes: &[FileAttr]) -> bool
-    ensures { result ≡ list_any spec.is_uuid attributes.now }
+    ensures { result ≡ list_any (λ a. spec.is_uuid (file_form a)) attributes.now }
 {
     attributes.iter().any(|attribute| is_uuid(attribute))
+}
+
+// Whether the interface has a uuid.
+#[tactic(auto, using(idl_rules::proofs::Mapped::any_mapped))]
+fn has_uuid(attributes: &[FileAttr]) -> bool
+    ensures { result ≡ list_any spec.is_uuid (map file_form attributes.now) }
+{
+    any_uuid(attributes)
+}
+
+// The least place of an attribute that stands twice.
+#[tactic(auto, using(idl_rules::proofs::Mapped::repeats_mapped))]
+fn again(alloc: Global, attributes: &[FileAttr]) -> Result<Option<usize>, NoMemory>
+    ensures { IfOk result (λ at. at ≡ least (repeats spec.same_file_kind spec.file_place (map file_form attributes.now))) }
+{
+    let found = repeated(alloc, attributes)?;
+    Ok(found)
 }
 
 /// The least place where the interface's own attributes stand twice, or its name where it has no uuid.
@@ -167,9 +186,9 @@ fn any_uuid(attributes: &[FileAttr]) -> bool
 /// `NoMemory` where there is no memory for the attributes that were seen.
 #[tactic(auto, using(idl_rules::proofs::Leasts::leasts))]
 pub fn bad_file(alloc: Global, tree: &Ast) -> Result<Option<usize>, NoMemory>
-    ensures { IfOk result (λ at. at ≡ least (spec.bad_file tree.now)) }
+    ensures { IfOk result (λ at. at ≡ least (spec.bad_file (tree_form tree.now))) }
 {
     let attributes: &[FileAttr] = &tree.attributes;
-    let again = repeated(alloc, attributes)?;
-    Ok(lesser(again, place_if(!any_uuid(attributes), tree.name.at)))
+    let found = again(alloc, attributes)?;
+    Ok(lesser(found, place_if(!has_uuid(attributes), tree.name.at)))
 }

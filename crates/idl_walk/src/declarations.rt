@@ -1,18 +1,16 @@
 //! Declarations and whole trees.
-ghost use Rattle.std.specs.Prelude.{◌≡◌, IfOk, OnOk};
+ghost use Rattle.std.specs.Prelude.{◌≡◌, map, IfOk, OnOk};
 ghost use Rattle.idl_outline.specs.declared.field.Place.TheVariants as places;
-ghost use Rattle.idl_outline.specs.Plain.{plain_spec, plain_attrs};
+ghost use Rattle.idl_forms.specs.Forms.{spec_form, attrs_form, param_form, decl_kind_form, decl_form, tree_form};
 ghost use Rattle.idl_outline.specs.Outline as outlines;
 
 use crate::specs::{attributes_walked, spec_walked};
 use crate::used::{bare_spec, declared_field};
 use idl_outline::{
     Declared, Event, Field, Fields, Outline, Place, copy_name, field_with, has_handle_word,
-    setting_alone, setting_of, setting_of_result, size_used, tag_given,
+    pointer_default, setting_alone, setting_of, setting_of_result, size_used, tag_given,
 };
-use idl_tree::{
-    Ast, Attr, Decl, DeclKind, Dtor, FileAttr, FileAttrKind, Ident, ParamNode, Pk, Spec,
-};
+use idl_tree::{Ast, Attr, Decl, DeclKind, Dtor, Ident, ParamNode, Pk, Spec};
 use rpc_base::NoMemory;
 use std::alloc::Global;
 use std::slice;
@@ -46,8 +44,8 @@ fn typedef_field(
     dtors: &[Dtor],
     outline: &mut Outline,
 ) -> Result<Field, NoMemory>
-    ensures field { IfOk result (λ f. f ≡ outlines.typedef_field default (plain_attrs attrs.now) (plain_spec spec.now) dtors.now outline.old) }
-    ensures past { OnOk result (outline.new ≡ outlines.typedef_behind default (plain_attrs attrs.now) (plain_spec spec.now) dtors.now outline.old) }
+    ensures field { IfOk result (λ f. f ≡ outlines.typedef_field default (attrs_form attrs.now) (spec_form spec.now) dtors.now outline.old) }
+    ensures past { OnOk result (outline.new ≡ outlines.typedef_behind default (attrs_form attrs.now) (spec_form spec.now) dtors.now outline.old) }
 {
     let attributes = attributes_walked(alloc, default, attrs, outline)?;
     let handle = has_handle_word(attributes.as_slice());
@@ -74,7 +72,7 @@ fn typedef(
     dtors: &[Dtor],
     outline: &mut Outline,
 ) -> Result<(), NoMemory>
-    ensures { OnOk result (outline.new ≡ outlines.typedef_past default (plain_attrs attrs.now) (plain_spec spec.now) dtors.now outline.old) }
+    ensures { OnOk result (outline.new ≡ outlines.typedef_past default (attrs_form attrs.now) (spec_form spec.now) dtors.now outline.old) }
 {
     let field = typedef_field(alloc, default, attrs, spec, dtors, outline)?;
     types_declared(alloc, dtors, field.declared.as_slice(), outline)?;
@@ -88,7 +86,7 @@ fn lone(
     spec: &Spec,
     outline: &mut Outline,
 ) -> Result<(), NoMemory>
-    ensures { OnOk result (outline.new ≡ outlines.lone_past default (plain_attrs attrs.now) (plain_spec spec.now) outline.old) }
+    ensures { OnOk result (outline.new ≡ outlines.lone_past default (attrs_form attrs.now) (spec_form spec.now) outline.old) }
 {
     let attributes = attributes_walked(alloc, default, attrs, outline)?;
     let setting = setting_alone(default, tag_given(attributes.as_slice()));
@@ -113,8 +111,8 @@ fn parameter(
     node: &ParamNode,
     outline: &mut Outline,
 ) -> Result<Field, NoMemory>
-    ensures field { IfOk result (λ f. f ≡ outlines.member_field default places.Parameter (outlines.param_plain node.now) outline.old) }
-    ensures past { OnOk result (outline.new ≡ outlines.member_past default (outlines.param_plain node.now) outline.old) }
+    ensures field { IfOk result (λ f. f ≡ outlines.member_field default places.Parameter (outlines.one_member (param_form node.now)) outline.old) }
+    ensures past { OnOk result (outline.new ≡ outlines.member_past default (outlines.one_member (param_form node.now)) outline.old) }
 {
     let dtors = slice::from_ref(&node.dtor);
     let attributes = attributes_walked(alloc, default, &node.attrs, outline)?;
@@ -140,8 +138,8 @@ fn parameters(
     nodes: &[ParamNode],
     outline: &mut Outline,
 ) -> Result<Fields, NoMemory>
-    ensures fields { IfOk result (λ fs. fs ≡ outlines.param_fields default nodes.now outline.old) }
-    ensures past { OnOk result (outline.new ≡ outlines.params_past default nodes.now outline.old) }
+    ensures fields { IfOk result (λ fs. fs ≡ outlines.param_fields default (map param_form nodes.now) outline.old) }
+    ensures past { OnOk result (outline.new ≡ outlines.params_past default (map param_form nodes.now) outline.old) }
 {
     let mut fields = Fields::new(alloc);
     for node in nodes {
@@ -159,8 +157,8 @@ fn result_field(
     name: &Ident,
     outline: &mut Outline,
 ) -> Result<Field, NoMemory>
-    ensures field { IfOk result (λ f. f ≡ outlines.result_field default (plain_attrs attrs.now) (plain_spec spec.now) name.now outline.old) }
-    ensures past { OnOk result (outline.new ≡ outlines.result_past default (plain_attrs attrs.now) (plain_spec spec.now) outline.old) }
+    ensures field { IfOk result (λ f. f ≡ outlines.result_field default (attrs_form attrs.now) (spec_form spec.now) name.now outline.old) }
+    ensures past { OnOk result (outline.new ≡ outlines.result_past default (attrs_form attrs.now) (spec_form spec.now) outline.old) }
 {
     let attributes = attributes_walked(alloc, default, attrs, outline)?;
     let setting = setting_of_result(default, attributes.as_slice());
@@ -193,7 +191,7 @@ fn operation(
     nodes: &[ParamNode],
     outline: &mut Outline,
 ) -> Result<(), NoMemory>
-    ensures { OnOk result (outline.new ≡ outlines.op_past default (plain_attrs attrs.now) (plain_spec spec.now) name.now nodes.now outline.old) }
+    ensures { OnOk result (outline.new ≡ outlines.op_past default (attrs_form attrs.now) (spec_form spec.now) name.now (map param_form nodes.now) outline.old) }
 {
     let result = result_field(alloc, default, attrs, spec, name, outline)?;
     let name = copy_name(alloc, name)?;
@@ -208,7 +206,7 @@ fn declaration(
     kind: &DeclKind,
     outline: &mut Outline,
 ) -> Result<(), NoMemory>
-    ensures { OnOk result (outline.new ≡ outlines.decl_past default kind.now outline.old) }
+    ensures { OnOk result (outline.new ≡ outlines.decl_past default (decl_kind_form kind.now) outline.old) }
 {
     match kind {
         DeclKind::Const { base, name, value } => {
@@ -239,34 +237,12 @@ fn declarations(
     decls: &[Decl],
     outline: &mut Outline,
 ) -> Result<(), NoMemory>
-    ensures { OnOk result (outline.new ≡ outlines.decls_past default decls.now outline.old) }
+    ensures { OnOk result (outline.new ≡ outlines.decls_past default (map decl_form decls.now) outline.old) }
 {
     for decl in decls {
         declaration(alloc, default, &decl.what, outline)?;
     }
     Ok(())
-}
-
-fn default_in(kind: &FileAttrKind) -> Option<Pk>
-    ensures { result ≡ outlines.default_in kind.now }
-{
-    match kind {
-        FileAttrKind::PointerDefault(class) => Some(*class),
-        FileAttrKind::Uuid(_) => None,
-        FileAttrKind::Version(..) => None,
-        FileAttrKind::Endpoint(_) => None,
-    }
-}
-
-fn pointer_default(attributes: &[FileAttr]) -> Pk
-    ensures { result ≡ outlines.pointer_default attributes.now }
-{
-    for attribute in attributes {
-        if let Some(class) = default_in(&attribute.what) {
-            return class;
-        }
-    }
-    Pk::Unique
 }
 
 /// The outline of an interface: all events of its text.
@@ -275,7 +251,7 @@ fn pointer_default(attributes: &[FileAttr]) -> Pk
 ///
 /// `NoMemory` where there is no memory for it.
 pub fn outline(alloc: Global, tree: &Ast) -> Result<Outline, NoMemory>
-    ensures { IfOk result (λ o. o ≡ outlines.outline tree.now) }
+    ensures { IfOk result (λ o. o ≡ outlines.outline (tree_form tree.now)) }
 {
     let default = pointer_default(&tree.attributes);
     let mut outline = Outline::new(alloc);

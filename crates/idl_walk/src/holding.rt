@@ -1,6 +1,6 @@
 //! Structures that hold themselves without a pointer between. The recursion goes as deep as the tree.
 ghost use Rattle.std.specs.Prelude.{◌≡◌, false, true, unwrap_or};
-ghost use Rattle.idl_outline.specs.Plain.{plain_spec, plain_kind, plain_switch, plain_mark, plain_attr, plain_attrs, plain_member, plain_members, plain_arm, plain_arms};
+ghost use Rattle.idl_forms.specs.Forms.{spec_form, kind_form, switch_form, attr_kind_form, attr_form, attrs_form, member_form, members_form, arm_form, arms_form};
 ghost use Rattle.idl_outline.specs.Outline as outlines;
 
 use idl_outline::{any_by_value, is_name};
@@ -17,15 +17,15 @@ fn is_tag(own: &Option<Ident>, tag: &[u8]) -> bool
 
 #[cycle(uses)]
 fn spec_use(tag: &[u8], direct: bool, spec: &Spec) -> Option<bool>
-    ensures { result ≡ outlines.spec_use tag.now direct (plain_spec spec.now) }
+    ensures { result ≡ outlines.spec_use tag.now direct (spec_form spec.now) }
 {
     kind_use(tag, direct, &spec.what)
 }
 
 #[cycle(uses)]
-#[tactic(auto, using(crate::proofs::Layers::kinds))]
+#[tactic(auto, using(idl_forms::proofs::Layers::kinds))]
 fn kind_use(tag: &[u8], direct: bool, kind: &SpecKind) -> Option<bool>
-    ensures { result ≡ outlines.kind_use tag.now direct (plain_kind kind.now) }
+    ensures { result ≡ outlines.kind_use tag.now direct (kind_form kind.now) }
 {
     match kind {
         SpecKind::Base(_) => None,
@@ -62,15 +62,15 @@ fn kind_use(tag: &[u8], direct: bool, kind: &SpecKind) -> Option<bool>
 
 #[cycle(uses)]
 fn switch_use(tag: &[u8], switch: &Switch) -> Option<bool>
-    ensures { result ≡ outlines.switch_use tag.now (plain_switch switch.now) }
+    ensures { result ≡ outlines.switch_use tag.now (switch_form switch.now) }
 {
     spec_use(tag, false, &switch.spec)
 }
 
 #[cycle(uses)]
-#[tactic(auto, using(crate::proofs::Layers::marks))]
+#[tactic(auto, using(idl_forms::proofs::Layers::marks))]
 fn mark_use(tag: &[u8], kind: &AttrKind) -> Option<bool>
-    ensures { result ≡ outlines.mark_use tag.now (plain_mark kind.now) }
+    ensures { result ≡ outlines.mark_use tag.now (attr_kind_form kind.now) }
 {
     match kind {
         AttrKind::SwitchType(spec) => spec_use(tag, false, spec),
@@ -80,14 +80,14 @@ fn mark_use(tag: &[u8], kind: &AttrKind) -> Option<bool>
 
 #[cycle(uses)]
 fn attr_use(tag: &[u8], attr: &Attr) -> Option<bool>
-    ensures { result ≡ outlines.attr_use tag.now (plain_attr attr.now) }
+    ensures { result ≡ outlines.attr_use tag.now (attr_form attr.now) }
 {
     mark_use(tag, &attr.what)
 }
 
 #[cycle(uses)]
 fn attrs_use(tag: &[u8], attrs: &[Attr]) -> Option<bool>
-    ensures { result ≡ outlines.attrs_use tag.now (plain_attrs attrs.now) }
+    ensures { result ≡ outlines.attrs_use tag.now (attrs_form attrs.now) }
 {
     for attr in attrs {
         if let Some(found) = attr_use(tag, attr) {
@@ -99,7 +99,7 @@ fn attrs_use(tag: &[u8], attrs: &[Attr]) -> Option<bool>
 
 #[cycle(uses)]
 fn member_use(tag: &[u8], direct: bool, member: &Member) -> Option<bool>
-    ensures { result ≡ outlines.member_use tag.now direct (plain_member member.now) }
+    ensures { result ≡ outlines.member_use tag.now direct (member_form member.now) }
 {
     match attrs_use(tag, &member.attrs) {
         Some(found) => Some(found),
@@ -109,7 +109,7 @@ fn member_use(tag: &[u8], direct: bool, member: &Member) -> Option<bool>
 
 #[cycle(uses)]
 fn members_use(tag: &[u8], direct: bool, members: &[Member]) -> Option<bool>
-    ensures { result ≡ outlines.members_use tag.now direct (plain_members members.now) }
+    ensures { result ≡ outlines.members_use tag.now direct (members_form members.now) }
 {
     for member in members {
         if let Some(found) = member_use(tag, direct, member) {
@@ -121,7 +121,7 @@ fn members_use(tag: &[u8], direct: bool, members: &[Member]) -> Option<bool>
 
 #[cycle(uses)]
 fn arm_use(tag: &[u8], direct: bool, arm: &ArmNode) -> Option<bool>
-    ensures { result ≡ outlines.arm_use tag.now direct (plain_arm arm.now) }
+    ensures { result ≡ outlines.arm_use tag.now direct (arm_form arm.now) }
 {
     match &arm.member {
         None => None,
@@ -131,7 +131,7 @@ fn arm_use(tag: &[u8], direct: bool, arm: &ArmNode) -> Option<bool>
 
 #[cycle(uses)]
 fn arms_use(tag: &[u8], direct: bool, arms: &[ArmNode]) -> Option<bool>
-    ensures { result ≡ outlines.arms_use tag.now direct (plain_arms arms.now) }
+    ensures { result ≡ outlines.arms_use tag.now direct (arms_form arms.now) }
 {
     for arm in arms {
         if let Some(found) = arm_use(tag, direct, arm) {
@@ -144,7 +144,7 @@ fn arms_use(tag: &[u8], direct: bool, arms: &[ArmNode]) -> Option<bool>
 /// Whether a structure with that tag and these members holds itself without a pointer between. The
 /// tag stands for it until another structure of that tag is declared within.
 pub(crate) fn holds_itself(tag: &[u8], members: &[Member]) -> bool
-    ensures { result ≡ unwrap_or (outlines.members_use tag.now true (plain_members members.now)) false }
+    ensures { result ≡ unwrap_or (outlines.members_use tag.now true (members_form members.now)) false }
 {
     members_use(tag, true, members).unwrap_or(false)
 }

@@ -2,7 +2,7 @@
 ghost use Rattle.std.specs.Prelude.{◌≡◌, ◌∷◌, ◌++◌, length, IfOk, OnOk};
 ghost use Rattle.idl_outline.specs.declared.ty.Core.TheVariants as cores;
 ghost use Rattle.idl_outline.specs.declared.event.Event.TheVariants as events;
-ghost use Rattle.idl_outline.specs.Plain.{plain_spec, plain_members};
+ghost use Rattle.idl_forms.specs.Forms.{spec_form, members_form};
 ghost use Rattle.idl_outline.specs.Names as names;
 ghost use Rattle.idl_outline.specs.Outline as outlines;
 
@@ -72,7 +72,7 @@ pub(crate) fn structure_begins(
     members: &[Member],
     outline: &mut Outline,
 ) -> Result<(), NoMemory>
-    ensures { OnOk result (outline.new ≡ outlines.struct_past tag.now (outlines.tag_holds tag.now (plain_members members.now)) outline.old) }
+    ensures { OnOk result (outline.new ≡ outlines.struct_past tag.now (outlines.tag_holds tag.now (members_form members.now)) outline.old) }
 {
     match tag {
         None => Ok(()),
@@ -239,9 +239,9 @@ fn bare_tag(tag: &Option<Ident>) -> Bare
 }
 
 /// Whether a spec is itself a union without a switch.
-#[tactic(auto, using(crate::proofs::Layers::kinds))]
+#[tactic(auto, using(idl_forms::proofs::Layers::kinds))]
 pub(crate) fn bare_spec(spec: &Spec) -> Bare
-    ensures { result ≡ outlines.bare_spec (plain_spec spec.now) }
+    ensures { result ≡ outlines.bare_spec (spec_form spec.now) }
 {
     match &spec.what {
         SpecKind::Base(_) => Bare::No,

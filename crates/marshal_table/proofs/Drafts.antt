@@ -5,15 +5,9 @@ use Rattle.std.specs.List.{list_any, list_all}
 use Rattle.idl_tree.specs.declared.leaf.Ident.{Ident}
 use Rattle.idl_tree.specs.declared.leaf.Pk.{Pk}
 use Rattle.idl_tree.specs.declared.leaf.Dtor.{Dtor}
-use Rattle.idl_tree.specs.declared.spec.Attr.{Attr}
-use Rattle.idl_tree.specs.declared.declaration.Ast.{Ast}
-use Rattle.idl_tree.specs.declared.declaration.Decl.{Decl}
-use Rattle.idl_tree.specs.declared.declaration.DeclKind.{DeclKind}
-use Rattle.idl_tree.specs.declared.declaration.DeclKind.TheVariants as decl_kinds
-use Rattle.idl_tree.specs.declared.declaration.ParamNode.{ParamNode}
 use Rattle.idl_outline.specs.declared.field.Place.TheVariants as places
 use Rattle.idl_outline.specs.Outline.{all_pointed, pointer_default}
-use Rattle.idl_outline.specs.Plain.{PSpec, PAttrs, plain_spec, plain_attrs}
+use Rattle.idl_forms.specs.Forms as idl
 use Rattle.ndr_value.specs.Forms.{Form}
 use Rattle.table_form.specs.declared.operation.HandleUse.{HandleUse}
 use Rattle.table_form.specs.Ordered.{is_below}
@@ -36,10 +30,10 @@ all_more f (x ∷ xs) ys h k = let e = both_of (f x) (list_all f xs) h in and_of
 -- ---- a spec behind its attributes
 
 -- attributes, and then the spec
-abbrev behind : Pk → Bool → PAttrs → PSpec → Scope → Sense × Scope
+abbrev behind : Pk → Bool → idl.AttrForms → idl.SpecForm → Scope → Sense × Scope
 behind k pointed as' s p = spec_at k pointed (attrs_at k as' p).0 s (attrs_at k as' p).1
 
-behind_sound : (far : ℕ) (k : Pk) (pointed : Bool) (as' : PAttrs) (s : PSpec) (p : Scope) → Sound far p → length p.types + (attrs_within as' + within s) ≤ far
+behind_sound : (far : ℕ) (k : Pk) (pointed : Bool) (as' : idl.AttrForms) (s : idl.SpecForm) (p : Scope) → Sound far p → length p.types + (attrs_within as' + within s) ≤ far
     → Goes far (attrs_within as' + within s) p (behind k pointed as' s p).1 × (is_below (reach pointed (length (behind k pointed as' s p).1.types) far) far (behind k pointed as' s p).0.shape ≡ true)
 behind_sound far k pointed as' s p ok room =
     let marks = attrs_sound far k as' p ok (omega (arith, room)) in
@@ -54,10 +48,10 @@ abbrev if_listed : Bool → ℕ → ℕ
 if_listed true n = 0
 if_listed false n = n
 
-abbrev param_within : ParamNode → ℕ
-param_within n = if_listed (is_binding (plain_spec n.spec)) (attrs_within (plain_attrs n.attrs.items) + within (plain_spec n.spec))
+abbrev param_within : idl.ParamForm → ℕ
+param_within n = if_listed (is_binding n.spec) (attrs_within n.attrs + within n.spec)
 
-abbrev params_within : List ParamNode → ℕ
+abbrev params_within : List idl.ParamForm → ℕ
 params_within [] = 0
 params_within (n ∷ ns) = param_within n + params_within ns
 
@@ -72,18 +66,18 @@ listed_room : (b : Bool) (m n far : ℕ) → m + if_listed b n ≤ far → b ≡
 listed_room true m n far h e = absurd cc
 listed_room false m n far h e = h
 
-param_sound : (far : ℕ) (k : Pk) (names : List Ident) (n : ParamNode) (p : Scope) → Sound far p → length p.types + param_within n ≤ far → ListedSound far (param_within n) p (param_at k names n p)
+param_sound : (far : ℕ) (k : Pk) (names : List Ident) (n : idl.ParamForm) (p : Scope) → Sound far p → length p.types + param_within n ≤ far → ListedSound far (param_within n) p (param_at k names n p)
 param_sound far k names n p ok room =
-    let as' : PAttrs = plain_attrs n.attrs.items in
+    let as' : idl.AttrForms = n.attrs in
     let q : Sense × Scope = param_sense k n p in
-    listed_any far (attrs_within as' + within (plain_spec n.spec)) p (is_binding (plain_spec n.spec)) (listed_at k names as' n.dtor q) ok (λ e.
-    let h = behind_sound far k (not (n.dtor.stars == 0)) as' (plain_spec n.spec) p ok (listed_room (is_binding (plain_spec n.spec)) (length p.types) (attrs_within as' + within (plain_spec n.spec)) far room e) in
+    listed_any far (attrs_within as' + within n.spec) p (is_binding n.spec) (listed_at k names as' n.dtor q) ok (λ e.
+    let h = behind_sound far k (not (n.dtor.stars == 0)) as' n.spec p ok (listed_room (is_binding n.spec) (length p.types) (attrs_within as' + within n.spec) far room e) in
     let few = h.0.sound.few in
     let t : Terms = terms k places.Parameter true names as' in
     let f = declared_fits (length q.1.types) far t q.1.constants q.0.shape n.dtor (reach_not (n.dtor.stars == 0) (length q.1.types) far q.0.shape h.1) (reach_far (not (n.dtor.stars == 0)) (length q.1.types) far few q.0.shape h.1) in
     (h.0, and_of (is_below far far (declared t q.1.constants q.0.shape n.dtor)) true (fits_more (length q.1.types) far far few (declared t q.1.constants q.0.shape n.dtor) f) refl))
 
-params_sound : (far : ℕ) (k : Pk) (names : List Ident) (ns : List ParamNode) (p : Scope) → Sound far p → length p.types + params_within ns ≤ far → ListedSound far (params_within ns) p (params_at k names ns p)
+params_sound : (far : ℕ) (k : Pk) (names : List Ident) (ns : List idl.ParamForm) (p : Scope) → Sound far p → length p.types + params_within ns ≤ far → ListedSound far (params_within ns) p (params_at k names ns p)
 params_sound far k names [] p ok room = (record { count = omega arith; sound = ok }, refl)
 params_sound far k names (n ∷ ns) p ok room =
     let first = param_sound far k names n p ok (omega (arith, room)) in
@@ -143,7 +137,7 @@ kept_any far true ops uses o us ok room f =
       fit = all_more (op_below far) ops (o ∷ []) ok.fit (and_of (op_below far o) true f refl);
     }
 
-op_sound : (far : ℕ) (k : Pk) (as' : PAttrs) (s : PSpec) (name : Ident) (ns : List ParamNode) (d : Draft) → DraftSound far d → length d.scope.types + (attrs_within as' + within s + params_within ns) ≤ far
+op_sound : (far : ℕ) (k : Pk) (as' : idl.AttrForms) (s : idl.SpecForm) (name : Ident) (ns : List idl.ParamForm) (d : Draft) → DraftSound far d → length d.scope.types + (attrs_within as' + within s + params_within ns) ≤ far
     → DraftGoes far (attrs_within as' + within s + params_within ns) d (op_at k as' s name ns d)
 op_sound far k as' s name ns d ok room =
     let r = behind_sound far k false as' s d.scope ok.scope (omega (arith, room)) in
@@ -177,40 +171,40 @@ typedef_sound far false serialised t m (d ∷ ds) p ok here e =
     (λ h. here (or_right (d.stars == 0) (list_any (λ x. x.stars == 0) ds) h)) e in
     record { count = rest.count; sound = rest.sound }
 
-typedef_at_sound : (far : ℕ) (k : Pk) (nodes : List Attr) (as' : PAttrs) (s : PSpec) (ds : List Dtor) (p : Scope) → Sound far p → length p.types + (attrs_within as' + within s) ≤ far
-    → Goes far (attrs_within as' + within s) p (typedef_at k nodes as' s ds p)
-typedef_at_sound far k nodes as' s ds p ok room =
+typedef_at_sound : (far : ℕ) (k : Pk) (as' : idl.AttrForms) (s : idl.SpecForm) (ds : List Dtor) (p : Scope) → Sound far p → length p.types + (attrs_within as' + within s) ≤ far
+    → Goes far (attrs_within as' + within s) p (typedef_at k as' s ds p)
+typedef_at_sound far k as' s ds p ok room =
     let h = behind_sound far k (all_pointed ds) as' s p ok room in
     let q : Sense × Scope = typedef_sense k as' s ds p in
     let before = h.0.count in
     let few = h.0.sound.few in
-    let rest = typedef_sound far (says says_handle as') (is_serialised nodes) (terms k places.Typedef false [] as') q.0 ds q.1 h.0.sound (reach_not (list_any (λ d. d.stars == 0) ds) (length q.1.types) far q.0.shape h.1) (reach_far (all_pointed ds) (length q.1.types) far few q.0.shape h.1) in
+    let rest = typedef_sound far (says says_handle as') (is_serialised as') (terms k places.Typedef false [] as') q.0 ds q.1 h.0.sound (reach_not (list_any (λ d. d.stars == 0) ds) (length q.1.types) far q.0.shape h.1) (reach_far (all_pointed ds) (length q.1.types) far few q.0.shape h.1) in
     let count = rest.count in
     record { count = omega (arith, before, count); sound = rest.sound }
 
 -- ---- declarations
 
-abbrev decl_within : DeclKind → ℕ
-decl_within (decl_kinds.Const base name value) = 0
-decl_within (decl_kinds.Typedef as' s ds) = attrs_within (plain_attrs as'.items) + within (plain_spec s)
-decl_within (decl_kinds.Lone as' s) = attrs_within (plain_attrs as'.items) + within (plain_spec s)
-decl_within (decl_kinds.Op as' s name void ps) = attrs_within (plain_attrs as'.items) + within (plain_spec s) + params_within ps.items
+abbrev decl_within : idl.DeclKindForm → ℕ
+decl_within (idl.OfConst base name value) = 0
+decl_within (idl.OfTypedef as' s ds) = attrs_within as' + within s
+decl_within (idl.OfLone as' s) = attrs_within as' + within s
+decl_within (idl.OfOp as' s name void ps) = attrs_within as' + within s + params_within ps
 
-abbrev decls_within : List Decl → ℕ
+abbrev decls_within : List idl.DeclForm → ℕ
 decls_within [] = 0
 decls_within (x ∷ xs) = decl_within x.what + decls_within xs
 
 in_draft : (far n : ℕ) (d : Draft) (p : Scope) → DraftSound far d → Goes far n d.scope p → DraftGoes far n d (record { scope = p; ops = d.ops; uses = d.uses })
 in_draft far n d p ok goes = record { count = goes.count; sound = record { scope = goes.sound; few = ok.few; of_each = ok.of_each; few_uses = ok.few_uses; ops = ok.ops } }
 
-decl_sound : (far : ℕ) (k : Pk) (x : DeclKind) (d : Draft) → DraftSound far d → length d.scope.types + decl_within x ≤ far → DraftGoes far (decl_within x) d (decl_at k x d)
-decl_sound far k (decl_kinds.Const base name value) d ok room =
+decl_sound : (far : ℕ) (k : Pk) (x : idl.DeclKindForm) (d : Draft) → DraftSound far d → length d.scope.types + decl_within x ≤ far → DraftGoes far (decl_within x) d (decl_at k x d)
+decl_sound far k (idl.OfConst base name value) d ok room =
     record { count = omega arith; sound = record { scope = record { types = ok.scope.types; few = ok.scope.few; named = ok.scope.named; tags = ok.scope.tags }; few = ok.few; of_each = ok.of_each; few_uses = ok.few_uses; ops = ok.ops } }
-decl_sound far k (decl_kinds.Typedef as' s ds) d ok room = in_draft far _ d _ ok (typedef_at_sound far k as'.items (plain_attrs as'.items) (plain_spec s) ds.items d.scope ok.scope room)
-decl_sound far k (decl_kinds.Lone as' s) d ok room = in_draft far _ d _ ok (behind_sound far k false (plain_attrs as'.items) (plain_spec s) d.scope ok.scope room).0
-decl_sound far k (decl_kinds.Op as' s name void ps) d ok room = op_sound far k (plain_attrs as'.items) (plain_spec s) name ps.items d ok room
+decl_sound far k (idl.OfTypedef as' s ds) d ok room = in_draft far _ d _ ok (typedef_at_sound far k as' s ds d.scope ok.scope room)
+decl_sound far k (idl.OfLone as' s) d ok room = in_draft far _ d _ ok (behind_sound far k false as' s d.scope ok.scope room).0
+decl_sound far k (idl.OfOp as' s name void ps) d ok room = op_sound far k as' s name ps d ok room
 
-decls_sound : (far : ℕ) (k : Pk) (xs : List Decl) (d : Draft) → DraftSound far d → length d.scope.types + decls_within xs ≤ far → DraftGoes far (decls_within xs) d (decls_at k xs d)
+decls_sound : (far : ℕ) (k : Pk) (xs : List idl.DeclForm) (d : Draft) → DraftSound far d → length d.scope.types + decls_within xs ≤ far → DraftGoes far (decls_within xs) d (decls_at k xs d)
 decls_sound far k [] d ok room = record { count = omega arith; sound = ok }
 decls_sound far k (x ∷ xs) d ok room =
     let first = decl_sound far k x.what d ok (omega (arith, room)) in
@@ -222,18 +216,18 @@ decls_sound far k (x ∷ xs) d ok room =
 empty_sound : (far : ℕ) → DraftSound far nothing_declared
 empty_sound far = record { scope = record { types = refl; few = omega arith; named = λ name. tt; tags = λ name. tt }; few = omega arith; of_each = refl; few_uses = refl; ops = refl }
 
-pub tabled_is : (tree : Ast) → IsTable (declared_in tree).scope.types (declared_in tree).ops (declared_in tree).uses
+pub tabled_is : (tree : idl.TreeForm) → IsTable (declared_in tree).scope.types (declared_in tree).ops (declared_in tree).uses
 tabled_is tree =
-    let k = pointer_default tree.attributes.items in
-    let n = decls_within tree.decls.items in
-    let goes = decls_sound n k tree.decls.items nothing_declared (empty_sound n) (omega arith) in
+    let k = pointer_default tree.attributes in
+    let n = decls_within tree.decls in
+    let goes = decls_sound n k tree.decls nothing_declared (empty_sound n) (omega arith) in
     let count = goes.count in
     let same : length (declared_in tree).scope.types ≡ n = omega (arith, count) in
     let all = subst (λ (m : ℕ). DraftSound m (declared_in tree)) (sym same) goes.sound in
     record { few = all.few; of_each = all.of_each; few_uses = all.few_uses; types_are = all.scope.types; ops_are = all.ops }
 
 -- the same of what code has made
-pub made_is : (tree : Ast) (k : Pk) (start made : Draft) → k ≡ pointer_default tree.attributes.items → start ≡ nothing_declared → made ≡ decls_at k tree.decls.items start → IsTable made.scope.types made.ops made.uses
+pub made_is : (tree : idl.TreeForm) (k : Pk) (start made : Draft) → k ≡ pointer_default tree.attributes → start ≡ nothing_declared → made ≡ decls_at k tree.decls start → IsTable made.scope.types made.ops made.uses
 made_is tree k start made k_is start_is is =
-    let e : made ≡ declared_in tree = is ∙ ap (λ (d : Draft). decls_at k tree.decls.items d) start_is ∙ ap (λ (c : Pk). decls_at c tree.decls.items nothing_declared) k_is in
+    let e : made ≡ declared_in tree = is ∙ ap (λ (d : Draft). decls_at k tree.decls d) start_is ∙ ap (λ (c : Pk). decls_at c tree.decls nothing_declared) k_is in
     subst (λ (d : Draft). IsTable d.scope.types d.ops d.uses) (sym e) (tabled_is tree)

@@ -1,49 +1,43 @@
 -- Each handle of an operation of an interface that keeps the rules is in its table.
-use Rattle.std.proofs.Common.{◌≡◌, ℕ, suc, ◌+◌, ◌<◌, ◌≤◌, List, [], ◌∷◌, ◌++◌, map, take, length, Bool, true, false, cond, Option, None, Some, refl, ap, subst, sym, ◌∙◌, arith, append_assoc, append-nil, length-append}
-use Rattle.std.specs.Prelude.{◌==◌, ◌&&◌, ◌||◌, not, nat_lt, bytes_eq, slice_get, if◌then◌else◌}
-use Rattle.std.specs.List.{count_by, list_any, filter}
+use Rattle.std.proofs.Common.{◌≡◌, ℕ, ◌+◌, ◌<◌, ◌≤◌, List, [], ◌∷◌, ◌++◌, take, length, Bool, true, false, cond, Option, None, Some, refl, ap, subst, sym, ◌∙◌, arith, append_assoc, append-nil, length-append}
+use Rattle.std.specs.Prelude.{◌==◌, ◌||◌, not, nat_lt, bytes_eq, slice_get, if◌then◌else◌}
+use Rattle.std.specs.List.{count_by, filter}
 use Rattle.std.specs.Option.{option_or}
 use Rattle.std.proofs.lemmas.List.Sums.{length-filter, sum_by-cons, sum_by-append}
 use Rattle.idl_tree.specs.declared.leaf.Ident.{Ident}
 use Rattle.idl_tree.specs.declared.leaf.Pk.{Pk}
 use Rattle.idl_tree.specs.declared.leaf.ArraySize.{ArraySize}
 use Rattle.idl_tree.specs.declared.leaf.Dtor.{Dtor}
-use Rattle.idl_tree.specs.declared.spec.Attr.{Attr}
 use Rattle.idl_tree.specs.declared.declaration.Ast.{Ast}
-use Rattle.idl_tree.specs.declared.declaration.Decl.{Decl}
-use Rattle.idl_tree.specs.declared.declaration.DeclKind.{DeclKind}
-use Rattle.idl_tree.specs.declared.declaration.DeclKind.TheVariants as decl_kinds
-use Rattle.idl_tree.specs.declared.declaration.ParamNode.{ParamNode}
 use Rattle.idl_outline.specs.declared.ty.DataType.{DataType}
 use Rattle.idl_outline.specs.declared.field.Extent.{Extent}
 use Rattle.idl_outline.specs.declared.field.Extent.TheVariants as extents
 use Rattle.idl_outline.specs.declared.field.Place.TheVariants as places
 use Rattle.idl_outline.specs.declared.field.Declared.{Declared}
-use Rattle.idl_outline.specs.declared.field.Field.{Field}
 use Rattle.idl_outline.specs.declared.event.Event.TheVariants as events
 use Rattle.idl_outline.specs.declared.setting.Setting.{Setting}
-use Rattle.idl_outline.specs.Plain.{PSpec, spec, PKind, of_base, of_name, of_void, of_handle_t, of_error_status, of_tag, of_struct, of_union, of_enum, PSwitch, no_switch, switch, PMember, member, PMembers, no_member, then_member, PArm, arm, empty_arm, PArms, no_arm, then_arm, PMark, is_in, is_out, is_pointer, is_text, is_idempotent, is_maybe, is_handle, is_size, is_max, is_length, is_switch, is_switch_type, is_range, PAttr, attr, PAttrs, no_attr, then_attr, plain_spec, plain_attrs}
-use Rattle.idl_outline.specs.Names.{Past, is_operation, pointers, declared_as, declared_type, extent_of, is_handle_word, has_handle_word, each_declared, pointer_given, class_at, or_class, tag_given}
+use Rattle.idl_forms.specs.Forms as idl
+use Rattle.idl_outline.specs.Names.{Past, is_operation, declared_as, extent_of, is_handle_word, has_handle_word, each_declared, pointer_given, class_at, or_class, tag_given}
 use Rattle.idl_outline.specs.Names.{type_named as outline_type, or_unknown, declared as outline_declared}
-use Rattle.idl_outline.specs.Outline.{before_declarators, all_pointed, size_past, mark_of, attributes, attr_past, attrs_past, spec_past, spec_type, kind_type, member_past, member_field, param_plain, params_past, param_fields, typedef_setting, typedef_behind, typedef_field, typedef_past, types_past, lone_past, result_past, op_past, decl_past, decls_past, pointer_default, outline}
+use Rattle.idl_outline.specs.Outline.{before_declarators, all_pointed, size_past, mark_of, attributes, attr_past, attrs_past, spec_past, spec_type, member_past, member_field, one_member, param_fields, typedef_setting, typedef_behind, typedef_past, types_past, lone_past, result_past, op_past, decl_past, decls_past, pointer_default, outline}
 use Rattle.idl_rules.specs.Places.{gathered}
 use Rattle.idl_rules.specs.Types.{is_context_handle}
 use Rattle.idl_rules.specs.TooManyHandles.{is_handle as is_handle_declared, declared_of, handles, place_if, too_many_handles}
 use Rattle.idl_rules.specs.Broken.{NoneBroken}
 use Rattle.ndr_value.specs.Forms.{Form}
 use Rattle.table_form.specs.declared.operation.HandleUse.{HandleUse}
-use Rattle.table_form.specs.Tables.{OpForm, TableForm}
+use Rattle.table_form.specs.Tables.{TableForm}
 use Rattle.table_scope.specs.declared.symbols.Sort.{Sort}
 use Rattle.table_scope.specs.declared.symbols.Sort.TheVariants as sorts
 use Rattle.table_scope.specs.declared.said.Terms.{Terms}
 use Rattle.table_scope.specs.Scopes.{Sense, Scope, type_named, or_nothing, with_names, begun, ended}
 use Rattle.table_scope.specs.Marks.{says, says_in, says_out, says_handle, is_serialised}
 use Rattle.table_scope.specs.Declarators.{terms}
-use Rattle.table_specs.specs.Specs.{Face, members_within, member_names, arm_names, spec_at, kind_at, switch_at, mark_at, attr_at, attrs_at, member_at, members_at, arm_at, arms_at}
-use Rattle.marshal_table.specs.Interfaces.{Listed, Draft, is_binding, param_names, handle_use, param_sense, listed_at, param_at, params_at, alone_at, op_at, bare_sort, sort_of, typed, typedef_one, typedef_all, typedef_sense, typedef_at, decl_at, decls_at, nothing_declared, tabled}
+use Rattle.table_specs.specs.Specs.{members_within, member_names, arm_names, spec_at, kind_at, switch_at, mark_at, attr_at, attrs_at, member_at, members_at, arm_at, arms_at}
+use Rattle.marshal_table.specs.Interfaces.{Listed, Draft, is_binding, param_names, handle_use, param_sense, listed_at, param_at, params_at, alone_at, op_at, bare_sort, typed, typedef_one, typedef_all, typedef_sense, typedef_at, decl_at, decls_at, nothing_declared, tabled}
 use Rattle.marshal_table.specs.Wholes.{handles_in, all_handles, HasEachHandle}
 use Rattle.marshal_table.proofs.Fitting.{less_is}
-use Rattle.marshal_table.proofs.Quiet.{Behind, Quiet, stays, then_quiet, one_more, size_quiet, spec_quiet, attrs_quiet, member_quiet}
+use Rattle.marshal_table.proofs.Quiet.{Behind, size_quiet, spec_quiet, attrs_quiet, member_quiet}
 use Rattle.marshal_table.proofs.Listed.{nil_right, nil_left, none_among, Clean, typedef_behind_is, lone_quiet, result_quiet, params_behind, op_room, decl_listed, decls_clean, clean_tree}
 
 -- ---- specs, attributes, members and arms declare no name of a type
@@ -61,62 +55,64 @@ ended_named None t q = refl
 ended_named (Some i) t q = refl
 
 mutual
-  spec_named : (k : Pk) (pointed : Bool) (given : Option Form) (s : PSpec) (q : Scope) → (spec_at k pointed given s q).1.named ≡ q.named
-  spec_named k pointed given (spec at what) q = kind_named k pointed given what q
+  spec_named : (k : Pk) (pointed : Bool) (given : Option Form) (s : idl.SpecForm) (q : Scope) → (spec_at k pointed given s q).1.named ≡ q.named
+  spec_named k pointed given (idl.a_spec at what) q = kind_named k pointed given what q
 
-  kind_named : (k : Pk) (pointed : Bool) (given : Option Form) (s : PKind) (q : Scope) → (kind_at k pointed given s q).1.named ≡ q.named
-  kind_named k pointed given (of_base b) q = refl
-  kind_named k pointed given (of_name i) q = refl
-  kind_named k pointed given of_void q = refl
-  kind_named k pointed given of_handle_t q = refl
-  kind_named k pointed given of_error_status q = refl
-  kind_named k pointed given (of_tag tag) q = refl
-  kind_named k pointed given (of_struct tag ms) q =
+  kind_named : (k : Pk) (pointed : Bool) (given : Option Form) (s : idl.KindForm) (q : Scope) → (kind_at k pointed given s q).1.named ≡ q.named
+  kind_named k pointed given (idl.OfBase b) q = refl
+  kind_named k pointed given (idl.OfName i) q = refl
+  kind_named k pointed given idl.OfVoid q = refl
+  kind_named k pointed given idl.OfHandle q = refl
+  kind_named k pointed given idl.OfStatus q = refl
+  kind_named k pointed given (idl.OfTag tag) q = refl
+  kind_named k pointed given (idl.OfStruct tag ms) q =
       ended_named tag _ (members_at k (member_names ms) ms (begun tag (members_within ms) q)).1
       ∙ (members_named k (member_names ms) ms (begun tag (members_within ms) q) ∙ begun_named tag (members_within ms) q)
-  kind_named k pointed given (of_union tag s arms) q = arms_named k (arm_names arms) arms (switch_at k given s q).1 ∙ switch_named k given s q
-  kind_named k pointed given (of_enum tag names) q = names_named 0 names q
+  kind_named k pointed given (idl.OfUnion tag s arms) q = arms_named k (arm_names arms) arms (switch_at k given s q).1 ∙ switch_named k given s q
+  kind_named k pointed given (idl.OfEnum tag names) q = names_named 0 names q
 
-  switch_named : (k : Pk) (given : Option Form) (s : PSwitch) (q : Scope) → (switch_at k given s q).1.named ≡ q.named
-  switch_named k given no_switch q = refl
-  switch_named k given (switch s i) q = spec_named k false None s q
+  switch_named : (k : Pk) (given : Option Form) (s : idl.SwitchForm) (q : Scope) → (switch_at k given s q).1.named ≡ q.named
+  switch_named k given idl.no_switch q = refl
+  switch_named k given (idl.a_switch s i body) q = spec_named k false None s q
 
-  mark_named : (k : Pk) (m : PMark) (q : Scope) → (mark_at k m q).1.named ≡ q.named
-  mark_named k is_in q = refl
-  mark_named k is_out q = refl
-  mark_named k (is_pointer c) q = refl
-  mark_named k is_text q = refl
-  mark_named k is_idempotent q = refl
-  mark_named k is_maybe q = refl
-  mark_named k is_handle q = refl
-  mark_named k (is_size r) q = refl
-  mark_named k (is_max r) q = refl
-  mark_named k (is_length r) q = refl
-  mark_named k (is_switch star i) q = refl
-  mark_named k (is_range low high) q = refl
-  mark_named k (is_switch_type s) q = spec_named k false None s q
+  mark_named : (k : Pk) (m : idl.AttrKindForm) (q : Scope) → (mark_at k m q).1.named ≡ q.named
+  mark_named k idl.OfIn q = refl
+  mark_named k idl.OfOut q = refl
+  mark_named k (idl.OfPointer c) q = refl
+  mark_named k idl.OfText q = refl
+  mark_named k idl.OfIdempotent q = refl
+  mark_named k idl.OfMaybe q = refl
+  mark_named k idl.OfContext q = refl
+  mark_named k idl.OfSerialize q = refl
+  mark_named k idl.OfNoserialize q = refl
+  mark_named k (idl.OfSizeIs r) q = refl
+  mark_named k (idl.OfMaxIs r) q = refl
+  mark_named k (idl.OfLengthIs r) q = refl
+  mark_named k (idl.OfSwitchIs star i) q = refl
+  mark_named k (idl.OfRange low high) q = refl
+  mark_named k (idl.OfSwitchType s) q = spec_named k false None s q
 
-  attr_named : (k : Pk) (a : PAttr) (q : Scope) → (attr_at k a q).1.named ≡ q.named
-  attr_named k (attr at m) q = mark_named k m q
+  attr_named : (k : Pk) (a : idl.AttrForm) (q : Scope) → (attr_at k a q).1.named ≡ q.named
+  attr_named k (idl.an_attr at m) q = mark_named k m q
 
-  attrs_named : (k : Pk) (as' : PAttrs) (q : Scope) → (attrs_at k as' q).1.named ≡ q.named
-  attrs_named k no_attr q = refl
-  attrs_named k (then_attr a rest) q = attrs_named k rest (attr_at k a q).1 ∙ attr_named k a q
+  attrs_named : (k : Pk) (as' : idl.AttrForms) (q : Scope) → (attrs_at k as' q).1.named ≡ q.named
+  attrs_named k idl.no_attr q = refl
+  attrs_named k (idl.then_attr a rest) q = attrs_named k rest (attr_at k a q).1 ∙ attr_named k a q
 
-  member_named : (k : Pk) (names : List Ident) (m : PMember) (q : Scope) → (member_at k names m q).1.named ≡ q.named
-  member_named k names (member as' s ds) q = spec_named k (all_pointed ds) (attrs_at k as' q).0 s (attrs_at k as' q).1 ∙ attrs_named k as' q
+  member_named : (k : Pk) (names : List Ident) (m : idl.MemberForm) (q : Scope) → (member_at k names m q).1.named ≡ q.named
+  member_named k names (idl.a_member as' s ds) q = spec_named k (all_pointed ds) (attrs_at k as' q).0 s (attrs_at k as' q).1 ∙ attrs_named k as' q
 
-  members_named : (k : Pk) (names : List Ident) (ms : PMembers) (q : Scope) → (members_at k names ms q).1.named ≡ q.named
-  members_named k names no_member q = refl
-  members_named k names (then_member m ms) q = members_named k names ms (member_at k names m q).1 ∙ member_named k names m q
+  members_named : (k : Pk) (names : List Ident) (ms : idl.MemberForms) (q : Scope) → (members_at k names ms q).1.named ≡ q.named
+  members_named k names idl.no_member q = refl
+  members_named k names (idl.then_member m ms) q = members_named k names ms (member_at k names m q).1 ∙ member_named k names m q
 
-  arm_named : (k : Pk) (names : List Ident) (a : PArm) (q : Scope) → (arm_at k names a q).1.named ≡ q.named
-  arm_named k names (arm ls m) q = member_named k names m q
-  arm_named k names (empty_arm ls) q = refl
+  arm_named : (k : Pk) (names : List Ident) (a : idl.ArmForm) (q : Scope) → (arm_at k names a q).1.named ≡ q.named
+  arm_named k names (idl.member_arm ls m) q = member_named k names m q
+  arm_named k names (idl.empty_arm ls) q = refl
 
-  arms_named : (k : Pk) (names : List Ident) (as' : PArms) (q : Scope) → (arms_at k names as' q).1.named ≡ q.named
-  arms_named k names no_arm q = refl
-  arms_named k names (then_arm a rest) q = arms_named k names rest (arm_at k names a q).1 ∙ arm_named k names a q
+  arms_named : (k : Pk) (names : List Ident) (as' : idl.ArmForms) (q : Scope) → (arms_at k names as' q).1.named ≡ q.named
+  arms_named k names idl.no_arm q = refl
+  arms_named k names (idl.then_arm a rest) q = arms_named k names rest (arm_at k names a q).1 ∙ arm_named k names a q
 
 -- ---- what is a handle in the table is one for the rules
 
@@ -135,16 +131,16 @@ agree_on p r q z h types named name e =
     ap (λ (o : Option DataType). is_context_handle (or_unknown o).core) (types name)
     ∙ h name (ap (λ (ns : List ℕ → Option Sense). is_handle_sort (type_named name ns).sort) (sym named) ∙ e)
 
-spec_agrees : (g : Setting) (k : Pk) (pointed : Bool) (given : Option Form) (s : PSpec) (p : Past) (q : Scope) → Agree p q → is_handle_sort (spec_at k pointed given s q).0.sort ≡ true → is_context_handle (spec_type g s p).core ≡ true
-spec_agrees g k pointed given (spec at (of_base b)) p q h e = absurd cc
-spec_agrees g k pointed given (spec at (of_name i)) p q h e = h i.text e
-spec_agrees g k pointed given (spec at of_void) p q h e = absurd cc
-spec_agrees g k pointed given (spec at of_handle_t) p q h e = absurd cc
-spec_agrees g k pointed given (spec at of_error_status) p q h e = absurd cc
-spec_agrees g k pointed given (spec at (of_tag tag)) p q h e = absurd cc
-spec_agrees g k pointed given (spec at (of_struct tag ms)) p q h e = absurd cc
-spec_agrees g k pointed given (spec at (of_union tag s arms)) p q h e = absurd cc
-spec_agrees g k pointed given (spec at (of_enum tag names)) p q h e = absurd cc
+spec_agrees : (g : Setting) (k : Pk) (pointed : Bool) (given : Option Form) (s : idl.SpecForm) (p : Past) (q : Scope) → Agree p q → is_handle_sort (spec_at k pointed given s q).0.sort ≡ true → is_context_handle (spec_type g s p).core ≡ true
+spec_agrees g k pointed given (idl.a_spec at (idl.OfBase b)) p q h e = absurd cc
+spec_agrees g k pointed given (idl.a_spec at (idl.OfName i)) p q h e = h i.text e
+spec_agrees g k pointed given (idl.a_spec at idl.OfVoid) p q h e = absurd cc
+spec_agrees g k pointed given (idl.a_spec at idl.OfHandle) p q h e = absurd cc
+spec_agrees g k pointed given (idl.a_spec at idl.OfStatus) p q h e = absurd cc
+spec_agrees g k pointed given (idl.a_spec at (idl.OfTag tag)) p q h e = absurd cc
+spec_agrees g k pointed given (idl.a_spec at (idl.OfStruct tag ms)) p q h e = absurd cc
+spec_agrees g k pointed given (idl.a_spec at (idl.OfUnion tag s arms)) p q h e = absurd cc
+spec_agrees g k pointed given (idl.a_spec at (idl.OfEnum tag names)) p q h e = absurd cc
 
 -- pointers and arrays keep what they lead to
 pointers_core : (class : Pk) (b : Bool) (n : ℕ) (t u : DataType) → u.core ≡ t.core → (if b then t else u).core ≡ t.core
@@ -187,11 +183,11 @@ join_le xs ys ds es few fewer =
     let all = count_join ds es in
     omega (arith, few, fewer, both, all)
 
-param_uses : (k : Pk) (names : List Ident) (n : ParamNode) (p : Past) (q : Scope) → Agree p q
-    → Uses (count_by is_handle_declared (member_field k places.Parameter (param_plain n) p).declared) q (param_at k names n q)
+param_uses : (k : Pk) (names : List Ident) (n : idl.ParamForm) (p : Past) (q : Scope) → Agree p q
+    → Uses (count_by is_handle_declared (member_field k places.Parameter (one_member n) p).declared) q (param_at k names n q)
 param_uses k names n p q h =
-    let as' : PAttrs = plain_attrs n.attrs.items in
-    let s : PSpec = plain_spec n.spec in
+    let as' : idl.AttrForms = n.attrs in
+    let s : idl.SpecForm = n.spec in
     let marks : Option Form × Scope = attrs_at k as' q in
     let g : Setting = before_declarators k (n.dtor ∷ []) false (tag_given (attributes k as' p)) in
     let behind : Past = attrs_past k as' p in
@@ -206,16 +202,16 @@ param_uses k names n p q h =
       named = spec_named k pointed marks.0 s marks.1 ∙ attrs_named k as' q;
     })
 
-params_uses : (k : Pk) (names : List Ident) (ns : List ParamNode) (p : Past) (q : Scope) → Agree p q
+params_uses : (k : Pk) (names : List Ident) (ns : List idl.ParamForm) (p : Past) (q : Scope) → Agree p q
     → Uses (count_by is_handle_declared (declared_of (param_fields k ns p))) q (params_at k names ns q)
 params_uses k names [] p q h = record { few = omega arith; named = refl }
 params_uses k names (n ∷ ns) p q h =
     let first = param_uses k names n p q h in
     let z : Scope = (param_at k names n q).1 in
-    let r : Past = member_past k (param_plain n) p in
-    let others = params_uses k names ns r z (agree_on p r q z h (member_quiet k (param_plain n) p).types first.named) in
+    let r : Past = member_past k (one_member n) p in
+    let others = params_uses k names ns r z (agree_on p r q z h (member_quiet k (one_member n) p).types first.named) in
     record {
-      few = join_le (param_at k names n q).0.1 (params_at k names ns z).0.1 (member_field k places.Parameter (param_plain n) p).declared (declared_of (param_fields k ns r)) first.few others.few;
+      few = join_le (param_at k names n q).0.1 (params_at k names ns z).0.1 (member_field k places.Parameter (one_member n) p).declared (declared_of (param_fields k ns r)) first.few others.few;
       named = others.named ∙ first.named;
     }
 
@@ -261,7 +257,7 @@ pub record Adds (d e : Draft) (q : Past) (us : List (List HandleUse)) : Type 0 w
   uses_are : e.uses ≡ d.uses ++ us
   agree : Agree q e.scope
 
-op_adds : (k : Pk) (as' : PAttrs) (s : PSpec) (name : Ident) (ns : List ParamNode) (d : Draft) (p : Past) → Agree p d.scope → length d.ops ≡ count_by is_operation p → length d.ops ≤ 65535 → Clean (op_past k as' s name ns p) → Few (op_past k as' s name ns p)
+op_adds : (k : Pk) (as' : idl.AttrForms) (s : idl.SpecForm) (name : Ident) (ns : List idl.ParamForm) (d : Draft) (p : Past) → Agree p d.scope → length d.ops ≡ count_by is_operation p → length d.ops ≤ 65535 → Clean (op_past k as' s name ns p) → Few (op_past k as' s name ns p)
     → Adds d (op_at k as' s name ns d) (op_past k as' s name ns p) ((params_at k (param_names ns) ns (alone_at k as' s d.scope).1).0.1 ∷ [])
 op_adds k as' s name ns d p h counted few c c6 =
     let q : Past = events.Operation name ∷ result_past k as' s p in
@@ -281,24 +277,26 @@ op_adds k as' s name ns d p h counted few c c6 =
 
 -- ---- typedefs
 
-word_is : (k : Pk) (m : PMark) (p : Past) → is_handle_word (mark_of k m p) ≡ says_handle m
-word_is k is_in p = refl
-word_is k is_out p = refl
-word_is k (is_pointer c) p = refl
-word_is k is_text p = refl
-word_is k is_idempotent p = refl
-word_is k is_maybe p = refl
-word_is k is_handle p = refl
-word_is k (is_size r) p = refl
-word_is k (is_max r) p = refl
-word_is k (is_length r) p = refl
-word_is k (is_switch star i) p = refl
-word_is k (is_range low high) p = refl
-word_is k (is_switch_type s) p = refl
+word_is : (k : Pk) (m : idl.AttrKindForm) (p : Past) → is_handle_word (mark_of k m p) ≡ says_handle m
+word_is k idl.OfIn p = refl
+word_is k idl.OfOut p = refl
+word_is k (idl.OfPointer c) p = refl
+word_is k idl.OfText p = refl
+word_is k idl.OfIdempotent p = refl
+word_is k idl.OfMaybe p = refl
+word_is k idl.OfContext p = refl
+word_is k idl.OfSerialize p = refl
+word_is k idl.OfNoserialize p = refl
+word_is k (idl.OfSizeIs r) p = refl
+word_is k (idl.OfMaxIs r) p = refl
+word_is k (idl.OfLengthIs r) p = refl
+word_is k (idl.OfSwitchIs star i) p = refl
+word_is k (idl.OfRange low high) p = refl
+word_is k (idl.OfSwitchType s) p = refl
 
-words_are : (k : Pk) (as' : PAttrs) (p : Past) → has_handle_word (attributes k as' p) ≡ says says_handle as'
-words_are k no_attr p = refl
-words_are k (then_attr (attr at m) rest) p = λ j. word_is k m p j || words_are k rest (attr_past k (attr at m) p) j
+words_are : (k : Pk) (as' : idl.AttrForms) (p : Past) → has_handle_word (attributes k as' p) ≡ says says_handle as'
+words_are k idl.no_attr p = refl
+words_are k (idl.then_attr (idl.an_attr at m) rest) p = λ j. word_is k m p j || words_are k rest (attr_past k (idl.an_attr at m) p) j
 
 sort_handle : (b : Bool) (o : Option ArraySize) (s : Sort) → is_handle_sort (if b then bare_sort o s else sorts.Value) ≡ true → is_handle_sort s ≡ true
 sort_handle true None s e = e
@@ -326,8 +324,8 @@ types_agree handle serialised t m class ty past (d ∷ ds) p q h f =
     types_agree handle serialised t m class ty past ds (events.Typedef d.name (outline_declared past handle class ty d).ty ∷ size_past d.array p) (typedef_one handle serialised t m d q)
     (one_agrees handle serialised t m class ty past d p q h f) f
 
-typedef_agrees : (k : Pk) (nodes : List Attr) (as' : PAttrs) (s : PSpec) (ds : List Dtor) (p : Past) (q : Scope) → Agree p q → Agree (typedef_past k as' s ds p) (typedef_at k nodes as' s ds q)
-typedef_agrees k nodes as' s ds p q h =
+typedef_agrees : (k : Pk) (as' : idl.AttrForms) (s : idl.SpecForm) (ds : List Dtor) (p : Past) (q : Scope) → Agree p q → Agree (typedef_past k as' s ds p) (typedef_at k as' s ds q)
+typedef_agrees k as' s ds p q h =
     let marks : Option Form × Scope = attrs_at k as' q in
     let r : Past = attrs_past k as' p in
     let g : Setting = typedef_setting k (attributes k as' p) ds in
@@ -338,38 +336,38 @@ typedef_agrees k nodes as' s ds p q h =
     let before : Agree r marks.1 = agree_on p r q marks.1 h (attrs_quiet k as' p).types (attrs_named k as' q) in
     let behind : Agree z m.1 = agree_on r z marks.1 m.1 before (spec_quiet g s r).types (spec_named k (all_pointed ds) marks.0 s marks.1) in
     let of_spec = spec_agrees g k (all_pointed ds) marks.0 s r marks.1 before in
-    subst (λ (b : Bool). Agree (types_past ds (each_declared z b class ty ds) z) (typedef_all (says says_handle as') (is_serialised nodes) (terms k places.Typedef false [] as') m.0 ds m.1))
+    subst (λ (b : Bool). Agree (types_past ds (each_declared z b class ty ds) z) (typedef_all (says says_handle as') (is_serialised as') (terms k places.Typedef false [] as') m.0 ds m.1))
     (sym (words_are k as' p))
-    (types_agree (says says_handle as') (is_serialised nodes) (terms k places.Typedef false [] as') m.0 class ty z ds z m.1 behind of_spec)
+    (types_agree (says says_handle as') (is_serialised as') (terms k places.Typedef false [] as') m.0 class ty z ds z m.1 behind of_spec)
 
 -- ---- declarations
 
-decl_adds : (k : Pk) (x : DeclKind) (d : Draft) (p : Past) → Agree p d.scope → length d.ops ≡ count_by is_operation p → length d.ops ≤ 65535 → Clean (decl_past k x p) → Few (decl_past k x p) → Adds d (decl_at k x d) (decl_past k x p) (handles_in k x d)
-decl_adds k (decl_kinds.Const base name value) d p h counted few c c6 = record { uses_are = sym (append-nil d.uses); agree = h }
-decl_adds k (decl_kinds.Typedef as' s ds) d p h counted few c c6 =
-    record { uses_are = sym (append-nil d.uses); agree = typedef_agrees k as'.items (plain_attrs as'.items) (plain_spec s) ds.items p d.scope h }
-decl_adds k (decl_kinds.Lone as' s) d p h counted few c c6 =
-    let marks : Option Form × Scope = attrs_at k (plain_attrs as'.items) d.scope in
+decl_adds : (k : Pk) (x : idl.DeclKindForm) (d : Draft) (p : Past) → Agree p d.scope → length d.ops ≡ count_by is_operation p → length d.ops ≤ 65535 → Clean (decl_past k x p) → Few (decl_past k x p) → Adds d (decl_at k x d) (decl_past k x p) (handles_in k x d)
+decl_adds k (idl.OfConst base name value) d p h counted few c c6 = record { uses_are = sym (append-nil d.uses); agree = h }
+decl_adds k (idl.OfTypedef as' s ds) d p h counted few c c6 =
+    record { uses_are = sym (append-nil d.uses); agree = typedef_agrees k as' s ds p d.scope h }
+decl_adds k (idl.OfLone as' s) d p h counted few c c6 =
+    let marks : Option Form × Scope = attrs_at k as' d.scope in
     record {
       uses_are = sym (append-nil d.uses);
-      agree = agree_on p (lone_past k (plain_attrs as'.items) (plain_spec s) p) d.scope (alone_at k (plain_attrs as'.items) (plain_spec s) d.scope).1 h (lone_quiet k (plain_attrs as'.items) (plain_spec s) p).types (spec_named k false marks.0 (plain_spec s) marks.1 ∙ attrs_named k (plain_attrs as'.items) d.scope);
+      agree = agree_on p (lone_past k as' s p) d.scope (alone_at k as' s d.scope).1 h (lone_quiet k as' s p).types (spec_named k false marks.0 s marks.1 ∙ attrs_named k as' d.scope);
     }
-decl_adds k (decl_kinds.Op as' s name void ps) d p h counted few c c6 = op_adds k (plain_attrs as'.items) (plain_spec s) name ps.items d p h counted few c c6
+decl_adds k (idl.OfOp as' s name void ps) d p h counted few c c6 = op_adds k as' s name ps d p h counted few c c6
 
-decl_few : (k : Pk) (x : DeclKind) (p : Past) → Few (decl_past k x p) → Few p
-decl_few k (decl_kinds.Const base name value) p c = few_back (events.Constant base name value ∷ []) p c
-decl_few k (decl_kinds.Typedef as' s ds) p c = few_before p _ (typedef_behind_is k (plain_attrs as'.items) (plain_spec s) ds.items p) c
-decl_few k (decl_kinds.Lone as' s) p c = few_before p _ (lone_quiet k (plain_attrs as'.items) (plain_spec s) p).behind c
-decl_few k (decl_kinds.Op as' s name void ps) p c =
-    let r : Past = result_past k (plain_attrs as'.items) (plain_spec s) p in
-    few_before p r (result_quiet k (plain_attrs as'.items) (plain_spec s) p).behind
-    (few_back (events.Operation name ∷ []) r (few_before (events.Operation name ∷ r) _ (params_behind k (plain_attrs as'.items) (plain_spec s) name ps.items p).behind c))
+decl_few : (k : Pk) (x : idl.DeclKindForm) (p : Past) → Few (decl_past k x p) → Few p
+decl_few k (idl.OfConst base name value) p c = few_back (events.Constant base name value ∷ []) p c
+decl_few k (idl.OfTypedef as' s ds) p c = few_before p _ (typedef_behind_is k as' s ds p) c
+decl_few k (idl.OfLone as' s) p c = few_before p _ (lone_quiet k as' s p).behind c
+decl_few k (idl.OfOp as' s name void ps) p c =
+    let r : Past = result_past k as' s p in
+    few_before p r (result_quiet k as' s p).behind
+    (few_back (events.Operation name ∷ []) r (few_before (events.Operation name ∷ r) _ (params_behind k as' s name ps p).behind c))
 
-decls_few : (k : Pk) (xs : List Decl) (p : Past) → Few (decls_past k xs p) → Few p
+decls_few : (k : Pk) (xs : List idl.DeclForm) (p : Past) → Few (decls_past k xs p) → Few p
 decls_few k [] p c = c
 decls_few k (x ∷ xs) p c = decl_few k x.what p (decls_few k xs (decl_past k x.what p) c)
 
-decls_add : (k : Pk) (xs : List Decl) (d : Draft) (p : Past) → Agree p d.scope → length d.ops ≡ count_by is_operation p → length d.ops ≤ 65535 → Clean (decls_past k xs p) → Few (decls_past k xs p)
+decls_add : (k : Pk) (xs : List idl.DeclForm) (d : Draft) (p : Past) → Agree p d.scope → length d.ops ≡ count_by is_operation p → length d.ops ≤ 65535 → Clean (decls_past k xs p) → Few (decls_past k xs p)
     → (decls_at k xs d).uses ≡ d.uses ++ all_handles k xs d
 decls_add k [] d p h counted few c c6 = sym (append-nil d.uses)
 decls_add k (x ∷ xs) d p h counted few c c6 =
@@ -379,12 +377,12 @@ decls_add k (x ∷ xs) d p h counted few c c6 =
     let others = decls_add k xs (decl_at k x.what d) (decl_past k x.what p) first.agree next.0.counted next.1 c c6 in
     others ∙ (ap (λ (us : List (List HandleUse)). us ++ all_handles k xs (decl_at k x.what d)) first.uses_are ∙ append_assoc d.uses (handles_in k x.what d) (all_handles k xs (decl_at k x.what d)))
 
-few_tree : (tree : Ast) → NoneBroken tree → Few (outline tree)
-few_tree tree none = none_among (gathered too_many_handles (outline tree)) (λ at there. none.none 6 at (record { there = there }))
+few_tree : (tree : Ast) → NoneBroken tree → Few (outline (idl.tree_form tree))
+few_tree tree none = none_among (gathered too_many_handles (outline (idl.tree_form tree))) (λ at there. none.none 6 at (record { there = there }))
 
-all_kept : (tree : Ast) → NoneBroken tree → (tabled tree).uses ≡ all_handles (pointer_default tree.attributes.items) tree.decls.items nothing_declared
+all_kept : (tree : Ast) → NoneBroken tree → (tabled tree).uses ≡ all_handles (pointer_default (idl.tree_form tree).attributes) (idl.tree_form tree).decls nothing_declared
 all_kept tree none =
-    decls_add (pointer_default tree.attributes.items) tree.decls.items nothing_declared [] (λ name e. absurd cc) refl (omega arith) (clean_tree tree none) (few_tree tree none)
+    decls_add (pointer_default (idl.tree_form tree).attributes) (idl.tree_form tree).decls nothing_declared [] (λ name e. absurd cc) refl (omega arith) (clean_tree tree none) (few_tree tree none)
 
 pub has_handles : (tree : Ast) (table : TableForm) → NoneBroken tree → table ≡ tabled tree → HasEachHandle tree table
 has_handles tree table none e = record { uses_are = ap (λ (t : TableForm). t.uses) e ∙ all_kept tree none }

@@ -1,25 +1,21 @@
 -- Each operation of an interface that keeps the rules is in its table.
-use Rattle.std.proofs.Common.{◌≡◌, ℕ, suc, ◌+◌, ◌<◌, ◌≤◌, List, [], ◌∷◌, ◌++◌, map, length, Bool, true, false, cond, refl, ap, subst, sym, ◌∙◌, arith, append_assoc, append-nil, length-append, inl}
+use Rattle.std.proofs.Common.{◌≡◌, ℕ, ◌+◌, ◌<◌, ◌≤◌, List, [], ◌∷◌, ◌++◌, map, length, Bool, true, false, cond, refl, ap, subst, sym, ◌∙◌, arith, append_assoc, append-nil, length-append, inl}
 use Rattle.std.specs.Prelude.{◌==◌, nat_lt, if◌then◌else◌}
-use Rattle.std.specs.List.{count_by, flat_map}
+use Rattle.std.specs.List.{count_by}
 use Rattle.std.proofs.lemmas.Grind.{common_steps}
 use Rattle.std.proofs.lemmas.List.Sums.{sum_by-cons}
 use Rattle.idl_tree.specs.declared.leaf.Ident.{Ident}
 use Rattle.idl_tree.specs.declared.leaf.Pk.{Pk}
 use Rattle.idl_tree.specs.declared.leaf.Dtor.{Dtor}
 use Rattle.idl_tree.specs.declared.declaration.Ast.{Ast}
-use Rattle.idl_tree.specs.declared.declaration.Decl.{Decl}
-use Rattle.idl_tree.specs.declared.declaration.DeclKind.{DeclKind}
-use Rattle.idl_tree.specs.declared.declaration.DeclKind.TheVariants as decl_kinds
-use Rattle.idl_tree.specs.declared.declaration.ParamNode.{ParamNode}
 use Rattle.idl_outline.specs.declared.event.Event.{Event}
 use Rattle.idl_outline.specs.declared.event.Event.TheVariants as events
-use Rattle.idl_outline.specs.Plain.{PSpec, PAttrs, plain_spec, plain_attrs}
+use Rattle.idl_forms.specs.Forms as idl
 use Rattle.idl_outline.specs.Names.{Past, is_operation}
-use Rattle.idl_outline.specs.Outline.{attributes, spec_past, attrs_past, pointer_default, typedef_setting, typedef_behind, typedef_field, typedef_past, types_past, lone_setting, lone_past, result_setting, result_past, params_past, op_past, decl_past, decls_past, outline}
+use Rattle.idl_outline.specs.Outline.{attrs_past, pointer_default, typedef_behind, typedef_field, typedef_past, types_past, lone_past, result_past, params_past, op_past, decl_past, decls_past, outline}
 use Rattle.idl_rules.specs.Places.{Among, at_if, gathered}
 use Rattle.idl_rules.specs.OutsideProfile.{outside_profile}
-use Rattle.idl_rules.specs.Broken.{Broken, NoneBroken}
+use Rattle.idl_rules.specs.Broken.{NoneBroken}
 use Rattle.table_form.specs.Tables.{OpForm, TableForm}
 use Rattle.marshal_table.specs.Interfaces.{Draft, decl_at, decls_at, op_at, nothing_declared, tabled}
 use Rattle.marshal_table.specs.Wholes.{op_name, names_in, op_names, HasEachOperation}
@@ -56,22 +52,22 @@ below n le ne = grind (arith, common_steps)
 
 -- ---- declarations that declare no operation
 
-pub typedef_behind_is : (k : Pk) (as' : PAttrs) (s : PSpec) (ds : List Dtor) (p : Past) → Behind p (typedef_past k as' s ds p)
+pub typedef_behind_is : (k : Pk) (as' : idl.AttrForms) (s : idl.SpecForm) (ds : List Dtor) (p : Past) → Behind p (typedef_past k as' s ds p)
 typedef_behind_is k as' s ds p =
     let q : Past = attrs_past k as' p in
     let r : Past = typedef_behind k as' s ds p in
     let z : Past = types_past ds (typedef_field k as' s ds p).declared r in
     more_behind (events.Single _) p z refl (then_behind p r z (then_quiet p q r (attrs_quiet k as' p) (spec_quiet _ s q)).behind (types_behind ds (typedef_field k as' s ds p).declared r))
 
-pub lone_quiet : (k : Pk) (as' : PAttrs) (s : PSpec) (p : Past) → Quiet p (lone_past k as' s p)
+pub lone_quiet : (k : Pk) (as' : idl.AttrForms) (s : idl.SpecForm) (p : Past) → Quiet p (lone_past k as' s p)
 lone_quiet k as' s p = one_more (events.Single _) p _ refl (λ name. refl) (then_quiet p (attrs_past k as' p) _ (attrs_quiet k as' p) (spec_quiet _ s (attrs_past k as' p)))
 
-pub result_quiet : (k : Pk) (as' : PAttrs) (s : PSpec) (p : Past) → Quiet p (result_past k as' s p)
+pub result_quiet : (k : Pk) (as' : idl.AttrForms) (s : idl.SpecForm) (p : Past) → Quiet p (result_past k as' s p)
 result_quiet k as' s p = then_quiet p (attrs_past k as' p) (result_past k as' s p) (attrs_quiet k as' p) (spec_quiet _ s (attrs_past k as' p))
 
 -- ---- an operation: behind its result its name, and then its parameters
 
-pub params_behind : (k : Pk) (as' : PAttrs) (s : PSpec) (name : Ident) (ns : List ParamNode) (p : Past) → Quiet (events.Operation name ∷ result_past k as' s p) (op_past k as' s name ns p)
+pub params_behind : (k : Pk) (as' : idl.AttrForms) (s : idl.SpecForm) (name : Ident) (ns : List idl.ParamForm) (p : Past) → Quiet (events.Operation name ∷ result_past k as' s p) (op_past k as' s name ns p)
 params_behind k as' s name ns p =
     let q : Past = events.Operation name ∷ result_past k as' s p in
     one_more (events.Call _ _) q (params_past k ns q) refl (λ name. refl) (params_quiet k ns q)
@@ -79,17 +75,17 @@ params_behind k as' s name ns p =
 counted_one : (name : Ident) (q : Past) → count_by is_operation (events.Operation name ∷ q) ≡ 1 + count_by is_operation q
 counted_one name q = sum_by-cons (λ e. cond (is_operation e) 1 0) (events.Operation name) q
 
-op_count : (k : Pk) (as' : PAttrs) (s : PSpec) (name : Ident) (ns : List ParamNode) (p : Past) → count_by is_operation (op_past k as' s name ns p) ≡ 1 + count_by is_operation p
+op_count : (k : Pk) (as' : idl.AttrForms) (s : idl.SpecForm) (name : Ident) (ns : List idl.ParamForm) (p : Past) → count_by is_operation (op_past k as' s name ns p) ≡ 1 + count_by is_operation p
 op_count k as' s name ns p = (params_behind k as' s name ns p).behind.none ∙ (counted_one name (result_past k as' s p) ∙ ap {B = ℕ} (λ (n : ℕ). 1 + n) (result_quiet k as' s p).behind.none)
 
-pub op_room : (k : Pk) (as' : PAttrs) (s : PSpec) (name : Ident) (ns : List ParamNode) (p : Past) → count_by is_operation p ≤ 65535 → Clean (op_past k as' s name ns p) → count_by is_operation p < 65535
+pub op_room : (k : Pk) (as' : idl.AttrForms) (s : idl.SpecForm) (name : Ident) (ns : List idl.ParamForm) (p : Past) → count_by is_operation p ≤ 65535 → Clean (op_past k as' s name ns p) → count_by is_operation p < 65535
 op_room k as' s name ns p le c =
     let q : Past = result_past k as' s p in
     let named : Clean (events.Operation name ∷ q) = clean_before (events.Operation name ∷ q) (op_past k as' s name ns p) (params_behind k as' s name ns p).behind c in
     let here = not_at (count_by is_operation q == 65535) name.at (nil_left (outside_profile q (events.Operation name)) (gathered outside_profile q) named) in
     below (count_by is_operation p) le (subst (λ (n : ℕ). (n == 65535) ≡ false) (result_quiet k as' s p).behind.none here)
 
-pub op_clean : (k : Pk) (as' : PAttrs) (s : PSpec) (name : Ident) (ns : List ParamNode) (p : Past) → Clean (op_past k as' s name ns p) → Clean p
+pub op_clean : (k : Pk) (as' : idl.AttrForms) (s : idl.SpecForm) (name : Ident) (ns : List idl.ParamForm) (p : Past) → Clean (op_past k as' s name ns p) → Clean p
 op_clean k as' s name ns p c =
     let q : Past = result_past k as' s p in
     clean_before p q (result_quiet k as' s p).behind (clean_back (events.Operation name ∷ []) q (clean_before (events.Operation name ∷ q) (op_past k as' s name ns p) (params_behind k as' s name ns p).behind c))
@@ -112,7 +108,7 @@ pub kept_op : (b : Bool) (ops : List OpForm) (o : OpForm) → b ≡ true → (if
 kept_op true ops o e = refl
 kept_op false ops o e = absurd cc
 
-op_listed : (k : Pk) (as' : PAttrs) (s : PSpec) (name : Ident) (ns : List ParamNode) (d : Draft) (p : Past) → length d.ops ≡ count_by is_operation p → length d.ops ≤ 65535 → Clean (op_past k as' s name ns p)
+op_listed : (k : Pk) (as' : idl.AttrForms) (s : idl.SpecForm) (name : Ident) (ns : List idl.ParamForm) (d : Draft) (p : Past) → length d.ops ≡ count_by is_operation p → length d.ops ≤ 65535 → Clean (op_past k as' s name ns p)
     → Lists d (op_at k as' s name ns d) p (op_past k as' s name ns p) (name.text ∷ []) × (length (op_at k as' s name ns d).ops ≤ 65535)
 op_listed k as' s name ns d p counted few c =
     let less : length d.ops < 65535 = subst (λ (n : ℕ). n < 65535) (sym counted) (op_room k as' s name ns p (subst (λ (n : ℕ). n ≤ 65535) counted few) c) in
@@ -123,24 +119,24 @@ op_listed k as' s name ns d p counted few c =
       omega (arith, longer, less),
     )
 
-pub decl_listed : (k : Pk) (x : DeclKind) (d : Draft) (p : Past) → length d.ops ≡ count_by is_operation p → length d.ops ≤ 65535 → Clean (decl_past k x p)
+pub decl_listed : (k : Pk) (x : idl.DeclKindForm) (d : Draft) (p : Past) → length d.ops ≡ count_by is_operation p → length d.ops ≤ 65535 → Clean (decl_past k x p)
     → Lists d (decl_at k x d) p (decl_past k x p) (names_in x) × (length (decl_at k x d).ops ≤ 65535)
-decl_listed k (decl_kinds.Const base name value) d p counted few c = (same_ops d _ p _ refl (more_behind (events.Constant base name value) p p refl (stays_behind p)) counted, few)
-decl_listed k (decl_kinds.Typedef as' s ds) d p counted few c = (same_ops d _ p _ refl (typedef_behind_is k (plain_attrs as'.items) (plain_spec s) ds.items p) counted, few)
-decl_listed k (decl_kinds.Lone as' s) d p counted few c = (same_ops d _ p _ refl (lone_quiet k (plain_attrs as'.items) (plain_spec s) p).behind counted, few)
-decl_listed k (decl_kinds.Op as' s name void ps) d p counted few c = op_listed k (plain_attrs as'.items) (plain_spec s) name ps.items d p counted few c
+decl_listed k (idl.OfConst base name value) d p counted few c = (same_ops d _ p _ refl (more_behind (events.Constant base name value) p p refl (stays_behind p)) counted, few)
+decl_listed k (idl.OfTypedef as' s ds) d p counted few c = (same_ops d _ p _ refl (typedef_behind_is k as' s ds p) counted, few)
+decl_listed k (idl.OfLone as' s) d p counted few c = (same_ops d _ p _ refl (lone_quiet k as' s p).behind counted, few)
+decl_listed k (idl.OfOp as' s name void ps) d p counted few c = op_listed k as' s name ps d p counted few c
 
-pub decl_clean : (k : Pk) (x : DeclKind) (p : Past) → Clean (decl_past k x p) → Clean p
-decl_clean k (decl_kinds.Const base name value) p c = clean_back (events.Constant base name value ∷ []) p c
-decl_clean k (decl_kinds.Typedef as' s ds) p c = clean_before p _ (typedef_behind_is k (plain_attrs as'.items) (plain_spec s) ds.items p) c
-decl_clean k (decl_kinds.Lone as' s) p c = clean_before p _ (lone_quiet k (plain_attrs as'.items) (plain_spec s) p).behind c
-decl_clean k (decl_kinds.Op as' s name void ps) p c = op_clean k (plain_attrs as'.items) (plain_spec s) name ps.items p c
+pub decl_clean : (k : Pk) (x : idl.DeclKindForm) (p : Past) → Clean (decl_past k x p) → Clean p
+decl_clean k (idl.OfConst base name value) p c = clean_back (events.Constant base name value ∷ []) p c
+decl_clean k (idl.OfTypedef as' s ds) p c = clean_before p _ (typedef_behind_is k as' s ds p) c
+decl_clean k (idl.OfLone as' s) p c = clean_before p _ (lone_quiet k as' s p).behind c
+decl_clean k (idl.OfOp as' s name void ps) p c = op_clean k as' s name ps p c
 
-pub decls_clean : (k : Pk) (xs : List Decl) (p : Past) → Clean (decls_past k xs p) → Clean p
+pub decls_clean : (k : Pk) (xs : List idl.DeclForm) (p : Past) → Clean (decls_past k xs p) → Clean p
 decls_clean k [] p c = c
 decls_clean k (x ∷ xs) p c = decl_clean k x.what p (decls_clean k xs (decl_past k x.what p) c)
 
-decls_listed : (k : Pk) (xs : List Decl) (d : Draft) (p : Past) → length d.ops ≡ count_by is_operation p → length d.ops ≤ 65535 → Clean (decls_past k xs p)
+decls_listed : (k : Pk) (xs : List idl.DeclForm) (d : Draft) (p : Past) → length d.ops ≡ count_by is_operation p → length d.ops ≤ 65535 → Clean (decls_past k xs p)
     → map op_name (decls_at k xs d).ops ≡ map op_name d.ops ++ op_names xs
 decls_listed k [] d p counted few c = sym (append-nil (map op_name d.ops))
 decls_listed k (x ∷ xs) d p counted few c =
@@ -154,11 +150,11 @@ pub none_among : (xs : List ℕ) → ((at : ℕ) → Among at xs → ⊥) → xs
 none_among [] h = refl
 none_among (x ∷ xs) h = absurd (h x (inl refl))
 
-pub clean_tree : (tree : Ast) → NoneBroken tree → Clean (outline tree)
-clean_tree tree none = none_among (gathered outside_profile (outline tree)) (λ at there. none.none 9 at (record { there = there }))
+pub clean_tree : (tree : Ast) → NoneBroken tree → Clean (outline (idl.tree_form tree))
+clean_tree tree none = none_among (gathered outside_profile (outline (idl.tree_form tree))) (λ at there. none.none 9 at (record { there = there }))
 
-pub all_listed : (tree : Ast) → NoneBroken tree → map op_name (tabled tree).ops ≡ op_names tree.decls.items
-all_listed tree none = decls_listed (pointer_default tree.attributes.items) tree.decls.items nothing_declared [] refl (omega arith) (clean_tree tree none)
+pub all_listed : (tree : Ast) → NoneBroken tree → map op_name (tabled tree).ops ≡ op_names (idl.tree_form tree).decls
+all_listed tree none = decls_listed (pointer_default (idl.tree_form tree).attributes) (idl.tree_form tree).decls nothing_declared [] refl (omega arith) (clean_tree tree none)
 
 pub has_each : (tree : Ast) (table : TableForm) → NoneBroken tree → table ≡ tabled tree → HasEachOperation tree table
 has_each tree table none e = record { names_are = ap (λ (t : TableForm). map op_name t.ops) e ∙ all_listed tree none }

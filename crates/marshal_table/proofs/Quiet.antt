@@ -10,15 +10,14 @@ use Rattle.idl_tree.specs.declared.leaf.Dtor.{Dtor}
 use Rattle.idl_tree.specs.declared.spec.Label.{Label as LabelNode}
 use Rattle.idl_tree.specs.declared.spec.LabelKind.{LabelKind}
 use Rattle.idl_tree.specs.declared.spec.LabelKind.TheVariants as label_kinds
-use Rattle.idl_tree.specs.declared.declaration.ParamNode.{ParamNode}
 use Rattle.idl_outline.specs.declared.field.Declared.{Declared}
 use Rattle.idl_outline.specs.declared.field.Field.{Field}
 use Rattle.idl_outline.specs.declared.event.Event.{Event}
 use Rattle.idl_outline.specs.declared.event.Event.TheVariants as events
 use Rattle.idl_outline.specs.declared.setting.Setting.{Setting}
-use Rattle.idl_outline.specs.Plain.{PSpec, spec, PKind, of_base, of_name, of_void, of_handle_t, of_error_status, of_tag, of_struct, of_union, of_enum, PSwitch, no_switch, switch, PMember, member, PMembers, no_member, then_member, PArm, arm, empty_arm, PArms, no_arm, then_arm, PMark, is_in, is_out, is_pointer, is_text, is_idempotent, is_maybe, is_handle, is_size, is_max, is_length, is_switch, is_switch_type, is_range, PAttr, attr, PAttrs, no_attr, then_attr}
+use Rattle.idl_forms.specs.Forms as idl
 use Rattle.idl_outline.specs.Names.{Past, is_operation, type_named, tag_given}
-use Rattle.idl_outline.specs.Outline.{before_declarators, size_past, array_past, sizes_past, label_past, labels_past, tag_used_past, void_past, other_tag_past, names_past, struct_past, struct_end, tag_holds, attributes, spec_past, kind_past, switch_past, mark_past, attr_past, attrs_past, member_past, members_past, member_fields, arm_past, arms_past, types_past, param_plain, params_past}
+use Rattle.idl_outline.specs.Outline.{before_declarators, size_past, array_past, sizes_past, label_past, labels_past, tag_used_past, other_tag_past, names_past, struct_past, struct_end, tag_holds, attributes, spec_past, kind_past, switch_past, mark_past, attr_past, attrs_past, member_past, members_past, member_fields, arm_past, arms_past, types_past, one_member, params_past}
 
 -- the later past has the earlier one behind further events, none of which declares an operation
 pub record Behind (p q : Past) : Type 0 where
@@ -104,74 +103,76 @@ ends_quiet (Some i) fs p q a = one_more (events.StructEnds i _) p (events.Body f
 -- ---- specs, attributes and what they hold
 
 mutual
-  pub spec_quiet : (g : Setting) (s : PSpec) (p : Past) → Quiet p (spec_past g s p)
-  spec_quiet g (spec at k) p = kind_quiet g at k p
+  pub spec_quiet : (g : Setting) (s : idl.SpecForm) (p : Past) → Quiet p (spec_past g s p)
+  spec_quiet g (idl.a_spec at k) p = kind_quiet g at k p
 
-  kind_quiet : (g : Setting) (at : ℕ) (k : PKind) (p : Past) → Quiet p (kind_past g at k p)
-  kind_quiet g at (of_base b) p = stays p
-  kind_quiet g at (of_name i) p = one_more (events.TypeUsed i) p p refl (λ name. refl) (stays p)
-  kind_quiet g at of_void p = void_quiet g.void_allowed at p
-  kind_quiet g at of_handle_t p = stays p
-  kind_quiet g at of_error_status p = stays p
-  kind_quiet g at (of_tag tag) p = tag_quiet g tag p
-  kind_quiet g at (of_struct tag ms) p =
+  kind_quiet : (g : Setting) (at : ℕ) (k : idl.KindForm) (p : Past) → Quiet p (kind_past g at k p)
+  kind_quiet g at (idl.OfBase b) p = stays p
+  kind_quiet g at (idl.OfName i) p = one_more (events.TypeUsed i) p p refl (λ name. refl) (stays p)
+  kind_quiet g at idl.OfVoid p = void_quiet g.void_allowed at p
+  kind_quiet g at idl.OfHandle p = stays p
+  kind_quiet g at idl.OfStatus p = stays p
+  kind_quiet g at (idl.OfTag tag) p = tag_quiet g tag p
+  kind_quiet g at (idl.OfStruct tag ms) p =
       let q : Past = struct_past tag (tag_holds tag ms) p in
       ends_quiet tag (member_fields g.default ms q) p (members_past g.default ms q) (then_quiet p q (members_past g.default ms q) (begins_quiet tag (tag_holds tag ms) p) (members_quiet g.default ms q))
-  kind_quiet g at (of_union tag s arms) p =
+  kind_quiet g at (idl.OfUnion tag s arms) p =
       let q : Past = other_tag_past tag p in
       let r : Past = switch_past g s q in
       let z : Past = arms_past g.default arms r in
       let behind : Quiet p z = then_quiet p r z (then_quiet p q r (other_quiet tag p) (switch_quiet g s q)) (arms_quiet g.default arms r) in
       one_more (events.Union _ _) p (events.Body _ ∷ z) refl (λ name. refl) (one_more (events.Body _) p z refl (λ name. refl) behind)
-  kind_quiet g at (of_enum tag names) p =
+  kind_quiet g at (idl.OfEnum tag names) p =
       then_quiet p (other_tag_past tag p) (names_past 0 names (other_tag_past tag p)) (other_quiet tag p) (names_quiet 0 names (other_tag_past tag p))
 
-  switch_quiet : (g : Setting) (s : PSwitch) (p : Past) → Quiet p (switch_past g s p)
-  switch_quiet g no_switch p = stays p
-  switch_quiet g (switch s i) p = one_more (events.Single _) p _ refl (λ name. refl) (spec_quiet _ s p)
+  switch_quiet : (g : Setting) (s : idl.SwitchForm) (p : Past) → Quiet p (switch_past g s p)
+  switch_quiet g idl.no_switch p = stays p
+  switch_quiet g (idl.a_switch s i body) p = one_more (events.Single _) p _ refl (λ name. refl) (spec_quiet _ s p)
 
-  mark_quiet : (default : Pk) (m : PMark) (p : Past) → Quiet p (mark_past default m p)
-  mark_quiet default is_in p = stays p
-  mark_quiet default is_out p = stays p
-  mark_quiet default (is_pointer k) p = stays p
-  mark_quiet default is_text p = stays p
-  mark_quiet default is_idempotent p = stays p
-  mark_quiet default is_maybe p = stays p
-  mark_quiet default is_handle p = stays p
-  mark_quiet default (is_size r) p = stays p
-  mark_quiet default (is_max r) p = stays p
-  mark_quiet default (is_length r) p = stays p
-  mark_quiet default (is_switch star i) p = stays p
-  mark_quiet default (is_range low high) p = stays p
-  mark_quiet default (is_switch_type s) p = spec_quiet _ s p
+  mark_quiet : (default : Pk) (m : idl.AttrKindForm) (p : Past) → Quiet p (mark_past default m p)
+  mark_quiet default idl.OfIn p = stays p
+  mark_quiet default idl.OfOut p = stays p
+  mark_quiet default (idl.OfPointer k) p = stays p
+  mark_quiet default idl.OfText p = stays p
+  mark_quiet default idl.OfIdempotent p = stays p
+  mark_quiet default idl.OfMaybe p = stays p
+  mark_quiet default idl.OfContext p = stays p
+  mark_quiet default idl.OfSerialize p = stays p
+  mark_quiet default idl.OfNoserialize p = stays p
+  mark_quiet default (idl.OfSizeIs r) p = stays p
+  mark_quiet default (idl.OfMaxIs r) p = stays p
+  mark_quiet default (idl.OfLengthIs r) p = stays p
+  mark_quiet default (idl.OfSwitchIs star i) p = stays p
+  mark_quiet default (idl.OfRange low high) p = stays p
+  mark_quiet default (idl.OfSwitchType s) p = spec_quiet _ s p
 
-  attr_quiet : (default : Pk) (a : PAttr) (p : Past) → Quiet p (attr_past default a p)
-  attr_quiet default (attr at m) p = mark_quiet default m p
+  attr_quiet : (default : Pk) (a : idl.AttrForm) (p : Past) → Quiet p (attr_past default a p)
+  attr_quiet default (idl.an_attr at m) p = mark_quiet default m p
 
-  pub attrs_quiet : (default : Pk) (as' : PAttrs) (p : Past) → Quiet p (attrs_past default as' p)
-  attrs_quiet default no_attr p = stays p
-  attrs_quiet default (then_attr a as') p =
+  pub attrs_quiet : (default : Pk) (as' : idl.AttrForms) (p : Past) → Quiet p (attrs_past default as' p)
+  attrs_quiet default idl.no_attr p = stays p
+  attrs_quiet default (idl.then_attr a as') p =
       then_quiet p (attr_past default a p) (attrs_past default as' (attr_past default a p)) (attr_quiet default a p) (attrs_quiet default as' (attr_past default a p))
 
-  pub member_quiet : (default : Pk) (m : PMember) (p : Past) → Quiet p (member_past default m p)
-  member_quiet default (member as' s ds) p =
+  pub member_quiet : (default : Pk) (m : idl.MemberForm) (p : Past) → Quiet p (member_past default m p)
+  member_quiet default (idl.a_member as' s ds) p =
       let g : Setting = before_declarators default ds false (tag_given (attributes default as' p)) in
       let q : Past = attrs_past default as' p in
       let r : Past = spec_past g s q in
       then_quiet p r (sizes_past ds r) (then_quiet p q r (attrs_quiet default as' p) (spec_quiet g s q)) (sizes_quiet ds r)
 
-  members_quiet : (default : Pk) (ms : PMembers) (p : Past) → Quiet p (members_past default ms p)
-  members_quiet default no_member p = stays p
-  members_quiet default (then_member m ms) p =
+  members_quiet : (default : Pk) (ms : idl.MemberForms) (p : Past) → Quiet p (members_past default ms p)
+  members_quiet default idl.no_member p = stays p
+  members_quiet default (idl.then_member m ms) p =
       then_quiet p (member_past default m p) (members_past default ms (member_past default m p)) (member_quiet default m p) (members_quiet default ms (member_past default m p))
 
-  arm_quiet : (default : Pk) (a : PArm) (p : Past) → Quiet p (arm_past default a p)
-  arm_quiet default (arm ls m) p = then_quiet p (labels_past ls p) (member_past default m (labels_past ls p)) (labels_quiet ls p) (member_quiet default m (labels_past ls p))
-  arm_quiet default (empty_arm ls) p = labels_quiet ls p
+  arm_quiet : (default : Pk) (a : idl.ArmForm) (p : Past) → Quiet p (arm_past default a p)
+  arm_quiet default (idl.member_arm ls m) p = then_quiet p (labels_past ls p) (member_past default m (labels_past ls p)) (labels_quiet ls p) (member_quiet default m (labels_past ls p))
+  arm_quiet default (idl.empty_arm ls) p = labels_quiet ls p
 
-  arms_quiet : (default : Pk) (as' : PArms) (p : Past) → Quiet p (arms_past default as' p)
-  arms_quiet default no_arm p = stays p
-  arms_quiet default (then_arm a as') p =
+  arms_quiet : (default : Pk) (as' : idl.ArmForms) (p : Past) → Quiet p (arms_past default as' p)
+  arms_quiet default idl.no_arm p = stays p
+  arms_quiet default (idl.then_arm a as') p =
       then_quiet p (arm_past default a p) (arms_past default as' (arm_past default a p)) (arm_quiet default a p) (arms_quiet default as' (arm_past default a p))
 
 -- ---- declarators of typedefs, and parameters
@@ -184,7 +185,7 @@ types_behind (d ∷ ds) (x ∷ xs) p =
     let e : Event = events.Typedef x.name x.ty in
     then_behind p (e ∷ q) (types_past ds xs (e ∷ q)) (more_behind e p q refl (size_quiet d.array p).behind) (types_behind ds xs (e ∷ q))
 
-pub params_quiet : (default : Pk) (ns : List ParamNode) (p : Past) → Quiet p (params_past default ns p)
+pub params_quiet : (default : Pk) (ns : List idl.ParamForm) (p : Past) → Quiet p (params_past default ns p)
 params_quiet default [] p = stays p
 params_quiet default (n ∷ ns) p =
-    then_quiet p (member_past default (param_plain n) p) (params_past default ns (member_past default (param_plain n) p)) (member_quiet default (param_plain n) p) (params_quiet default ns (member_past default (param_plain n) p))
+    then_quiet p (member_past default (one_member n) p) (params_past default ns (member_past default (one_member n) p)) (member_quiet default (one_member n) p) (params_quiet default ns (member_past default (one_member n) p))

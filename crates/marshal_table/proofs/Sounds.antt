@@ -9,7 +9,7 @@ use Rattle.idl_tree.specs.declared.leaf.Base.{Base}
 use Rattle.idl_tree.specs.declared.leaf.Base.TheVariants as bases
 use Rattle.idl_outline.specs.declared.field.Place.TheVariants as places
 use Rattle.idl_outline.specs.Outline.{all_pointed}
-use Rattle.idl_outline.specs.Plain.{PSpec, spec, PKind, of_base, of_name, of_void, of_handle_t, of_error_status, of_tag, of_struct, of_union, of_enum, PSwitch, no_switch, switch, PMember, member, PMembers, no_member, then_member, PArm, arm, empty_arm, PArms, no_arm, then_arm, PMark, is_in, is_out, is_pointer, is_text, is_idempotent, is_maybe, is_handle, is_size, is_max, is_length, is_switch, is_switch_type, is_range, PAttr, attr, PAttrs, no_attr, then_attr}
+use Rattle.idl_forms.specs.Forms as idl
 use Rattle.ndr_value.specs.Forms.{Form, OfNamed, OfStruct, OfUnion}
 use Rattle.table_form.specs.Ordered.{is_body, is_below, arms_below, body_below, ordered_from}
 use Rattle.table_form.specs.Ordered.{is_size as is_number_size}
@@ -232,22 +232,22 @@ abbrev GivenSound : ℕ → ℕ → Scope → Option Form × Scope → Type 0
 GivenSound far n p q = Goes far n p q.1 × GivenFits (length q.1.types) far q.0
 
 mutual
-  pub spec_sound : (far : ℕ) (k : Pk) (pointed : Bool) (given : Option Form) (s : PSpec) (p : Scope) → Sound far p → length p.types + within s ≤ far → GivenFits (length p.types) far given → SpecSound far (within s) pointed p (spec_at k pointed given s p)
-  spec_sound far k pointed given (spec at what) p ok room g = kind_sound far k pointed given what p ok room g
+  pub spec_sound : (far : ℕ) (k : Pk) (pointed : Bool) (given : Option Form) (s : idl.SpecForm) (p : Scope) → Sound far p → length p.types + within s ≤ far → GivenFits (length p.types) far given → SpecSound far (within s) pointed p (spec_at k pointed given s p)
+  spec_sound far k pointed given (idl.a_spec at what) p ok room g = kind_sound far k pointed given what p ok room g
 
-  kind_sound : (far : ℕ) (k : Pk) (pointed : Bool) (given : Option Form) (s : PKind) (p : Scope) → Sound far p → length p.types + kind_within s ≤ far → GivenFits (length p.types) far given → SpecSound far (kind_within s) pointed p (kind_at k pointed given s p)
-  kind_sound far k pointed given (of_base b) p ok room g = (stays far p ok, base_fits (reach pointed (length p.types) far) far b)
-  kind_sound far k pointed given (of_name i) p ok room g = (stays far p ok, reach_fits pointed (length p.types) far ok.few (type_named i.text p.named).shape (named_fits (length p.types) far i.text p.named ok.named))
-  kind_sound far k pointed given of_void p ok room g = (stays far p ok, refl)
-  kind_sound far k pointed given of_handle_t p ok room g = (stays far p ok, refl)
-  kind_sound far k pointed given of_error_status p ok room g = (stays far p ok, refl)
-  kind_sound far k pointed given (of_tag tag) p ok room g = (stays far p ok, tag_fits (length p.types) far pointed tag p.tags ok.tags)
-  kind_sound far k pointed given (of_struct tag ms) p ok room g =
+  kind_sound : (far : ℕ) (k : Pk) (pointed : Bool) (given : Option Form) (s : idl.KindForm) (p : Scope) → Sound far p → length p.types + kind_within s ≤ far → GivenFits (length p.types) far given → SpecSound far (kind_within s) pointed p (kind_at k pointed given s p)
+  kind_sound far k pointed given (idl.OfBase b) p ok room g = (stays far p ok, base_fits (reach pointed (length p.types) far) far b)
+  kind_sound far k pointed given (idl.OfName i) p ok room g = (stays far p ok, reach_fits pointed (length p.types) far ok.few (type_named i.text p.named).shape (named_fits (length p.types) far i.text p.named ok.named))
+  kind_sound far k pointed given idl.OfVoid p ok room g = (stays far p ok, refl)
+  kind_sound far k pointed given idl.OfHandle p ok room g = (stays far p ok, refl)
+  kind_sound far k pointed given idl.OfStatus p ok room g = (stays far p ok, refl)
+  kind_sound far k pointed given (idl.OfTag tag) p ok room g = (stays far p ok, tag_fits (length p.types) far pointed tag p.tags ok.tags)
+  kind_sound far k pointed given (idl.OfStruct tag ms) p ok room g =
       let same = ap (λ (ts : List Form). length ts) (begun_types tag (members_within ms) p) in
       let inside = members_sound far k (member_names ms) ms (begun tag (members_within ms) p) (begun_sound far tag (members_within ms) p ok (omega (arith, room))) (omega (arith, same, room)) in
       let count = inside.0.count in
       struct_sound far (members_within ms) pointed tag p (members_at k (member_names ms) ms (begun tag (members_within ms) p)) (record { count = omega (arith, same, count); sound = inside.0.sound }) inside.1 room
-  kind_sound far k pointed given (of_union tag s arms) p ok room g =
+  kind_sound far k pointed given (idl.OfUnion tag s arms) p ok room g =
       let t = switch_sound far k given s p ok (omega (arith, room)) g in
       let before = t.0.count in
       let inside = arms_sound far k (arm_names arms) arms (switch_at k given s p).1 t.0.sound (omega (arith, before, room)) in
@@ -256,34 +256,36 @@ mutual
       (record { count = omega (arith, before, count); sound = inside.0.sound })
       (fits_more (length (switch_at k given s p).1.types) (length (arms_at k (arm_names arms) arms (switch_at k given s p).1).1.types) far (omega (arith, count)) (switch_at k given s p).0 t.1)
       inside.1 room
-  kind_sound far k pointed given (of_enum tag names) p ok room g = (names_sound far 0 names p ok, refl)
+  kind_sound far k pointed given (idl.OfEnum tag names) p ok room g = (names_sound far 0 names p ok, refl)
 
-  switch_sound : (far : ℕ) (k : Pk) (given : Option Form) (s : PSwitch) (p : Scope) → Sound far p → length p.types + switch_within s ≤ far → GivenFits (length p.types) far given
+  switch_sound : (far : ℕ) (k : Pk) (given : Option Form) (s : idl.SwitchForm) (p : Scope) → Sound far p → length p.types + switch_within s ≤ far → GivenFits (length p.types) far given
       → Goes far (switch_within s) p (switch_at k given s p).1 × (is_below (length (switch_at k given s p).1.types) far (switch_at k given s p).0 ≡ true)
-  switch_sound far k given no_switch p ok room g = (stays far p ok, nothing_or (length p.types) far given g)
-  switch_sound far k given (switch s i) p ok room g = spec_sound far k false None s p ok room tt
+  switch_sound far k given idl.no_switch p ok room g = (stays far p ok, nothing_or (length p.types) far given g)
+  switch_sound far k given (idl.a_switch s i body) p ok room g = spec_sound far k false None s p ok room tt
 
-  mark_sound : (far : ℕ) (k : Pk) (m : PMark) (p : Scope) → Sound far p → length p.types + mark_within m ≤ far → GivenSound far (mark_within m) p (mark_at k m p)
-  mark_sound far k is_in p ok room = (stays far p ok, tt)
-  mark_sound far k is_out p ok room = (stays far p ok, tt)
-  mark_sound far k (is_pointer c) p ok room = (stays far p ok, tt)
-  mark_sound far k is_text p ok room = (stays far p ok, tt)
-  mark_sound far k is_idempotent p ok room = (stays far p ok, tt)
-  mark_sound far k is_maybe p ok room = (stays far p ok, tt)
-  mark_sound far k is_handle p ok room = (stays far p ok, tt)
-  mark_sound far k (is_size r) p ok room = (stays far p ok, tt)
-  mark_sound far k (is_max r) p ok room = (stays far p ok, tt)
-  mark_sound far k (is_length r) p ok room = (stays far p ok, tt)
-  mark_sound far k (is_switch star i) p ok room = (stays far p ok, tt)
-  mark_sound far k (is_range low high) p ok room = (stays far p ok, tt)
-  mark_sound far k (is_switch_type s) p ok room = spec_sound far k false None s p ok room tt
+  mark_sound : (far : ℕ) (k : Pk) (m : idl.AttrKindForm) (p : Scope) → Sound far p → length p.types + mark_within m ≤ far → GivenSound far (mark_within m) p (mark_at k m p)
+  mark_sound far k idl.OfIn p ok room = (stays far p ok, tt)
+  mark_sound far k idl.OfOut p ok room = (stays far p ok, tt)
+  mark_sound far k (idl.OfPointer c) p ok room = (stays far p ok, tt)
+  mark_sound far k idl.OfText p ok room = (stays far p ok, tt)
+  mark_sound far k idl.OfIdempotent p ok room = (stays far p ok, tt)
+  mark_sound far k idl.OfMaybe p ok room = (stays far p ok, tt)
+  mark_sound far k idl.OfContext p ok room = (stays far p ok, tt)
+  mark_sound far k idl.OfSerialize p ok room = (stays far p ok, tt)
+  mark_sound far k idl.OfNoserialize p ok room = (stays far p ok, tt)
+  mark_sound far k (idl.OfSizeIs r) p ok room = (stays far p ok, tt)
+  mark_sound far k (idl.OfMaxIs r) p ok room = (stays far p ok, tt)
+  mark_sound far k (idl.OfLengthIs r) p ok room = (stays far p ok, tt)
+  mark_sound far k (idl.OfSwitchIs star i) p ok room = (stays far p ok, tt)
+  mark_sound far k (idl.OfRange low high) p ok room = (stays far p ok, tt)
+  mark_sound far k (idl.OfSwitchType s) p ok room = spec_sound far k false None s p ok room tt
 
-  attr_sound : (far : ℕ) (k : Pk) (a : PAttr) (p : Scope) → Sound far p → length p.types + attr_within a ≤ far → GivenSound far (attr_within a) p (attr_at k a p)
-  attr_sound far k (attr at m) p ok room = mark_sound far k m p ok room
+  attr_sound : (far : ℕ) (k : Pk) (a : idl.AttrForm) (p : Scope) → Sound far p → length p.types + attr_within a ≤ far → GivenSound far (attr_within a) p (attr_at k a p)
+  attr_sound far k (idl.an_attr at m) p ok room = mark_sound far k m p ok room
 
-  pub attrs_sound : (far : ℕ) (k : Pk) (as' : PAttrs) (p : Scope) → Sound far p → length p.types + attrs_within as' ≤ far → GivenSound far (attrs_within as') p (attrs_at k as' p)
-  attrs_sound far k no_attr p ok room = (stays far p ok, tt)
-  attrs_sound far k (then_attr a rest) p ok room =
+  pub attrs_sound : (far : ℕ) (k : Pk) (as' : idl.AttrForms) (p : Scope) → Sound far p → length p.types + attrs_within as' ≤ far → GivenSound far (attrs_within as') p (attrs_at k as' p)
+  attrs_sound far k idl.no_attr p ok room = (stays far p ok, tt)
+  attrs_sound far k (idl.then_attr a rest) p ok room =
       let first = attr_sound far k a p ok (omega (arith, room)) in
       let before = first.0.count in
       let others = attrs_sound far k rest (attr_at k a p).1 first.0.sound (omega (arith, before, room)) in
@@ -293,9 +295,9 @@ mutual
             (given_more (length (attr_at k a p).1.types) (length (attrs_at k rest (attr_at k a p).1).1.types) far (omega (arith, count)) (attr_at k a p).0 first.1) others.1,
       )
 
-  member_sound : (far : ℕ) (k : Pk) (names : List Ident) (m : PMember) (p : Scope) → Sound far p → length p.types + member_within m ≤ far
+  member_sound : (far : ℕ) (k : Pk) (names : List Ident) (m : idl.MemberForm) (p : Scope) → Sound far p → length p.types + member_within m ≤ far
       → Goes far (member_within m) p (member_at k names m p).1 × AllFit (length (member_at k names m p).1.types) far (member_at k names m p).0
-  member_sound far k names (member as' s ds) p ok room =
+  member_sound far k names (idl.a_member as' s ds) p ok room =
       let marks = attrs_sound far k as' p ok (omega (arith, room)) in
       let before = marks.0.count in
       let behind = spec_sound far k (all_pointed ds) (attrs_at k as' p).0 s (attrs_at k as' p).1 marks.0.sound (omega (arith, before, room)) marks.1 in
@@ -308,10 +310,10 @@ mutual
             (reach_far (all_pointed ds) (length q.1.types) far few q.0.shape behind.1),
       )
 
-  members_sound : (far : ℕ) (k : Pk) (names : List Ident) (ms : PMembers) (p : Scope) → Sound far p → length p.types + members_within ms ≤ far
+  members_sound : (far : ℕ) (k : Pk) (names : List Ident) (ms : idl.MemberForms) (p : Scope) → Sound far p → length p.types + members_within ms ≤ far
       → Goes far (members_within ms) p (members_at k names ms p).1 × AllFit (length (members_at k names ms p).1.types) far (members_at k names ms p).0
-  members_sound far k names no_member p ok room = (stays far p ok, tt)
-  members_sound far k names (then_member m ms) p ok room =
+  members_sound far k names idl.no_member p ok room = (stays far p ok, tt)
+  members_sound far k names (idl.then_member m ms) p ok room =
       let first = member_sound far k names m p ok (omega (arith, room)) in
       let before = first.0.count in
       let others = members_sound far k names ms (member_at k names m p).1 first.0.sound (omega (arith, before, room)) in
@@ -321,17 +323,17 @@ mutual
             (all_more (length (member_at k names m p).1.types) (length (members_at k names ms (member_at k names m p).1).1.types) far (omega (arith, count)) (member_at k names m p).0 first.1) others.1,
       )
 
-  arm_sound : (far : ℕ) (k : Pk) (names : List Ident) (a : PArm) (p : Scope) → Sound far p → length p.types + arm_within a ≤ far
+  arm_sound : (far : ℕ) (k : Pk) (names : List Ident) (a : idl.ArmForm) (p : Scope) → Sound far p → length p.types + arm_within a ≤ far
       → Goes far (arm_within a) p (arm_at k names a p).1 × (body_below (length (arm_at k names a p).1.types) far (arm_at k names a p).0.2 ≡ true)
-  arm_sound far k names (arm ls m) p ok room =
+  arm_sound far k names (idl.member_arm ls m) p ok room =
       let inside = member_sound far k names m p ok room in
       (inside.0, held_fits (length (member_at k names m p).1.types) far (member_at k names m p).0 inside.1)
-  arm_sound far k names (empty_arm ls) p ok room = (stays far p ok, refl)
+  arm_sound far k names (idl.empty_arm ls) p ok room = (stays far p ok, refl)
 
-  arms_sound : (far : ℕ) (k : Pk) (names : List Ident) (as' : PArms) (p : Scope) → Sound far p → length p.types + arms_within as' ≤ far
+  arms_sound : (far : ℕ) (k : Pk) (names : List Ident) (as' : idl.ArmForms) (p : Scope) → Sound far p → length p.types + arms_within as' ≤ far
       → Goes far (arms_within as') p (arms_at k names as' p).1 × FacesFit (length (arms_at k names as' p).1.types) far (arms_at k names as' p).0
-  arms_sound far k names no_arm p ok room = (stays far p ok, tt)
-  arms_sound far k names (then_arm a rest) p ok room =
+  arms_sound far k names idl.no_arm p ok room = (stays far p ok, tt)
+  arms_sound far k names (idl.then_arm a rest) p ok room =
       let first = arm_sound far k names a p ok (omega (arith, room)) in
       let before = first.0.count in
       let others = arms_sound far k names rest (arm_at k names a p).1 first.0.sound (omega (arith, before, room)) in

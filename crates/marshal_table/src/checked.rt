@@ -15,7 +15,7 @@ use table_form::Table;
 /// # Errors
 ///
 /// `NoMemory` where there is no memory for it, or a type, a parameter or a result nests by value more
-/// than 256 levels.
+/// than 16 levels.
 pub fn build(alloc: Global, checked: &Checked) -> Result<Table, NoMemory>
     ensures exact { IfOk result (λ table. shown table ≡ spec.tabled checked.now) }
     ensures operations { IfOk result (λ table. HasEachOperation checked.now (shown table)) }

@@ -1,7 +1,6 @@
 //! Declarations, and the interface's own attributes.
-ghost use Rattle.std.specs.Prelude.{◌≡◌, [], false, IfOk, OnOk};
-ghost use Rattle.idl_outline.specs.Outline as outline;
-ghost use Rattle.idl_outline.specs.Plain.{plain_spec, plain_attrs};
+ghost use Rattle.std.specs.Prelude.{◌≡◌, [], map, false, IfOk, OnOk};
+ghost use Rattle.idl_forms.specs.Forms.{spec_form, attrs_form, decl_kind_form, decl_form, file_kind_form, file_form};
 ghost use Rattle.idl_outline.specs.declared.field.Place.TheVariants as places;
 ghost use Rattle.table_scope.specs.Scopes.{sense, scope};
 ghost use Rattle.table_scope.specs.Declarators as declarators;
@@ -10,7 +9,7 @@ ghost use Rattle.marshal_table.specs.Interfaces as spec;
 
 use crate::listing::Operations;
 use crate::operations::{alone, operation};
-use idl_outline::Place;
+use idl_outline::{Place, all_pointed};
 use idl_tree::{
     ArraySize, Attr, Decl, DeclKind, Dtor, FileAttr, FileAttrKind, Ident, Num, Pk, Spec,
 };
@@ -18,7 +17,7 @@ use name_map::Names;
 use rpc_base::{NoMemory, SyntaxId};
 use std::alloc::Global;
 use table_scope::{
-    Meaning, Sort, Symbols, Terms, all_pointed, declared, in_16, is_serialised, says_handle, terms,
+    Meaning, Sort, Symbols, Terms, declared, in_16, is_serialised, says_handle, terms,
     with_constant, with_handle, with_type,
 };
 use table_specs::{attrs_tag, spec_meaning};
@@ -104,8 +103,8 @@ fn typedef_meaning(
     known: &mut Symbols,
     default: Pk,
 ) -> Result<Meaning, NoMemory>
-    ensures value { IfOk result (λ m. sense m ≡ (spec.typedef_sense default (plain_attrs attrs.now) (plain_spec of.now) dtors.now (scope known.old)).0) }
-    ensures past { OnOk result (scope known.new ≡ (spec.typedef_sense default (plain_attrs attrs.now) (plain_spec of.now) dtors.now (scope known.old)).1) }
+    ensures value { IfOk result (λ m. sense m ≡ (spec.typedef_sense default (attrs_form attrs.now) (spec_form of.now) dtors.now (scope known.old)).0) }
+    ensures past { OnOk result (scope known.new ≡ (spec.typedef_sense default (attrs_form attrs.now) (spec_form of.now) dtors.now (scope known.old)).1) }
 {
     let tag = attrs_tag(attrs, alloc, known, default)?;
     let pointed = all_pointed(dtors);
@@ -114,7 +113,7 @@ fn typedef_meaning(
 
 // What attributes say of a typedef's declarators, which have no counts.
 fn typedef_terms(attrs: &[Attr], alloc: Global, default: Pk) -> Result<Terms, NoMemory>
-    ensures { IfOk result (λ t. t ≡ declarators.terms default places.Typedef false [] (plain_attrs attrs.now)) }
+    ensures { IfOk result (λ t. t ≡ declarators.terms default places.Typedef false [] (attrs_form attrs.now)) }
 {
     let none: Vec<Ident> = Vec::new(alloc);
     terms(attrs, default, Place::Typedef, false, none.as_slice())
@@ -128,7 +127,7 @@ fn typedef(
     known: &mut Symbols,
     default: Pk,
 ) -> Result<(), NoMemory>
-    ensures { OnOk result (scope known.new ≡ spec.typedef_at default attrs.now (plain_attrs attrs.now) (plain_spec of.now) dtors.now (scope known.old)) }
+    ensures { OnOk result (scope known.new ≡ spec.typedef_at default (attrs_form attrs.now) (spec_form of.now) dtors.now (scope known.old)) }
 {
     let meaning = typedef_meaning(attrs, of, dtors, alloc, known, default)?;
     let terms = typedef_terms(attrs, alloc, default)?;
@@ -144,7 +143,7 @@ fn lone(
     known: &mut Symbols,
     default: Pk,
 ) -> Result<(), NoMemory>
-    ensures { OnOk result (scope known.new ≡ spec.lone_at default (plain_attrs attrs.now) (plain_spec of.now) (scope known.old)) }
+    ensures { OnOk result (scope known.new ≡ spec.lone_at default (attrs_form attrs.now) (spec_form of.now) (scope known.old)) }
 {
     alone(attrs, of, alloc, known, default)?;
     Ok(())
@@ -157,7 +156,7 @@ fn declaration(
     known: &mut Symbols,
     into: &mut Operations,
 ) -> Result<(), NoMemory>
-    ensures { OnOk result (spec.draft known.new into.new ≡ spec.decl_at default kind.now (spec.draft known.old into.old)) }
+    ensures { OnOk result (spec.draft known.new into.new ≡ spec.decl_at default (decl_kind_form kind.now) (spec.draft known.old into.old)) }
 {
     match kind {
         DeclKind::Const { name, value, .. } => with_constant(known, alloc, name, *value),
@@ -189,7 +188,7 @@ pub fn declarations(
     known: &mut Symbols,
     into: &mut Operations,
 ) -> Result<(), NoMemory>
-    ensures { OnOk result (spec.draft known.new into.new ≡ spec.decls_at default list.now (spec.draft known.old into.old)) }
+    ensures { OnOk result (spec.draft known.new into.new ≡ spec.decls_at default (map decl_form list.now) (spec.draft known.old into.old)) }
 {
     for decl in list {
         declaration(&decl.what, alloc, default, known, into)?;
@@ -199,17 +198,8 @@ pub fn declarations(
 
 // ---- the interface's own attributes
 
-fn default_in(kind: &FileAttrKind) -> Option<Pk>
-    ensures { result ≡ outline.default_in kind.now }
-{
-    match kind {
-        FileAttrKind::PointerDefault(class) => Some(*class),
-        _ => None,
-    }
-}
-
 fn uuid_in(kind: &FileAttrKind) -> Option<Uuid>
-    ensures { result ≡ spec.uuid_in kind.now }
+    ensures { result ≡ spec.uuid_in (file_kind_form kind.now) }
 {
     match kind {
         FileAttrKind::Uuid(id) => Some(*id),
@@ -227,7 +217,7 @@ fn minor_of(minor: Option<Num>) -> Result<u16, NoMemory>
 }
 
 fn version_in(kind: &FileAttrKind) -> Result<Option<(u16, u16)>, NoMemory>
-    ensures { IfOk result (λ v. v ≡ spec.version_in kind.now) }
+    ensures { IfOk result (λ v. v ≡ spec.version_in (file_kind_form kind.now)) }
 {
     match kind {
         FileAttrKind::Version(major, minor) => {
@@ -238,21 +228,8 @@ fn version_in(kind: &FileAttrKind) -> Result<Option<(u16, u16)>, NoMemory>
     }
 }
 
-/// The pointer class of an interface, unique where it says none.
-pub fn pointer_default(attrs: &[FileAttr]) -> Pk
-    ensures { result ≡ outline.pointer_default attrs.now }
-{
-    for attr in attrs {
-        match default_in(&attr.what) {
-            Some(class) => return class,
-            None => {}
-        }
-    }
-    Pk::Unique
-}
-
 fn first_uuid(attrs: &[FileAttr]) -> Option<Uuid>
-    ensures { result ≡ spec.first_in spec.uuid_in attrs.now }
+    ensures { result ≡ spec.first_in spec.uuid_in (map file_form attrs.now) }
 {
     for attr in attrs {
         let found = uuid_in(&attr.what);
@@ -264,7 +241,7 @@ fn first_uuid(attrs: &[FileAttr]) -> Option<Uuid>
 }
 
 fn first_version(attrs: &[FileAttr]) -> Result<Option<(u16, u16)>, NoMemory>
-    ensures { IfOk result (λ v. v ≡ spec.first_in spec.version_in attrs.now) }
+    ensures { IfOk result (λ v. v ≡ spec.first_in spec.version_in (map file_form attrs.now)) }
 {
     for attr in attrs {
         let found = version_in(&attr.what)?;
@@ -282,7 +259,7 @@ fn first_version(attrs: &[FileAttr]) -> Result<Option<(u16, u16)>, NoMemory>
 /// `NoMemory` where there is no identifier, or a number of the version has no room in 16 bits: no
 /// interface that keeps the rules is so.
 pub fn syntax_of(attrs: &[FileAttr]) -> Result<SyntaxId, NoMemory>
-    ensures { IfOk result (λ id. id ≡ spec.syntax_of attrs.now) }
+    ensures { IfOk result (λ id. id ≡ spec.syntax_of (map file_form attrs.now)) }
 {
     let Some(id) = first_uuid(attrs) else {
         return Err(NoMemory);

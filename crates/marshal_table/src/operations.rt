@@ -2,7 +2,8 @@
 ghost use Rattle.std.specs.Prelude.{◌≡◌, ◌++◌, ◌∷◌, [], map, take, false, IfOk, OnOk};
 ghost use Rattle.ndr_value.specs.Forms.{form};
 ghost use Rattle.table_form.specs.Tables.{result_form, param_form, op_form};
-ghost use Rattle.idl_outline.specs.Plain.{plain_spec, plain_attrs};
+ghost use Rattle.idl_forms.specs.Forms as idl;
+ghost use Rattle.idl_forms.specs.Forms.{spec_form, attrs_form};
 ghost use Rattle.table_scope.specs.Scopes.{sense, scope};
 ghost use Rattle.marshal_table.specs.Interfaces as spec;
 
@@ -41,7 +42,7 @@ fn op_of(
     meaning: Meaning,
     params: Params,
 ) -> Result<Op, NoMemory>
-    ensures { IfOk result (λ o. op_form o ≡ spec.op_of name.now.text (plain_attrs attrs.now) (sense meaning) (map param_form params.items)) }
+    ensures { IfOk result (λ o. op_form o ≡ spec.op_of name.now.text (attrs_form attrs.now) (sense meaning) (map param_form params.items)) }
 {
     let name = name.text.copy(alloc)?;
     let status = is_status(meaning.sort);
@@ -89,8 +90,8 @@ pub fn alone(
     known: &mut Symbols,
     default: Pk,
 ) -> Result<Meaning, NoMemory>
-    ensures value { IfOk result (λ m. sense m ≡ (spec.alone_at default (plain_attrs attrs.now) (plain_spec of.now) (scope known.old)).0) }
-    ensures past { OnOk result (scope known.new ≡ (spec.alone_at default (plain_attrs attrs.now) (plain_spec of.now) (scope known.old)).1) }
+    ensures value { IfOk result (λ m. sense m ≡ (spec.alone_at default (attrs_form attrs.now) (spec_form of.now) (scope known.old)).0) }
+    ensures past { OnOk result (scope known.new ≡ (spec.alone_at default (attrs_form attrs.now) (spec_form of.now) (scope known.old)).1) }
 {
     let tag = attrs_tag(attrs, alloc, known, default)?;
     spec_meaning(of, alloc, known, default, false, &tag)
@@ -103,8 +104,8 @@ fn listed(
     known: &mut Symbols,
     default: Pk,
 ) -> Result<Listing, NoMemory>
-    ensures value { IfOk result (λ l. spec.listing l ≡ (spec.params_at default (spec.param_names nodes.now) nodes.now (scope known.old)).0) }
-    ensures past { OnOk result (scope known.new ≡ (spec.params_at default (spec.param_names nodes.now) nodes.now (scope known.old)).1) }
+    ensures value { IfOk result (λ l. spec.listing l ≡ (spec.params_at default (spec.param_names (map idl.param_form nodes.now)) (map idl.param_form nodes.now) (scope known.old)).0) }
+    ensures past { OnOk result (scope known.new ≡ (spec.params_at default (spec.param_names (map idl.param_form nodes.now)) (map idl.param_form nodes.now) (scope known.old)).1) }
 {
     let names = param_names(nodes, alloc)?;
     params(nodes, alloc, known, default, &names)
@@ -120,7 +121,7 @@ fn add_with(
     known: &Symbols,
     into: &mut Operations,
 ) -> Result<(), NoMemory>
-    ensures { OnOk result (spec.draft known.now into.new ≡ spec.op_with name.now.text (plain_attrs attrs.now) (sense meaning) (spec.listing all, scope known.now) (spec.draft known.now into.old)) }
+    ensures { OnOk result (spec.draft known.now into.new ≡ spec.op_with name.now.text (attrs_form attrs.now) (sense meaning) (spec.listing all, scope known.now) (spec.draft known.now into.old)) }
 {
     let Listing { params, uses } = all;
     let op = op_of(alloc, name, attrs, meaning, params)?;
@@ -142,7 +143,7 @@ pub fn operation(
     known: &mut Symbols,
     into: &mut Operations,
 ) -> Result<(), NoMemory>
-    ensures { OnOk result (spec.draft known.new into.new ≡ spec.op_at default (plain_attrs attrs.now) (plain_spec of.now) name.now nodes.now (spec.draft known.old into.old)) }
+    ensures { OnOk result (spec.draft known.new into.new ≡ spec.op_at default (attrs_form attrs.now) (spec_form of.now) name.now (map idl.param_form nodes.now) (spec.draft known.old into.old)) }
 {
     let meaning = alone(attrs, of, alloc, known, default)?;
     let all = listed(nodes, alloc, known, default)?;

@@ -3,7 +3,8 @@ ghost use Rattle.std.specs.Prelude.{◌≡◌, ◌++◌, ◌∷◌, [], ◌==◌
 ghost use Rattle.std.specs.List.{flat_map};
 ghost use Rattle.ndr_value.specs.Forms.{form};
 ghost use Rattle.table_form.specs.Tables.{result_form, param_form};
-ghost use Rattle.idl_outline.specs.Plain.{plain_spec, plain_kind, plain_attrs};
+ghost use Rattle.idl_forms.specs.Forms as idl;
+ghost use Rattle.idl_forms.specs.Forms.{spec_form, kind_form, attrs_form};
 ghost use Rattle.idl_outline.specs.declared.field.Place.TheVariants as places;
 ghost use Rattle.table_scope.specs.Scopes.{sense, scope};
 ghost use Rattle.table_scope.specs.Declarators as declarators;
@@ -23,19 +24,19 @@ use table_scope::{Meaning, Sort, Symbols, declared, range, says_in, says_out, te
 use table_specs::{attrs_tag, spec_meaning};
 
 fn is_binding_kind(kind: &SpecKind) -> bool
-    ensures { result ≡ spec.is_binding_kind (plain_kind kind.now) }
+    ensures { result ≡ spec.is_binding_kind (kind_form kind.now) }
 {
     matches!(kind, SpecKind::HandleT)
 }
 
 fn is_binding(of: &Spec) -> bool
-    ensures { result ≡ spec.is_binding (plain_spec of.now) }
+    ensures { result ≡ spec.is_binding (spec_form of.now) }
 {
     is_binding_kind(&of.what)
 }
 
 fn add_name(node: &ParamNode, alloc: Global, names: &mut Vec<Ident>) -> Result<(), NoMemory>
-    ensures { OnOk result (names.new.items ≡ names.old.items ++ spec.listed_name node.now) }
+    ensures { OnOk result (names.new.items ≡ names.old.items ++ spec.listed_name (idl.param_form node.now)) }
 {
     if is_binding(&node.spec) {
         return Ok(());
@@ -50,7 +51,7 @@ fn add_name(node: &ParamNode, alloc: Global, names: &mut Vec<Ident>) -> Result<(
 ///
 /// `NoMemory` where there is no memory for them.
 pub fn param_names(nodes: &[ParamNode], alloc: Global) -> Result<Vec<Ident>, NoMemory>
-    ensures { IfOk result (λ names. names.items ≡ spec.param_names nodes.now) }
+    ensures { IfOk result (λ names. names.items ≡ spec.param_names (map idl.param_form nodes.now)) }
 {
     let mut names = Vec::new(alloc);
     for node in nodes {
@@ -90,8 +91,8 @@ fn param_meaning(
     known: &mut Symbols,
     default: Pk,
 ) -> Result<Meaning, NoMemory>
-    ensures value { IfOk result (λ m. sense m ≡ (spec.param_sense default node.now (scope known.old)).0) }
-    ensures past { OnOk result (scope known.new ≡ (spec.param_sense default node.now (scope known.old)).1) }
+    ensures value { IfOk result (λ m. sense m ≡ (spec.param_sense default (idl.param_form node.now) (scope known.old)).0) }
+    ensures past { OnOk result (scope known.new ≡ (spec.param_sense default (idl.param_form node.now) (scope known.old)).1) }
 {
     let tag = attrs_tag(&node.attrs, alloc, known, default)?;
     let pointed = node.dtor.stars != 0;
@@ -108,7 +109,7 @@ fn one_param(
     constants: &Names<Num>,
     shape: &Shape,
 ) -> Result<Param, NoMemory>
-    ensures { IfOk result (λ p. param_form p ≡ record { shape = declarators.declared (declarators.terms default places.Parameter true names.now (plain_attrs attrs.now)) (at_name constants.now) (form shape.now) dtor.now; inward = marks.says marks.says_in (plain_attrs attrs.now); outward = marks.says marks.says_out (plain_attrs attrs.now); range = marks.given marks.range_in (plain_attrs attrs.now) }) }
+    ensures { IfOk result (λ p. param_form p ≡ record { shape = declarators.declared (declarators.terms default places.Parameter true names.now (attrs_form attrs.now)) (at_name constants.now) (form shape.now) dtor.now; inward = marks.says marks.says_in (attrs_form attrs.now); outward = marks.says marks.says_out (attrs_form attrs.now); range = marks.given marks.range_in (attrs_form attrs.now) }) }
 {
     let terms = terms(attrs, default, Place::Parameter, true, names)?;
     let shape = declared(alloc, &terms, constants, shape, dtor)?;
@@ -133,7 +134,7 @@ fn add_listed(
     meaning: &Meaning,
     into: &mut Listing,
 ) -> Result<(), NoMemory>
-    ensures { OnOk result (spec.listing into.new ≡ spec.joined (spec.listing into.old) (spec.listed_at default names.now (plain_attrs node.now.attrs.items) node.now.dtor (sense meaning.now, scope known.now)).0) }
+    ensures { OnOk result (spec.listing into.new ≡ spec.joined (spec.listing into.old) (spec.listed_at default names.now (attrs_form node.now.attrs.items) node.now.dtor (sense meaning.now, scope known.now)).0) }
 {
     let constants = &known.constants;
     let shape = &meaning.shape;
@@ -160,8 +161,8 @@ fn param(
     names: &[Ident],
     into: &mut Listing,
 ) -> Result<(), NoMemory>
-    ensures value { OnOk result (spec.listing into.new ≡ spec.joined (spec.listing into.old) (spec.param_at default names.now node.now (scope known.old)).0) }
-    ensures past { OnOk result (scope known.new ≡ (spec.param_at default names.now node.now (scope known.old)).1) }
+    ensures value { OnOk result (spec.listing into.new ≡ spec.joined (spec.listing into.old) (spec.param_at default names.now (idl.param_form node.now) (scope known.old)).0) }
+    ensures past { OnOk result (scope known.new ≡ (spec.param_at default names.now (idl.param_form node.now) (scope known.old)).1) }
 {
     if is_binding(&node.spec) {
         return Ok(());
@@ -183,8 +184,8 @@ pub fn params(
     default: Pk,
     names: &[Ident],
 ) -> Result<Listing, NoMemory>
-    ensures value { IfOk result (λ l. spec.listing l ≡ (spec.params_at default names.now nodes.now (scope known.old)).0) }
-    ensures past { OnOk result (scope known.new ≡ (spec.params_at default names.now nodes.now (scope known.old)).1) }
+    ensures value { IfOk result (λ l. spec.listing l ≡ (spec.params_at default names.now (map idl.param_form nodes.now) (scope known.old)).0) }
+    ensures past { OnOk result (scope known.new ≡ (spec.params_at default names.now (map idl.param_form nodes.now) (scope known.old)).1) }
 {
     let mut all = Listing {
         params: Vec::new(alloc),

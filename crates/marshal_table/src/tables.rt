@@ -3,8 +3,9 @@ ghost use Rattle.std.specs.Prelude.{◌≡◌, [], IfOk};
 ghost use Rattle.table_form.specs.Shown.{shown};
 ghost use Rattle.marshal_table.specs.Interfaces as spec;
 
-use crate::interface::{declarations, pointer_default, syntax_of};
+use crate::interface::{declarations, syntax_of};
 use crate::listing::Operations;
+use idl_outline::pointer_default;
 use idl_tree::Ast;
 use rpc_base::NoMemory;
 use std::alloc::Global;

@@ -9,7 +9,7 @@ use Rattle.idl_reader.specs.declared.fault.IdlFault.TheVariants as faults
 use Rattle.idl_reader.specs.Causes.{IsCause}
 use Rattle.idl_forms.proofs.Top.{text_one}
 use Rattle.idl_rules.specs.Broken.{NoneBroken}
-use Rattle.idl_same.proofs.Breaches.{broken_too}
+use Rattle.idl_rules.proofs.Twins.{broken_too}
 use Rattle.idl_check.specs.declared.fault.CheckFault.{CheckFault}
 use Rattle.idl_check.specs.declared.fault.CheckFault.TheVariants.{Rule}
 use Rattle.idl_check.specs.Firsts.{IsCause as IsBreach}

@@ -272,7 +272,7 @@ fn builds(alloc: Global, declarations: &str) -> Result<bool, Fail> {
     Ok(build(alloc, &checked).is_ok())
 }
 
-/// 128 structures by value, so many typedefs of arrays over the last, and what is declared with it.
+/// 8 structures by value, so many typedefs of arrays over the last, and what is declared with it.
 fn over_structures(alloc: Global, arrays: u32, declared: &str) -> Result<String, Fail> {
     let structures = (
         "typedef struct{long x;}a0;",
@@ -280,8 +280,8 @@ fn over_structures(alloc: Global, arrays: u32, declared: &str) -> Result<String,
         " x;}a",
         ";",
     );
-    let mut text = nested(alloc, &structures, 128)?;
-    let over = ("typedef a127 b0[1];", "typedef b", " b", "[1];");
+    let mut text = nested(alloc, &structures, 8)?;
+    let over = ("typedef a7 b0[1];", "typedef b", " b", "[1];");
     text.push_str(nested(alloc, &over, arrays)?.as_str())?;
     let last = arrays.saturating_sub(1).to_string(alloc)?;
     text.push_str("typedef b")?;
@@ -301,18 +301,18 @@ const POINTED: &[&str] = &[
 ];
 
 #[test]
-fn what_pointers_point_to_nests_256_levels(rt: HostRuntime) -> Result<(), Fail> {
+fn what_pointers_point_to_nests_16_levels(rt: HostRuntime) -> Result<(), Fail> {
     for declared in POINTED {
         assert!(rt;
             builds(
                 rt.alloc(),
-                over_structures(rt.alloc(), 128, declared)?.as_str()
+                over_structures(rt.alloc(), 8, declared)?.as_str()
             )?
         );
         assert!(rt;
             !builds(
                 rt.alloc(),
-                over_structures(rt.alloc(), 129, declared)?.as_str()
+                over_structures(rt.alloc(), 9, declared)?.as_str()
             )?
         );
     }
@@ -320,14 +320,14 @@ fn what_pointers_point_to_nests_256_levels(rt: HostRuntime) -> Result<(), Fail> 
 }
 
 #[test]
-fn types_nest_256_levels(rt: HostRuntime) -> Result<(), Fail> {
+fn types_nest_16_levels(rt: HostRuntime) -> Result<(), Fail> {
     for parts in NESTED {
-        assert!(rt; builds(rt.alloc(), nested(rt.alloc(), parts, 256)?.as_str())?);
-        assert!(rt; !builds(rt.alloc(), nested(rt.alloc(), parts, 257)?.as_str())?);
+        assert!(rt; builds(rt.alloc(), nested(rt.alloc(), parts, 16)?.as_str())?);
+        assert!(rt; !builds(rt.alloc(), nested(rt.alloc(), parts, 17)?.as_str())?);
         assert!(rt; !builds(rt.alloc(), nested(rt.alloc(), parts, 3000)?.as_str())?);
     }
-    assert!(rt; builds(rt.alloc(), pointed(rt.alloc(), 256)?.as_str())?);
-    assert!(rt; !builds(rt.alloc(), pointed(rt.alloc(), 257)?.as_str())?);
+    assert!(rt; builds(rt.alloc(), pointed(rt.alloc(), 16)?.as_str())?);
+    assert!(rt; !builds(rt.alloc(), pointed(rt.alloc(), 17)?.as_str())?);
     assert!(rt; !builds(rt.alloc(), pointed(rt.alloc(), 20_000)?.as_str())?);
     Ok(())
 }

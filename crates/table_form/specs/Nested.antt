@@ -40,7 +40,7 @@ abbrev pub depths_of : List Form → List ℕ
 depths_of types = depths_past [] types
 
 abbrev pub is_few : ℕ → Bool
-is_few n = nat_le n 256
+is_few n = nat_le n 16
 
 -- ---- what stands behind pointers
 
@@ -87,7 +87,7 @@ result_few depths (Some s) = is_shallow depths s
 abbrev pub op_few : List ℕ → OpForm → Bool
 op_few depths o = list_all (param_few depths) o.params && result_few depths o.result
 
--- types, parameters, results and what their pointers point to nest by value 256 levels at most
+-- types, parameters, results and what their pointers point to nest by value 16 levels at most
 pub record IsShallow (types : List Form) (ops : List OpForm) : Type 0 where
   pub types_are : list_all is_few (depths_of types) ≡ true
   pub types_reach : list_all (reaches_few (depths_of types)) types ≡ true

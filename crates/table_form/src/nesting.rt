@@ -12,7 +12,7 @@ use std::alloc::Global;
 
 /// The most levels that a shape of a table nests by value: so deep go the calls that read and write
 /// its values.
-pub const MOST_LEVELS: u16 = 256;
+pub const MOST_LEVELS: u16 = 16;
 
 /// The levels of types, by number.
 pub type Depths = Items<u16>;

@@ -13,7 +13,7 @@ use Rattle.idl_outline.specs.declared.field.Extent.{Extent}
 use Rattle.idl_outline.specs.declared.field.Extent.TheVariants as extents
 use Rattle.idl_outline.specs.declared.field.Place.{Place}
 use Rattle.idl_outline.specs.Names.{class_at, or_class}
-use Rattle.idl_outline.specs.Plain.{PMark, is_size, is_max, is_length, is_switch, PAttrs}
+use Rattle.idl_forms.specs.Forms.{AttrKindForm, OfSizeIs, OfMaxIs, OfLengthIs, OfSwitchIs, AttrForms}
 use Rattle.ndr_value.specs.declared.shape.ArrayKind.{ArrayKind}
 use Rattle.ndr_value.specs.declared.shape.ArrayKind.TheVariants.{Fixed, Varying, Conformant, ConformantVarying}
 use Rattle.ndr_value.specs.declared.shape.Count.{Count}
@@ -38,22 +38,22 @@ count parameters names plus (refs.Number n) = counts.Number (n.value + plus)
 count parameters names plus (refs.Named star i) = named_count parameters names plus star i
 
 -- how many elements there may be: max_is names the greatest index, one less
-abbrev pub most_in : Bool → List Ident → PMark → Option Count
-most_in parameters names (is_size r) = Some (count parameters names 0 r)
-most_in parameters names (is_max r) = Some (count parameters names 1 r)
+abbrev pub most_in : Bool → List Ident → AttrKindForm → Option Count
+most_in parameters names (OfSizeIs r) = Some (count parameters names 0 r)
+most_in parameters names (OfMaxIs r) = Some (count parameters names 1 r)
 most_in parameters names _ = None
 
-abbrev pub travel_in : Bool → List Ident → PMark → Option Count
-travel_in parameters names (is_length r) = Some (count parameters names 0 r)
+abbrev pub travel_in : Bool → List Ident → AttrKindForm → Option Count
+travel_in parameters names (OfLengthIs r) = Some (count parameters names 0 r)
 travel_in parameters names _ = None
 
-abbrev pub switch_in : Bool → List Ident → PMark → Option Count
-switch_in parameters names (is_switch star i) = Some (named_count parameters names 0 star i)
+abbrev pub switch_in : Bool → List Ident → AttrKindForm → Option Count
+switch_in parameters names (OfSwitchIs star i) = Some (named_count parameters names 0 star i)
 switch_in parameters names _ = None
 
 -- what attributes say of the declarators behind them: parameters, or the members of one body, with the names of all of these. The
 -- outermost pointer of a parameter is ref, where no attribute gives a class; all other pointers have the class of the interface
-abbrev pub terms : Pk → Place → Bool → List Ident → PAttrs → Terms
+abbrev pub terms : Pk → Place → Bool → List Ident → AttrForms → Terms
 terms default place parameters names as' = record {
   inner = default;
   outer = or_class (given pointer_in as') (class_at default place);

@@ -12,10 +12,6 @@ use Rattle.table_scope.specs.declared.symbols.Meaning.{Meaning}
 use Rattle.table_scope.specs.declared.symbols.Tag.{Tag}
 use Rattle.table_scope.specs.declared.symbols.Symbols.{Symbols}
 
--- the number, with its sign
-abbrev pub signed_value : Num → ℤ
-signed_value n = if n.minus then neg_ℤ (pos n.value) else pos n.value
-
 -- ---- what specs stand for
 
 -- a type's shape, and what it is beside that

@@ -1,6 +1,6 @@
 //! Counts, which name a parameter or a member by its index.
 ghost use Rattle.std.specs.Prelude.{◌≡◌, ◌+◌, ◌≤◌, length, IfOk};
-ghost use Rattle.table_scope.specs.Scopes.{signed_value};
+ghost use Rattle.idl_outline.specs.Names.{value_of};
 ghost use Rattle.table_scope.specs.Declarators as spec;
 
 use idl_tree::{Ident, Num, SizeRef};
@@ -36,7 +36,7 @@ pub fn in_32(number: u64) -> Result<u32, NoMemory>
 
 /// The number in 64 bits, with its sign.
 pub fn signed_64(number: Num) -> Result<i64, NoMemory>
-    ensures { IfOk result (λ n. n ≡ signed_value number) }
+    ensures { IfOk result (λ n. n ≡ value_of number) }
 {
     if number.minus {
         if number.value < 1 << 63 {

@@ -1,9 +1,7 @@
 //! The shape of what a declarator declares.
 ghost use Rattle.std.specs.Prelude.{◌≡◌, ◌∷◌, [], map, not, IfOk};
 ghost use Rattle.ndr_value.specs.Forms.{form};
-ghost use Rattle.idl_outline.specs.Outline as outline;
-ghost use Rattle.idl_outline.specs.Names as names;
-ghost use Rattle.idl_outline.specs.Plain.{plain_attrs};
+ghost use Rattle.idl_forms.specs.Forms.{attrs_form};
 ghost use Rattle.name_map.specs.Named.{at_name};
 ghost use Rattle.table_scope.specs.Declarators as spec;
 
@@ -11,42 +9,13 @@ use crate::counts::in_32;
 use crate::marks;
 use crate::said::Terms;
 use crate::scope::constant_named;
-use idl_outline::{Extent, Place, any_by_value};
+use idl_outline::{Extent, Place, class_at, or_class};
 use idl_tree::{ArraySize, Attr, Dtor, Ident, Num, Pk};
 use name_map::Names;
 use ndr_value::{ArrayKind, Count, Shape, copy_shape};
 use rpc_base::NoMemory;
 use std::alloc::Global;
 use table_form::{MOST_LEVELS, has_few_levels};
-
-/// Whether each declarator has a star.
-pub fn all_pointed(dtors: &[Dtor]) -> bool
-    ensures { result ≡ outline.all_pointed dtors.now }
-{
-    !any_by_value(dtors)
-}
-
-fn class_at(default: Pk, place: Place) -> Pk
-    ensures { result ≡ names.class_at default place }
-{
-    match place {
-        Place::Parameter => Pk::Ref,
-        Place::Typedef => default,
-        Place::Alone => default,
-        Place::Operation => default,
-        Place::Member => default,
-        Place::Arm => default,
-    }
-}
-
-fn or_class(class: Option<Pk>, other: Pk) -> Pk
-    ensures { result ≡ names.or_class class other }
-{
-    match class {
-        Some(class) => class,
-        None => other,
-    }
-}
 
 /// What attributes say of the declarators behind them. `parameters`: these are parameters, and not
 /// members of a body; `names` has the names of all of these.
@@ -62,7 +31,7 @@ pub fn terms(
     parameters: bool,
     names: &[Ident],
 ) -> Result<Terms, NoMemory>
-    ensures { IfOk result (λ t. t ≡ spec.terms default place parameters names.now (plain_attrs attrs.now)) }
+    ensures { IfOk result (λ t. t ≡ spec.terms default place parameters names.now (attrs_form attrs.now)) }
 {
     let class = marks::pointer(attrs);
     let text = marks::says_string(attrs);

@@ -10,7 +10,7 @@ mod scope;
 mod symbols;
 
 pub use counts::{in_16, signed_64};
-pub use declarators::{all_pointed, declared, terms};
+pub use declarators::{declared, terms};
 pub use marks::{is_serialised, range, says_handle, says_in, says_maybe, says_out};
 pub use said::Terms;
 pub use scope::{

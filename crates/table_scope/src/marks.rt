@@ -1,7 +1,6 @@
 //! What a list of attributes gives.
 ghost use Rattle.std.specs.Prelude.{◌≡◌, IfOk};
-ghost use Rattle.std.specs.List.{list_any};
-ghost use Rattle.idl_outline.specs.Plain.{plain_mark, plain_attrs};
+ghost use Rattle.idl_forms.specs.Forms.{attr_kind_form, attrs_form};
 ghost use Rattle.table_scope.specs.Marks as spec;
 ghost use Rattle.table_scope.specs.Declarators.{most_in, travel_in, switch_in};
 
@@ -12,31 +11,31 @@ use rpc_base::NoMemory;
 use table_form::Bounds;
 
 fn is_in(kind: &AttrKind) -> bool
-    ensures { result ≡ spec.says_in (plain_mark kind.now) }
+    ensures { result ≡ spec.says_in (attr_kind_form kind.now) }
 {
     matches!(kind, AttrKind::In)
 }
 
 fn is_out(kind: &AttrKind) -> bool
-    ensures { result ≡ spec.says_out (plain_mark kind.now) }
+    ensures { result ≡ spec.says_out (attr_kind_form kind.now) }
 {
     matches!(kind, AttrKind::Out)
 }
 
 fn is_string(kind: &AttrKind) -> bool
-    ensures { result ≡ spec.says_string (plain_mark kind.now) }
+    ensures { result ≡ spec.says_string (attr_kind_form kind.now) }
 {
     matches!(kind, AttrKind::Text)
 }
 
 fn is_maybe(kind: &AttrKind) -> bool
-    ensures { result ≡ spec.says_maybe (plain_mark kind.now) }
+    ensures { result ≡ spec.says_maybe (attr_kind_form kind.now) }
 {
     matches!(kind, AttrKind::Maybe)
 }
 
 fn is_handle(kind: &AttrKind) -> bool
-    ensures { result ≡ spec.says_handle (plain_mark kind.now) }
+    ensures { result ≡ spec.says_handle (attr_kind_form kind.now) }
 {
     matches!(
         kind,
@@ -45,7 +44,7 @@ fn is_handle(kind: &AttrKind) -> bool
 }
 
 fn pointer_in(kind: &AttrKind) -> Option<Pk>
-    ensures { result ≡ spec.pointer_in (plain_mark kind.now) }
+    ensures { result ≡ spec.pointer_in (attr_kind_form kind.now) }
 {
     match kind {
         AttrKind::Pointer(class) => Some(*class),
@@ -67,7 +66,7 @@ fn pointer_in(kind: &AttrKind) -> Option<Pk>
 }
 
 fn most_of(kind: &AttrKind, parameters: bool, names: &[Ident]) -> Result<Option<Count>, NoMemory>
-    ensures { IfOk result (λ c. c ≡ most_in parameters names.now (plain_mark kind.now)) }
+    ensures { IfOk result (λ c. c ≡ most_in parameters names.now (attr_kind_form kind.now)) }
 {
     match kind {
         AttrKind::SizeIs(size) => Ok(Some(count(parameters, names, 0, size)?)),
@@ -89,7 +88,7 @@ fn most_of(kind: &AttrKind, parameters: bool, names: &[Ident]) -> Result<Option<
 }
 
 fn travel_of(kind: &AttrKind, parameters: bool, names: &[Ident]) -> Result<Option<Count>, NoMemory>
-    ensures { IfOk result (λ c. c ≡ travel_in parameters names.now (plain_mark kind.now)) }
+    ensures { IfOk result (λ c. c ≡ travel_in parameters names.now (attr_kind_form kind.now)) }
 {
     match kind {
         AttrKind::LengthIs(size) => Ok(Some(count(parameters, names, 0, size)?)),
@@ -111,7 +110,7 @@ fn travel_of(kind: &AttrKind, parameters: bool, names: &[Ident]) -> Result<Optio
 }
 
 fn switch_of(kind: &AttrKind, parameters: bool, names: &[Ident]) -> Result<Option<Count>, NoMemory>
-    ensures { IfOk result (λ c. c ≡ switch_in parameters names.now (plain_mark kind.now)) }
+    ensures { IfOk result (λ c. c ≡ switch_in parameters names.now (attr_kind_form kind.now)) }
 {
     match kind {
         AttrKind::SwitchIs { star, name } => {
@@ -135,7 +134,7 @@ fn switch_of(kind: &AttrKind, parameters: bool, names: &[Ident]) -> Result<Optio
 }
 
 fn range_of(kind: &AttrKind) -> Result<Option<Bounds>, NoMemory>
-    ensures { IfOk result (λ r. r ≡ spec.range_in (plain_mark kind.now)) }
+    ensures { IfOk result (λ r. r ≡ spec.range_in (attr_kind_form kind.now)) }
 {
     match kind {
         AttrKind::Range(low, high) => Ok(Some(Bounds {
@@ -161,7 +160,7 @@ fn range_of(kind: &AttrKind) -> Result<Option<Bounds>, NoMemory>
 
 /// Whether `in` is said.
 pub fn says_in(attrs: &[Attr]) -> bool
-    ensures { result ≡ spec.says spec.says_in (plain_attrs attrs.now) }
+    ensures { result ≡ spec.says spec.says_in (attrs_form attrs.now) }
 {
     for attr in attrs {
         if is_in(&attr.what) {
@@ -173,7 +172,7 @@ pub fn says_in(attrs: &[Attr]) -> bool
 
 /// Whether `out` is said.
 pub fn says_out(attrs: &[Attr]) -> bool
-    ensures { result ≡ spec.says spec.says_out (plain_attrs attrs.now) }
+    ensures { result ≡ spec.says spec.says_out (attrs_form attrs.now) }
 {
     for attr in attrs {
         if is_out(&attr.what) {
@@ -185,7 +184,7 @@ pub fn says_out(attrs: &[Attr]) -> bool
 
 /// Whether `string` is said.
 pub fn says_string(attrs: &[Attr]) -> bool
-    ensures { result ≡ spec.says spec.says_string (plain_attrs attrs.now) }
+    ensures { result ≡ spec.says spec.says_string (attrs_form attrs.now) }
 {
     for attr in attrs {
         if is_string(&attr.what) {
@@ -197,7 +196,7 @@ pub fn says_string(attrs: &[Attr]) -> bool
 
 /// Whether `maybe` is said.
 pub fn says_maybe(attrs: &[Attr]) -> bool
-    ensures { result ≡ spec.says spec.says_maybe (plain_attrs attrs.now) }
+    ensures { result ≡ spec.says spec.says_maybe (attrs_form attrs.now) }
 {
     for attr in attrs {
         if is_maybe(&attr.what) {
@@ -209,7 +208,7 @@ pub fn says_maybe(attrs: &[Attr]) -> bool
 
 /// Whether a word for context handles is said.
 pub fn says_handle(attrs: &[Attr]) -> bool
-    ensures { result ≡ spec.says spec.says_handle (plain_attrs attrs.now) }
+    ensures { result ≡ spec.says spec.says_handle (attrs_form attrs.now) }
 {
     for attr in attrs {
         if is_handle(&attr.what) {
@@ -219,18 +218,18 @@ pub fn says_handle(attrs: &[Attr]) -> bool
     false
 }
 
-fn is_noserialize(attr: &Attr) -> bool
-    ensures { result ≡ spec.is_noserialize attr.now.what }
+fn is_noserialize(kind: &AttrKind) -> bool
+    ensures { result ≡ spec.says_noserialize (attr_kind_form kind.now) }
 {
-    matches!(attr.what, AttrKind::HandleNoserialize)
+    matches!(kind, AttrKind::HandleNoserialize)
 }
 
 /// Whether calls with a handle of these attributes come one after another.
 pub fn is_serialised(attrs: &[Attr]) -> bool
-    ensures { result ≡ spec.is_serialised attrs.now }
+    ensures { result ≡ spec.is_serialised (attrs_form attrs.now) }
 {
     for attr in attrs {
-        if is_noserialize(attr) {
+        if is_noserialize(&attr.what) {
             return false;
         }
     }
@@ -239,7 +238,7 @@ pub fn is_serialised(attrs: &[Attr]) -> bool
 
 /// The class that the first pointer attribute gives.
 pub fn pointer(attrs: &[Attr]) -> Option<Pk>
-    ensures { result ≡ spec.given spec.pointer_in (plain_attrs attrs.now) }
+    ensures { result ≡ spec.given spec.pointer_in (attrs_form attrs.now) }
 {
     for attr in attrs {
         let found = pointer_in(&attr.what);
@@ -252,7 +251,7 @@ pub fn pointer(attrs: &[Attr]) -> Option<Pk>
 
 /// How many elements there may be.
 pub fn most(attrs: &[Attr], parameters: bool, names: &[Ident]) -> Result<Option<Count>, NoMemory>
-    ensures { IfOk result (λ c. c ≡ spec.given (most_in parameters names.now) (plain_attrs attrs.now)) }
+    ensures { IfOk result (λ c. c ≡ spec.given (most_in parameters names.now) (attrs_form attrs.now)) }
 {
     for attr in attrs {
         let found = most_of(&attr.what, parameters, names)?;
@@ -265,7 +264,7 @@ pub fn most(attrs: &[Attr], parameters: bool, names: &[Ident]) -> Result<Option<
 
 /// How many elements travel.
 pub fn travel(attrs: &[Attr], parameters: bool, names: &[Ident]) -> Result<Option<Count>, NoMemory>
-    ensures { IfOk result (λ c. c ≡ spec.given (travel_in parameters names.now) (plain_attrs attrs.now)) }
+    ensures { IfOk result (λ c. c ≡ spec.given (travel_in parameters names.now) (attrs_form attrs.now)) }
 {
     for attr in attrs {
         let found = travel_of(&attr.what, parameters, names)?;
@@ -278,7 +277,7 @@ pub fn travel(attrs: &[Attr], parameters: bool, names: &[Ident]) -> Result<Optio
 
 /// What selects a union's arm.
 pub fn switch(attrs: &[Attr], parameters: bool, names: &[Ident]) -> Result<Option<Count>, NoMemory>
-    ensures { IfOk result (λ c. c ≡ spec.given (switch_in parameters names.now) (plain_attrs attrs.now)) }
+    ensures { IfOk result (λ c. c ≡ spec.given (switch_in parameters names.now) (attrs_form attrs.now)) }
 {
     for attr in attrs {
         let found = switch_of(&attr.what, parameters, names)?;
@@ -296,7 +295,7 @@ pub fn switch(attrs: &[Attr], parameters: bool, names: &[Ident]) -> Result<Optio
 /// `NoMemory` where a number has no room in 64 bits with a sign: no interface that keeps the rules has
 /// such a range.
 pub fn range(attrs: &[Attr]) -> Result<Option<Bounds>, NoMemory>
-    ensures { IfOk result (λ r. r ≡ spec.given spec.range_in (plain_attrs attrs.now)) }
+    ensures { IfOk result (λ r. r ≡ spec.given spec.range_in (attrs_form attrs.now)) }
 {
     for attr in attrs {
         let found = range_of(&attr.what)?;

@@ -12,13 +12,14 @@ use Rattle.idl_tree.specs.declared.spec.Label.{Label}
 use Rattle.idl_tree.specs.declared.spec.LabelKind.{LabelKind}
 use Rattle.idl_tree.specs.declared.spec.LabelKind.TheVariants as labels
 use Rattle.idl_outline.specs.declared.field.Place.TheVariants as places
+use Rattle.idl_outline.specs.Names.{value_of}
 use Rattle.idl_outline.specs.Outline.{all_pointed}
-use Rattle.idl_outline.specs.Plain.{PSpec, spec, PKind, of_base, of_name, of_void, of_handle_t, of_error_status, of_tag, of_struct, of_union, of_enum, PSwitch, no_switch, switch, PMember, member, PMembers, no_member, then_member, PArm, arm, empty_arm, PArms, no_arm, then_arm, PMark, is_switch_type, PAttr, attr, PAttrs, no_attr, then_attr}
+use Rattle.idl_forms.specs.Forms as idl
 use Rattle.ndr_value.specs.Forms.{Form, OfBool, OfByte, OfChar, OfInt, OfUint, OfEnum, OfNamed, OfStruct, OfUnion, Forms, no_form, then_form, Body, empty, holds, ArmForms}
 use Rattle.ndr_value.specs.Forms.{no_arm as no_arm_form, then_arm as then_arm_form}
 use Rattle.table_form.specs.Aligned.{octets_of}
 use Rattle.table_scope.specs.declared.symbols.Sort.TheVariants as sorts
-use Rattle.table_scope.specs.Scopes.{ByName, Sense, Scope, signed_value, nothing, valued, status_sense, shapeless, type_named, tag_form, with_names, begun, ended}
+use Rattle.table_scope.specs.Scopes.{ByName, Sense, Scope, nothing, valued, status_sense, shapeless, type_named, tag_form, with_names, begun, ended}
 use Rattle.table_scope.specs.Declarators.{terms, declared}
 
 -- ---- small parts
@@ -61,7 +62,7 @@ label_number constants labels.Default = None
 
 abbrev pub if_case : Option Num → List ℤ
 if_case None = []
-if_case (Some n) = signed_value n ∷ []
+if_case (Some n) = value_of n ∷ []
 
 abbrev pub cases : ByName Num → List Label → List ℤ
 cases constants ls = flat_map (λ l. if_case (label_number constants l.what)) ls
@@ -78,59 +79,59 @@ has_default ls = list_any (λ l. is_default l.what) ls
 abbrev pub dtor_names : List Dtor → List Ident
 dtor_names ds = map (λ d. d.name) ds
 
-abbrev pub names_of : PMember → List Ident
-names_of (member as' s ds) = dtor_names ds
+abbrev pub names_of : idl.MemberForm → List Ident
+names_of (idl.a_member as' s ds) = dtor_names ds
 
-abbrev pub member_names : PMembers → List Ident
-member_names no_member = []
-member_names (then_member m ms) = names_of m ++ member_names ms
+abbrev pub member_names : idl.MemberForms → List Ident
+member_names idl.no_member = []
+member_names (idl.then_member m ms) = names_of m ++ member_names ms
 
-abbrev pub arm_dtors : PArm → List Ident
-arm_dtors (arm ls m) = names_of m
-arm_dtors (empty_arm ls) = []
+abbrev pub arm_dtors : idl.ArmForm → List Ident
+arm_dtors (idl.member_arm ls m) = names_of m
+arm_dtors (idl.empty_arm ls) = []
 
-abbrev pub arm_names : PArms → List Ident
-arm_names no_arm = []
-arm_names (then_arm a rest) = arm_dtors a ++ arm_names rest
+abbrev pub arm_names : idl.ArmForms → List Ident
+arm_names idl.no_arm = []
+arm_names (idl.then_arm a rest) = arm_dtors a ++ arm_names rest
 
 abbrev mutual
-  pub within : PSpec → ℕ
-  within (spec at k) = kind_within k
+  pub within : idl.SpecForm → ℕ
+  within (idl.a_spec at k) = kind_within k
 
-  pub kind_within : PKind → ℕ
-  kind_within (of_struct tag ms) = members_within ms + 1
-  kind_within (of_union tag s arms) = switch_within s + arms_within arms + 1
+  pub kind_within : idl.KindForm → ℕ
+  kind_within (idl.OfStruct tag ms) = members_within ms + 1
+  kind_within (idl.OfUnion tag s arms) = switch_within s + arms_within arms + 1
   kind_within _ = 0
 
-  pub switch_within : PSwitch → ℕ
-  switch_within no_switch = 0
-  switch_within (switch s i) = within s
+  pub switch_within : idl.SwitchForm → ℕ
+  switch_within idl.no_switch = 0
+  switch_within (idl.a_switch s i body) = within s
 
-  pub member_within : PMember → ℕ
-  member_within (member as' s ds) = attrs_within as' + within s
+  pub member_within : idl.MemberForm → ℕ
+  member_within (idl.a_member as' s ds) = attrs_within as' + within s
 
-  pub members_within : PMembers → ℕ
-  members_within no_member = 0
-  members_within (then_member m ms) = member_within m + members_within ms
+  pub members_within : idl.MemberForms → ℕ
+  members_within idl.no_member = 0
+  members_within (idl.then_member m ms) = member_within m + members_within ms
 
-  pub arm_within : PArm → ℕ
-  arm_within (arm ls m) = member_within m
-  arm_within (empty_arm ls) = 0
+  pub arm_within : idl.ArmForm → ℕ
+  arm_within (idl.member_arm ls m) = member_within m
+  arm_within (idl.empty_arm ls) = 0
 
-  pub arms_within : PArms → ℕ
-  arms_within no_arm = 0
-  arms_within (then_arm a rest) = arm_within a + arms_within rest
+  pub arms_within : idl.ArmForms → ℕ
+  arms_within idl.no_arm = 0
+  arms_within (idl.then_arm a rest) = arm_within a + arms_within rest
 
-  pub mark_within : PMark → ℕ
-  mark_within (is_switch_type s) = within s
+  pub mark_within : idl.AttrKindForm → ℕ
+  mark_within (idl.OfSwitchType s) = within s
   mark_within _ = 0
 
-  pub attr_within : PAttr → ℕ
-  attr_within (attr at m) = mark_within m
+  pub attr_within : idl.AttrForm → ℕ
+  attr_within (idl.an_attr at m) = mark_within m
 
-  pub attrs_within : PAttrs → ℕ
-  attrs_within no_attr = 0
-  attrs_within (then_attr a rest) = attr_within a + attrs_within rest
+  pub attrs_within : idl.AttrForms → ℕ
+  attrs_within idl.no_attr = 0
+  attrs_within (idl.then_attr a rest) = attr_within a + attrs_within rest
 
 -- ---- structures and unions, from what stands within them
 
@@ -154,57 +155,57 @@ enum_past names p = with_names 0 names p
 -- switch_type
 
 abbrev mutual
-  pub spec_at : Pk → Bool → Option Form → PSpec → Scope → Sense × Scope
-  spec_at default pointed given (spec at k) p = kind_at default pointed given k p
+  pub spec_at : Pk → Bool → Option Form → idl.SpecForm → Scope → Sense × Scope
+  spec_at default pointed given (idl.a_spec at k) p = kind_at default pointed given k p
 
-  pub kind_at : Pk → Bool → Option Form → PKind → Scope → Sense × Scope
-  kind_at default pointed given (of_base b) p = (valued (base_form b), p)
-  kind_at default pointed given (of_name i) p = (type_named i.text p.named, p)
-  kind_at default pointed given of_void p = (shapeless sorts.Void, p)
-  kind_at default pointed given of_handle_t p = (shapeless sorts.HandleT, p)
-  kind_at default pointed given of_error_status p = (status_sense, p)
-  kind_at default pointed given (of_tag tag) p = (valued (tag_form pointed tag p.tags), p)
-  kind_at default pointed given (of_struct tag ms) p = struct_at tag (members_at default (member_names ms) ms (begun tag (members_within ms) p))
-  kind_at default pointed given (of_union tag s arms) p =
+  pub kind_at : Pk → Bool → Option Form → idl.KindForm → Scope → Sense × Scope
+  kind_at default pointed given (idl.OfBase b) p = (valued (base_form b), p)
+  kind_at default pointed given (idl.OfName i) p = (type_named i.text p.named, p)
+  kind_at default pointed given idl.OfVoid p = (shapeless sorts.Void, p)
+  kind_at default pointed given idl.OfHandle p = (shapeless sorts.HandleT, p)
+  kind_at default pointed given idl.OfStatus p = (status_sense, p)
+  kind_at default pointed given (idl.OfTag tag) p = (valued (tag_form pointed tag p.tags), p)
+  kind_at default pointed given (idl.OfStruct tag ms) p = struct_at tag (members_at default (member_names ms) ms (begun tag (members_within ms) p))
+  kind_at default pointed given (idl.OfUnion tag s arms) p =
       union_at (switch_at default given s p).0 (arms_at default (arm_names arms) arms (switch_at default given s p).1)
-  kind_at default pointed given (of_enum tag names) p = (enum_sense names, enum_past names p)
+  kind_at default pointed given (idl.OfEnum tag names) p = (enum_sense names, enum_past names p)
 
   -- a union's tag: that of its switch, or of the switch_type that is given
-  pub switch_at : Pk → Option Form → PSwitch → Scope → Form × Scope
-  switch_at default given no_switch p = (or_nothing given, p)
-  switch_at default given (switch s i) p = ((spec_at default false None s p).0.shape, (spec_at default false None s p).1)
+  pub switch_at : Pk → Option Form → idl.SwitchForm → Scope → Form × Scope
+  switch_at default given idl.no_switch p = (or_nothing given, p)
+  switch_at default given (idl.a_switch s i body) p = ((spec_at default false None s p).0.shape, (spec_at default false None s p).1)
 
   -- the form of the first switch_type
-  pub mark_at : Pk → PMark → Scope → Option Form × Scope
-  mark_at default (is_switch_type s) p = (Some (spec_at default false None s p).0.shape, (spec_at default false None s p).1)
+  pub mark_at : Pk → idl.AttrKindForm → Scope → Option Form × Scope
+  mark_at default (idl.OfSwitchType s) p = (Some (spec_at default false None s p).0.shape, (spec_at default false None s p).1)
   mark_at default _ p = (None, p)
 
-  pub attr_at : Pk → PAttr → Scope → Option Form × Scope
-  attr_at default (attr at m) p = mark_at default m p
+  pub attr_at : Pk → idl.AttrForm → Scope → Option Form × Scope
+  attr_at default (idl.an_attr at m) p = mark_at default m p
 
-  pub attrs_at : Pk → PAttrs → Scope → Option Form × Scope
-  attrs_at default no_attr p = (None, p)
-  attrs_at default (then_attr a rest) p =
+  pub attrs_at : Pk → idl.AttrForms → Scope → Option Form × Scope
+  attrs_at default idl.no_attr p = (None, p)
+  attrs_at default (idl.then_attr a rest) p =
       (option_or (attr_at default a p).0 (attrs_at default rest (attr_at default a p).1).0, (attrs_at default rest (attr_at default a p).1).1)
 
   -- members of one body, with the names of all of them
-  pub member_at : Pk → List Ident → PMember → Scope → List Form × Scope
-  member_at default names (member as' s ds) p =
+  pub member_at : Pk → List Ident → idl.MemberForm → Scope → List Form × Scope
+  member_at default names (idl.a_member as' s ds) p =
       let marks : Option Form × Scope = attrs_at default as' p in
       let behind : Sense × Scope = spec_at default (all_pointed ds) marks.0 s marks.1 in
       (map (declared (terms default places.Member false names as') behind.1.constants behind.0.shape) ds, behind.1)
 
-  pub members_at : Pk → List Ident → PMembers → Scope → List Form × Scope
-  members_at default names no_member p = ([], p)
-  members_at default names (then_member m ms) p =
+  pub members_at : Pk → List Ident → idl.MemberForms → Scope → List Form × Scope
+  members_at default names idl.no_member p = ([], p)
+  members_at default names (idl.then_member m ms) p =
       ((member_at default names m p).0 ++ (members_at default names ms (member_at default names m p).1).0, (members_at default names ms (member_at default names m p).1).1)
 
-  pub arm_at : Pk → List Ident → PArm → Scope → Face × Scope
-  arm_at default names (arm ls m) p =
+  pub arm_at : Pk → List Ident → idl.ArmForm → Scope → Face × Scope
+  arm_at default names (idl.member_arm ls m) p =
       ((cases p.constants ls, has_default ls, held (member_at default names m p).0), (member_at default names m p).1)
-  arm_at default names (empty_arm ls) p = ((cases p.constants ls, has_default ls, empty), p)
+  arm_at default names (idl.empty_arm ls) p = ((cases p.constants ls, has_default ls, empty), p)
 
-  pub arms_at : Pk → List Ident → PArms → Scope → List Face × Scope
-  arms_at default names no_arm p = ([], p)
-  arms_at default names (then_arm a rest) p =
+  pub arms_at : Pk → List Ident → idl.ArmForms → Scope → List Face × Scope
+  arms_at default names idl.no_arm p = ([], p)
+  arms_at default names (idl.then_arm a rest) p =
       ((arm_at default names a p).0 ∷ (arms_at default names rest (arm_at default names a p).1).0, (arms_at default names rest (arm_at default names a p).1).1)

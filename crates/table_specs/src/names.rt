@@ -1,6 +1,6 @@
 //! The names of members, and how many structures and unions stand within a spec.
 ghost use Rattle.std.specs.Prelude.{◌≡◌, ◌+◌, ◌++◌, map, OnOk, IfOk, Some, None};
-ghost use Rattle.idl_outline.specs.Plain.{plain_spec, plain_kind, plain_member, plain_members, plain_switch, plain_arm, plain_arms, plain_mark, plain_attr, plain_attrs, of_struct, of_union, no_switch};
+ghost use Rattle.idl_forms.specs.Forms.{spec_form, kind_form, member_form, members_form, switch_form, arm_form, arms_form, attr_kind_form, attr_form, attrs_form};
 ghost use Rattle.table_specs.specs.Specs as spec;
 
 use idl_outline::copy_name;
@@ -19,7 +19,7 @@ fn dtor_names(dtors: &[Dtor], alloc: Global, names: &mut Vec<Ident>) -> Result<(
 }
 
 fn member_dtors(member: &Member, alloc: Global, names: &mut Vec<Ident>) -> Result<(), NoMemory>
-    ensures { OnOk result (names.new.items ≡ names.old.items ++ spec.names_of (plain_member member.now)) }
+    ensures { OnOk result (names.new.items ≡ names.old.items ++ spec.names_of (member_form member.now)) }
 {
     dtor_names(&member.dtors, alloc, names)
 }
@@ -30,7 +30,7 @@ fn member_dtors(member: &Member, alloc: Global, names: &mut Vec<Ident>) -> Resul
 ///
 /// `NoMemory` where there is no memory for them.
 pub fn member_names(members: &[Member], alloc: Global) -> Result<Vec<Ident>, NoMemory>
-    ensures { IfOk result (λ names. names.items ≡ spec.member_names (plain_members members.now)) }
+    ensures { IfOk result (λ names. names.items ≡ spec.member_names (members_form members.now)) }
 {
     let mut names = Vec::new(alloc);
     for member in members {
@@ -40,7 +40,7 @@ pub fn member_names(members: &[Member], alloc: Global) -> Result<Vec<Ident>, NoM
 }
 
 fn arm_dtors(arm: &ArmNode, alloc: Global, names: &mut Vec<Ident>) -> Result<(), NoMemory>
-    ensures { OnOk result (names.new.items ≡ names.old.items ++ spec.arm_dtors (plain_arm arm.now)) }
+    ensures { OnOk result (names.new.items ≡ names.old.items ++ spec.arm_dtors (arm_form arm.now)) }
 {
     match &arm.member {
         None => Ok(()),
@@ -54,7 +54,7 @@ fn arm_dtors(arm: &ArmNode, alloc: Global, names: &mut Vec<Ident>) -> Result<(),
 ///
 /// `NoMemory` where there is no memory for them.
 pub fn arm_names(arms: &[ArmNode], alloc: Global) -> Result<Vec<Ident>, NoMemory>
-    ensures { IfOk result (λ names. names.items ≡ spec.arm_names (plain_arms arms.now)) }
+    ensures { IfOk result (λ names. names.items ≡ spec.arm_names (arms_form arms.now)) }
 {
     let mut names = Vec::new(alloc);
     for arm in arms {
@@ -70,7 +70,7 @@ pub fn arm_names(arms: &[ArmNode], alloc: Global) -> Result<Vec<Ident>, NoMemory
 /// `NoMemory` where their number passes the greatest of a count in memory.
 #[cycle(within)]
 pub fn members_within(members: &[Member]) -> Result<usize, NoMemory>
-    ensures { IfOk result (λ n. n ≡ spec.members_within (plain_members members.now)) }
+    ensures { IfOk result (λ n. n ≡ spec.members_within (members_form members.now)) }
 {
     let mut all = 0;
     for member in members {
@@ -81,7 +81,7 @@ pub fn members_within(members: &[Member]) -> Result<usize, NoMemory>
 
 #[cycle(within)]
 fn member_within(member: &Member) -> Result<usize, NoMemory>
-    ensures { IfOk result (λ n. n ≡ spec.member_within (plain_member member.now)) }
+    ensures { IfOk result (λ n. n ≡ spec.member_within (member_form member.now)) }
 {
     let attrs = attrs_within(&member.attrs)?;
     let inner = spec_within(&member.spec)?;
@@ -90,7 +90,7 @@ fn member_within(member: &Member) -> Result<usize, NoMemory>
 
 #[cycle(within)]
 fn attrs_within(attrs: &[Attr]) -> Result<usize, NoMemory>
-    ensures { IfOk result (λ n. n ≡ spec.attrs_within (plain_attrs attrs.now)) }
+    ensures { IfOk result (λ n. n ≡ spec.attrs_within (attrs_form attrs.now)) }
 {
     let mut all = 0;
     for attr in attrs {
@@ -101,7 +101,7 @@ fn attrs_within(attrs: &[Attr]) -> Result<usize, NoMemory>
 
 #[cycle(within)]
 fn mark_within(kind: &AttrKind) -> Result<usize, NoMemory>
-    ensures { IfOk result (λ n. n ≡ spec.mark_within (plain_mark kind.now)) }
+    ensures { IfOk result (λ n. n ≡ spec.mark_within (attr_kind_form kind.now)) }
 {
     match kind {
         AttrKind::SwitchType(of) => spec_within(of),
@@ -124,14 +124,14 @@ fn mark_within(kind: &AttrKind) -> Result<usize, NoMemory>
 
 #[cycle(within)]
 fn spec_within(of: &Spec) -> Result<usize, NoMemory>
-    ensures { IfOk result (λ n. n ≡ spec.within (plain_spec of.now)) }
+    ensures { IfOk result (λ n. n ≡ spec.within (spec_form of.now)) }
 {
     kind_within(&of.what)
 }
 
 #[cycle(within)]
 fn kind_within(kind: &SpecKind) -> Result<usize, NoMemory>
-    ensures { IfOk result (λ n. n ≡ spec.kind_within (plain_kind kind.now)) }
+    ensures { IfOk result (λ n. n ≡ spec.kind_within (kind_form kind.now)) }
 {
     match kind {
         SpecKind::Base(_) => Ok(0),
@@ -162,7 +162,7 @@ fn kind_within(kind: &SpecKind) -> Result<usize, NoMemory>
 // A structure, and what stands within it.
 #[cycle(within)]
 fn struct_within(members: &[Member]) -> Result<usize, NoMemory>
-    ensures { IfOk result (λ n. n ≡ spec.members_within (plain_members members.now) + 1) }
+    ensures { IfOk result (λ n. n ≡ spec.members_within (members_form members.now) + 1) }
 {
     let inner = members_within(members)?;
     add(inner, 1)
@@ -171,7 +171,7 @@ fn struct_within(members: &[Member]) -> Result<usize, NoMemory>
 // A union, and what stands within its arms.
 #[cycle(within)]
 fn bare_within(arms: &[ArmNode]) -> Result<usize, NoMemory>
-    ensures { IfOk result (λ n. n ≡ spec.arms_within (plain_arms arms.now) + 1) }
+    ensures { IfOk result (λ n. n ≡ spec.arms_within (arms_form arms.now) + 1) }
 {
     let inner = arms_within(arms)?;
     add(inner, 1)
@@ -179,14 +179,14 @@ fn bare_within(arms: &[ArmNode]) -> Result<usize, NoMemory>
 
 #[cycle(within)]
 fn switch_within(switch: &Switch) -> Result<usize, NoMemory>
-    ensures { IfOk result (λ n. n ≡ spec.switch_within (plain_switch switch.now)) }
+    ensures { IfOk result (λ n. n ≡ spec.switch_within (switch_form switch.now)) }
 {
     spec_within(&switch.spec)
 }
 
 #[cycle(within)]
 fn arms_within(arms: &[ArmNode]) -> Result<usize, NoMemory>
-    ensures { IfOk result (λ n. n ≡ spec.arms_within (plain_arms arms.now)) }
+    ensures { IfOk result (λ n. n ≡ spec.arms_within (arms_form arms.now)) }
 {
     let mut all = 0;
     for arm in arms {
@@ -197,7 +197,7 @@ fn arms_within(arms: &[ArmNode]) -> Result<usize, NoMemory>
 
 #[cycle(within)]
 fn arm_within(arm: &ArmNode) -> Result<usize, NoMemory>
-    ensures { IfOk result (λ n. n ≡ spec.arm_within (plain_arm arm.now)) }
+    ensures { IfOk result (λ n. n ≡ spec.arm_within (arm_form arm.now)) }
 {
     match &arm.member {
         None => Ok(0),

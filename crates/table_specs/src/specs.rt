@@ -3,7 +3,7 @@ ghost use Rattle.std.specs.Prelude.{◌≡◌, ◌∷◌, [], ◌++◌, map, tru
 ghost use Rattle.std.specs.Option.{option_or};
 ghost use Rattle.ndr_value.specs.Forms.{form, face, body, OfUnion};
 ghost use Rattle.table_form.specs.Tables.{result_form};
-ghost use Rattle.idl_outline.specs.Plain.{plain_spec, plain_kind, plain_member, plain_members, plain_switch, plain_arm, plain_arms, plain_mark, plain_attr, plain_attrs, of_tag, of_struct, of_union, of_enum, no_switch};
+ghost use Rattle.idl_forms.specs.Forms.{spec_form, kind_form, member_form, members_form, switch_form, arm_form, arms_form, attr_kind_form, attr_form, attrs_form};
 ghost use Rattle.table_scope.specs.Scopes.{sense, scope, status_sense, shapeless, begun};
 ghost use Rattle.table_scope.specs.Declarators as declarators;
 ghost use Rattle.name_map.specs.Named.{at_name};
@@ -11,7 +11,7 @@ ghost use Rattle.table_specs.specs.Specs as spec;
 
 use crate::labels::{cases, has_default, held, struct_entry};
 use crate::names::{arm_names, member_names, members_within};
-use idl_outline::Place;
+use idl_outline::{Place, all_pointed};
 use idl_tree::{
     ArmNode, Attr, AttrKind, Base, Dtor, Ident, Member, Num, Pk, Spec, SpecKind, Switch,
 };
@@ -21,8 +21,8 @@ use rpc_base::NoMemory;
 use std::alloc::Global;
 use table_form::octets;
 use table_scope::{
-    Meaning, Sort, Symbols, Terms, all_pointed, begun, declared, ended, in_16, nothing, tag_shape,
-    terms, type_named, union_shape, valued, with_names,
+    Meaning, Sort, Symbols, Terms, begun, declared, ended, in_16, nothing, tag_shape, terms,
+    type_named, union_shape, valued, with_names,
 };
 
 fn base_shape(base: Base) -> Shape
@@ -135,8 +135,8 @@ pub fn spec_meaning(
     pointed: bool,
     given: &Option<Shape>,
 ) -> Result<Meaning, NoMemory>
-    ensures value { IfOk result (λ m. sense m ≡ (spec.spec_at default pointed (result_form given.now) (plain_spec of.now) (scope known.old)).0) }
-    ensures past { OnOk result (scope known.new ≡ (spec.spec_at default pointed (result_form given.now) (plain_spec of.now) (scope known.old)).1) }
+    ensures value { IfOk result (λ m. sense m ≡ (spec.spec_at default pointed (result_form given.now) (spec_form of.now) (scope known.old)).0) }
+    ensures past { OnOk result (scope known.new ≡ (spec.spec_at default pointed (result_form given.now) (spec_form of.now) (scope known.old)).1) }
 {
     kind_meaning(&of.what, alloc, known, default, pointed, given)
 }
@@ -150,8 +150,8 @@ fn kind_meaning(
     pointed: bool,
     given: &Option<Shape>,
 ) -> Result<Meaning, NoMemory>
-    ensures value { IfOk result (λ m. sense m ≡ (spec.kind_at default pointed (result_form given.now) (plain_kind kind.now) (scope known.old)).0) }
-    ensures past { OnOk result (scope known.new ≡ (spec.kind_at default pointed (result_form given.now) (plain_kind kind.now) (scope known.old)).1) }
+    ensures value { IfOk result (λ m. sense m ≡ (spec.kind_at default pointed (result_form given.now) (kind_form kind.now) (scope known.old)).0) }
+    ensures past { OnOk result (scope known.new ≡ (spec.kind_at default pointed (result_form given.now) (kind_form kind.now) (scope known.old)).1) }
 {
     match kind {
         SpecKind::Base(base) => Ok(valued(base_shape(*base))),
@@ -190,8 +190,8 @@ fn structure(
     default: Pk,
     tag: &Option<Ident>,
 ) -> Result<Meaning, NoMemory>
-    ensures value { IfOk result (λ m. sense m ≡ (spec.struct_at tag.now (spec.members_at default (spec.member_names (plain_members list.now)) (plain_members list.now) (begun tag.now (spec.members_within (plain_members list.now)) (scope known.old)))).0) }
-    ensures past { OnOk result (scope known.new ≡ (spec.struct_at tag.now (spec.members_at default (spec.member_names (plain_members list.now)) (plain_members list.now) (begun tag.now (spec.members_within (plain_members list.now)) (scope known.old)))).1) }
+    ensures value { IfOk result (λ m. sense m ≡ (spec.struct_at tag.now (spec.members_at default (spec.member_names (members_form list.now)) (members_form list.now) (begun tag.now (spec.members_within (members_form list.now)) (scope known.old)))).0) }
+    ensures past { OnOk result (scope known.new ≡ (spec.struct_at tag.now (spec.members_at default (spec.member_names (members_form list.now)) (members_form list.now) (begun tag.now (spec.members_within (members_form list.now)) (scope known.old)))).1) }
 {
     let names = member_names(list, alloc)?;
     let within = members_within(list)?;
@@ -211,8 +211,8 @@ fn union_meaning(
     default: Pk,
     tag: Shape,
 ) -> Result<Meaning, NoMemory>
-    ensures value { IfOk result (λ m. sense m ≡ (spec.union_at (form tag) (spec.arms_at default (spec.arm_names (plain_arms list.now)) (plain_arms list.now) (scope known.old))).0) }
-    ensures past { OnOk result (scope known.new ≡ (spec.union_at (form tag) (spec.arms_at default (spec.arm_names (plain_arms list.now)) (plain_arms list.now) (scope known.old))).1) }
+    ensures value { IfOk result (λ m. sense m ≡ (spec.union_at (form tag) (spec.arms_at default (spec.arm_names (arms_form list.now)) (arms_form list.now) (scope known.old))).0) }
+    ensures past { OnOk result (scope known.new ≡ (spec.union_at (form tag) (spec.arms_at default (spec.arm_names (arms_form list.now)) (arms_form list.now) (scope known.old))).1) }
 {
     let names = arm_names(list, alloc)?;
     let arms = arms_of(list, alloc, known, default, &names)?;
@@ -230,8 +230,8 @@ fn switch_tag(
     known: &mut Symbols,
     default: Pk,
 ) -> Result<Shape, NoMemory>
-    ensures value { IfOk result (λ s. form s ≡ (spec.switch_at default None (plain_switch by.now) (scope known.old)).0) }
-    ensures past { OnOk result (scope known.new ≡ (spec.switch_at default None (plain_switch by.now) (scope known.old)).1) }
+    ensures value { IfOk result (λ s. form s ≡ (spec.switch_at default None (switch_form by.now) (scope known.old)).0) }
+    ensures past { OnOk result (scope known.new ≡ (spec.switch_at default None (switch_form by.now) (scope known.old)).1) }
 {
     let meaning = spec_meaning(&by.spec, alloc, known, default, false, &None)?;
     Ok(meaning.shape)
@@ -250,8 +250,8 @@ pub fn attrs_tag(
     known: &mut Symbols,
     default: Pk,
 ) -> Result<Option<Shape>, NoMemory>
-    ensures value { IfOk result (λ o. result_form o ≡ (spec.attrs_at default (plain_attrs list.now) (scope known.old)).0) }
-    ensures past { OnOk result (scope known.new ≡ (spec.attrs_at default (plain_attrs list.now) (scope known.old)).1) }
+    ensures value { IfOk result (λ o. result_form o ≡ (spec.attrs_at default (attrs_form list.now) (scope known.old)).0) }
+    ensures past { OnOk result (scope known.new ≡ (spec.attrs_at default (attrs_form list.now) (scope known.old)).1) }
 {
     let mut tag = None;
     for attr in list {
@@ -268,8 +268,8 @@ fn attr_tag(
     known: &mut Symbols,
     default: Pk,
 ) -> Result<Option<Shape>, NoMemory>
-    ensures value { IfOk result (λ o. result_form o ≡ (spec.attr_at default (plain_attr attr.now) (scope known.old)).0) }
-    ensures past { OnOk result (scope known.new ≡ (spec.attr_at default (plain_attr attr.now) (scope known.old)).1) }
+    ensures value { IfOk result (λ o. result_form o ≡ (spec.attr_at default (attr_form attr.now) (scope known.old)).0) }
+    ensures past { OnOk result (scope known.new ≡ (spec.attr_at default (attr_form attr.now) (scope known.old)).1) }
 {
     mark_tag(&attr.what, alloc, known, default)
 }
@@ -281,8 +281,8 @@ fn mark_tag(
     known: &mut Symbols,
     default: Pk,
 ) -> Result<Option<Shape>, NoMemory>
-    ensures value { IfOk result (λ o. result_form o ≡ (spec.mark_at default (plain_mark kind.now) (scope known.old)).0) }
-    ensures past { OnOk result (scope known.new ≡ (spec.mark_at default (plain_mark kind.now) (scope known.old)).1) }
+    ensures value { IfOk result (λ o. result_form o ≡ (spec.mark_at default (attr_kind_form kind.now) (scope known.old)).0) }
+    ensures past { OnOk result (scope known.new ≡ (spec.mark_at default (attr_kind_form kind.now) (scope known.old)).1) }
 {
     match kind {
         AttrKind::SwitchType(of) => {
@@ -316,8 +316,8 @@ fn member_shapes(
     names: &[Ident],
     into: &mut Shapes,
 ) -> Result<(), NoMemory>
-    ensures value { OnOk result (map form into.new.items ≡ map form into.old.items ++ (spec.member_at default names.now (plain_member member.now) (scope known.old)).0) }
-    ensures past { OnOk result (scope known.new ≡ (spec.member_at default names.now (plain_member member.now) (scope known.old)).1) }
+    ensures value { OnOk result (map form into.new.items ≡ map form into.old.items ++ (spec.member_at default names.now (member_form member.now) (scope known.old)).0) }
+    ensures past { OnOk result (scope known.new ≡ (spec.member_at default names.now (member_form member.now) (scope known.old)).1) }
 {
     let tag = attrs_tag(&member.attrs, alloc, known, default)?;
     let pointed = all_pointed(&member.dtors);
@@ -342,8 +342,8 @@ fn members_shapes(
     default: Pk,
     names: &[Ident],
 ) -> Result<Shapes, NoMemory>
-    ensures value { IfOk result (λ ss. map form ss.items ≡ (spec.members_at default names.now (plain_members list.now) (scope known.old)).0) }
-    ensures past { OnOk result (scope known.new ≡ (spec.members_at default names.now (plain_members list.now) (scope known.old)).1) }
+    ensures value { IfOk result (λ ss. map form ss.items ≡ (spec.members_at default names.now (members_form list.now) (scope known.old)).0) }
+    ensures past { OnOk result (scope known.new ≡ (spec.members_at default names.now (members_form list.now) (scope known.old)).1) }
 {
     let mut all = Vec::new(alloc);
     for member in list {
@@ -360,8 +360,8 @@ fn arms_of(
     default: Pk,
     names: &[Ident],
 ) -> Result<Arms, NoMemory>
-    ensures value { IfOk result (λ as'. map face as'.items ≡ (spec.arms_at default names.now (plain_arms list.now) (scope known.old)).0) }
-    ensures past { OnOk result (scope known.new ≡ (spec.arms_at default names.now (plain_arms list.now) (scope known.old)).1) }
+    ensures value { IfOk result (λ as'. map face as'.items ≡ (spec.arms_at default names.now (arms_form list.now) (scope known.old)).0) }
+    ensures past { OnOk result (scope known.new ≡ (spec.arms_at default names.now (arms_form list.now) (scope known.old)).1) }
 {
     let mut all = Vec::new(alloc);
     for node in list {
@@ -378,8 +378,8 @@ fn arm_of(
     default: Pk,
     names: &[Ident],
 ) -> Result<Arm, NoMemory>
-    ensures value { IfOk result (λ a. face a ≡ (spec.arm_at default names.now (plain_arm node.now) (scope known.old)).0) }
-    ensures past { OnOk result (scope known.new ≡ (spec.arm_at default names.now (plain_arm node.now) (scope known.old)).1) }
+    ensures value { IfOk result (λ a. face a ≡ (spec.arm_at default names.now (arm_form node.now) (scope known.old)).0) }
+    ensures past { OnOk result (scope known.new ≡ (spec.arm_at default names.now (arm_form node.now) (scope known.old)).1) }
 {
     let cases = cases(alloc, &known.constants, &node.labels)?;
     let is_default = has_default(&node.labels);
@@ -408,8 +408,8 @@ fn arm_shape(
     default: Pk,
     names: &[Ident],
 ) -> Result<Option<Shape>, NoMemory>
-    ensures value { IfOk result (λ o. body o ≡ spec.held (spec.member_at default names.now (plain_member member.now) (scope known.old)).0) }
-    ensures past { OnOk result (scope known.new ≡ (spec.member_at default names.now (plain_member member.now) (scope known.old)).1) }
+    ensures value { IfOk result (λ o. body o ≡ spec.held (spec.member_at default names.now (member_form member.now) (scope known.old)).0) }
+    ensures past { OnOk result (scope known.new ≡ (spec.member_at default names.now (member_form member.now) (scope known.old)).1) }
 {
     let mut shapes = Vec::new(alloc);
     member_shapes(member, alloc, known, default, names, &mut shapes)?;

@@ -1,4 +1,5 @@
-use Rattle.std.proofs.Common.{◌≡◌, drop}
+use Rattle.std.proofs.Common.{◌≡◌, map, drop}
+use Rattle.idl_forms.specs.Forms.{param_form}
 use Rattle.table_scope.specs.Scopes.{scope}
 use Rattle.marshal_table.specs.Interfaces.{listing, joined, params_at}
 use Rattle.marshal_table.proofs.params.params.Given as goal
@@ -6,6 +7,6 @@ use Rattle.marshal_table.proofs.params.params.Given as goal
 abbrev pub invariant-loop-node : goal.invariant-loop-node
 invariant-loop-node l =
     record {
-      value : joined (listing l.all) (params_at l.default l.names (drop l.node-index l.nodes) (scope l.known)).0 ≡ (params_at l.default l.names l.nodes (scope l.initial.known)).0;
-      past : (params_at l.default l.names (drop l.node-index l.nodes) (scope l.known)).1 ≡ (params_at l.default l.names l.nodes (scope l.initial.known)).1;
+      value : joined (listing l.all) (params_at l.default l.names (map param_form (drop l.node-index l.nodes)) (scope l.known)).0 ≡ (params_at l.default l.names (map param_form l.nodes) (scope l.initial.known)).0;
+      past : (params_at l.default l.names (map param_form (drop l.node-index l.nodes)) (scope l.known)).1 ≡ (params_at l.default l.names (map param_form l.nodes) (scope l.initial.known)).1;
     }

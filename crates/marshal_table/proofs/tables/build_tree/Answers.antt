@@ -1,5 +1,7 @@
 use Rattle.std.proofs.Common.{◌≡◌, List, [], map, ap, ◌∙◌}
 use Rattle.idl_tree.specs.declared.declaration.Decl.{Decl}
+use Rattle.idl_tree.specs.declared.file.FileAttr.{FileAttr}
+use Rattle.idl_forms.specs.Forms.{file_form, decl_form, tree_form}
 use Rattle.idl_outline.specs.Outline.{pointer_default}
 use Rattle.table_form.specs.declared.operation.HandleUse.{HandleUse}
 use Rattle.table_form.specs.declared.operation.Op.{Op}
@@ -17,7 +19,7 @@ begun p os us p_is os_are us_are =
 pub of-requires : goal.of-requires
 of-requires c =
     let start : Draft = draft c.nothing_known-known.result c.no_operations-all.result in
-    made_is c.args.tree.now c.pointer_default-default.result start (draft c.declarations.new.known c.declarations.new.into)
-    (c.pointer_default-default.ensures ∙ ap pointer_default c.deref.ensures.value)
+    made_is (tree_form c.args.tree.now) c.pointer_default-default.result start (draft c.declarations.new.known c.declarations.new.into)
+    (c.pointer_default-default.ensures ∙ ap (λ (xs : List FileAttr). pointer_default (map file_form xs)) c.deref.ensures.value)
     (begun (scope c.nothing_known-known.result) c.no_operations-all.result.ops.items c.no_operations-all.result.uses.items c.nothing_known-known.ensures c.no_operations-all.ensures.ops c.no_operations-all.ensures.uses)
-    (c.in_ok-declarations.ensures ∙ ap (λ (xs : List Decl). decls_at c.pointer_default-default.result xs start) c.deref-2.ensures.value)
+    (c.in_ok-declarations.ensures ∙ ap (λ (xs : List Decl). decls_at c.pointer_default-default.result (map decl_form xs) start) c.deref-2.ensures.value)

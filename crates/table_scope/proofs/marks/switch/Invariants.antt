@@ -1,9 +1,9 @@
 use Rattle.std.proofs.Common.{◌≡◌, drop}
-use Rattle.idl_outline.specs.Plain.{plain_attrs}
+use Rattle.idl_forms.specs.Forms.{attrs_form}
 use Rattle.table_scope.specs.Marks.{given}
 use Rattle.table_scope.specs.Declarators.{switch_in}
 use Rattle.table_scope.proofs.marks.switch.Given as goal
 
 -- what is left of the attributes has the answer
 abbrev pub invariant-loop-attr : goal.invariant-loop-attr
-invariant-loop-attr l = given (switch_in l.parameters l.names) (plain_attrs (drop l.attr-index l.attrs)) ≡ given (switch_in l.parameters l.names) (plain_attrs l.attrs)
+invariant-loop-attr l = given (switch_in l.parameters l.names) (attrs_form (drop l.attr-index l.attrs)) ≡ given (switch_in l.parameters l.names) (attrs_form l.attrs)

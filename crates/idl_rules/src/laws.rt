@@ -1,5 +1,5 @@
 //! Laws of trees that are the same in every item.
-ghost use Rattle.idl_same.specs.Laws.{SameTreesHaveOneOutline, SameTreesBreakTheSameRules};
+ghost use Rattle.idl_rules.specs.Laws.{SameTreesHaveOneOutline, SameTreesBreakTheSameRules};
 
 /// Trees that are the same have one outline.
 pub fn same_trees_have_one_outline()

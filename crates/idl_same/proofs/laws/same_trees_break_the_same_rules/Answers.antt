@@ -1,5 +1,0 @@
-use Rattle.idl_same.proofs.Breaches.{broken_too}
-use Rattle.idl_same.proofs.laws.same_trees_break_the_same_rules.Goals as goal
-
-pub returns : goal.returns
-returns c = broken_too
