@@ -1,11 +1,13 @@
-//! Messages of operations from stub data (C706, chapter "Transfer Syntax NDR").
+//! Messages of operations from stub data and as stub data (C706, chapter "Transfer Syntax NDR").
 #![tactic(auto)]
 
 mod fault;
 mod range;
 mod stub;
+mod written;
 
 pub use fault::NdrFault;
 pub use ndr_model::Way;
 pub use range::in_range;
 pub use stub::decode;
+pub use written::{EncodeFault, encode};

@@ -28,7 +28,7 @@ use rpc_base::{NoMemory, Order};
 use std::alloc::Global;
 use table_form::{Bounds, Op, Param, Table};
 
-// How deep constructs of a stub nest at most: types, parameters and results nest by value 256
+// How deep constructs of a stub nest at most: types, parameters and results nest by value 16
 // levels, and there are 256 levels of pointers.
 const ENOUGH: u32 = 257 * 1024;
 

@@ -46,16 +46,151 @@ fn union_shape(alloc: Global, with_default: bool) -> Result<Shape, NoMemory> {
     })
 }
 
-fn in_union(alloc: Global, tag: i64, value: Option<Value>) -> Result<Value, NoMemory> {
+fn in_union(alloc: Global, tag: i64, value: Inside) -> Result<Value, NoMemory> {
     let arm = match value {
-        None => None,
-        Some(value) => Some(Box::new(alloc, value)?),
+        Inside::Nothing => None,
+        Inside::Bool(value) => Some(Box::new(alloc, Value::Bool(value))?),
+        Inside::Char(value) => Some(Box::new(alloc, Value::Char(value))?),
     };
     Ok(Value::Union { tag, arm })
 }
 
-fn text(alloc: Global, octets: &[u8]) -> Result<Value, NoMemory> {
-    Ok(Value::Text(Octets::from_vec(octets.to_vec(alloc)?)))
+/// What an arm has.
+#[derive(Clone, Copy)]
+enum Inside {
+    Nothing,
+    Bool(bool),
+    Char(u8),
+}
+
+/// A shape without parts.
+#[derive(Clone, Copy)]
+enum Plain {
+    Bool,
+    Byte,
+    Char,
+    Int(u8),
+    Uint(u8),
+    Enum(u16),
+    Handle,
+    Named(usize),
+}
+
+impl Plain {
+    fn shape(self) -> Shape {
+        match self {
+            Plain::Bool => Shape::Bool,
+            Plain::Byte => Shape::Byte,
+            Plain::Char => Shape::Char,
+            Plain::Int(size) => Shape::Int(size),
+            Plain::Uint(size) => Shape::Uint(size),
+            Plain::Enum(count) => Shape::Enum(count),
+            Plain::Handle => Shape::Handle(0),
+            Plain::Named(number) => Shape::Named(number, None),
+        }
+    }
+}
+
+/// A value without parts.
+#[derive(Clone, Copy)]
+enum Scalar {
+    Bool(bool),
+    Byte(u8),
+    Char(u8),
+    Int(i64),
+    Uint(u64),
+    Enum(u16),
+    Handle(u8),
+}
+
+impl Scalar {
+    fn value(self) -> Value {
+        match self {
+            Scalar::Bool(value) => Value::Bool(value),
+            Scalar::Byte(value) => Value::Byte(value),
+            Scalar::Char(value) => Value::Char(value),
+            Scalar::Int(value) => Value::Int(value),
+            Scalar::Uint(value) => Value::Uint(value),
+            Scalar::Enum(value) => Value::Enum(value),
+            Scalar::Handle(slot) => Value::Handle(slot),
+        }
+    }
+}
+
+const SCALARS: &[(Plain, Scalar, bool)] = &[
+    (Plain::Bool, Scalar::Bool(true), true),
+    (Plain::Bool, Scalar::Byte(1), false),
+    (Plain::Byte, Scalar::Byte(255), true),
+    (Plain::Byte, Scalar::Char(255), false),
+    (Plain::Char, Scalar::Char(0), true),
+    (Plain::Int(1), Scalar::Int(-128), true),
+    (Plain::Int(1), Scalar::Int(128), false),
+    (Plain::Int(2), Scalar::Int(-32_769), false),
+    (Plain::Int(4), Scalar::Int(2_147_483_647), true),
+    (Plain::Int(8), Scalar::Int(i64::MIN), true),
+    (Plain::Int(4), Scalar::Uint(1), false),
+    (Plain::Int(3), Scalar::Int(0), false),
+    (Plain::Uint(1), Scalar::Uint(256), false),
+    (Plain::Uint(2), Scalar::Uint(65_535), true),
+    (Plain::Uint(4), Scalar::Uint(4_294_967_296), false),
+    (Plain::Uint(8), Scalar::Uint(u64::MAX), true),
+    (Plain::Enum(3), Scalar::Enum(2), true),
+    (Plain::Enum(3), Scalar::Enum(3), false),
+    (Plain::Handle, Scalar::Handle(7), true),
+    (Plain::Handle, Scalar::Byte(7), false),
+    (Plain::Named(1), Scalar::Uint(65_535), true),
+    (Plain::Named(1), Scalar::Uint(65_536), false),
+    (Plain::Named(2), Scalar::Uint(0), false),
+    (Plain::Named(9), Scalar::Uint(0), false),
+];
+
+#[test]
+fn scalars(rt: HostRuntime) -> Result<(), NoMemory> {
+    let types = types(rt.alloc())?;
+    let heap = Values::new(rt.alloc());
+    for (shape, value, wanted) in SCALARS {
+        let found = well_typed(&types, &shape.shape(), &value.value(), &heap);
+        assert_eq!(rt; found, *wanted);
+    }
+    Ok(())
+}
+
+/// A text, an array of octets, or no such.
+#[derive(Clone, Copy)]
+enum Holder {
+    Byte,
+    Text(Option<u32>),
+    Bytes(ArrayKind),
+    Chars(ArrayKind),
+}
+
+impl Holder {
+    fn shape(self, alloc: Global) -> Result<Shape, NoMemory> {
+        match self {
+            Holder::Byte => Ok(Shape::Byte),
+            Holder::Text(most) => Ok(Shape::Text(most)),
+            Holder::Bytes(kind) => Ok(Shape::Array(kind, Box::new(alloc, Shape::Byte)?)),
+            Holder::Chars(kind) => Ok(Shape::Array(kind, Box::new(alloc, Shape::Char)?)),
+        }
+    }
+}
+
+/// A text, so many values of octets, or octets.
+#[derive(Clone, Copy)]
+enum Held {
+    Text(&'static [u8]),
+    Bytes(u8),
+    Octets(&'static [u8]),
+}
+
+impl Held {
+    fn value(self, alloc: Global) -> Result<Value, NoMemory> {
+        match self {
+            Held::Text(octets) => Ok(Value::Text(Octets::from_vec(octets.to_vec(alloc)?))),
+            Held::Bytes(count) => bytes(alloc, count),
+            Held::Octets(octets) => Ok(Value::Octets(Octets::from_vec(octets.to_vec(alloc)?))),
+        }
+    }
 }
 
 fn bytes(alloc: Global, count: u8) -> Result<Value, NoMemory> {
@@ -66,149 +201,120 @@ fn bytes(alloc: Global, count: u8) -> Result<Value, NoMemory> {
     Ok(Value::Array(items))
 }
 
-fn octets(alloc: Global, octets: &[u8]) -> Result<Value, NoMemory> {
-    Ok(Value::Octets(Octets::from_vec(octets.to_vec(alloc)?)))
-}
+const COUNT: Count = Count::Param {
+    index: 0,
+    through: false,
+    plus: 0,
+};
 
-fn array(alloc: Global, kind: ArrayKind) -> Result<Shape, NoMemory> {
-    Ok(Shape::Array(kind, Box::new(alloc, Shape::Byte)?))
-}
-
-#[test]
-fn scalars(rt: HostRuntime) -> Result<(), NoMemory> {
-    let alloc = rt.alloc();
-    let types = types(alloc)?;
-    let heap = Values::new(alloc);
-    let table = [
-        (Shape::Bool, Value::Bool(true), true),
-        (Shape::Bool, Value::Byte(1), false),
-        (Shape::Byte, Value::Byte(255), true),
-        (Shape::Byte, Value::Char(255), false),
-        (Shape::Char, Value::Char(0), true),
-        (Shape::Int(1), Value::Int(-128), true),
-        (Shape::Int(1), Value::Int(128), false),
-        (Shape::Int(2), Value::Int(-32_769), false),
-        (Shape::Int(4), Value::Int(2_147_483_647), true),
-        (Shape::Int(8), Value::Int(i64::MIN), true),
-        (Shape::Int(4), Value::Uint(1), false),
-        (Shape::Int(3), Value::Int(0), false),
-        (Shape::Uint(1), Value::Uint(256), false),
-        (Shape::Uint(2), Value::Uint(65_535), true),
-        (Shape::Uint(4), Value::Uint(4_294_967_296), false),
-        (Shape::Uint(8), Value::Uint(u64::MAX), true),
-        (Shape::Enum(3), Value::Enum(2), true),
-        (Shape::Enum(3), Value::Enum(3), false),
-        (Shape::Handle(0), Value::Handle(7), true),
-        (Shape::Handle(0), Value::Byte(7), false),
-        (Shape::Named(1, None), Value::Uint(65_535), true),
-        (Shape::Named(1, None), Value::Uint(65_536), false),
-        (Shape::Named(2, None), Value::Uint(0), false),
-        (Shape::Named(9, None), Value::Uint(0), false),
-    ];
-    for (shape, value, wanted) in table {
-        assert_eq!(rt; well_typed(&types, &shape, &value, &heap), wanted);
-    }
-    Ok(())
-}
+const HOLDERS: &[(Holder, Held, bool)] = &[
+    (Holder::Text(None), Held::Text(b""), true),
+    (Holder::Text(None), Held::Text(b"a\0b"), false),
+    (Holder::Text(Some(4)), Held::Text(b"abc"), true),
+    (Holder::Text(Some(4)), Held::Text(b"abcd"), false),
+    (Holder::Text(Some(4)), Held::Bytes(3), false),
+    (Holder::Bytes(ArrayKind::Fixed(3)), Held::Bytes(3), true),
+    (Holder::Bytes(ArrayKind::Fixed(3)), Held::Bytes(2), false),
+    (
+        Holder::Bytes(ArrayKind::Varying(3, COUNT)),
+        Held::Bytes(2),
+        true,
+    ),
+    (
+        Holder::Bytes(ArrayKind::Varying(3, COUNT)),
+        Held::Bytes(4),
+        false,
+    ),
+    (
+        Holder::Bytes(ArrayKind::Conformant(COUNT)),
+        Held::Bytes(9),
+        true,
+    ),
+    (
+        Holder::Bytes(ArrayKind::ConformantVarying(COUNT, COUNT)),
+        Held::Bytes(0),
+        true,
+    ),
+    (Holder::Byte, Held::Bytes(1), false),
+    (
+        Holder::Bytes(ArrayKind::Fixed(3)),
+        Held::Octets(b"abc"),
+        true,
+    ),
+    (
+        Holder::Bytes(ArrayKind::Fixed(2)),
+        Held::Octets(b"abc"),
+        false,
+    ),
+    (Holder::Text(None), Held::Octets(b"abc"), false),
+    (Holder::Chars(ArrayKind::Fixed(2)), Held::Bytes(2), false),
+    (
+        Holder::Chars(ArrayKind::Fixed(2)),
+        Held::Octets(b"ab"),
+        false,
+    ),
+];
 
 #[test]
 fn texts_and_arrays(rt: HostRuntime) -> Result<(), NoMemory> {
-    let alloc = rt.alloc();
-    let types = types(alloc)?;
-    let heap = Values::new(alloc);
-    let count = Count::Param {
-        index: 0,
-        through: false,
-        plus: 0,
-    };
-    let table = [
-        (Shape::Text(None), text(alloc, b"")?, true),
-        (Shape::Text(None), text(alloc, b"a\0b")?, false),
-        (Shape::Text(Some(4)), text(alloc, b"abc")?, true),
-        (Shape::Text(Some(4)), text(alloc, b"abcd")?, false),
-        (Shape::Text(Some(4)), bytes(alloc, 3)?, false),
-        (array(alloc, ArrayKind::Fixed(3))?, bytes(alloc, 3)?, true),
-        (array(alloc, ArrayKind::Fixed(3))?, bytes(alloc, 2)?, false),
-        (
-            array(alloc, ArrayKind::Varying(3, count))?,
-            bytes(alloc, 2)?,
-            true,
-        ),
-        (
-            array(alloc, ArrayKind::Varying(3, count))?,
-            bytes(alloc, 4)?,
-            false,
-        ),
-        (
-            array(alloc, ArrayKind::Conformant(count))?,
-            bytes(alloc, 9)?,
-            true,
-        ),
-        (
-            array(alloc, ArrayKind::ConformantVarying(count, count))?,
-            bytes(alloc, 0)?,
-            true,
-        ),
-        (Shape::Byte, bytes(alloc, 1)?, false),
-        (
-            array(alloc, ArrayKind::Fixed(3))?,
-            octets(alloc, b"abc")?,
-            true,
-        ),
-        (
-            array(alloc, ArrayKind::Fixed(2))?,
-            octets(alloc, b"abc")?,
-            false,
-        ),
-        (Shape::Text(None), octets(alloc, b"abc")?, false),
-    ];
-    for (shape, value, wanted) in table {
-        assert_eq!(rt; well_typed(&types, &shape, &value, &heap), wanted);
+    let types = types(rt.alloc())?;
+    let heap = Values::new(rt.alloc());
+    for (shape, value, wanted) in HOLDERS {
+        let shape = shape.shape(rt.alloc())?;
+        let value = value.value(rt.alloc())?;
+        assert_eq!(rt; well_typed(&types, &shape, &value, &heap), *wanted);
     }
-    let mixed = Shape::Array(ArrayKind::Fixed(2), Box::new(alloc, Shape::Char)?);
-    assert!(rt; !well_typed(&types, &mixed, &bytes(alloc, 2)?, &heap));
-    assert!(rt; !well_typed(&types, &mixed, &octets(alloc, b"ab")?, &heap));
+    Ok(())
+}
+
+const UNIONS: &[(bool, i64, Inside, bool)] = &[
+    (true, 1, Inside::Char(65), true),
+    (true, 1, Inside::Bool(true), false),
+    (true, 1, Inside::Nothing, false),
+    (true, -2, Inside::Nothing, true),
+    (true, -2, Inside::Bool(true), false),
+    (true, 100, Inside::Bool(true), true),
+    (true, 128, Inside::Bool(true), false),
+    (false, 100, Inside::Bool(true), false),
+];
+
+#[test]
+fn unions(rt: HostRuntime) -> Result<(), NoMemory> {
+    let types = types(rt.alloc())?;
+    let heap = Values::new(rt.alloc());
+    for (with_default, tag, value, wanted) in UNIONS {
+        let shape = union_shape(rt.alloc(), *with_default)?;
+        let value = in_union(rt.alloc(), *tag, *value)?;
+        assert_eq!(rt; well_typed(&types, &shape, &value, &heap), *wanted);
+    }
     Ok(())
 }
 
 #[test]
-fn unions(rt: HostRuntime) -> Result<(), NoMemory> {
-    let alloc = rt.alloc();
-    let types = types(alloc)?;
-    let heap = Values::new(alloc);
-    let table = [
-        (true, 1, Some(Value::Char(65)), true),
-        (true, 1, Some(Value::Bool(true)), false),
-        (true, 1, None, false),
-        (true, -2, None, true),
-        (true, -2, Some(Value::Bool(true)), false),
-        (true, 100, Some(Value::Bool(true)), true),
-        (true, 128, Some(Value::Bool(true)), false),
-        (false, 100, Some(Value::Bool(true)), false),
-    ];
-    for (with_default, tag, value, wanted) in table {
-        let shape = union_shape(alloc, with_default)?;
-        let value = in_union(alloc, tag, value)?;
-        assert_eq!(rt; well_typed(&types, &shape, &value, &heap), wanted);
-    }
-    if let Shape::Union { tag, arms } = &union_shape(alloc, false)? {
+fn selected(rt: HostRuntime) -> Result<(), NoMemory> {
+    if let Shape::Union { tag, arms } = &union_shape(rt.alloc(), false)? {
         assert!(rt; selected_arm(arms, 1).is_some() && selected_arm(arms, 5).is_none());
         assert!(rt; tag_fits(tag, -128) && !tag_fits(tag, 128));
     }
-    let tags = [
-        (Shape::Bool, 1, true),
-        (Shape::Bool, 2, false),
-        (Shape::Char, 255, true),
-        (Shape::Char, -1, false),
-        (Shape::Uint(2), 65_536, false),
-        (Shape::Enum(2), 1, true),
-        (Shape::Enum(2), 2, false),
-        (Shape::Byte, 0, false),
-    ];
-    for (shape, tag, wanted) in tags {
-        assert_eq!(rt; tag_fits(&shape, tag), wanted);
-    }
     Ok(())
+}
+
+const TAGS: &[(Plain, i64, bool)] = &[
+    (Plain::Bool, 1, true),
+    (Plain::Bool, 2, false),
+    (Plain::Char, 255, true),
+    (Plain::Char, -1, false),
+    (Plain::Uint(2), 65_536, false),
+    (Plain::Enum(2), 1, true),
+    (Plain::Enum(2), 2, false),
+    (Plain::Byte, 0, false),
+];
+
+#[test]
+fn tags(rt: HostRuntime) {
+    for (shape, tag, wanted) in TAGS {
+        assert_eq!(rt; tag_fits(&shape.shape(), *tag), *wanted);
+    }
 }
 
 // A chain of that many nodes, the last with a null pointer.
@@ -227,48 +333,64 @@ fn node(alloc: Global, number: u32, next: Value) -> Result<Value, NoMemory> {
     Ok(Value::Struct(members))
 }
 
+fn is_a_list(alloc: Global, value: &Value) -> Result<bool, NoMemory> {
+    let types = types(alloc)?;
+    let heap = Values::new(alloc);
+    Ok(well_typed(&types, &Shape::Named(0, None), value, &heap))
+}
+
 #[test]
-fn pointers(rt: HostRuntime) -> Result<(), NoMemory> {
-    let alloc = rt.alloc();
+fn lists(rt: HostRuntime) -> Result<(), NoMemory> {
+    // 256 pointers stand in one another, the last under 255; then one more
+    for (nodes, wanted) in [(257, true), (258, false)] {
+        let value = chain(rt.alloc(), nodes)?;
+        assert_eq!(rt; is_a_list(rt.alloc(), &value)?, wanted);
+    }
+    let mut short = Vec::new(rt.alloc());
+    short.push(Value::Uint(1))?;
+    assert!(rt; !is_a_list(rt.alloc(), &Value::Struct(short))?);
+    Ok(())
+}
+
+// Whether a value is of a shape, where the heap has one item.
+fn is_pointed(alloc: Global, shape: Shape, value: &Value) -> Result<bool, NoMemory> {
     let types = types(alloc)?;
     let mut heap = Values::new(alloc);
     heap.push(Value::Byte(1))?;
-    let list = Shape::Named(0, None);
-    // 256 pointers stand in one another, the last under 255; then one more
-    assert!(rt; well_typed(&types, &list, &chain(alloc, 257)?, &heap));
-    assert!(rt; !well_typed(&types, &list, &chain(alloc, 258)?, &heap));
+    Ok(well_typed(&types, &shape, value, &heap))
+}
 
-    let mut short = Vec::new(alloc);
-    short.push(Value::Uint(1))?;
-    assert!(rt; !well_typed(&types, &list, &Value::Struct(short), &heap));
+const ITEMS: &[(Option<u32>, bool)] = &[(None, true), (Some(0), true), (Some(1), false)];
 
+#[test]
+fn pointers(rt: HostRuntime) -> Result<(), NoMemory> {
+    let alloc = rt.alloc();
     let to_octet = Shape::Ref(Box::new(alloc, Shape::Byte)?);
-    assert!(rt; well_typed(&types, &to_octet, &Value::Byte(1), &heap));
+    assert!(rt; is_pointed(alloc, to_octet, &Value::Byte(1))?);
+    for (item, wanted) in ITEMS {
+        let full = Shape::Full(Box::new(alloc, Shape::Char)?);
+        assert_eq!(rt; is_pointed(alloc, full, &Value::Full(*item))?, *wanted);
+    }
     let full = Shape::Full(Box::new(alloc, Shape::Char)?);
-    assert!(rt; well_typed(&types, &full, &Value::Full(None), &heap));
-    assert!(rt; well_typed(&types, &full, &Value::Full(Some(0)), &heap));
-    assert!(rt; !well_typed(&types, &full, &Value::Full(Some(1)), &heap));
-    assert!(rt; !well_typed(&types, &full, &Value::Ptr(None), &heap));
+    assert!(rt; !is_pointed(alloc, full, &Value::Ptr(None))?);
     Ok(())
 }
 
 #[test]
-fn copies(rt: HostRuntime) -> Result<(), NoMemory> {
-    let alloc = rt.alloc();
-    let types = types(alloc)?;
-    let copy = copy_shapes(alloc, &types)?;
-    assert!(rt;
-        well_typed(
-            &copy,
-            &Shape::Named(0, None),
-            &chain(alloc, 3)?,
-            &Values::new(alloc)
-        )
-    );
+fn copied_types(rt: HostRuntime) -> Result<(), NoMemory> {
+    let copy = copy_shapes(rt.alloc(), &types(rt.alloc())?)?;
+    let list = chain(rt.alloc(), 3)?;
+    let heap = Values::new(rt.alloc());
+    assert!(rt; well_typed(&copy, &Shape::Named(0, None), &list, &heap));
     assert_eq!(rt; copy.len(), 4);
+    Ok(())
+}
 
-    let shape = copy_shape(alloc, &union_shape(alloc, true)?)?;
-    let value = in_union(alloc, 1, Some(Value::Char(65)))?;
-    assert!(rt; well_typed(&types, &shape, &value, &Values::new(alloc)));
+#[test]
+fn copied_union(rt: HostRuntime) -> Result<(), NoMemory> {
+    let shape = copy_shape(rt.alloc(), &union_shape(rt.alloc(), true)?)?;
+    let value = in_union(rt.alloc(), 1, Inside::Char(65))?;
+    let types = types(rt.alloc())?;
+    assert!(rt; well_typed(&types, &shape, &value, &Values::new(rt.alloc())));
     Ok(())
 }

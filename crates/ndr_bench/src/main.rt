@@ -1,0 +1,148 @@
+//! The program: `ndr_bench SHAPE N` decodes a stub with N parts of a shape, and prints how many octets it
+//! has and how many parts came. `ndr_bench SHAPE N TIMES` does so many times over and prints, in
+//! microseconds, what copies of the octets took and what decoding them took, and the most memory that
+//! was resident before decoding and after it. `bench/ndr.sh` runs the second.
+#![tactic(auto)]
+
+mod shape;
+
+use anyhow::{Context, Error, Result};
+use idl_check::check;
+use idl_reader::read_idl;
+use marshal_table::build;
+use ndr_codec::{NdrFault, Way, decode};
+use ndr_value::{Message, Value};
+use rpc_base::Order;
+use shape::{Shape, stub_of, text_of};
+use std::alloc::Global;
+use std::io::Print;
+use std::rt::{Clock, Env, Files};
+use std::time::Instant;
+use std::{env, fs};
+use table_form::Table;
+
+/// The words behind the program's name.
+fn words(rt: &(impl Env + AllocGlobal), alloc: Global) -> Result<Vec<String>> {
+    let mut words = Vec::new(alloc);
+    for word in env::args(rt).context("the words")?.skip(1) {
+        words.push(word)?;
+    }
+    Ok(words)
+}
+
+fn table_of(alloc: Global, text: &[u8]) -> Result<Table> {
+    let tree = read_idl(alloc, text).context("the text")?;
+    let checked = check(alloc, &tree).context("the rules")?;
+    build(alloc, &checked).context("the table")
+}
+
+fn decoded(alloc: Global, table: &Table, stub: &[u8]) -> Result<Message, NdrFault> {
+    if table.op_count() == 0 {
+        return Err(NdrFault::Memory);
+    }
+    decode(alloc, table, 0, Way::Request, Order::Little, None, stub)
+}
+
+/// The parts of the last value, or the items of the heap.
+fn parts(message: &Message) -> usize {
+    match message.values.as_slice() {
+        [.., Value::Array(items)] => items.len(),
+        [.., Value::Octets(octets)] => octets.len(),
+        _ => message.heap.len(),
+    }
+}
+
+fn parts_of(alloc: Global, table: &Table, stub: &[u8]) -> Result<usize> {
+    match decoded(alloc, table, stub) {
+        Ok(message) => Ok(parts(&message)),
+        Err(_) => Err(Error::msg("the stub")),
+    }
+}
+
+/// How long so many copies of octets take, in microseconds.
+fn copying(rt: &impl Clock, alloc: Global, stub: &[u8], times: u32) -> Result<u128> {
+    let start = Instant::now(rt)?;
+    let mut octets = 0;
+    for _ in 0..times {
+        let copy = Vec::from_slice(alloc, stub)?;
+        octets = copy.len().max(octets);
+    }
+    if octets != stub.len() {
+        return Err(Error::msg("the copies"));
+    }
+    Ok(start.elapsed(rt)?.as_micros())
+}
+
+/// How long it takes to decode a stub so many times, in microseconds.
+fn decoding(
+    rt: &impl Clock,
+    alloc: Global,
+    table: &Table,
+    stub: &[u8],
+    times: u32,
+) -> Result<u128> {
+    let start = Instant::now(rt)?;
+    for _ in 0..times {
+        parts_of(alloc, table, stub)?;
+    }
+    Ok(start.elapsed(rt)?.as_micros())
+}
+
+/// The most memory that was resident so far, in KiB.
+fn resident(rt: &(impl Files + AllocGlobal)) -> Result<u64> {
+    let status = fs::read_to_string(rt, "/proc/self/status")?;
+    for line in status.as_str().lines() {
+        if let Some(rest) = line.strip_prefix("VmHWM:") {
+            let word = rest.split_whitespace().next().context("the memory")?;
+            return word.parse::<u64>().context("the memory");
+        }
+    }
+    Ok(0)
+}
+
+/// Prints what copies and decoding take.
+fn measure(
+    rt: &(impl Print + Clock + Files + AllocGlobal),
+    alloc: Global,
+    table: &Table,
+    stub: &[u8],
+    times: u32,
+) -> Result<()> {
+    let octets = stub.len();
+    let before = resident(rt)?;
+    let decoding = decoding(rt, alloc, table, stub, times)?;
+    let after = resident(rt)?;
+    let copying = copying(rt, alloc, stub, times)?;
+    println!(rt;
+        "octets {octets} copied {copying} decoded {decoding} before {before} after {after}"
+    )?;
+    Ok(())
+}
+
+/// Prints what a stub comes to.
+fn show(rt: &impl Print, alloc: Global, table: &Table, stub: &[u8]) -> Result<()> {
+    let octets = stub.len();
+    let parts = parts_of(alloc, table, stub)?;
+    println!(rt; "octets {octets} parts {parts}")?;
+    Ok(())
+}
+
+fn number(word: &str) -> Result<u32> {
+    word.parse::<u32>().context("a number")
+}
+
+fn main(rt: HostRuntime) -> Result<()> {
+    let alloc = rt.alloc();
+    let words = words(&rt, alloc)?;
+    let [shape, count, times @ ..] = words.as_slice() else {
+        println!(rt; "ndr_bench SHAPE N [TIMES]")?;
+        return Ok(());
+    };
+    let shape = Shape::named(shape.as_str()).context("the shape")?;
+    let table = table_of(alloc, text_of(alloc, shape)?.as_str().as_bytes())?;
+    let stub = stub_of(alloc, shape, number(count.as_str())?)?;
+    match times.first() {
+        None => show(&rt, alloc, &table, stub.as_slice()),
+        Some(times) => measure(&rt, alloc, &table, stub.as_slice(), number(times.as_str())?),
+    }
+}

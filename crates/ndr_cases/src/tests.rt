@@ -1,0 +1,217 @@
+//! The deepest message: types that nest by value as deep as a table's may, and behind each another, at
+//! 256 levels of pointers.
+
+use crate::blocks::table_of;
+use crate::case::{are_typed, decoded};
+use crate::text::put_message;
+use ndr_codec::{Way, in_range};
+use ndr_value::Message;
+use rpc_base::{NoMemory, Order};
+use rpc_words::put;
+use std::alloc::Global;
+use std::process::Abort;
+use std::test::Fail;
+use std::thread::{Builder, Threads};
+use table_form::{MOST_LEVELS, Table};
+
+/// What stands within one another, and at last a pointer.
+#[derive(Clone, Copy)]
+struct Nest {
+    /// In the interface, before and behind what is within.
+    open: &'static str,
+    close: &'static str,
+    /// In the stub.
+    octets: &'static [u8],
+    /// In the text of the value.
+    before: &'static str,
+    behind: &'static str,
+    /// How many levels each has.
+    levels: u16,
+    /// The pointer at last.
+    pointer: &'static str,
+}
+
+const STRUCTURES: Nest = Nest {
+    open: "struct{",
+    close: "}a;",
+    octets: b"",
+    before: "{",
+    behind: "}",
+    levels: 1,
+    pointer: "unique",
+};
+
+const NESTS: &[Nest] = &[
+    STRUCTURES,
+    Nest {
+        open: "struct{",
+        close: "}a[1];",
+        octets: b"",
+        before: "[{",
+        behind: "}]",
+        levels: 2,
+        pointer: "unique",
+    },
+    Nest {
+        open: "union switch(long t){case 1:",
+        close: "}a;",
+        octets: b"\x01\0\0\0",
+        before: "(1: ",
+        behind: ")",
+        levels: 1,
+        pointer: "unique",
+    },
+    Nest {
+        pointer: "ptr",
+        ..STRUCTURES
+    },
+];
+
+const POINTERS: u32 = 256;
+
+/// What a thread that decodes is to be given: twice what the deepest message takes.
+const STACK: usize = 16 << 20;
+
+fn put_times(text: &str, times: u16, into: &mut Vec<u8>) -> Result<(), NoMemory> {
+    for _ in 0..times {
+        put(text.as_bytes(), into)?;
+    }
+    Ok(())
+}
+
+impl Nest {
+    // How many there are: a structure holds them, and the pointer is a level.
+    fn count(&self) -> u16 {
+        MOST_LEVELS.saturating_sub(2) / self.levels.max(1)
+    }
+
+    fn interface(&self, alloc: Global) -> Result<Vec<u8>, NoMemory> {
+        let mut text = Vec::new(alloc);
+        put(
+            b"[uuid(5f0c7a12-3b4d-4e6f-8a90-b1c2d3e4f506)]interface i{struct s{",
+            &mut text,
+        )?;
+        put_times(self.open, self.count(), &mut text)?;
+        let pointer = self.pointer;
+        let middle = format!(in alloc; "[{pointer}]struct s*p;")?;
+        put(middle.as_bytes(), &mut text)?;
+        put_times(self.close, self.count(), &mut text)?;
+        let end = format!(in alloc; "}};void f([in,{pointer}]struct s*p);}}")?;
+        put(end.as_bytes(), &mut text)?;
+        Ok(text)
+    }
+
+    fn stub(&self, alloc: Global) -> Result<Vec<u8>, NoMemory> {
+        let mut stub = Vec::new(alloc);
+        for number in 1..=POINTERS {
+            put(&number.to_le_bytes(), &mut stub)?;
+            for _ in 0..self.count() {
+                put(self.octets, &mut stub)?;
+            }
+        }
+        put(&[0; 4], &mut stub)?;
+        Ok(stub)
+    }
+
+    // The text of one structure around a pointer's text.
+    fn put_one(&self, pointer: &str, into: &mut Vec<u8>) -> Result<(), NoMemory> {
+        put(b"{", into)?;
+        put_times(self.before, self.count(), into)?;
+        put(pointer.as_bytes(), into)
+    }
+
+    fn put_end(&self, into: &mut Vec<u8>) -> Result<(), NoMemory> {
+        put_times(self.behind, self.count(), into)?;
+        put(b"}", into)
+    }
+
+    // Each structure in the one before it.
+    fn within(&self, alloc: Global) -> Result<Vec<u8>, NoMemory> {
+        let mut text = Vec::new(alloc);
+        put(b"(&", &mut text)?;
+        for number in 1..=POINTERS {
+            let pointer = if number == POINTERS { "null" } else { "&" };
+            self.put_one(pointer, &mut text)?;
+        }
+        for _ in 0..POINTERS {
+            self.put_end(&mut text)?;
+        }
+        put(b")", &mut text)?;
+        Ok(text)
+    }
+
+    // Each structure an item of the heap.
+    fn items(&self, alloc: Global) -> Result<Vec<u8>, NoMemory> {
+        let mut text = Vec::new(alloc);
+        put(b"(@0) heap [", &mut text)?;
+        for number in 1..POINTERS {
+            let pointer = format!(in alloc; "@{number}")?;
+            self.put_one(pointer.as_str(), &mut text)?;
+            self.put_end(&mut text)?;
+            put(b", ", &mut text)?;
+        }
+        self.put_one("null", &mut text)?;
+        self.put_end(&mut text)?;
+        put(b"]", &mut text)?;
+        Ok(text)
+    }
+
+    fn text(&self, alloc: Global) -> Result<Vec<u8>, NoMemory> {
+        match self.pointer {
+            "ptr" => self.items(alloc),
+            _ => self.within(alloc),
+        }
+    }
+}
+
+// Whether a message is what it is to be, wherever it is gone through.
+fn is_whole(
+    alloc: Global,
+    table: &Table,
+    message: &Message,
+    wanted: &[u8],
+) -> Result<bool, NoMemory> {
+    let mut text = Vec::new(alloc);
+    put_message(message, alloc, &mut text)?;
+    if table.op_count() == 0 {
+        return Ok(false);
+    }
+    Ok(
+        text.as_slice() == wanted
+            && are_typed(table, Way::Request, message)
+            && in_range(table, 0, Way::Request, message),
+    )
+}
+
+// Whether a message is decoded and is what it is to be; it is dropped here too.
+fn is_decoded(alloc: Global, nest: &Nest) -> Result<bool, NoMemory> {
+    let interface = nest.interface(alloc)?;
+    let stub = nest.stub(alloc)?;
+    let wanted = nest.text(alloc)?;
+    let Some(table) = table_of(alloc, interface.as_slice()) else {
+        return Ok(false);
+    };
+    let little = Order::Little;
+    match decoded(alloc, &table, Way::Request, little, None, stub.as_slice()) {
+        Ok(message) => is_whole(alloc, &table, &message, wanted.as_slice()),
+        Err(_) => Ok(false),
+    }
+}
+
+fn is_decoded_on_a_thread<R: Threads>(rt: &R, alloc: Global, nest: Nest) -> Result<bool, Fail> {
+    let child = Builder::new().stack_size(STACK).spawn(rt, move || -> bool {
+        match is_decoded(alloc, &nest) {
+            Ok(decoded) => decoded,
+            Err(NoMemory) => false,
+        }
+    })?;
+    Ok(child.join(rt))
+}
+
+#[test]
+fn the_deepest_message_fits_a_thread(rt: HostRuntime) -> Result<(), Fail> {
+    for nest in NESTS {
+        assert!(rt; is_decoded_on_a_thread(&rt, rt.alloc(), *nest)?);
+    }
+    Ok(())
+}

@@ -1,0 +1,14 @@
+pub mod Ids
+pub mod Texts
+pub mod Leaves
+pub mod Counts
+pub mod Marks
+pub mod Wires
+pub mod Kept
+pub mod Suited
+pub mod Places
+pub mod Openings
+pub mod Goods
+pub mod Pointing
+pub mod Again
+pub mod Stubs
