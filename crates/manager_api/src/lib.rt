@@ -1,0 +1,15 @@
+//! What runs behind the calls of an interface: a desk, which answers a call from its state and the
+//! call alone, and says what it may answer (C706, "Remote Procedure Call Model", managers).
+#![tactic(auto)]
+
+mod answer;
+mod arguments;
+mod desk;
+mod outgoing;
+mod probe;
+
+pub use answer::{Answer, Kept, Kepts, or_no_memory};
+pub use arguments::{append_bytes, bytes_len, text_at, uint_at};
+pub use desk::{Desk, FixedDesk};
+pub use outgoing::{handle_and_status, response};
+pub use probe::Probe;

@@ -1,0 +1,6 @@
+//! Simple responses have stubs: laws of the definitions.
+#![tactic(auto)]
+
+mod laws;
+
+pub use laws::{handle_and_status_is_of, number_and_status_is_of, octets_read_is_of};
