@@ -1,7 +1,7 @@
 //! One stub, and what it is.
 
 use crate::text::{put_fault, put_message};
-use ndr_codec::{NdrFault, Way, decode, in_range};
+use ndr_codec::{NdrFault, Way, decode, encode, in_range};
 use ndr_value::{Message, Shape, Value, well_typed};
 use rpc_base::{NoMemory, Octets, Order};
 use rpc_words::{cut_at, put, read_octets};
@@ -111,6 +111,29 @@ pub fn decoded(
 }
 
 impl Case<'_> {
+    // Whether the message is read again from the octets that it is written as: the text is the same.
+    fn is_written(
+        &self,
+        alloc: Global,
+        table: &Table,
+        asked: Option<&Message>,
+        message: &Message,
+        text: &[u8],
+    ) -> Result<bool, NoMemory> {
+        let mut octets = Vec::new(alloc);
+        if table.op_count() == 0
+            || encode(table, 0, self.way, self.order, asked, message, &mut octets).is_err()
+        {
+            return Ok(false);
+        }
+        let mut again = Vec::new(alloc);
+        match decoded(alloc, table, self.way, self.order, asked, octets.as_slice()) {
+            Ok(message) => put_message(&message, alloc, &mut again)?,
+            Err(fault) => put_fault(fault, alloc, &mut again)?,
+        }
+        Ok(again.as_slice() == text)
+    }
+
     // The text of what the stub is.
     fn put_answer(
         &self,
@@ -125,6 +148,9 @@ impl Case<'_> {
             Err(fault) => return put_fault(fault, alloc, into),
         };
         put_message(&message, alloc, into)?;
+        if !self.is_written(alloc, table, asked, &message, into.as_slice())? {
+            put(b" written otherwise", into)?;
+        }
         if table.op_count() != 0 && !in_range(table, 0, self.way, &message) {
             put(b" out of range", into)?;
         }

@@ -1,5 +1,5 @@
-//! The program: `ndr_cases FILE..` decodes the stubs of each file, prints each whose message or fault
-//! isn't the one that the file names, and then how many there were. Beside `src/`, `data/outside.txt`
+//! The program: `ndr_cases FILE..` decodes the stubs of each file, writes each message and reads it
+//! again, prints each whose message or fault isn't the one that the file names, and then how many there were. Beside `src/`, `data/outside.txt`
 //! has cases that a program written apart from this one made, and `data/rows.txt` has cases by hand.
 #![tactic(auto)]
 
