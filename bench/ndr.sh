@@ -1,28 +1,32 @@
 #!/usr/bin/env bash
-# Times `decode` beside plain copies of as many octets in the same run: arrays of 4 KiB, 16 MiB and 64 MiB of bytes, a
-# million structures of five numbers, 100,000 unique and as many full pointers, a ring of 256 full pointers, and texts.
-# Prints octets a second, how many times the copies' time that is, and the memory that decoding took, in times the stub.
-# Then stubs of each shape, each twice as large as the one before, with the ratio of the times. Each time is the least of
-# three; making the stubs isn't counted.
+# Times `decode` and `encode` beside plain copies of as many octets in the same run: arrays of 4 KiB, 16 MiB and 64 MiB of
+# bytes, a million structures of five numbers, 100,000 unique and as many full pointers, a ring of 256 full pointers, and
+# texts. Prints octets a second, how many times the copies' time that is, and the memory that it took, in times the stub:
+# of encoding, what it took beside the message. Then stubs of each shape, each twice as large as the one before, with the
+# ratio of the times. Each time is the least of three; making the stubs isn't counted.
 set -eu
 top=$(cd "$(dirname "$0")/.." && pwd)
 program=$top/crates/ndr_bench/out/ndr_bench
 (cd "$top/crates/ndr_bench" && rt run -- bytes 1 >/dev/null) # builds it where it is stale
 
-# octets, microseconds of the copies and of decoding, KiB before and after, of the run that decodes fastest
+# octets and microseconds of the copies; then of decoding, and of encoding, the least microseconds and the KiB of that run
 run() { # SHAPE N TIMES
     for _ in 1 2 3; do "$program" "$@"; done | awk '
-        NF != 10 { exit 1 }
-        best == "" || $6 < best { best = $6; line = $2 " " $4 " " $6 " " $8 " " $10 }
-        END { print line }'
+        NF != 16 { exit 1 }
+        copied == "" || $4 < copied { copied = $4 }
+        decoded == "" || $6 < decoded { decoded = $6; room = $10 - $8 }
+        encoded == "" || $12 < encoded { encoded = $12; more = $16 - $14 }
+        END { print $2, copied, decoded, room, encoded, more }'
 }
 
 line() { # WHAT SHAPE N TIMES
-    run "$2" "$3" "$4" | awk -v what="$1" -v times="$4" '{
-        printf "%-28s %9d octets %8.1f MB/s, %6.2f times a copy", what, $1, $1 * times / $3, $3 / ($2 > 0 ? $2 : 1)
-        if (times == 1) printf ", memory %.2f times the stub", ($5 - $4) * 1024 / $1
-        printf "\n"
-    }'
+    run "$2" "$3" "$4" | awk -v what="$1" -v times="$4" '
+        function show(verb, time, room) {
+            printf "%-24s %9d octets %s %8.1f MB/s, %7.2f times a copy", what, $1, verb, $1 * times / time, time / ($2 > 0 ? $2 : 1)
+            if (times == 1) printf ", memory %.2f times the stub", room * 1024 / $1
+            printf "\n"
+        }
+        { show("decoded", $3, $4); show("encoded", $5, $6) }'
 }
 
 line "4 KiB of bytes" bytes 4096 10000
@@ -37,10 +41,14 @@ line "100,000 texts" texts 100000 1
 doubled() { # SHAPE LEAST
     local n now before=
     for n in $2 $(($2 * 2)) $(($2 * 4)) $(($2 * 8)); do
-        now=$(run "$1" "$n" 1 | awk '{ print $3 }')
+        now=$(run "$1" "$n" 1 | awk '{ print $3, $5 }')
         awk -v what="$1 $n" -v now="$now" -v before="$before" 'BEGIN {
-            printf "%-28s %9.3f s", what, now / 1e6
-            if (before > 0) printf ", %.2f times the one before", now / before
+            split(now, n, " ")
+            split(before, b, " ")
+            printf "%-24s decoded %7.3f s", what, n[1] / 1e6
+            if (b[1] > 0) printf ", %.2f times the one before", n[1] / b[1]
+            printf "; encoded %7.3f s", n[2] / 1e6
+            if (b[2] > 0) printf ", %.2f times the one before", n[2] / b[2]
             printf "\n"
         }'
         before=$now

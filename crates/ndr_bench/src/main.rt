@@ -1,7 +1,8 @@
 //! The program: `ndr_bench SHAPE N` decodes a stub with N parts of a shape, and prints how many octets it
-//! has and how many parts came. `ndr_bench SHAPE N TIMES` does so many times over and prints, in
-//! microseconds, what copies of the octets took and what decoding them took, and the most memory that
-//! was resident before decoding and after it. `bench/ndr.sh` runs the second.
+//! has, how many parts came, and how many octets the message is encoded as. `ndr_bench SHAPE N TIMES`
+//! does so many times over and prints, in microseconds, what copies of the octets took, what decoding
+//! them took and what encoding the message took, and the most memory in KiB that was resident before
+//! and after each of the two. `bench/ndr.sh` runs the second.
 #![tactic(auto)]
 
 mod shape;
@@ -10,7 +11,7 @@ use anyhow::{Context, Error, Result};
 use idl_check::check;
 use idl_reader::read_idl;
 use marshal_table::build;
-use ndr_codec::{NdrFault, Way, decode};
+use ndr_codec::{EncodeFault, NdrFault, Way, decode, encode};
 use ndr_value::{Message, Value};
 use rpc_base::Order;
 use shape::{Shape, stub_of, text_of};
@@ -73,19 +74,85 @@ fn copying(rt: &impl Clock, alloc: Global, stub: &[u8], times: u32) -> Result<u1
     Ok(start.elapsed(rt)?.as_micros())
 }
 
-/// How long it takes to decode a stub so many times, in microseconds.
+/// The octets that a message is encoded as.
+fn encoded(alloc: Global, table: &Table, message: &Message) -> Result<Vec<u8>, EncodeFault> {
+    let mut octets = Vec::new(alloc);
+    if table.op_count() == 0 {
+        return Err(EncodeFault::Memory);
+    }
+    encode(
+        table,
+        0,
+        Way::Request,
+        Order::Little,
+        None,
+        message,
+        &mut octets,
+    )?;
+    Ok(octets)
+}
+
+fn message_of(alloc: Global, table: &Table, stub: &[u8]) -> Result<Message> {
+    decoded(alloc, table, stub).map_err(|_| Error::msg("the stub"))
+}
+
+fn octets_of(alloc: Global, table: &Table, message: &Message) -> Result<usize> {
+    match encoded(alloc, table, message) {
+        Ok(octets) => Ok(octets.len()),
+        Err(_) => Err(Error::msg("the message")),
+    }
+}
+
+/// What a call takes: microseconds for all its times, and the most memory that was resident before it
+/// and after it.
+#[derive(Clone, Copy, Debug)]
+struct Taken {
+    time: u128,
+    before: u64,
+    after: u64,
+}
+
+/// What it takes to decode a stub so many times.
 fn decoding(
-    rt: &impl Clock,
+    rt: &(impl Clock + Files + AllocGlobal),
     alloc: Global,
     table: &Table,
     stub: &[u8],
     times: u32,
-) -> Result<u128> {
+) -> Result<Taken> {
+    let before = resident(rt)?;
     let start = Instant::now(rt)?;
     for _ in 0..times {
         parts_of(alloc, table, stub)?;
     }
-    Ok(start.elapsed(rt)?.as_micros())
+    let time = start.elapsed(rt)?.as_micros();
+    Ok(Taken {
+        time,
+        before,
+        after: resident(rt)?,
+    })
+}
+
+/// What it takes to encode the message of a stub so many times.
+fn encoding(
+    rt: &(impl Clock + Files + AllocGlobal),
+    alloc: Global,
+    table: &Table,
+    stub: &[u8],
+    times: u32,
+) -> Result<Taken> {
+    let message = message_of(alloc, table, stub)?;
+    let before = resident(rt)?;
+    let start = Instant::now(rt)?;
+    for _ in 0..times {
+        octets_of(alloc, table, &message)?;
+    }
+    let time = start.elapsed(rt)?.as_micros();
+    Ok(Taken {
+        time,
+        before,
+        after: resident(rt)?,
+    })
 }
 
 /// The most memory that was resident so far, in KiB.
@@ -100,7 +167,17 @@ fn resident(rt: &(impl Files + AllocGlobal)) -> Result<u64> {
     Ok(0)
 }
 
-/// Prints what copies and decoding take.
+fn put(rt: &impl Print, what: &str, taken: Taken) -> Result<()> {
+    let Taken {
+        time,
+        before,
+        after,
+    } = taken;
+    print!(rt; " {what} {time} before {before} after {after}")?;
+    Ok(())
+}
+
+/// Prints what copies, decoding and encoding take.
 fn measure(
     rt: &(impl Print + Clock + Files + AllocGlobal),
     alloc: Global,
@@ -109,21 +186,23 @@ fn measure(
     times: u32,
 ) -> Result<()> {
     let octets = stub.len();
-    let before = resident(rt)?;
     let decoding = decoding(rt, alloc, table, stub, times)?;
-    let after = resident(rt)?;
+    let encoding = encoding(rt, alloc, table, stub, times)?;
     let copying = copying(rt, alloc, stub, times)?;
-    println!(rt;
-        "octets {octets} copied {copying} decoded {decoding} before {before} after {after}"
-    )?;
+    print!(rt; "octets {octets} copied {copying}")?;
+    put(rt, "decoded", decoding)?;
+    put(rt, "encoded", encoding)?;
+    println!(rt; "")?;
     Ok(())
 }
 
 /// Prints what a stub comes to.
 fn show(rt: &impl Print, alloc: Global, table: &Table, stub: &[u8]) -> Result<()> {
     let octets = stub.len();
-    let parts = parts_of(alloc, table, stub)?;
-    println!(rt; "octets {octets} parts {parts}")?;
+    let message = message_of(alloc, table, stub)?;
+    let parts = parts(&message);
+    let encoded = octets_of(alloc, table, &message)?;
+    println!(rt; "octets {octets} parts {parts} encoded {encoded}")?;
     Ok(())
 }
 

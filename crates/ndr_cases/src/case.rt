@@ -1,7 +1,7 @@
 //! One stub, and what it is.
 
 use crate::text::{put_fault, put_message};
-use ndr_codec::{NdrFault, Way, decode, encode, in_range};
+use ndr_codec::{NdrFault, Way, decode, encode, fits, in_range};
 use ndr_value::{Message, Shape, Value, well_typed};
 use rpc_base::{NoMemory, Octets, Order};
 use rpc_words::{cut_at, put, read_octets};
@@ -110,6 +110,20 @@ pub fn decoded(
     decode(alloc, table, 0, way, order, asked, stub)
 }
 
+/// Whether a message is of the first operation.
+pub fn is_fit(
+    alloc: Global,
+    table: &Table,
+    way: Way,
+    asked: Option<&Message>,
+    message: &Message,
+) -> Result<bool, NoMemory> {
+    if table.op_count() == 0 {
+        return Ok(false);
+    }
+    fits(alloc, table, 0, way, asked, message)
+}
+
 impl Case<'_> {
     // Whether the message is read again from the octets that it is written as: the text is the same.
     fn is_written(
@@ -150,6 +164,9 @@ impl Case<'_> {
         put_message(&message, alloc, into)?;
         if !self.is_written(alloc, table, asked, &message, into.as_slice())? {
             put(b" written otherwise", into)?;
+        }
+        if !is_fit(alloc, table, self.way, asked, &message)? {
+            put(b" of another operation", into)?;
         }
         if table.op_count() != 0 && !in_range(table, 0, self.way, &message) {
             put(b" out of range", into)?;

@@ -1,12 +1,12 @@
 //! The deepest message: types that nest by value as deep as a table's may, and behind each another, at
-//! 256 levels of pointers.
+//! 256 levels of pointers. And messages that aren't of an operation.
 
 use crate::blocks::table_of;
-use crate::case::{are_typed, decoded};
+use crate::case::{are_typed, decoded, is_fit};
 use crate::text::put_message;
 use ndr_codec::{Way, in_range};
-use ndr_value::Message;
-use rpc_base::{NoMemory, Order};
+use ndr_value::{Message, Value, Wires};
+use rpc_base::{NoMemory, Octets, Order, WireHandle};
 use rpc_words::put;
 use std::alloc::Global;
 use std::process::Abort;
@@ -179,7 +179,8 @@ fn is_whole(
     Ok(
         text.as_slice() == wanted
             && are_typed(table, Way::Request, message)
-            && in_range(table, 0, Way::Request, message),
+            && in_range(table, 0, Way::Request, message)
+            && is_fit(alloc, table, Way::Request, None, message)?,
     )
 }
 
@@ -213,5 +214,59 @@ fn the_deepest_message_fits_a_thread(rt: HostRuntime) -> Result<(), Fail> {
     for nest in NESTS {
         assert!(rt; is_decoded_on_a_thread(&rt, rt.alloc(), *nest)?);
     }
+    Ok(())
+}
+
+// An array of bytes behind its count, and a context handle in front.
+const COUNTED: &str = "[uuid(5f0c7a12-3b4d-4e6f-8a90-b1c2d3e4f506)]interface i{
+    typedef [context_handle] void *file;
+    void f([in] file h, [in] unsigned long n, [in, size_is(n)] byte d[]);}";
+
+fn bytes(alloc: Global, count: u8) -> Result<Value, NoMemory> {
+    let mut bytes = Vec::new(alloc);
+    for octet in 0..count {
+        bytes.push(Value::Byte(octet))?;
+    }
+    Ok(Value::Array(bytes))
+}
+
+fn octets(alloc: Global, count: u8) -> Result<Value, NoMemory> {
+    let mut octets = Octets::new(alloc);
+    for octet in 0..count {
+        octets.push(octet)?;
+    }
+    Ok(Value::Octets(octets))
+}
+
+// A message of one handle, that number and that array.
+fn counted(alloc: Global, number: u64, array: Value) -> Result<Message, NoMemory> {
+    let mut values = Vec::new(alloc);
+    values.push(Value::Handle(0))?;
+    values.push(Value::Uint(number))?;
+    values.push(array)?;
+    let mut wires = Wires::new(alloc);
+    wires.push(WireHandle::NULL)?;
+    Ok(Message {
+        values,
+        heap: Vec::new(alloc),
+        wires,
+    })
+}
+
+fn is_counted(alloc: Global, number: u64, array: Value) -> Result<bool, NoMemory> {
+    let Some(table) = table_of(alloc, COUNTED.as_bytes()) else {
+        return Err(NoMemory);
+    };
+    let message = counted(alloc, number, array)?;
+    is_fit(alloc, &table, Way::Request, None, &message)
+}
+
+#[test]
+fn a_message_fits_where_its_count_is_its_arrays(rt: HostRuntime) -> Result<(), Fail> {
+    let alloc = rt.alloc();
+    assert!(rt; is_counted(alloc, 3, bytes(alloc, 3)?)?);
+    assert!(rt; !is_counted(alloc, 3, bytes(alloc, 2)?)?);
+    assert!(rt; is_counted(alloc, 3, octets(alloc, 3)?)?);
+    assert!(rt; !is_counted(alloc, 3, octets(alloc, 2)?)?);
     Ok(())
 }

@@ -81,7 +81,7 @@ module _ (types : List Form) (op : OpForm) (way : Way) (order : Order) (asked : 
   pub decoded_stands : (r : Result Message NdrFault) (m : Message) → r ≡ Ok m → Decodes r (read_stub types op way order asked octets) → IsStub types op way order asked (msg m) octets
   decoded_stands r m is d = read_stands types op way order asked octets (msg m) (subst (λ (q : Result Message NdrFault). Decodes q (read_stub types op way order asked octets)) is d)
 
-  no_fault : (f : NdrFault) (m : Msg) → read_stub types op way order asked octets ≡ Ok m → IsFault f (read_stub types op way order asked octets) → f ≡ Memory
+  pub no_fault : (f : NdrFault) (m : Msg) → read_stub types op way order asked octets ≡ Ok m → IsFault f (read_stub types op way order asked octets) → f ≡ Memory
   no_fault Memory m e d = refl
   no_fault (Short n) m e d = absurd (clash (sym e ∙ d))
   no_fault (Bound n) m e d = absurd (clash (sym e ∙ d))

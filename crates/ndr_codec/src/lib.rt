@@ -2,11 +2,13 @@
 #![tactic(auto)]
 
 mod fault;
+mod fit;
 mod range;
 mod stub;
 mod written;
 
 pub use fault::NdrFault;
+pub use fit::fits;
 pub use ndr_model::Way;
 pub use range::in_range;
 pub use stub::decode;

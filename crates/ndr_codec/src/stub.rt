@@ -40,7 +40,7 @@ fn compared(
     }
 }
 
-fn decode_op(
+pub(crate) fn decode_op(
     alloc: Global,
     table: &Table,
     op: &Op,

@@ -1,0 +1,134 @@
+//! Which messages are of an operation.
+ghost use Rattle.std.specs.Prelude.{◌≡◌, ◌<◌, ◌↔◌, IsTrue, false, List, ℕ, length, slice_get, IfOk, Some};
+ghost use Rattle.rpc_base.specs.Fields.{IsOctets};
+ghost use Rattle.rpc_base.specs.declared.identifiers.Order as orders;
+ghost use Rattle.rpc_base.specs.declared.identifiers.Order.TheVariants.{Little};
+ghost use Rattle.ndr_value.specs.Values.{msg};
+ghost use Rattle.table_form.specs.Shown.{shown};
+ghost use Rattle.table_form.specs.Tables.{OpForm};
+ghost use Rattle.ndr_model.specs.Message.{IsStub};
+ghost use Rattle.ndr_laws.specs.Laws.{IsOp};
+ghost use Rattle.ndr_written.specs.Written.{stub};
+ghost use Rattle.ndr_written.specs.Fits.{IsOfOp};
+ghost use Rattle.ndr_agree.specs.Views.{asked_of, types_in, call_of};
+ghost use Rattle.ndr_codec.specs.declared.fault.NdrFault.TheVariants.{Memory};
+
+use crate::fault::NdrFault;
+use crate::stub::decode_op;
+use ndr_agree::Call;
+use ndr_model::Way;
+use ndr_same::same_message;
+use ndr_value::Message;
+use ndr_write::write;
+use rpc_base::{NoMemory, Order};
+use std::alloc::Global;
+use table_form::Table;
+
+// In so many octets there are ids enough for each pointer.
+const IDS_SUFFICE: usize = 1 << 31;
+
+// What departs is a stub of no message.
+fn no_message(fault: NdrFault) -> Result<bool, NoMemory>
+    ensures { IfOk result (λ b. (b ≡ false) × (fault ≡ Memory → ⊥)) }
+{
+    match fault {
+        NdrFault::Memory => Err(NoMemory),
+        NdrFault::Short(_) => Ok(false),
+        NdrFault::Bound(_) => Ok(false),
+        NdrFault::Tag(_) => Ok(false),
+        NdrFault::Pointer(_) => Ok(false),
+        NdrFault::Text(_) => Ok(false),
+        NdrFault::TooDeep(_) => Ok(false),
+        NdrFault::Trailing(_) => Ok(false),
+    }
+}
+
+// Whether the octets are a stub of the message.
+fn is_stub_of(alloc: Global, call: &Call<'_>, octets: &[u8]) -> Result<bool, NoMemory>
+    ensures exact { IfOk result (λ b. IsOp (types_in call.now) (call_of call.now).op → IsTrue b ↔ IsStub (types_in call.now) (call_of call.now).op (call_of call.now).way Little (call_of call.now).asked (call_of call.now).said octets.now) }
+    ensures of_op { IsStub (types_in call.now) (call_of call.now).op (call_of call.now).way Little (call_of call.now).asked (call_of call.now).said octets.now → IsOfOp (types_in call.now) (call_of call.now).op (call_of call.now).way (call_of call.now).asked (call_of call.now).said }
+{
+    match decode_op(
+        alloc,
+        call.table,
+        call.op,
+        call.way,
+        Order::Little,
+        call.asked,
+        octets,
+    ) {
+        Ok(message) => Ok(same_message(&message, call.said)),
+        Err(fault) => no_message(fault),
+    }
+}
+
+// Whether the message has its canonical octets as a stub.
+fn fits_call(alloc: Global, call: &Call<'_>) -> Result<bool, NoMemory>
+    ensures found { IfOk result (λ b. IsOp (types_in call.now) (call_of call.now).op → IsTrue b ↔ IsStub (types_in call.now) (call_of call.now).op (call_of call.now).way Little (call_of call.now).asked (call_of call.now).said (stub (types_in call.now) (call_of call.now).op (call_of call.now).way Little (call_of call.now).asked (call_of call.now).said)) }
+    ensures exact { IfOk result (λ b. IsOp (types_in call.now) (call_of call.now).op → IsTrue b ↔ IsOfOp (types_in call.now) (call_of call.now).op (call_of call.now).way (call_of call.now).asked (call_of call.now).said) }
+{
+    let mut octets = Vec::new(alloc);
+    write(call, Order::Little, &mut octets)?;
+    if is_stub_of(alloc, call, octets.as_slice())? {
+        return Ok(true);
+    }
+    if octets.len() > IDS_SUFFICE {
+        return Err(NoMemory);
+    }
+    Ok(false)
+}
+
+fn fits_at(
+    alloc: Global,
+    table: &Table,
+    op: u16,
+    way: Way,
+    asked: Option<&Message>,
+    message: &Message,
+) -> Result<bool, NoMemory>
+    requires { op < length (shown table.now).ops }
+    ensures found { IfOk result (λ b. (o : OpForm) → slice_get (shown table.now).ops op ≡ Some o → IsOp (shown table.now).types o → IsTrue b ↔ IsStub (shown table.now).types o way Little (asked_of (λ m. m.now) asked.entry) (msg message.now) (stub (shown table.now).types o way Little (asked_of (λ m. m.now) asked.entry) (msg message.now))) }
+    ensures exact { IfOk result (λ b. (o : OpForm) → slice_get (shown table.now).ops op ≡ Some o → IsOp (shown table.now).types o → IsTrue b ↔ IsOfOp (shown table.now).types o way (asked_of (λ m. m.now) asked.entry) (msg message.now)) }
+{
+    match table.op(op) {
+        None => Err(NoMemory),
+        Some(op) => {
+            let call = Call {
+                table,
+                op,
+                way,
+                asked,
+                said: message,
+            };
+            fits_call(alloc, &call)
+        }
+    }
+}
+
+/// Whether a message is of the operation of that number, as one of that way: whether octets are its
+/// stub, however many. `asked` is the request, for a response. C706, chapter "Transfer Syntax NDR".
+///
+/// # Errors
+///
+/// `NoMemory` where there is no memory for the message's canonical octets and for the message that is
+/// read from them; or where it may be of another operation and they are more than 2^31.
+pub fn fits(
+    alloc: Global,
+    table: &Table,
+    op: u16,
+    way: Way,
+    asked: Option<&Message>,
+    message: &Message,
+) -> Result<bool, NoMemory>
+    requires { op < length (shown table.now).ops }
+    // What fits has its canonical octets as a stub, and what has any stub fits.
+    ensures found { IfOk result (λ b. (o : OpForm) → slice_get (shown table.now).ops op ≡ Some o → IsTrue b ↔ IsStub (shown table.now).types o way Little (asked_of (λ m. m.now) asked.entry) (msg message.now) (stub (shown table.now).types o way Little (asked_of (λ m. m.now) asked.entry) (msg message.now))) }
+    ensures only { IfOk result (λ b. (o : OpForm) (order : orders.Order) (octets : List ℕ) → slice_get (shown table.now).ops op ≡ Some o → IsOctets octets → IsStub (shown table.now).types o way order (asked_of (λ m. m.now) asked.entry) (msg message.now) octets → IsTrue b) }
+    // The same by values alone.
+    ensures exact { IfOk result (λ b. (o : OpForm) → slice_get (shown table.now).ops op ≡ Some o → IsTrue b ↔ IsOfOp (shown table.now).types o way (asked_of (λ m. m.now) asked.entry) (msg message.now)) }
+{
+    // What holds of every table.
+    table.is_whole();
+    table.is_shallow();
+    fits_at(alloc, table, op, way, asked, message)
+}
