@@ -21,7 +21,8 @@ fn value_at(message: &Message, at: usize) -> Option<&Value>
     item_at(&message.values, at)
 }
 
-fn uint_of(value: &Value) -> u64
+/// The unsigned number of a value.
+pub fn uint_of(value: &Value) -> u64
     ensures { result ≡ spec.uint_of (val value.now) }
 {
     match value {
@@ -30,7 +31,8 @@ fn uint_of(value: &Value) -> u64
     }
 }
 
-fn text_of(value: &Value) -> &[u8]
+/// The text of a value, without its NUL.
+pub fn text_of(value: &Value) -> &[u8]
     ensures { result.now ≡ spec.text_of (val value.now) }
 {
     match value {
@@ -80,8 +82,13 @@ fn collected(alloc: Global, bytes: &[Value]) -> Result<Octets, NoMemory>
     Ok(octets)
 }
 
+/// Adds the octets of an array of bytes.
+///
+/// # Errors
+///
+/// `NoMemory` where there is no memory for them.
 #[tactic(auto, using(crate::proofs::Places::arrays))]
-fn append_value(alloc: Global, value: &Value, into: &mut Octets) -> Result<(), NoMemory>
+pub fn append_value(alloc: Global, value: &Value, into: &mut Octets) -> Result<(), NoMemory>
     ensures ok { OnOk result (into.new ≡ into.old ++ spec.bytes_of (val value.now)) }
     ensures err { OnErr result (into.new ≡ into.old) }
 {

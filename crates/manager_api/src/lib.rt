@@ -4,12 +4,14 @@
 
 mod answer;
 mod arguments;
+mod cookies;
 mod desk;
 mod outgoing;
 mod probe;
 
 pub use answer::{Answer, Kept, Kepts, or_no_memory};
-pub use arguments::{append_bytes, bytes_len, text_at, uint_at};
+pub use arguments::{append_bytes, append_value, bytes_len, text_at, text_of, uint_at, uint_of};
+pub use cookies::has_cookies;
 pub use desk::{Desk, FixedDesk};
 pub use outgoing::{handle_and_status, response};
 pub use probe::Probe;

@@ -1,3 +1,3 @@
-pub mod Pieces
-pub mod Stubs
+pub mod Suits
 pub mod Owed
+pub mod Rows

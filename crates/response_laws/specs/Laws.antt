@@ -9,7 +9,8 @@ use Rattle.table_form.specs.Tables.{OpForm}
 use Rattle.ndr_model.specs.declared.way.Way.TheVariants.{Response}
 use Rattle.ndr_model.specs.Stub.{Entry, entries}
 use Rattle.ndr_model.specs.Named.{named}
-use Rattle.manager_api.specs.Messages.{IsOf}
+use Rattle.ndr_written.specs.Written.{call_of}
+use Rattle.ndr_written.specs.Fits.{IsOfOp}
 use Rattle.manager_api.specs.Responses.{response, handle_and_status}
 
 -- a value without a range
@@ -23,7 +24,7 @@ handle_then_status kind = plain (OfHandle kind) ∷ plain (OfUint 4) ∷ []
 
 abbrev pub HandleAndStatusIsOf : Type 0
 HandleAndStatusIsOf = (types : List Form) (op : OpForm) (asked : Option Msg) (kind status : ℕ) → entries Response op ≡ handle_then_status kind → status < 2 ^ 32
-    → IsOf types Response asked (handle_and_status status) op
+    → IsOfOp types op Response asked (handle_and_status status)
 
 -- ---- a number of 64 bits and a status
 
@@ -35,7 +36,7 @@ number_and_status number status = response (then_val (VUint number) (then_val (V
 
 abbrev pub NumberAndStatusIsOf : Type 0
 NumberAndStatusIsOf = (types : List Form) (op : OpForm) (asked : Option Msg) (number status : ℕ) → entries Response op ≡ number_then_status → number < 2 ^ 64 → status < 2 ^ 32
-    → IsOf types Response asked (number_and_status number status) op
+    → IsOfOp types op Response asked (number_and_status number status)
 
 -- ---- a handle, a number of octets, at most as many octets as parameter 1 says and as many as parameter 2 points to, and a status
 
@@ -47,10 +48,10 @@ octets_read octets status = response (then_val (VHandle 0) (then_val (VUint (len
 
 -- the counts of the response to a request
 pub record Counted (op : OpForm) (asked : Option Msg) (m : Msg) (most count : ℕ) : Type 0 where
-  pub most_is : named (record { op = op; way = Response; asked = asked; said = m }) no_val (Param 1 false 0) ≡ Some (pos most)
-  pub count_is : named (record { op = op; way = Response; asked = asked; said = m }) no_val (Param 2 true 0) ≡ Some (pos count)
+  pub most_is : named (call_of op Response asked m) no_val (Param 1 false 0) ≡ Some (pos most)
+  pub count_is : named (call_of op Response asked m) no_val (Param 2 true 0) ≡ Some (pos count)
 
 abbrev pub OctetsReadIsOf : Type 0
 OctetsReadIsOf = (types : List Form) (op : OpForm) (asked : Option Msg) (kind most status : ℕ) (octets : List ℕ) → entries Response op ≡ octets_then_status kind
     → Counted op asked (octets_read octets status) most (length octets) → IsOctets octets → length octets ≤ most → most < 2 ^ 32 → status < 2 ^ 32
-    → IsOf types Response asked (octets_read octets status) op
+    → IsOfOp types op Response asked (octets_read octets status)

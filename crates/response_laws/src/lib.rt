@@ -1,4 +1,4 @@
-//! Simple responses have stubs: laws of the definitions.
+//! Simple responses are of their operations: laws of the definitions.
 #![tactic(auto)]
 
 mod laws;

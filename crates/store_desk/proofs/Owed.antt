@@ -7,16 +7,17 @@ use Rattle.ndr_value.specs.Values.{Msg}
 use Rattle.table_form.specs.Tables.{OpForm}
 use Rattle.ndr_model.specs.declared.way.Way.TheVariants.{Response}
 use Rattle.ndr_model.specs.Stub.{entries}
+use Rattle.ndr_written.specs.Fits.{IsOfOp}
 use Rattle.manager_api.specs.declared.answer.Answer.{Answer}
 use Rattle.manager_api.specs.declared.answer.Kept.{Kept}
 use Rattle.manager_api.specs.declared.answer.Kept.TheVariants.{Stays, Cookie, Null}
 use Rattle.manager_api.specs.Answers.{Ans, AOut, Step, Gives, ans, settled}
 use Rattle.manager_api.specs.Arguments.{uint_at}
 use Rattle.manager_api.specs.Responses.{handle_and_status}
-use Rattle.manager_api.specs.Messages.{IsOf, IsRequest}
+use Rattle.manager_api.specs.Messages.{IsRequest}
 use Rattle.manager_api.specs.Calls.{Owes, has_kepts, uses_at}
 use Rattle.response_laws.specs.Laws.{handle_then_status}
-use Rattle.response_laws.proofs.Stubs.{handle_and_status_is, number_and_status_is, octets_read_is}
+use Rattle.response_laws.proofs.Suits.{handle_and_status_is, number_and_status_is, octets_read_is}
 use Rattle.response_laws.proofs.Owed.{for_op, does_owe, gives_does}
 use Rattle.store_model.specs.declared.file.File.{File}
 use Rattle.store_model.specs.Table.{store_table, open_form, append_form, read_form, close_form, view_form, size_form, unview_form}
@@ -28,7 +29,7 @@ use Rattle.store_desk.proofs.Asked.{request_says, counted}
 
 handled : (op kind : ℕ) (o : OpForm) (asked : Msg) (kepts : List Kept) (status : ℕ) → slice_get store_table.ops op ≡ Some o → entries Response o ≡ handle_then_status kind → status < 2 ^ 32
     → has_kepts (uses_at store_table op) kepts ≡ true → Owes store_table op asked (AOut (handle_and_status status) kepts)
-handled op kind o asked kepts status e es lt kept = (for_op store_table op (IsOf [] Response (Some asked) (handle_and_status status)) o e (handle_and_status_is [] o (Some asked) kind status es lt), kept)
+handled op kind o asked kepts status e es lt kept = (for_op store_table op (λ o. IsOfOp [] o Response (Some asked) (handle_and_status status)) o e (handle_and_status_is [] o (Some asked) kind status es lt), kept)
 
 owes_if : (op : ℕ) (asked : Msg) (b : Bool) (x y : Step Store) → Owes store_table op asked x.answer → Owes store_table op asked y.answer → Owes store_table op asked (if b then x else y).answer
 owes_if op asked true x y p q = p
@@ -80,13 +81,13 @@ view_owes asked s (Some cookie) = view_in_owes asked s cookie (file_of s cookie)
 
 pub size_owes : (asked : Msg) (size status : ℕ) → size < 2 ^ 64 → status < 2 ^ 32 → Owes store_table 5 asked (AOut (size_response size status) (Stays ∷ []))
 size_owes asked size status wide lt =
-    (for_op store_table 5 (IsOf [] Response (Some asked) (size_response size status)) size_form refl (number_and_status_is [] size_form (Some asked) size status refl wide lt), refl)
+    (for_op store_table 5 (λ o. IsOfOp [] o Response (Some asked) (size_response size status)) size_form refl (number_and_status_is [] size_form (Some asked) size status refl wide lt), refl)
 
 pub read_owes : (asked : Msg) (kept : Kept) (piece : List ℕ) (status : ℕ) → IsRequest store_table 2 asked → IsOctets piece → length piece ≤ uint_at asked 1 → status < 2 ^ 32 → has_kepts (uses_at store_table 2) (kept ∷ []) ≡ true
     → Owes store_table 2 asked (AOut (read_response piece status) (kept ∷ []))
 read_owes asked kept piece status request octets few lt ok =
     let s = request_says asked request in (
-      for_op store_table 2 (IsOf [] Response (Some asked) (read_response piece status)) read_form refl
+      for_op store_table 2 (λ o. IsOfOp [] o Response (Some asked) (read_response piece status)) read_form refl
           (octets_read_is [] read_form (Some asked) 0 (uint_at asked 1) status piece refl (counted asked piece status s) octets few s.small lt),
       ok,
     )

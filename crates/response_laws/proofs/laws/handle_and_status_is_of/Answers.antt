@@ -1,4 +1,4 @@
-use Rattle.response_laws.proofs.Stubs.{handle_and_status_is}
+use Rattle.response_laws.proofs.Suits.{handle_and_status_is}
 use Rattle.response_laws.proofs.laws.handle_and_status_is_of.Goals as goal
 
 pub returns : goal.returns

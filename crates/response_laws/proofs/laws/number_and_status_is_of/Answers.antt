@@ -1,4 +1,4 @@
-use Rattle.response_laws.proofs.Stubs.{number_and_status_is}
+use Rattle.response_laws.proofs.Suits.{number_and_status_is}
 use Rattle.response_laws.proofs.laws.number_and_status_is_of.Goals as goal
 
 pub returns : goal.returns

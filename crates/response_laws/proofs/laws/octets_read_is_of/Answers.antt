@@ -1,4 +1,4 @@
-use Rattle.response_laws.proofs.Stubs.{octets_read_is}
+use Rattle.response_laws.proofs.Suits.{octets_read_is}
 use Rattle.response_laws.proofs.laws.octets_read_is_of.Goals as goal
 
 pub returns : goal.returns
