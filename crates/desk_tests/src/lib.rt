@@ -4,7 +4,9 @@
 #[cfg(test)]
 mod calls;
 #[cfg(test)]
-mod cookies;
+mod echoes;
+#[cfg(test)]
+mod management;
 #[cfg(test)]
 mod probes;
 #[cfg(test)]

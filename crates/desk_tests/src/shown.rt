@@ -1,7 +1,7 @@
 //! Answers as texts.
 use manager_api::{Answer, Kept};
 use ndr_value::{Message, Value};
-use rpc_base::NoMemory;
+use rpc_base::{NoMemory, Status};
 use rpc_words::{put, put_decimal, put_hex, put_hex_u32};
 use std::alloc::Global;
 
@@ -43,13 +43,16 @@ fn put_message(alloc: Global, message: &Message, into: &mut Vec<u8>) -> Result<(
     Ok(())
 }
 
+/// `fault 1c00000d`.
+pub fn put_fault(alloc: Global, status: Status, into: &mut Vec<u8>) -> Result<(), NoMemory> {
+    put(b"fault ", into)?;
+    put_hex_u32(alloc, status.0, into)
+}
+
 /// `out h0 u0; 5` or `fault 1c00000d`.
 pub fn put_answer(alloc: Global, answer: &Answer, into: &mut Vec<u8>) -> Result<(), NoMemory> {
     match answer {
-        Answer::Fault(status) => {
-            put(b"fault ", into)?;
-            put_hex_u32(alloc, status.0, into)
-        }
+        Answer::Fault(status) => put_fault(alloc, *status, into),
         Answer::Out(message, kepts) => {
             put_message(alloc, message, into)?;
             put(b";", into)?;

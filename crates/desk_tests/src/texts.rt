@@ -3,6 +3,7 @@
 use idl_check::check;
 use idl_reader::read_idl;
 use marshal_table::{HandleUses, Op, Param, Table, build};
+use mgmt_desk::{MGMT_IDL, mgmt_table};
 use ndr_pointers::same_shape;
 use ndr_value::Shape;
 use probe_desk::{PROBE_IDL, probe_table};
@@ -11,7 +12,8 @@ use std::process::Abort;
 use std::test::Fail;
 use store_model::{STORE_IDL, store_table};
 
-fn built(alloc: Global, text: &str) -> Result<Table, Fail> {
+/// The table of a text.
+pub fn built(alloc: Global, text: &str) -> Result<Table, Fail> {
     let tree = read_idl(alloc, text.as_bytes())?;
     let checked = check(alloc, &tree)?;
     Ok(build(alloc, &checked)?)
@@ -62,11 +64,15 @@ fn same_uses_at(a: &Table, b: &Table, number: u16) -> bool {
     }
 }
 
+fn same_types(a: &[Shape], b: &[Shape]) -> bool {
+    a.len() == b.len() && a.iter().zip(b).all(|(x, y)| same_shape(x, y))
+}
+
 fn compare(rt: &impl Abort, text: &Table, hand: &Table, count: u16) {
     assert_eq!(rt; text.op_count(), count);
     assert_eq!(rt; hand.op_count(), count);
     assert!(rt; text.syntax() == hand.syntax());
-    assert_eq!(rt; text.types().len(), 0);
+    assert!(rt; same_types(text.types(), hand.types()));
     for number in 0..count {
         assert!(rt; same_at(text, hand, number));
         assert!(rt; same_uses_at(text, hand, number));
@@ -86,5 +92,14 @@ fn the_store_has_the_table_of_its_text(rt: HostRuntime) -> Result<(), Fail> {
     let text = built(rt.alloc(), STORE_IDL)?;
     let hand = store_table(rt.alloc())?;
     compare(&rt, &text, &hand, 7);
+    Ok(())
+}
+
+#[test]
+fn management_has_the_table_of_its_text(rt: HostRuntime) -> Result<(), Fail> {
+    let text = built(rt.alloc(), MGMT_IDL)?;
+    let hand = mgmt_table(rt.alloc())?;
+    compare(&rt, &text, &hand, 3);
+    assert_eq!(rt; text.types().len(), 3);
     Ok(())
 }

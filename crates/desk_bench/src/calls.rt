@@ -1,0 +1,120 @@
+//! Calls on the store from their stubs.
+ghost use Rattle.std.specs.Prelude.{◌≡◌, ◌<◌, IfOk, length};
+ghost use Rattle.ndr_value.specs.Values.{msg};
+ghost use Rattle.table_form.specs.Shown.{shown};
+ghost use Rattle.manager_api.specs.Messages.{IsRequest};
+ghost use Rattle.store_model.specs.Table.{store_table as store_table_spec};
+
+use anyhow::{Error, Result};
+use handle_model::CookieRow;
+use manager_api::{Answer, Desk, Kept, Probe, has_cookies};
+use ndr_codec::{Way, decode};
+use ndr_value::{Message, Value};
+use rpc_base::Order;
+use std::alloc::Global;
+use store_desk::StoreDesk;
+use table_form::Table;
+
+/// The first file at its begin.
+const FIRST: u64 = 1 << 32;
+
+/// A probe that tells of no cancel.
+#[derive(Drop)]
+struct Quiet;
+
+impl Probe for Quiet {
+    ghost use Rattle.std.specs.Prelude.{false};
+
+    type Key = ();
+
+    ghost told = { λ p. false };
+
+    ghost key = { λ p. tt };
+
+    fn asked(&mut self) -> bool {
+        false
+    }
+}
+
+fn asked(alloc: Global, table: &Table, op: u16, stub: &[u8]) -> Result<Message>
+    requires { op < length (shown table.now).ops }
+    ensures { IfOk result (λ m. IsRequest (shown table.now) op (msg m)) }
+{
+    match decode(alloc, table, op, Way::Request, Order::Little, None, stub) {
+        Ok(message) => Ok(message),
+        Err(_) => Err(Error::msg("the stub")),
+    }
+}
+
+fn answer_to(
+    alloc: Global,
+    desk: &mut StoreDesk,
+    table: &Table,
+    op: u16,
+    stub: &[u8],
+    cookies: CookieRow,
+) -> Result<Answer>
+    requires { shown table.now ≡ store_table_spec }
+{
+    let Some(uses) = table.handle_uses(op) else {
+        return Err(Error::msg("the operation"));
+    };
+    if op >= table.op_count() {
+        return Err(Error::msg("the operation"));
+    }
+    let message = asked(alloc, table, op, stub)?;
+    if !has_cookies(uses.as_slice(), message.wires.as_slice(), &cookies) {
+        return Err(Error::msg("the cookies"));
+    }
+    Ok(desk.call(1, op, message, cookies, &mut Quiet))
+}
+
+/// Opens the file `a`.
+pub fn open(alloc: Global, desk: &mut StoreDesk, table: &Table) -> Result<()>
+    requires { shown table.now ≡ store_table_spec }
+{
+    let stub = [2, 0, 0, 0, 0, 0, 0, 0, 2, 0, 0, 0, b'a', 0];
+    match answer_to(alloc, desk, table, 0, &stub, [None; 4])? {
+        Answer::Out(_, _) => Ok(()),
+        Answer::Fault(_) => Err(Error::msg("the open")),
+    }
+}
+
+// A handle that isn't null, and a number.
+fn cursor_and(alloc: Global, number: u32) -> Result<Vec<u8>> {
+    let mut stub = vec![in alloc; 1; 20]?;
+    stub.extend_from_slice(&number.to_le_bytes())?;
+    Ok(stub)
+}
+
+/// Appends so many zeros to the file, and says how many octets it then has.
+pub fn append(alloc: Global, desk: &mut StoreDesk, table: &Table, count: u32) -> Result<u64>
+    requires { shown table.now ≡ store_table_spec }
+{
+    let mut stub = cursor_and(alloc, count)?;
+    stub.extend_from_slice(&count.to_le_bytes())?;
+    stub.resize(28 + count as usize, 0)?;
+    let cookies = [Some(FIRST), None, None, None];
+    match answer_to(alloc, desk, table, 1, stub.as_slice(), cookies)? {
+        Answer::Out(_, kepts) => match kepts.as_slice().first() {
+            Some(Kept::Cookie(moved)) => Ok(*moved % (1 << 32)),
+            _ => Err(Error::msg("the cursor")),
+        },
+        Answer::Fault(_) => Err(Error::msg("the append")),
+    }
+}
+
+/// Reads 4 KiB of the file at a position, and says how many octets came.
+pub fn read(alloc: Global, desk: &mut StoreDesk, table: &Table, position: u32) -> Result<u64>
+    requires { shown table.now ≡ store_table_spec }
+{
+    let stub = cursor_and(alloc, 4096)?;
+    let cookies = [Some(FIRST + u64::from(position)), None, None, None];
+    match answer_to(alloc, desk, table, 2, stub.as_slice(), cookies)? {
+        Answer::Out(message, _) => match message.values.as_slice() {
+            [_, Value::Uint(count), ..] => Ok(*count),
+            _ => Err(Error::msg("the octets")),
+        },
+        Answer::Fault(_) => Err(Error::msg("the read")),
+    }
+}

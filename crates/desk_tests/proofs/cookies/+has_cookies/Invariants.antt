@@ -1,5 +1,0 @@
-use Rattle.std.proofs.Common.{length}
-use Rattle.desk_tests.proofs.cookies.+has_cookies.Given as goal
-
-abbrev pub decreases-has_cookies : goal.decreases-has_cookies
-decreases-has_cookies l = length l.uses.now

@@ -1,0 +1,4 @@
+pub mod Walks
+pub mod Anew
+pub mod Placed
+pub mod Said

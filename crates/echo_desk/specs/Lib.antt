@@ -1,0 +1,4 @@
+pub mod Met
+pub mod Numbered
+pub mod Steps
+pub mod Views
