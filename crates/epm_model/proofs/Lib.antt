@@ -1,0 +1,4 @@
+pub mod TowerLemmas
+pub mod Filters
+pub mod EntryLemmas
+pub mod Shapes
