@@ -1,7 +1,9 @@
 #!/usr/bin/env bash
 # Times the audit of a text of journals that is nearly all lines of one kind: 1 to 64 MiB of calls of a base, of
 # Joins, of Accepts, and of Accepts with a Take and an End after each, with the ratio of each time to the one before.
-# Each time is the least of three.
+# Then that of journals that hold much open at once: calls that all run before the first of them ends; calls of one
+# handle, shared by all, or used by one after the other while the others wait; connections that leave with a call
+# waiting; and handles that are closed from the first on. Each time is the least of three.
 set -eu
 top=$(cd "$(dirname "$0")/.." && pwd)
 . "$top/bench/timing.sh"
@@ -31,12 +33,56 @@ journal() { # KIND OCTETS
     }'
 }
 
+held() { # KIND COUNT
+    awk -v kind="$1" -v count="$2" '
+    function wire(h) { return sprintf("00000000%016x%08x%08x", 1, 1, h) }
+    function accept(k, c, slots) { print "accept " k " " c " 1.0 little answer " slots " -" }
+    function run(k, cookies, results) { print "take " k " " cookies; print "end " k " " results " out:-" }
+    BEGIN {
+        print "group 1 boot 0000000000000001"
+        if (kind == "connections") {
+            for (c = 1; c <= count; c++) print "join " c
+            for (c = 1; c <= count; c++) accept(c, c, "-")
+            for (c = 1; c <= count; c++) print "leave " c
+            print "shut -"
+            exit
+        }
+        print "join 1"
+        if (kind == "handles") {
+            for (k = 1; k <= count; k++) { accept(k, 1, "opens:0:" k); run(k, "none", "issue:" k ":5") }
+            for (k = 1; k <= count; k++) { accept(count + k, 1, "changes:0:" wire(k)); run(count + k, "5", "close") }
+            exit
+        }
+        accept(1, 1, "opens:0:1")
+        run(1, "none", "issue:1:5")
+        slot = kind == "open-calls" ? "-" : (kind == "one-shared" ? "shares:0:" : "holds:0:") wire(1)
+        cookie = kind == "open-calls" ? "-" : "5"
+        result = kind == "open-calls" ? "-" : "none"
+        for (k = 2; k <= count; k++) accept(k, 1, slot)
+        if (kind == "one-held") for (k = 2; k <= count; k++) run(k, cookie, result)
+        else {
+            for (k = 2; k <= count; k++) print "take " k " " cookie
+            for (k = 2; k <= count; k++) print "end " k " " result " out:-"
+        }
+    }'
+}
+
 for kind in base-calls joins accepts calls; do
     before=
     for mib in 1 4 16 64; do
         journal "$kind" $((mib * 1048576)) >"$text"
         time=$(least 0 "$program" "$text")
         show "$kind $mib MiB" "$time" "$before"
+        before=$time
+    done
+done
+
+for kind in open-calls one-shared one-held connections handles; do
+    before=
+    for count in 25000 100000 400000; do
+        held "$kind" "$count" >"$text"
+        time=$(least 0 "$program" "$text")
+        show "$kind $count" "$time" "$before"
         before=$time
     done
 done

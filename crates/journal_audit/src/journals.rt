@@ -27,7 +27,7 @@ fn read_entries(
     let mut rest = text;
     let mut now = line;
     while let Some((entry, later)) = next_entry(alloc, rest)? {
-        watch.take(entry)?;
+        watch = watch.with(entry)?;
         rest = later;
         now += 1;
     }

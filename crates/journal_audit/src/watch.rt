@@ -1,12 +1,12 @@
 //! Watches a journal: its entries are judged one after the other, each by the tables of those before
 //! it.
-ghost use Rattle.std.specs.Prelude.{◌≡◌, ◌+◌, ◌<◌, ◌^◌, IfOk, OnOk};
+ghost use Rattle.std.specs.Prelude.{◌≡◌, ◌+◌, ◌<◌, ◌^◌, IfOk};
 ghost use Rattle.handle_model.specs.Sound.{IsSoundBase};
 ghost use Rattle.journal_audit.specs.Watching as spec;
 
+use audit_tables::AuditTables;
 use handle_model::{Base, Entry, Home};
 use handle_rules::Verdict;
-use journal_tables::Tables;
 use rpc_base::NoMemory;
 use std::alloc::Global;
 use std::marker::Model;
@@ -15,7 +15,7 @@ use std::marker::Model;
 #[derive(Drop)]
 pub(crate) struct Watch {
     /// Its tables, up to the first entry that isn't allowed.
-    tables: Tables,
+    tables: AuditTables,
     /// The place of the next entry.
     place: u64,
     /// The place of the first entry that wasn't allowed.
@@ -27,7 +27,7 @@ impl Model for Watch {
 
     ghost Value = { Watched };
 
-    ghost view = { λ w. record { tables = w.tables.tables; place = w.place; breach = w.breach } };
+    ghost view = { λ w. record { tables = w.tables; place = w.place; breach = w.breach } };
 }
 
 impl Watch {
@@ -37,37 +37,37 @@ impl Watch {
         ensures { IfOk result (λ watch. watch ≡ spec.started home base.now) }
     {
         Ok(Watch {
-            tables: Tables::of(alloc, home, base)?,
+            tables: AuditTables::of(alloc, home, base)?,
             place: base.count,
             breach: None,
         })
     }
 
     /// Judges the entry, and enters it where it is allowed.
-    fn judge(&mut self, entry: &Entry) -> Result<(), NoMemory>
-        ensures judged { OnOk result (spec.WatchesBy self.old.breach self.old entry.now self.new) }
-        ensures place { self.new.place ≡ self.old.place }
+    fn judge(self, entry: &Entry) -> Result<Watch, NoMemory>
+        ensures judged { IfOk result (λ watch. spec.WatchesBy self.breach self entry.now watch) }
+        ensures place { IfOk result (λ watch. watch.place ≡ self.place) }
     {
-        if self.breach.is_some() {
-            return Ok(());
+        let mut watch = self;
+        if watch.breach.is_some() {
+            return Ok(watch);
         }
-        if !self.tables.admits(entry) {
-            self.breach = Some(self.place);
-            return Ok(());
+        if !watch.tables.admits(entry) {
+            watch.breach = Some(watch.place);
+            return Ok(watch);
         }
-        self.tables.reserve(entry)?;
-        self.tables.enter(entry, u128::from(self.place));
-        Ok(())
+        watch.tables = watch.tables.enter(entry, u128::from(watch.place))?;
+        Ok(watch)
     }
 
-    /// Takes the next entry.
-    pub(crate) fn take(&mut self, entry: Entry) -> Result<(), NoMemory>
-        requires { self.old.place + 1 < 2 ^ 64 }
-        ensures { OnOk result (spec.Watches self.old entry self.new) }
+    /// The same with the next entry.
+    pub(crate) fn with(self, entry: Entry) -> Result<Watch, NoMemory>
+        requires { self.place + 1 < 2 ^ 64 }
+        ensures { IfOk result (spec.Watches self entry) }
     {
-        self.judge(&entry)?;
-        self.place += 1;
-        Ok(())
+        let mut watch = self.judge(&entry)?;
+        watch.place += 1;
+        Ok(watch)
     }
 
     /// What is said of the journal, if it has no further entry.
