@@ -6,13 +6,13 @@ use std::test::Fail;
 
 /// The words in a line, and the file; behind `=> ` the status in a line, and what is put on out; behind `=>` what is
 /// put on log.
-struct Case {
-    what: &'static str,
-    faults: FirstFaults,
-    text: &'static str,
+pub struct Case {
+    pub what: &'static str,
+    pub faults: FirstFaults,
+    pub text: &'static str,
 }
 
-const CASES: [Case; 15] = [
+pub const CASES: [Case; 15] = [
     Case {
         what: "plain success",
         faults: [0, 0, 0],
@@ -188,7 +188,7 @@ refused: words
     Case {
         what: "another command",
         faults: [0, 0, 0],
-        text: "audit f
+        text: "list f
 boot 0102030405060708
 open 1
 send 1 05000b0310000000480000000100000098059805000000000100000000000100127a0c5f4d3b6f4e8a90b1c2d3e4f50601000000045d888aeb1cc9119fe808002b10486002000000

@@ -1,4 +1,4 @@
-//! The program: `dcerpc replay FILE`.
+//! The program `dcerpc`: its words are a command and the name of a file.
 //!
 //! It makes the real objects of the outside, hands them and the words to the top call, and ends with
 //! the status that it answers.

@@ -2,4 +2,5 @@ pub mod Lists
 pub mod Loads
 pub mod Growing
 pub mod Sets
+pub mod Audited
 pub mod Made

@@ -15,7 +15,8 @@ use Rattle.idl_check.specs.declared.fault.CheckFault.TheVariants.{Rule}
 use Rattle.idl_check.specs.Firsts.{IsCause as IsBreach}
 use Rattle.idl_print.specs.Canonical.{canonical_text}
 use Rattle.rpc_app.specs.declared.command.Command.{Command}
-use Rattle.rpc_app.specs.declared.command.Command.TheVariants.{Replay, Idl}
+use Rattle.rpc_app.specs.declared.command.Command.TheVariants.{Replay, Idl, Audit}
+use Rattle.rpc_app.proofs.Audited.{good_text}
 use Rattle.rpc_app.specs.Commands.{Makes, IsTextFor, Refuses, Says, rule_refusal, IsPrinted}
 
 -- a fault of the reader, as it is said
@@ -39,6 +40,7 @@ prints text printed tree idl checked e = record { tree = tree; idl = idl; checke
 pub made_of_its_texts : (command : Command) (text out log : List ℕ) → Makes command text out log → IsTextFor command text
 made_of_its_texts Replay text out log m = record { lines = m.lines; fits = m.fits; script = (m.end, m.ends); text = m.written }
 made_of_its_texts Idl text out log m = (m.0.tree, m.0.idl, m.0.checked)
+made_of_its_texts Audit text out log m = good_text text out m.0
 
 told_by : (o : Option (List ℕ)) (octets loaded : List ℕ) → o ≡ Some octets → IsSomeAnd o (λ file. file ≡ loaded) → octets ≡ loaded
 told_by None octets loaded e h = absurd h

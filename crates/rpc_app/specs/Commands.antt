@@ -9,18 +9,21 @@ use Rattle.idl_reader.specs.Causes.{IsCause}
 use Rattle.idl_rules.specs.Broken.{NoneBroken, IsLeastBreach}
 use Rattle.idl_print.specs.Canonical.{canonical_text}
 use Rattle.rpc_app.specs.declared.command.Command.{Command}
-use Rattle.rpc_app.specs.declared.command.Command.TheVariants.{Replay, Idl}
+use Rattle.rpc_app.specs.declared.command.Command.TheVariants.{Replay, Idl, Audit}
+use Rattle.rpc_app.specs.Audits.{AreGood, IsAudited, HasBreach, DepartsAtJournalLine}
 use Rattle.replay.specs.Replays.{IsReplay, Replays}
 
 -- the first word of a command
 abbrev pub word_of : Command → List ℕ
 word_of Replay = codes "replay"
 word_of Idl = codes "idl"
+word_of Audit = codes "audit"
 
--- the longest file that it takes: 64 MiB of a script, 1 MiB of an interface text
+-- the longest file that it takes: 64 MiB of a script or of journals, 1 MiB of an interface text
 abbrev pub limit : Command → ℕ
 limit Replay = 67108864
 limit Idl = 1048576
+limit Audit = 67108864
 
 -- the words are a command and the name of its file
 abbrev pub AsksFor : List (List ℕ) → Command → List ℕ → Type 0
@@ -37,15 +40,18 @@ pub record IsPrinted (text printed : List ℕ) : Type 0 where
   pub checked : NoneBroken tree
   pub printed_is : printed ≡ canonical_text tree
 
--- what a command makes of a file: a script is replayed; of an interface text the canonical text is put on out
+-- what a command makes of a file: a script is replayed; of an interface text the canonical text is put on out, of journals
+-- that are legal and settled the verdicts
 abbrev pub Makes : Command → List ℕ → List ℕ → List ℕ → Type 0
 Makes Replay text out log = Replays text out log
 Makes Idl text out log = IsPrinted text out × (log ≡ [])
+Makes Audit text out log = IsAudited text out × (log ≡ [])
 
 -- the files of which it makes something
 abbrev pub IsTextFor : Command → List ℕ → Type 0
 IsTextFor Replay text = IsScript IsReplay text
 IsTextFor Idl text = (tree : Ast) × IsIdl text tree × NoneBroken tree
+IsTextFor Audit text = AreGood text
 
 unfoldable pub line_refusal : ℕ → List ℕ
 line_refusal n = codes "refused: script line " ++ decimal n ++ codes "\n"
@@ -90,3 +96,4 @@ pub record BreaksRule (text said : List ℕ) : Type 0 where
 abbrev pub Refuses : Command → List ℕ → List ℕ → Type 0
 Refuses Replay text said = DepartsAtLine text said
 Refuses Idl text said = DepartsAtPlace text said ⊎ BreaksRule text said
+Refuses Audit text said = DepartsAtJournalLine text said ⊎ HasBreach text said

@@ -1,3 +1,5 @@
+pub mod Audits
 pub mod Commands
 pub mod Making
+pub mod Obeys
 pub mod Runs

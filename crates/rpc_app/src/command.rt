@@ -10,16 +10,20 @@ pub enum Command {
     Replay,
     /// Print an interface text in its canonical form.
     Idl,
+    /// Judge journals.
+    Audit,
 }
 
 impl Command {
-    /// The longest file that it takes, in octets: 64 MiB of a script, 1 MiB of an interface text.
+    /// The longest file that it takes, in octets: 64 MiB of a script or of journals, 1 MiB of an
+    /// interface text.
     pub(crate) fn limit(self) -> usize
         ensures { result ≡ spec.limit self }
     {
         match self {
             Command::Replay => 67_108_864,
             Command::Idl => 1_048_576,
+            Command::Audit => 67_108_864,
         }
     }
 }
@@ -32,6 +36,7 @@ fn named_command(word: &str) -> Option<Command>
     match word {
         "replay" => Some(Command::Replay),
         "idl" => Some(Command::Idl),
+        "audit" => Some(Command::Audit),
         _ => None,
     }
 }

@@ -6,6 +6,7 @@ mod load;
 mod make;
 mod say;
 mod top;
+mod verdicts;
 
 pub use command::Command;
 pub use top::{obey, run};

@@ -5,6 +5,7 @@ ghost use Rattle.rpc_app.specs.Commands.{Makes, Says, line_refusal, place_refusa
 ghost use Rattle.rpc_app.specs.Making.{IsWhy};
 
 use crate::command::Command;
+use crate::verdicts::judge;
 use idl_check::{CheckFault, check};
 use idl_print::print_idl;
 use idl_reader::{IdlFault, read_idl};
@@ -17,7 +18,7 @@ use std::alloc::Global;
 /// Why a command makes nothing of a file.
 #[derive(Debug, Drop)]
 pub enum MakeFault {
-    /// The file is none that the command takes, as this line says.
+    /// The file is none that the command takes, as this text says.
     Refused(Vec<u8>),
     /// There is no memory.
     Memory,
@@ -138,5 +139,6 @@ pub fn make(alloc: Global, command: Command, octets: &[u8]) -> Result<Replayed, 
     match command {
         Command::Replay => play(alloc, octets),
         Command::Idl => reprint(alloc, octets),
+        Command::Audit => judge(alloc, octets),
     }
 }

@@ -2,9 +2,9 @@
 ghost use Rattle.std.specs.Prelude.{◌≡◌, ◌≢◌, ◌⊎◌, ℕ, ◌<◌, ◌≤◌, List, map, length, string_bytes};
 ghost use Rattle.rpc_base.specs.Causes.{Rose};
 ghost use Rattle.rpc_base.specs.Shelves.{Tells};
-ghost use Rattle.rpc_app.specs.declared.command.Command.{Command as Asked};
-ghost use Rattle.rpc_app.specs.Commands.{AsksFor, AsksForNothing, IsTextFor, limit};
-ghost use Rattle.rpc_app.specs.Runs.{words_refusal, Gains, GainsFront, IsDone, IsRefused, IsCutShort};
+ghost use Rattle.rpc_app.specs.Commands.{IsTextFor, limit};
+ghost use Rattle.rpc_app.specs.Obeys.{Obeys};
+ghost use Rattle.rpc_app.specs.Runs.{Gains, IsDone, IsRefused, IsCutShort};
 
 use crate::command::{Command, asked};
 use crate::load::{LoadFault, load_file};
@@ -63,48 +63,11 @@ pub fn obey<F: Shelf, S: Sink, L: Sink>(
     out: &mut S,
     log: &mut L,
 ) -> u8
-    ensures known { result < 6 }
-
-    // What was done, or why it wasn't.
-    ensures done { result ≡ 0 → (command : Asked) × (name : List ℕ) × AsksFor (map string_bytes words.now) command name
-        × IsDone Gains command (F.files shelf.old) name
-        (S.written out.old) (S.written out.new) (L.written log.old) (L.written log.new) }
-    ensures words { result ≡ 1 → AsksForNothing (map string_bytes words.now)
-        × Gains (S.written out.old) (S.written out.new) words_refusal × (L.written log.new ≡ L.written log.old) }
-    ensures outside { result ≡ 2 → (command : Asked) × (name : List ℕ) × AsksFor (map string_bytes words.now) command name
-        × IsRefused Gains command (F.files shelf.old) name
-        (S.written out.old) (S.written out.new) (L.written log.old) (L.written log.new) }
-    ensures shelf { result ≡ 3 → Rose (F.faults shelf.old) (F.faults shelf.new)
-        × ((command : Asked) × (name : List ℕ) × AsksFor (map string_bytes words.now) command name) }
-    ensures sinks { result ≡ 4 → Rose (S.faults out.old) (S.faults out.new) ⊎ Rose (L.faults log.old) (L.faults log.new) }
-
-    // What stands where it wasn't done.
-    ensures fronts { result ≡ 4
-        → (AsksForNothing (map string_bytes words.now)
-        × GainsFront (S.written out.old) (S.written out.new) words_refusal × (L.written log.new ≡ L.written log.old))
-        ⊎ ((command : Asked) × (name : List ℕ) × AsksFor (map string_bytes words.now) command name
-        × IsCutShort command (F.files shelf.old) name
-        (S.written out.old) (S.written out.new) (L.written log.old) (L.written log.new)) }
-    ensures silent { (result ≡ 3) ⊎ (result ≡ 5) → S.written out.new ≡ S.written out.old }
-    ensures quiet { (result ≡ 3) ⊎ (result ≡ 5) → L.written log.new ≡ L.written log.old }
-
-    // Words that name no file are refused, a file that is told and that the command takes isn't, and
-    // of octets that are told and that it doesn't take nothing is made.
-    ensures unknown { AsksForNothing (map string_bytes words.now) → (result ≡ 1) ⊎ (result ≡ 4) }
-    ensures taken { (command : Asked) (name octets : List ℕ) → AsksFor (map string_bytes words.now) command name
-        → Tells (F.files shelf.old) name octets → length octets ≤ limit command → IsTextFor command octets → (result ≢ 1) × (result ≢ 2) }
-    ensures refused { (command : Asked) (name octets : List ℕ) → AsksFor (map string_bytes words.now) command name
-        → Tells (F.files shelf.old) name octets → (IsTextFor command octets → ⊥) → result ≢ 0 }
-    ensures too_long { (command : Asked) (name octets : List ℕ) → AsksFor (map string_bytes words.now) command name
-        → Tells (F.files shelf.old) name octets → limit command < length octets → (result ≢ 0) × (result ≢ 1) }
-
-    // What the command makes of a file that is told and that it takes is put, unless an object of the
-    // outside failed or memory ran out.
-    ensures complete { (command : Asked) (name octets : List ℕ) → AsksFor (map string_bytes words.now) command name
-        → Tells (F.files shelf.old) name octets → length octets ≤ limit command → IsTextFor command octets
-        → (Rose (F.faults shelf.old) (F.faults shelf.new) → ⊥)
-        → (Rose (S.faults out.old) (S.faults out.new) → ⊥)
-        → (Rose (L.faults log.old) (L.faults log.new) → ⊥) → (result ≡ 0) ⊎ (result ≡ 5) }
+    ensures { Obeys (map string_bytes words.now)
+        (record { files = F.files shelf.old; before = F.faults shelf.old; after = F.faults shelf.new })
+        (record { before = S.faults out.old; after = S.faults out.new; had = S.written out.old; has = S.written out.new })
+        (record { before = L.faults log.old; after = L.faults log.new; had = L.written log.old; has = L.written log.new })
+        result }
 {
     match asked(words) {
         Some((command, name)) => carry_out(alloc, command, name, shelf, out, log),
@@ -121,48 +84,11 @@ pub fn run<R: Wait + Threads + Sync, F: Shelf, S: Sink, L: Sink>(
     out: &mut S,
     log: &mut L,
 ) -> u8
-    ensures known { result < 6 }
-
-    // What was done, or why it wasn't.
-    ensures done { result ≡ 0 → (command : Asked) × (name : List ℕ) × AsksFor (map string_bytes words.now) command name
-        × IsDone Gains command (F.files shelf.old) name
-        (S.written out.old) (S.written out.new) (L.written log.old) (L.written log.new) }
-    ensures words { result ≡ 1 → AsksForNothing (map string_bytes words.now)
-        × Gains (S.written out.old) (S.written out.new) words_refusal × (L.written log.new ≡ L.written log.old) }
-    ensures outside { result ≡ 2 → (command : Asked) × (name : List ℕ) × AsksFor (map string_bytes words.now) command name
-        × IsRefused Gains command (F.files shelf.old) name
-        (S.written out.old) (S.written out.new) (L.written log.old) (L.written log.new) }
-    ensures shelf { result ≡ 3 → Rose (F.faults shelf.old) (F.faults shelf.new)
-        × ((command : Asked) × (name : List ℕ) × AsksFor (map string_bytes words.now) command name) }
-    ensures sinks { result ≡ 4 → Rose (S.faults out.old) (S.faults out.new) ⊎ Rose (L.faults log.old) (L.faults log.new) }
-
-    // What stands where it wasn't done.
-    ensures fronts { result ≡ 4
-        → (AsksForNothing (map string_bytes words.now)
-        × GainsFront (S.written out.old) (S.written out.new) words_refusal × (L.written log.new ≡ L.written log.old))
-        ⊎ ((command : Asked) × (name : List ℕ) × AsksFor (map string_bytes words.now) command name
-        × IsCutShort command (F.files shelf.old) name
-        (S.written out.old) (S.written out.new) (L.written log.old) (L.written log.new)) }
-    ensures silent { (result ≡ 3) ⊎ (result ≡ 5) → S.written out.new ≡ S.written out.old }
-    ensures quiet { (result ≡ 3) ⊎ (result ≡ 5) → L.written log.new ≡ L.written log.old }
-
-    // Words that name no file are refused, a file that is told and that the command takes isn't, and
-    // of octets that are told and that it doesn't take nothing is made.
-    ensures unknown { AsksForNothing (map string_bytes words.now) → (result ≡ 1) ⊎ (result ≡ 4) }
-    ensures taken { (command : Asked) (name octets : List ℕ) → AsksFor (map string_bytes words.now) command name
-        → Tells (F.files shelf.old) name octets → length octets ≤ limit command → IsTextFor command octets → (result ≢ 1) × (result ≢ 2) }
-    ensures refused { (command : Asked) (name octets : List ℕ) → AsksFor (map string_bytes words.now) command name
-        → Tells (F.files shelf.old) name octets → (IsTextFor command octets → ⊥) → result ≢ 0 }
-    ensures too_long { (command : Asked) (name octets : List ℕ) → AsksFor (map string_bytes words.now) command name
-        → Tells (F.files shelf.old) name octets → limit command < length octets → (result ≢ 0) × (result ≢ 1) }
-
-    // What the command makes of a file that is told and that it takes is put, unless an object of the
-    // outside failed or memory ran out.
-    ensures complete { (command : Asked) (name octets : List ℕ) → AsksFor (map string_bytes words.now) command name
-        → Tells (F.files shelf.old) name octets → length octets ≤ limit command → IsTextFor command octets
-        → (Rose (F.faults shelf.old) (F.faults shelf.new) → ⊥)
-        → (Rose (S.faults out.old) (S.faults out.new) → ⊥)
-        → (Rose (L.faults log.old) (L.faults log.new) → ⊥) → (result ≡ 0) ⊎ (result ≡ 5) }
+    ensures { Obeys (map string_bytes words.now)
+        (record { files = F.files shelf.old; before = F.faults shelf.old; after = F.faults shelf.new })
+        (record { before = S.faults out.old; after = S.faults out.new; had = S.written out.old; has = S.written out.new })
+        (record { before = L.faults log.old; after = L.faults log.new; had = L.written log.old; has = L.written log.new })
+        result }
 {
     obey(alloc, words, shelf, out, log)
 }

@@ -1,0 +1,5 @@
+pub mod Items
+pub mod Lines
+pub mod SoFar
+pub mod Journals
+pub mod Verdicts

@@ -1,0 +1,19 @@
+//! Laws of the texts of journals: what an audit says of a text is one.
+#![tactic(auto)]
+
+ghost use Rattle.audit_laws.specs.Laws.{OneReading, NeitherBoth, GoodIsLegal};
+
+/// A text is journals in one way.
+pub fn one_reading()
+    ensures { OneReading }
+{}
+
+/// A text that departs from journals at a line isn't journals.
+pub fn neither_both()
+    ensures { NeitherBoth }
+{}
+
+/// Of a journal that is legal and settled nothing else is told.
+pub fn good_is_legal()
+    ensures { GoodIsLegal }
+{}
