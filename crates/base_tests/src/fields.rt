@@ -1,6 +1,5 @@
 //! The fields of PDUs and stubs, in either order.
 
-use crate::rows::{Answers, wrong_row};
 use rpc_base::{
     NoMemory, Order, drep_order, get_handle, get_syntax, get_u16, get_u32, get_u64, get_uuid,
     put_handle, put_syntax, put_u16, put_u32, put_u64, put_uuid,
@@ -8,6 +7,7 @@ use rpc_base::{
 use rpc_words::{put, put_hex, put_hex_u32, put_hex_u64, put_hex_u128};
 use std::alloc::Global;
 use std::test::*;
+use test_rows::{Answers, wrong_row};
 
 /// Fields of that order behind one octet: what is read from them, and what is then written.
 #[derive(Clone, Copy)]

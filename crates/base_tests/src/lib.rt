@@ -6,6 +6,4 @@ mod fields;
 #[cfg(test)]
 mod lines;
 #[cfg(test)]
-mod rows;
-#[cfg(test)]
 mod words;

@@ -1,11 +1,11 @@
 //! The spelling of each line of a replay script, and each way in which a line departs from it.
 
-use crate::rows::{Answers, wrong_row};
 use replay_script::{Line, next_line};
 use rpc_base::NoMemory;
 use rpc_words::{put, put_octets};
 use std::alloc::Global;
 use std::test::*;
+use test_rows::{Answers, wrong_row};
 
 /// Reads the first line of a text. The octets behind `line` have no line feed, those behind `text` are as they are.
 #[derive(Clone, Copy)]

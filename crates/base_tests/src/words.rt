@@ -1,6 +1,5 @@
 //! Words, read and written.
 
-use crate::rows::{Answers, wrong_row};
 use rpc_base::NoMemory;
 use rpc_words::{
     cut_at, cut_line, put, put_decimal, put_hex, put_hex_u32, put_hex_u64, put_hex_u128,
@@ -9,6 +8,7 @@ use rpc_words::{
 };
 use std::alloc::Global;
 use std::test::*;
+use test_rows::{Answers, wrong_row};
 
 /// Reads words. What is read is written again.
 #[derive(Clone, Copy)]

@@ -1,6 +1,5 @@
 //! Numbers, counts and texts that are read, in either order.
 
-use crate::rows::{Answers, wrong_row};
 use ndr_arrays::{read_counts, read_text};
 use ndr_scalars::{read_int, read_uint, read_word};
 use ndr_value::{ArrayKind, Count};
@@ -8,6 +7,7 @@ use rpc_base::{NoMemory, Order};
 use rpc_words::put;
 use std::alloc::Global;
 use std::test::*;
+use test_rows::{Answers, wrong_row};
 
 /// What is read at index 1 of the octets, in that order.
 #[derive(Clone, Copy)]

@@ -6,8 +6,6 @@ mod leaves;
 #[cfg(test)]
 mod pointers;
 #[cfg(test)]
-mod rows;
-#[cfg(test)]
 mod values;
 #[cfg(test)]
 mod written;

@@ -5,5 +5,3 @@
 mod doors;
 #[cfg(test)]
 mod links;
-#[cfg(test)]
-mod rows;

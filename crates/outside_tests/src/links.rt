@@ -2,12 +2,12 @@
 ghost use Rattle.std.specs.Prelude.{◌≡◌, false};
 ghost use Rattle.rpc_outside.specs.ScriptLinks.{shown};
 
-use crate::rows::{Answers, wrong_row};
 use rpc_base::{Items, NoMemory, Numbers, Octets};
 use rpc_outside::{Link, LinkStep, LinkSteps, ScriptLink, Taken, put_all};
 use rpc_words::{cut_at, put, put_decimal, put_hex, put_octets, read_hex, read_u64, split_words};
 use std::alloc::Global;
 use std::test::*;
+use test_rows::{Answers, wrong_row};
 
 /// Plays a link. Given are the peer's steps, how many octets one put takes, which takes and puts fail, and
 /// the calls.

@@ -1,10 +1,10 @@
 //! Towers that are read and written.
 
-use crate::rows::{Answers, wrong_row};
 use rpc_base::{NoMemory, Octets};
 use rpc_words::{put, put_hex, read_hex, read_u64, split_words};
 use std::alloc::Global;
 use std::test::*;
+use test_rows::{Answers, wrong_row};
 use tower_codec::{TOWER_SIZE, Tower, TowerFault, read_tower, write_tower};
 
 /// The store at 127.0.0.1, port 5000, over NDR.

@@ -1,12 +1,12 @@
 //! Offers as clients make them, and what they are answered.
 
-use crate::rows::{Answers, wrong_row};
 use pdu_codec::{Element, Elements, Syntaxes};
 use presentation::{Contexts, ndr};
 use rpc_base::{NoMemory, SyntaxId};
 use rpc_words::{cut_at, put, put_decimal, read_u16, split_words};
 use std::alloc::Global;
 use std::test::*;
+use test_rows::{Answers, wrong_row};
 use uuid::Uuid;
 
 /// Interfaces and transfer syntaxes by their names. FEATURES is the bind time feature negotiation of Windows.
@@ -52,7 +52,10 @@ fn element(alloc: Global, text: &[u8]) -> Result<Option<Element>, NoMemory> {
 }
 
 /// Offers to one connection.
-impl Answers for Contexts {
+#[derive(Drop)]
+struct Offers(Contexts);
+
+impl Answers for Offers {
     fn answer(
         &mut self,
         alloc: Global,
@@ -61,8 +64,8 @@ impl Answers for Contexts {
         into: &mut Vec<u8>,
     ) -> Result<(), NoMemory> {
         match word {
-            b"offer" => put_results(alloc, self, given, into),
-            b"find" => put_found(alloc, self, given, into),
+            b"offer" => put_results(alloc, &mut self.0, given, into),
+            b"find" => put_found(alloc, &self.0, given, into),
             _ => put(b"no such word", into),
         }
     }
@@ -117,7 +120,7 @@ fn put_found(
 }
 
 /// A server of these interfaces.
-fn server(alloc: Global, named: &[(&str, &str)]) -> Result<Contexts, NoMemory> {
+fn server(alloc: Global, named: &[(&str, &str)]) -> Result<Offers, NoMemory> {
     let mut ids = Vec::new(alloc);
     for (name, version) in named {
         if let Some(id) = syntax(name.as_bytes(), version.as_bytes()) {
@@ -127,7 +130,7 @@ fn server(alloc: Global, named: &[(&str, &str)]) -> Result<Contexts, NoMemory> {
     if ids.len() > 65_536 {
         return Err(NoMemory);
     }
-    Contexts::new(alloc, ids.as_slice())
+    Ok(Offers(Contexts::new(alloc, ids.as_slice())?))
 }
 
 /// Three offers of the store, by which Windows finds out what a server knows.
@@ -160,8 +163,8 @@ find|9|none
 #[test]
 fn reasons(rt: HostRuntime) -> Result<(), NoMemory> {
     for table in [WINDOWS, REASONS] {
-        let mut contexts = server(rt.alloc(), &[("PROBE", "1.2"), ("STORE", "1.0")])?;
-        let wrong = wrong_row(rt.alloc(), &mut contexts, table)?;
+        let mut offers = server(rt.alloc(), &[("PROBE", "1.2"), ("STORE", "1.0")])?;
+        let wrong = wrong_row(rt.alloc(), &mut offers, table)?;
         assert_eq!(rt; wrong.as_slice(), b"".as_slice());
     }
     Ok(())
@@ -179,13 +182,13 @@ find|32|none
 
 #[test]
 fn thirty_two_contexts(rt: HostRuntime) -> Result<(), NoMemory> {
-    let mut contexts = server(rt.alloc(), &[("PROBE", "1.2"), ("STORE", "1.0")])?;
+    let mut offers = server(rt.alloc(), &[("PROBE", "1.2"), ("STORE", "1.0")])?;
     for context in 0..32 {
         let text = format!(in rt.alloc(); "offer|{context} PROBE 1.0 NDR 2.0|0 0 NDR;")?;
-        let wrong = wrong_row(rt.alloc(), &mut contexts, text.as_str())?;
+        let wrong = wrong_row(rt.alloc(), &mut offers, text.as_str())?;
         assert_eq!(rt; wrong.as_slice(), b"".as_slice());
     }
-    let wrong = wrong_row(rt.alloc(), &mut contexts, FULL)?;
+    let wrong = wrong_row(rt.alloc(), &mut offers, FULL)?;
     assert_eq!(rt; wrong.as_slice(), b"".as_slice());
     Ok(())
 }
@@ -200,8 +203,8 @@ find|1|1
 #[test]
 fn one_interface_twice(rt: HostRuntime) -> Result<(), NoMemory> {
     let named = [("PROBE", "2.0"), ("STORE", "1.4"), ("STORE", "1.5")];
-    let mut contexts = server(rt.alloc(), &named)?;
-    let wrong = wrong_row(rt.alloc(), &mut contexts, TWICE)?;
+    let mut offers = server(rt.alloc(), &named)?;
+    let wrong = wrong_row(rt.alloc(), &mut offers, TWICE)?;
     assert_eq!(rt; wrong.as_slice(), b"".as_slice());
     Ok(())
 }

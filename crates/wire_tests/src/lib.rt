@@ -9,6 +9,4 @@ mod octets;
 #[cfg(test)]
 mod pdus;
 #[cfg(test)]
-mod rows;
-#[cfg(test)]
 mod streams;

@@ -1,7 +1,6 @@
 //! PDUs, read and written.
 
 use crate::octets::octets_of;
-use crate::rows::{Answers, wrong_row};
 use pdu_codec::{
     FragmentHead, PduFault, raw_head, read_head, read_pdu, spelled_is_writable, write_pdu,
 };
@@ -9,6 +8,7 @@ use rpc_base::{NoMemory, Order};
 use rpc_words::{put, put_hex};
 use std::alloc::Global;
 use std::test::*;
+use test_rows::{Answers, wrong_row};
 
 /// Reads the octets that a row gives.
 #[derive(Clone, Copy)]

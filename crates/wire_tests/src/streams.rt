@@ -1,7 +1,6 @@
 //! Streams in pieces, and the requests that their fragments join to.
 
 use crate::octets::octets_of;
-use crate::rows::{Answers, wrong_row};
 use pdu_codec::flags::{FIRST_FRAG, LAST_FRAG};
 use pdu_codec::{Body, Pdu, PduFault, RequestBody};
 use pdu_stream::{Feed, JoinFault, Joined, Joiner, MOST_STUB, cut_stream, piece};
@@ -9,6 +8,7 @@ use rpc_base::{Items, NoMemory, Octets, Order};
 use rpc_words::{put, put_decimal, put_hex, read_u16, read_u64, split_words};
 use std::alloc::Global;
 use std::test::*;
+use test_rows::{Answers, wrong_row};
 
 /// Cuts streams, cuts stubs, and joins fragments.
 #[derive(Clone, Copy)]
