@@ -1,0 +1,13 @@
+use Rattle.group_hub.specs.Seats.{seen_by}
+use Rattle.group_core.specs.Calls.{Accepts}
+use Rattle.group_hub.proofs.CallLemmas.{asked_accept, accept_may, ran_calls}
+use Rattle.group_hub.proofs.turn.ShardLock.accept.Goals as goal
+
+pub run-requires-clause-asks : goal.run-requires-clause-asks
+run-requires-clause-asks g c = λ log met. let a = asked_accept c.args.self.now.boot c.args.self.now.number (seen_by c.args.seat) log met c.args.group c.args.asked c.requires.serves in (a.0, a.1, c.requires.few)
+
+pub run-requires-clause-ties : goal.run-requires-clause-ties
+run-requires-clause-ties g c = λ log r more met d. accept_may c.args.self.now.boot c.args.self.now.number (seen_by c.args.seat) log met c.args.group c.args.asked r more c.requires.serves d
+
+pub returns-clause-call : goal.returns-clause-call
+returns-clause-call g c = ran_calls c.args.self.now.boot c.args.self.now.number c.args.group (seen_by c.args.seat) (seen_by c.run.result.0) (λ j k. Accepts j c.args.asked c.run.result.1 k) c.run.ensures.call

@@ -1,0 +1,15 @@
+use Rattle.group_hub.specs.Seats.{seen_by}
+use Rattle.handle_model.specs.declared.entry.Entry.TheVariants as entry
+use Rattle.shard.specs.Answers.{SettlesWith}
+use Rattle.hub_story.proofs.OwnLemmas.{own_opened, runs_there, suits_there}
+use Rattle.group_hub.proofs.CallLemmas.{end_may, ran_calls}
+use Rattle.group_hub.proofs.turn.ShardLock.end.Goals as goal
+
+pub run-requires-clause-asks : goal.run-requires-clause-asks
+run-requires-clause-asks g c = λ log met. (own_opened c.args.self.now.boot c.args.self.now.number (seen_by c.args.seat) log met c.args.group (entry.Take c.args.call c.requires.runs.cookies) c.requires.runs.taken, runs_there c.args.self.now.boot c.args.self.now.number (seen_by c.args.seat) log met c.args.group c.args.call c.args.results c.requires.runs, suits_there c.args.self.now.boot c.args.self.now.number (seen_by c.args.seat) log met c.args.group c.args.call c.args.results c.requires.runs)
+
+pub run-requires-clause-ties : goal.run-requires-clause-ties
+run-requires-clause-ties g c = λ log r more met d. end_may c.args.self.now.boot c.args.self.now.number (seen_by c.args.seat) log met c.args.group c.args.call c.args.results c.args.said r more c.requires.runs d
+
+pub returns-clause-call : goal.returns-clause-call
+returns-clause-call g c = ran_calls c.args.self.now.boot c.args.self.now.number c.args.group (seen_by c.args.seat) (seen_by c.run.result.0) (SettlesWith c.args.group (entry.End c.args.call c.args.results c.args.said) c.run.result.1) c.run.ensures.call

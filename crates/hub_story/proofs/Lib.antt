@@ -1,0 +1,6 @@
+pub mod ItemLemmas
+pub mod PlaceLemmas
+pub mod ApartLemmas
+pub mod OwnLemmas
+pub mod FoldLemmas
+pub mod WholeLemmas

@@ -1,0 +1,7 @@
+pub mod Directories
+pub mod Histories
+pub mod Ties
+pub mod Passes
+pub mod Folded
+pub mod Answers
+pub mod Calls

@@ -1,0 +1,11 @@
+//! The history of a hub's shard: the marks of its directory and the entries of its groups, in the order
+//! in which all threads entered them.
+//!
+//! A history stands in contracts alone, whole from the first item on, whatever the groups fold. Beside
+//! the items this crate has definitions (`specs/`): what holds of each history, what a pass has seen and
+//! what is its own, what a call enters, and what a group answers by the whole journal; and laws of them.
+#![tactic(auto)]
+
+mod item;
+
+pub use item::{Item, Mark};

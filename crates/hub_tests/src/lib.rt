@@ -1,0 +1,5 @@
+//! Groups at one shard's lock: one thread, and two.
+#![tactic(auto)]
+
+#[cfg(test)]
+mod tests;
