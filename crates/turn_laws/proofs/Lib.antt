@@ -1,0 +1,6 @@
+pub mod TaleFacts
+pub mod MarkFacts
+pub mod Replying
+pub mod Staying
+pub mod Going
+pub mod Ending

@@ -1,0 +1,5 @@
+//! Turns of connections, and the journals that they make.
+#![tactic(auto)]
+
+#[cfg(test)]
+mod rows;
