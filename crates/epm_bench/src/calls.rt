@@ -1,0 +1,115 @@
+//! Lookups from their stubs.
+ghost use Rattle.std.specs.Prelude.{◌≡◌, ◌<◌, IfOk, length};
+ghost use Rattle.ndr_value.specs.Values.{msg};
+ghost use Rattle.table_form.specs.Shown.{shown};
+ghost use Rattle.manager_api.specs.Messages.{IsRequest};
+ghost use Rattle.epm_model.specs.Table.{epm_table as epm_table_spec};
+
+use anyhow::{Error, Result};
+use epm_desk::EpmDesk;
+use manager_api::{Answer, Desk, Kept, Probe, has_cookies};
+use ndr_codec::{Way, decode};
+use ndr_value::{Message, Value};
+use rpc_base::Order;
+use std::alloc::Global;
+use table_form::Table;
+
+/// The number of ept_lookup.
+const LOOKUP: u16 = 2;
+
+/// A probe that tells of no cancel.
+#[derive(Drop)]
+struct Quiet;
+
+impl Probe for Quiet {
+    ghost use Rattle.std.specs.Prelude.{false};
+
+    type Key = ();
+
+    ghost told = { λ p. false };
+
+    ghost key = { λ p. tt };
+
+    fn asked(&mut self) -> bool {
+        false
+    }
+}
+
+fn asked(alloc: Global, table: &Table, stub: &[u8]) -> Result<Message>
+    requires { LOOKUP < length (shown table.now).ops }
+    ensures { IfOk result (λ m. IsRequest (shown table.now) LOOKUP (msg m)) }
+{
+    match decode(
+        alloc,
+        table,
+        LOOKUP,
+        Way::Request,
+        Order::Little,
+        None,
+        stub,
+    ) {
+        Ok(message) => Ok(message),
+        Err(_) => Err(Error::msg("the stub")),
+    }
+}
+
+fn answer_to(
+    alloc: Global,
+    desk: &mut EpmDesk,
+    table: &Table,
+    stub: &[u8],
+    cookie: Option<u64>,
+) -> Result<Answer>
+    requires { shown table.now ≡ epm_table_spec }
+{
+    let Some(uses) = table.handle_uses(LOOKUP) else {
+        return Err(Error::msg("the operation"));
+    };
+    let message = asked(alloc, table, stub)?;
+    let cookies = [cookie, None, None, None];
+    if !has_cookies(uses.as_slice(), message.wires.as_slice(), &cookies) {
+        return Err(Error::msg("the cookies"));
+    }
+    Ok(desk.call(2, LOOKUP, message, cookies, &mut Quiet))
+}
+
+// An inquiry for all, with a handle that is null or not, and at most so many entries.
+fn inquiry(alloc: Global, cookie: Option<u64>, most: u32) -> Result<Vec<u8>> {
+    let mut stub = vec![in alloc; 0; 16]?;
+    let handle = if cookie.is_some() { 1 } else { 0 };
+    stub.resize(36, handle)?;
+    stub.extend_from_slice(&most.to_le_bytes())?;
+    Ok(stub)
+}
+
+/// How many entries the answer has, and the cookie of its handle.
+fn given(answer: &Answer) -> Result<(u64, Option<u64>)> {
+    let Answer::Out(message, kepts) = answer else {
+        return Err(Error::msg("the lookup"));
+    };
+    let [_, Value::Uint(count), ..] = message.values.as_slice() else {
+        return Err(Error::msg("the entries"));
+    };
+    match kepts.as_slice().first() {
+        Some(Kept::Cookie(cookie)) => Ok((*count, Some(*cookie))),
+        _ => Ok((*count, None)),
+    }
+}
+
+/// Looks up the whole map, at most so many entries at a time, and says how many came.
+pub fn look_up(alloc: Global, desk: &mut EpmDesk, table: &Table, most: u32) -> Result<u64>
+    requires { shown table.now ≡ epm_table_spec }
+{
+    let mut entries = 0u64;
+    let mut cookie = None;
+    for _ in 0..4096u16 {
+        let stub = inquiry(alloc, cookie, most)?;
+        let (count, next) = given(&answer_to(alloc, desk, table, stub.as_slice(), cookie)?)?;
+        entries = entries.saturating_add(count);
+        cookie = next;
+        if cookie.is_none() {
+            return Ok(entries);
+        }
+    }
+    Ok(entries)
+}
