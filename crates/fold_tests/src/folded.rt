@@ -5,8 +5,9 @@ ghost use Rattle.handle_model.specs.History.{history_of};
 ghost use Rattle.journal_folds.specs.Laws.{BaseBegun};
 
 use crate::read::{base_of, entries_of};
+use base_rules::is_sound_base;
 use handle_model::{Base, Entry, Home};
-use handle_rules::{Verdict, audited, is_sound_base};
+use handle_rules::{Verdict, audited};
 use handle_text::journal_text;
 use journal_folds::{folded_base, tables_after};
 use journal_reader::next_group;

@@ -1,6 +1,6 @@
 use crate::read::base_of;
+use base_rules::is_sound_base;
 use handle_model::{Base, Home};
-use handle_rules::is_sound_base;
 use handle_text::journal_text;
 use journal_audit::audit;
 use journal_reader::next_group;

@@ -4,4 +4,3 @@ pub mod Halves
 pub mod Numbered
 pub mod Sets
 pub mod Since
-pub mod SoundTests

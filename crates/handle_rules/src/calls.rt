@@ -8,8 +8,8 @@ ghost use Rattle.handle_model.specs.Journal as spec;
 ghost use Rattle.handle_model.specs.Bases.{numbers_of, taken_calls};
 ghost use Rattle.handle_rules.specs.Told.{told};
 
-use crate::base::{asked_before, cancelled_before, has_conn, orphaned_before, taken_before};
 use crate::record::Record;
+use base_rules::{asked_before, cancelled_before, has_conn, orphaned_before, taken_before};
 use handle_model::{Asked, Entry, Slot, any_clash};
 
 fn any_joins(entries: &[Entry], conn: u32) -> bool

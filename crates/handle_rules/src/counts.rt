@@ -4,9 +4,9 @@ ghost use Rattle.handle_model.specs.Journal as spec;
 ghost use Rattle.handle_model.specs.Bases.{numbers_of, taken_calls};
 ghost use Rattle.handle_rules.specs.Told.{told};
 
-use crate::base::{accepts_before, joins_before, opens_before};
 use crate::calls::{is_open, is_open_at, newest, runs, runs_at, waits, waits_at};
 use crate::record::Record;
+use base_rules::{accepts_before, joins_before, opens_before};
 
 /// How many connections joined.
 #[tactic(auto, using(crate::proofs::Sets::growing))]

@@ -4,9 +4,9 @@ ghost use Rattle.std.specs.List.{list_any};
 ghost use Rattle.handle_model.specs.Journal as spec;
 ghost use Rattle.handle_rules.specs.Told.{told};
 
-use crate::base::{cookie_before, has_item, kind_before, named_before};
 use crate::calls::{newest, slots};
 use crate::record::Record;
+use base_rules::{cookie_before, has_item, kind_before, named_before};
 use handle_model::{Entry, Home, Outcome, Slot};
 use rpc_base::WireHandle;
 

@@ -4,11 +4,11 @@ ghost use Rattle.std.specs.List.{list_any};
 ghost use Rattle.handle_model.specs.Journal as spec;
 ghost use Rattle.handle_rules.specs.Told.{told};
 
-use crate::base::{cancelled_before, orphaned_before};
 use crate::calls::{blocker, is_open, runs, slots, waits};
 use crate::counts::{accept_count, any_open, any_running, join_count, opened};
 use crate::handles::{cookie, cookie_for, fault, is_live, kind};
 use crate::record::Record;
+use base_rules::{cancelled_before, orphaned_before};
 use handle_model::{
     Asked, Cookies, DueItem, DueItems, Entry, Outcome, Slot, count_opens, follow, suit,
 };

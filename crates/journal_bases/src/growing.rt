@@ -13,8 +13,8 @@ use crate::looks::{
     add_holds_of, add_serials, add_uses_of, all_free, all_known, all_may_open, is_fresh,
 };
 use crate::numbers::{Numbers, add, no_numbers};
+use base_rules::is_held;
 use handle_model::{Base, BaseCall, Home, names_apart};
-use handle_rules::is_held;
 use handle_table::HandleTable;
 use rpc_base::NoMemory;
 use std::alloc::Global;

@@ -4,9 +4,10 @@ ghost use Rattle.handle_model.specs.History.{IsSound};
 ghost use Rattle.handle_rules.specs.Told.{told};
 
 use crate::step::{Answer, Step};
+use crate::whole::number;
 use group_core::{AcceptRefusal, Group, Rest};
 use group_rounds::{Halt, issue};
-use handle_model::{Asked, DueItem, DueList, Outcomes, Rundown, Said};
+use handle_model::{Asked, DueItem, DueList, Entry, Outcomes, Rundown, Said};
 use handle_rules::{Record, is_open, runs, slots, suit};
 use std::alloc::Global;
 
@@ -128,17 +129,45 @@ fn leave(alloc: Global, group: &mut Group, conn: u32) -> Answer {
     went(alloc, group.leave(conn))
 }
 
-/// Makes the call where its condition holds.
+/// So many connections join and leave, one after the other. The answer is how many entries stand in the
+/// base afterwards.
+fn visits(alloc: Global, group: &mut Group, count: u32) -> Answer {
+    for _ in 0..count {
+        let Answer::Number(conn) = join(group) else {
+            return Answer::Unfit;
+        };
+        match leave(alloc, group, conn) {
+            Answer::Stays => {}
+            other => return other,
+        }
+    }
+    Answer::Number(number(u128::from(group.journal().base().count)))
+}
+
+/// Makes the call of the entry where its condition holds.
+fn make(alloc: Global, group: &mut Group, entry: Entry) -> Answer {
+    match entry {
+        Entry::Join { .. } => join(group),
+        Entry::Accept { asked, .. } => accept(alloc, group, asked),
+        Entry::Take { call, .. } => Answer::Taking(group.take(call)),
+        Entry::Cancel { call } => Answer::Cancelled(group.cancel(call)),
+        Entry::Orphan { call } => Answer::Orphaned(group.orphan(call)),
+        Entry::End {
+            call,
+            results,
+            said,
+        } => end(alloc, group, call, results, said),
+        Entry::Leave { conn } => leave(alloc, group, conn),
+        Entry::Deny { .. } | Entry::Shut { .. } => Answer::Unread,
+    }
+}
+
+/// Makes the call.
 pub fn play(alloc: Global, group: &mut Group, step: Step) -> Answer {
     match step {
-        Step::Join => join(group),
+        Step::Make(entry) => make(alloc, group, entry),
         Step::Issue(count) => issued(alloc, group, count),
-        Step::Accept(asked) => accept(alloc, group, asked),
-        Step::Take(call) => Answer::Taking(group.take(call)),
-        Step::Cancel(call) => Answer::Cancelled(group.cancel(call)),
-        Step::Orphan(call) => Answer::Orphaned(group.orphan(call)),
-        Step::End(call, results, said) => end(alloc, group, call, results, said),
-        Step::Leave(conn) => leave(alloc, group, conn),
+        Step::Visits(count) => visits(alloc, group, count),
         Step::Asked(call) => Answer::Asked(group.asked(call)),
         Step::Stage(call) => Answer::Stage(group.stage(call)),
     }

@@ -4,7 +4,7 @@ ghost use Rattle.handle_rules.specs.Told.{told};
 ghost use Rattle.handle_model.specs.Journal as spec;
 
 use crate::step::{Answer, Step};
-use crate::whole::is_known;
+use crate::whole::{is_known, number};
 use group_core::{AcceptRefusal, Cancelled, JoinRefusal, Orphaned, Stage, Taking};
 use handle_model::{
     AcceptLimit, Asked, CookieRow, Cookies, Entry, JoinLimit, Outcomes, Said, Slot, count_opens,
@@ -43,7 +43,7 @@ fn any_shut(entries: &[Entry]) -> bool {
 
 /// The number after so many.
 fn after(count: u128) -> u32 {
-    u32::try_from(count).unwrap_or(0).saturating_add(1)
+    number(count).saturating_add(1)
 }
 
 fn join(journal: Record<'_>) -> Came {
@@ -199,6 +199,26 @@ pub fn stage(journal: Record<'_>, call: u32) -> Stage {
     }
 }
 
+/// What the call of the entry has to come to.
+fn made(alloc: Global, journal: Record<'_>, entry: Entry) -> Result<Came, NoMemory>
+    requires { spec.opened (told journal) < 2 ^ 32 }
+{
+    match entry {
+        Entry::Join { .. } => Ok(join(journal)),
+        Entry::Accept { asked, .. } => Ok(accept(journal, asked)),
+        Entry::Take { call, .. } => take(alloc, journal, call),
+        Entry::Cancel { call } => Ok(cancel(journal, call)),
+        Entry::Orphan { call } => Ok(orphan(journal, call)),
+        Entry::End {
+            call,
+            results,
+            said,
+        } => Ok(end(journal, call, results, said)),
+        Entry::Leave { conn } => Ok(leave(journal, conn)),
+        Entry::Deny { .. } | Entry::Shut { .. } => Ok(nothing(Answer::Unread)),
+    }
+}
+
 /// What the call has to come to on a group whose journal is folded behind the entries of the front.
 pub fn expected(
     alloc: Global,
@@ -209,14 +229,8 @@ pub fn expected(
     requires { spec.opened (told journal) < 2 ^ 32 }
 {
     match step {
-        Step::Join => Ok(join(journal)),
-        Step::Issue(_) => Ok(nothing(Answer::Unfit)),
-        Step::Accept(asked) => Ok(accept(journal, asked)),
-        Step::Take(call) => take(alloc, journal, call),
-        Step::Cancel(call) => Ok(cancel(journal, call)),
-        Step::Orphan(call) => Ok(orphan(journal, call)),
-        Step::End(call, results, said) => Ok(end(journal, call, results, said)),
-        Step::Leave(conn) => Ok(leave(journal, conn)),
+        Step::Make(entry) => made(alloc, journal, entry),
+        Step::Issue(_) | Step::Visits(_) => Ok(nothing(Answer::Unfit)),
         Step::Asked(call) => Ok(nothing(Answer::Asked(is_asked_since(journal, front, call)))),
         Step::Stage(call) => Ok(nothing(Answer::Stage(stage(journal, call)))),
     }

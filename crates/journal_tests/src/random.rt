@@ -4,7 +4,8 @@ ghost use Rattle.handle_rules.specs.Told.{told};
 ghost use Rattle.handle_model.specs.Journal as spec;
 
 use crate::step::Step;
-use handle_model::{Asked, Home, Outcome, Outcomes, Said, Slot, Slots, handle_of};
+use crate::whole::number;
+use handle_model::{Asked, Entry, Home, Outcome, Outcomes, Said, Slot, Slots, handle_of};
 use handle_rules::{Record, accept_count, is_open, join_count, opened, runs, slots, waits};
 use rpc_base::{Items, NoMemory, Octets, Order, Status, WireHandle};
 use std::alloc::Global;
@@ -101,7 +102,7 @@ fn request(
     given: u32,
 ) -> Result<Step, NoMemory> {
     let slots = slots_of(alloc, random, home, given)?;
-    Ok(Step::Accept(Asked {
+    let asked = Asked {
         conn,
         iface: 0,
         op: 0,
@@ -109,7 +110,8 @@ fn request(
         reply: true,
         slots,
         stub: Octets::new(alloc),
-    }))
+    };
+    Ok(Step::Make(Entry::Accept { call: 0, asked }))
 }
 
 /// What the end of a call does at a slot; now and then what doesn't suit it.
@@ -205,7 +207,15 @@ fn end(
     } else {
         Said::Out(Octets::new(alloc))
     };
-    Ok(Step::End(call, results, said))
+    Ok(Step::Make(Entry::End {
+        call,
+        results,
+        said,
+    }))
+}
+
+fn join() -> Step {
+    Step::Make(Entry::Join { conn: 0 })
 }
 
 /// A call that asks, makes an end, or is of a connection.
@@ -213,18 +223,17 @@ fn other(random: &mut Random, journal: Record<'_>, conns: u32, calls: u32) -> St
     let running = random.once_in(2);
     let call = call(random, journal, running, calls);
     match random.below(16) {
-        0 | 1 => Step::Cancel(call),
-        2 | 3 => Step::Orphan(call),
+        0 | 1 => Step::Make(Entry::Cancel { call }),
+        2 | 3 => Step::Make(Entry::Orphan { call }),
         4 | 5 | 6 => Step::Asked(call),
         7 | 8 => Step::Stage(call),
-        9 | 10 => Step::Join,
-        11 | 12 if !random.brief => Step::Join,
-        _ => Step::Leave(conn(random, journal, conns)),
+        9 | 10 => join(),
+        11 | 12 if !random.brief => join(),
+        _ => {
+            let conn = conn(random, journal, conns);
+            Step::Make(Entry::Leave { conn })
+        }
     }
-}
-
-fn number(count: u128) -> u32 {
-    u32::try_from(count).unwrap_or(0)
 }
 
 /// The next call on the group of these entries.
@@ -234,13 +243,18 @@ pub fn next_step(alloc: Global, random: &mut Random, journal: Record<'_>) -> Res
     let conns = number(join_count(journal));
     let calls = number(accept_count(journal));
     if conns == 0 {
-        return Ok(Step::Join);
+        return Ok(join());
     }
     let waiting = call(random, journal, false, calls);
     let running = call(random, journal, true, calls);
     match random.below(10) {
         0 | 1 if running != 0 => end(alloc, random, journal, running),
-        2 | 3 | 4 if waiting != 0 => Ok(Step::Take(waiting)),
+        2 | 3 | 4 if waiting != 0 => {
+            Ok(Step::Make(Entry::Take {
+                call: waiting,
+                cookies: Items::new(alloc),
+            }))
+        }
         8 | 9 => Ok(other(random, journal, conns, calls)),
         _ => {
             let conn = conn(random, journal, conns);

@@ -1,19 +1,15 @@
 //! A call on a group as a value, and what it came to.
 use group_core::{AcceptRefusal, Cancelled, JoinRefusal, Orphaned, Stage, Taking};
-use handle_model::{Asked, DueItem, Outcomes, Said};
+use handle_model::{DueItem, Entry};
 use std::fmt;
 
-/// A call on a group, or as many calls as handles are to be issued.
+/// A call on a group, by the entry that it makes; as many calls as handles are to be issued, or as
+/// connections come and go; or what a group is asked of a call.
 #[derive(Drop)]
 pub enum Step {
-    Join,
+    Make(Entry),
     Issue(u32),
-    Accept(Asked),
-    Take(u32),
-    Cancel(u32),
-    Orphan(u32),
-    End(u32, Outcomes, Said),
-    Leave(u32),
+    Visits(u32),
     Asked(u32),
     Stage(u32),
 }
@@ -37,7 +33,7 @@ pub enum Answer {
     Unfit,
     /// What was asked didn't come back as it was.
     Changed,
-    /// The words name no call.
+    /// The line is no call's.
     Unread,
     /// Want of memory.
     Memory,

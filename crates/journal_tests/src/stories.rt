@@ -9,15 +9,15 @@ use std::alloc::Global;
 
 /// A handle is issued, closed, and then named again.
 const OPENED_AND_CLOSED: &str = "\
-join -> 1
-accept 1 opens:0 -> 1
-take 1 -> Run([None, None, None, None], 1)
-end 1 issue:1:5 -> stays
-accept 1 changes:0:1 -> 2
-take 2 -> Run([Some(5), None, None, None], 0)
-end 2 close -> stays
-accept 1 changes:0:1 -> 3
-take 3 -> Denied(0)
+join 0 -> 1
+accept 0 1 0.0 little answer opens:0:0 - -> 1
+take 1 - -> Run([None, None, None, None], 1)
+end 1 issue:1:5 out:- -> stays
+accept 0 1 0.0 little answer changes:0:0000000001020304050607080000000100000001 - -> 2
+take 2 - -> Run([Some(5), None, None, None], 0)
+end 2 close out:- -> stays
+accept 0 1 0.0 little answer changes:0:0000000001020304050607080000000100000001 - -> 3
+take 3 - -> Denied(0)
 leave 1 -> []
 
 group 1 boot 0102030405060708
@@ -36,9 +36,9 @@ shut -
 
 /// A null handle is never live.
 const A_NULL_HANDLE_BESIDE_A_NEW_ONE: &str = "\
-join -> 1
-accept 1 holds:65536:null,opens:65537 -> 1
-take 1 -> Denied(0)
+join 0 -> 1
+accept 0 1 0.0 little answer holds:65536:0000000000000000000000000000000000000000,opens:65537:0 - -> 1
+take 1 - -> Denied(0)
 leave 1 -> []
 
 group 1 boot 0102030405060708
@@ -51,12 +51,12 @@ shut -
 
 /// The same where it may be shared, and a call that issues none.
 const A_NULL_HANDLE_THAT_IS_SHARED: &str = "\
-join -> 1
-accept 1 shares:65537:null -> 1
-take 1 -> Denied(0)
-accept 1 opens:65536 -> 2
-take 2 -> Run([None, None, None, None], 1)
-end 2 none -> stays
+join 0 -> 1
+accept 0 1 0.0 little answer shares:65537:0000000000000000000000000000000000000000 - -> 1
+take 1 - -> Denied(0)
+accept 0 1 0.0 little answer opens:65536:0 - -> 2
+take 2 - -> Run([None, None, None, None], 1)
+end 2 none out:- -> stays
 leave 1 -> []
 
 group 1 boot 0102030405060708
@@ -72,18 +72,18 @@ shut -
 
 /// Two calls of two connections change one handle, one after the other.
 const TWO_APPENDS: &str = "\
-join -> 1
-join -> 2
-accept 1 opens:65536 -> 1
-take 1 -> Run([None, None, None, None], 1)
-end 1 issue:1:4294967296 -> stays
-accept 1 changes:65536:1 -> 2
-accept 2 changes:65536:1 -> 3
-take 2 -> Run([Some(4294967296), None, None, None], 0)
-take 3 -> Wait(2)
-end 2 keep:4294967299 -> stays
-take 3 -> Run([Some(4294967299), None, None, None], 0)
-end 3 keep:4294967301 -> stays
+join 0 -> 1
+join 0 -> 2
+accept 0 1 0.0 little answer opens:65536:0 - -> 1
+take 1 - -> Run([None, None, None, None], 1)
+end 1 issue:1:4294967296 out:- -> stays
+accept 0 1 0.0 little answer changes:65536:0000000001020304050607080000000100000001 - -> 2
+accept 0 2 0.0 little answer changes:65536:0000000001020304050607080000000100000001 - -> 3
+take 2 - -> Run([Some(4294967296), None, None, None], 0)
+take 3 - -> Wait(2)
+end 2 keep:4294967299 out:- -> stays
+take 3 - -> Run([Some(4294967299), None, None, None], 0)
+end 3 keep:4294967301 out:- -> stays
 leave 1 -> stays
 leave 2 -> [DueItem { serial: 1, kind: 65536, cookie: 4294967301 }]
 
@@ -106,23 +106,23 @@ shut 1:65536:4294967301
 
 /// Two calls share a handle, and its close waits for both.
 const A_SHARED_VIEW: &str = "\
-join -> 1
-join -> 2
-join -> 3
-accept 1 opens:65537 -> 1
-take 1 -> Run([None, None, None, None], 1)
-end 1 issue:1:7 -> stays
-accept 1 shares:65537:1 -> 2
-accept 2 shares:65537:1 -> 3
-take 2 -> Run([Some(7), None, None, None], 0)
-take 3 -> Run([Some(7), None, None, None], 0)
-accept 3 changes:65537:1 -> 4
-take 4 -> Wait(2)
-end 2 none -> stays
-take 4 -> Wait(3)
-end 3 none -> stays
-take 4 -> Run([Some(7), None, None, None], 0)
-end 4 close -> stays
+join 0 -> 1
+join 0 -> 2
+join 0 -> 3
+accept 0 1 0.0 little answer opens:65537:0 - -> 1
+take 1 - -> Run([None, None, None, None], 1)
+end 1 issue:1:7 out:- -> stays
+accept 0 1 0.0 little answer shares:65537:0000000001020304050607080000000100000001 - -> 2
+accept 0 2 0.0 little answer shares:65537:0000000001020304050607080000000100000001 - -> 3
+take 2 - -> Run([Some(7), None, None, None], 0)
+take 3 - -> Run([Some(7), None, None, None], 0)
+accept 0 3 0.0 little answer changes:65537:0000000001020304050607080000000100000001 - -> 4
+take 4 - -> Wait(2)
+end 2 none out:- -> stays
+take 4 - -> Wait(3)
+end 3 none out:- -> stays
+take 4 - -> Run([Some(7), None, None, None], 0)
+end 4 close out:- -> stays
 leave 1 -> stays
 leave 2 -> stays
 leave 3 -> []
@@ -151,24 +151,24 @@ shut -
 
 /// A call runs, a close waits, and a call behind both is denied in the end.
 const CLOSE_QUEUED_FIRST: &str = "\
-join -> 1
-join -> 2
-join -> 3
-accept 1 opens:65536 -> 1
-take 1 -> Run([None, None, None, None], 1)
-end 1 issue:1:4 -> stays
-accept 1 changes:65536:1 -> 2
-take 2 -> Run([Some(4), None, None, None], 0)
-accept 2 changes:65536:1 -> 3
-accept 3 changes:65536:1 -> 4
-take 3 -> Wait(2)
-take 4 -> Wait(2)
-end 2 keep:6 -> stays
-take 4 -> Wait(3)
-take 3 -> Run([Some(6), None, None, None], 0)
-take 4 -> Wait(3)
-end 3 close -> stays
-take 4 -> Denied(0)
+join 0 -> 1
+join 0 -> 2
+join 0 -> 3
+accept 0 1 0.0 little answer opens:65536:0 - -> 1
+take 1 - -> Run([None, None, None, None], 1)
+end 1 issue:1:4 out:- -> stays
+accept 0 1 0.0 little answer changes:65536:0000000001020304050607080000000100000001 - -> 2
+take 2 - -> Run([Some(4), None, None, None], 0)
+accept 0 2 0.0 little answer changes:65536:0000000001020304050607080000000100000001 - -> 3
+accept 0 3 0.0 little answer changes:65536:0000000001020304050607080000000100000001 - -> 4
+take 3 - -> Wait(2)
+take 4 - -> Wait(2)
+end 2 keep:6 out:- -> stays
+take 4 - -> Wait(3)
+take 3 - -> Run([Some(6), None, None, None], 0)
+take 4 - -> Wait(3)
+end 3 close out:- -> stays
+take 4 - -> Denied(0)
 leave 1 -> stays
 leave 2 -> stays
 leave 3 -> []
@@ -196,11 +196,11 @@ shut -
 
 /// The last connection leaves while a call runs, which then issues a handle.
 const LOSS_WHILE_OPEN_RUNS: &str = "\
-join -> 1
-accept 1 opens:0 -> 1
-take 1 -> Run([None, None, None, None], 1)
+join 0 -> 1
+accept 0 1 0.0 little answer opens:0:0 - -> 1
+take 1 - -> Run([None, None, None, None], 1)
 leave 1 -> stays
-end 1 issue:1:5 -> [DueItem { serial: 1, kind: 0, cookie: 5 }]
+end 1 issue:1:5 out:- -> [DueItem { serial: 1, kind: 0, cookie: 5 }]
 
 group 1 boot 0102030405060708
 join 1
@@ -213,22 +213,22 @@ shut 1:0:5
 
 /// Three handles are run down, and nothing more comes of the group.
 const RUNDOWN: &str = "\
-join -> 1
-accept 1 opens:0 -> 1
-take 1 -> Run([None, None, None, None], 1)
-end 1 issue:1:5 -> stays
-accept 1 opens:0 -> 2
-take 2 -> Run([None, None, None, None], 2)
-end 2 issue:2:6 -> stays
-accept 1 opens:0 -> 3
-take 3 -> Run([None, None, None, None], 3)
-end 3 issue:3:7 -> stays
+join 0 -> 1
+accept 0 1 0.0 little answer opens:0:0 - -> 1
+take 1 - -> Run([None, None, None, None], 1)
+end 1 issue:1:5 out:- -> stays
+accept 0 1 0.0 little answer opens:0:0 - -> 2
+take 2 - -> Run([None, None, None, None], 2)
+end 2 issue:2:6 out:- -> stays
+accept 0 1 0.0 little answer opens:0:0 - -> 3
+take 3 - -> Run([None, None, None, None], 3)
+end 3 issue:3:7 out:- -> stays
 leave 1 -> [DueItem { serial: 1, kind: 0, cookie: 5 }, DueItem { serial: 2, kind: 0, cookie: 6 }, DueItem { serial: 3, kind: 0, cookie: 7 }]
-join -> unfit
-accept 1 changes:0:1 -> unfit
+join 0 -> unfit
+accept 0 1 0.0 little answer changes:0:0000000001020304050607080000000100000001 - -> unfit
 leave 1 -> unfit
-end 3 none -> unfit
-take 3 -> Dropped
+end 3 none out:- -> unfit
+take 3 - -> Dropped
 cancel 3 -> Late
 orphan 3 -> Late
 stage 3 -> Over
@@ -251,7 +251,7 @@ shut 1:0:5,2:0:6,3:0:7
 
 /// A connection joins and leaves.
 const NOTHING_HELD: &str = "\
-join -> 1
+join 0 -> 1
 leave 1 -> []
 
 group 1 boot 0102030405060708
@@ -262,37 +262,37 @@ shut -
 
 /// 256 calls wait or run, and one ends.
 const BUSY: &str = "\
-join -> 1
-256 x accept 1 - -> 256
-accept 1 - -> Calls
-accept 1 opens:0 -> Calls
-take 1 -> Run([None, None, None, None], 0)
-accept 1 - -> Calls
-end 1 - -> stays
-accept 1 - -> 257
-accept 1 - -> Calls
+join 0 -> 1
+256 x accept 0 1 0.0 little answer - - -> 256
+accept 0 1 0.0 little answer - - -> Calls
+accept 0 1 0.0 little answer opens:0:0 - -> Calls
+take 1 - -> Run([None, None, None, None], 0)
+accept 0 1 0.0 little answer - - -> Calls
+end 1 - out:- -> stays
+accept 0 1 0.0 little answer - - -> 257
+accept 0 1 0.0 little answer - - -> Calls
 ";
 
 /// 64 connections are open, and one leaves.
 const SIXTY_FIVE_CONNECTIONS: &str = "\
-64 x join -> 64
-join -> TooMany
+64 x join 0 -> 64
+join 0 -> TooMany
 leave 64 -> stays
-join -> 65
-join -> TooMany
+join 0 -> 65
+join 0 -> TooMany
 leave 64 -> unfit
 ";
 
 /// A running call is cancelled twice.
 const CANCELLED_TWICE: &str = "\
-join -> 1
-accept 1 opens:0 -> 1
-take 1 -> Run([None, None, None, None], 1)
+join 0 -> 1
+accept 0 1 0.0 little answer opens:0:0 - -> 1
+take 1 - -> Run([None, None, None, None], 1)
 asked 1 -> false
 cancel 1 -> Flagged
 cancel 1 -> Late
 asked 1 -> true
-end 1 none cancelled -> stays
+end 1 none fault:1c00000d -> stays
 asked 1 -> true
 cancel 1 -> Late
 stage 1 -> Over
@@ -311,18 +311,18 @@ shut -
 
 /// A running call is orphaned twice, cancelled, and issues a handle.
 const ORPHANED_TWICE: &str = "\
-join -> 1
-accept 1 opens:0 -> 1
-take 1 -> Run([None, None, None, None], 1)
+join 0 -> 1
+accept 0 1 0.0 little answer opens:0:0 - -> 1
+take 1 - -> Run([None, None, None, None], 1)
 orphan 1 -> Running
 orphan 1 -> Late
 asked 1 -> false
 cancel 1 -> Flagged
-end 1 issue:1:5 -> stays
+end 1 issue:1:5 out:- -> stays
 orphan 1 -> Late
-accept 1 changes:0:1 -> 2
-take 2 -> Run([Some(5), None, None, None], 0)
-end 2 close -> stays
+accept 0 1 0.0 little answer changes:0:0000000001020304050607080000000100000001 - -> 2
+take 2 - -> Run([Some(5), None, None, None], 0)
+end 2 close out:- -> stays
 leave 1 -> []
 
 group 1 boot 0102030405060708
@@ -341,26 +341,26 @@ shut -
 
 /// Waiting calls are cancelled and orphaned, twice, and calls that were never accepted.
 const OVER_WHILE_THEY_WAIT: &str = "\
-join -> 1
-2 x accept 1 - -> 2
+join 0 -> 1
+2 x accept 0 1 0.0 little answer - - -> 2
 stage 1 -> Waiting
 cancel 1 -> Ended
 stage 1 -> Over
 asked 1 -> false
 cancel 1 -> Late
 orphan 1 -> Late
-take 1 -> Dropped
+take 1 - -> Dropped
 orphan 2 -> Dropped
 orphan 2 -> Late
 cancel 2 -> Late
-take 2 -> Dropped
-end 2 - -> unfit
+take 2 - -> Dropped
+end 2 - out:- -> unfit
 cancel 3 -> Late
 orphan 3 -> Late
-take 3 -> Dropped
+take 3 - -> Dropped
 stage 3 -> Over
 asked 3 -> false
-end 3 - -> unfit
+end 3 - out:- -> unfit
 cancel 0 -> Late
 orphan 4294967295 -> Late
 asked 0 -> false
@@ -379,17 +379,17 @@ shut -
 
 /// The call behind a waiting one goes on where that is cancelled.
 const A_CANCEL_MAKES_WAY: &str = "\
-join -> 1
-accept 1 opens:0 -> 1
-take 1 -> Run([None, None, None, None], 1)
-end 1 issue:1:5 -> stays
-3 x accept 1 changes:0:1 -> 4
-take 2 -> Run([Some(5), None, None, None], 0)
+join 0 -> 1
+accept 0 1 0.0 little answer opens:0:0 - -> 1
+take 1 - -> Run([None, None, None, None], 1)
+end 1 issue:1:5 out:- -> stays
+3 x accept 0 1 0.0 little answer changes:0:0000000001020304050607080000000100000001 - -> 4
+take 2 - -> Run([Some(5), None, None, None], 0)
 cancel 3 -> Ended
-take 4 -> Wait(2)
-end 2 keep:6 -> stays
-take 4 -> Run([Some(6), None, None, None], 0)
-end 4 close -> stays
+take 4 - -> Wait(2)
+end 2 keep:6 out:- -> stays
+take 4 - -> Run([Some(6), None, None, None], 0)
+end 4 close out:- -> stays
 leave 1 -> []
 
 group 1 boot 0102030405060708
@@ -411,77 +411,77 @@ shut -
 
 /// A call names one handle twice.
 const ONE_HANDLE_TWICE: &str = "\
-join -> 1
-accept 1 opens:0 -> 1
-take 1 -> Run([None, None, None, None], 1)
-end 1 issue:1:5 -> stays
-accept 1 shares:0:1,holds:0:1 -> 2
-take 2 -> Denied(1)
-accept 1 holds:0:1,shares:0:1 -> 3
-take 3 -> Denied(1)
-accept 1 changes:0:1,changes:0:1 -> 4
-take 4 -> Denied(1)
-accept 1 shares:0:1,opens:0,shares:0:1,holds:0:1 -> 5
-take 5 -> Denied(2)
-accept 1 shares:0:1,shares:0:1 -> 6
-take 6 -> Run([Some(5), Some(5), None, None], 0)
-end 6 none,none -> stays
+join 0 -> 1
+accept 0 1 0.0 little answer opens:0:0 - -> 1
+take 1 - -> Run([None, None, None, None], 1)
+end 1 issue:1:5 out:- -> stays
+accept 0 1 0.0 little answer shares:0:0000000001020304050607080000000100000001,holds:0:0000000001020304050607080000000100000001 - -> 2
+take 2 - -> Denied(1)
+accept 0 1 0.0 little answer holds:0:0000000001020304050607080000000100000001,shares:0:0000000001020304050607080000000100000001 - -> 3
+take 3 - -> Denied(1)
+accept 0 1 0.0 little answer changes:0:0000000001020304050607080000000100000001,changes:0:0000000001020304050607080000000100000001 - -> 4
+take 4 - -> Denied(1)
+accept 0 1 0.0 little answer shares:0:0000000001020304050607080000000100000001,opens:0:0,shares:0:0000000001020304050607080000000100000001,holds:0:0000000001020304050607080000000100000001 - -> 5
+take 5 - -> Denied(2)
+accept 0 1 0.0 little answer shares:0:0000000001020304050607080000000100000001,shares:0:0000000001020304050607080000000100000001 - -> 6
+take 6 - -> Run([Some(5), Some(5), None, None], 0)
+end 6 none,none out:- -> stays
 leave 1 -> [DueItem { serial: 1, kind: 0, cookie: 5 }]
 ";
 
 /// Handles of others, of another type, of no one yet, and closed ones.
 const HANDLES_THAT_ARE_NOT_LIVE: &str = "\
-join -> 1
-accept 1 opens:0 -> 1
-take 1 -> Run([None, None, None, None], 1)
-accept 1 shares:0:1 -> 2
-take 2 -> Denied(0)
-end 1 issue:1:5 -> stays
-accept 1 changes:0:foreign -> 3
-take 3 -> Denied(0)
-accept 1 changes:0:former -> 4
-take 4 -> Denied(0)
-accept 1 changes:0:marked -> 5
-take 5 -> Denied(0)
-accept 1 changes:1:1 -> 6
-take 6 -> Denied(0)
-accept 1 shares:0:2 -> 7
-take 7 -> Denied(0)
-accept 1 shares:0:1,holds:0:null -> 8
-take 8 -> Denied(1)
-accept 1 changes:0:1 -> 9
-take 9 -> Run([Some(5), None, None, None], 0)
-end 9 close -> stays
-accept 1 opens:0,holds:0:1 -> 10
-take 10 -> Denied(1)
+join 0 -> 1
+accept 0 1 0.0 little answer opens:0:0 - -> 1
+take 1 - -> Run([None, None, None, None], 1)
+accept 0 1 0.0 little answer shares:0:0000000001020304050607080000000100000001 - -> 2
+take 2 - -> Denied(0)
+end 1 issue:1:5 out:- -> stays
+accept 0 1 0.0 little answer changes:0:0000000001020304050607080000000200000001 - -> 3
+take 3 - -> Denied(0)
+accept 0 1 0.0 little answer changes:0:0000000001020304050607070000000100000001 - -> 4
+take 4 - -> Denied(0)
+accept 0 1 0.0 little answer changes:0:0000000101020304050607080000000100000001 - -> 5
+take 5 - -> Denied(0)
+accept 0 1 0.0 little answer changes:1:0000000001020304050607080000000100000001 - -> 6
+take 6 - -> Denied(0)
+accept 0 1 0.0 little answer shares:0:0000000001020304050607080000000100000002 - -> 7
+take 7 - -> Denied(0)
+accept 0 1 0.0 little answer shares:0:0000000001020304050607080000000100000001,holds:0:0000000000000000000000000000000000000000 - -> 8
+take 8 - -> Denied(1)
+accept 0 1 0.0 little answer changes:0:0000000001020304050607080000000100000001 - -> 9
+take 9 - -> Run([Some(5), None, None, None], 0)
+end 9 close out:- -> stays
+accept 0 1 0.0 little answer opens:0:0,holds:0:0000000001020304050607080000000100000001 - -> 10
+take 10 - -> Denied(1)
 leave 1 -> []
 ";
 
 /// What becomes of the calls of a connection that left.
 const CONNECTIONS_THAT_LEFT: &str = "\
-join -> 1
-join -> 2
-accept 1 opens:0 -> 1
-take 1 -> Run([None, None, None, None], 1)
-accept 1 - -> 2
+join 0 -> 1
+join 0 -> 2
+accept 0 1 0.0 little answer opens:0:0 - -> 1
+take 1 - -> Run([None, None, None, None], 1)
+accept 0 1 0.0 little answer - - -> 2
 leave 1 -> stays
-accept 1 - -> unfit
+accept 0 1 0.0 little answer - - -> unfit
 leave 1 -> unfit
-accept 3 - -> unfit
+accept 0 3 0.0 little answer - - -> unfit
 leave 3 -> unfit
-accept 0 - -> unfit
-take 2 -> Dropped
+accept 0 0 0.0 little answer - - -> unfit
+take 2 - -> Dropped
 stage 2 -> Over
 cancel 2 -> Late
 orphan 2 -> Late
 stage 1 -> Running
 cancel 1 -> Flagged
 orphan 1 -> Running
-end 1 issue:1:5 -> stays
-accept 2 changes:0:1 -> 3
-take 3 -> Run([Some(5), None, None, None], 0)
+end 1 issue:1:5 out:- -> stays
+accept 0 2 0.0 little answer changes:0:0000000001020304050607080000000100000001 - -> 3
+take 3 - -> Run([Some(5), None, None, None], 0)
 leave 2 -> stays
-end 3 keep:6 -> [DueItem { serial: 1, kind: 0, cookie: 6 }]
+end 3 keep:6 out:- -> [DueItem { serial: 1, kind: 0, cookie: 6 }]
 
 group 1 boot 0102030405060708
 join 1
@@ -502,46 +502,46 @@ shut 1:0:6
 
 /// Results that don't suit the slots are no end.
 const ENDS_THAT_DO_NOT_FIT: &str = "\
-join -> 1
-accept 1 opens:0,opens:1 -> 1
-end 1 none,none -> unfit
-take 1 -> Run([None, None, None, None], 1)
-end 1 none -> unfit
-end 1 none,none,none -> unfit
-end 1 close,none -> unfit
-end 1 keep:5,none -> unfit
-end 1 issue:2:5,none -> unfit
-end 1 issue:1:5,issue:1:6 -> unfit
-end 1 issue:1:5,issue:2:6 -> stays
-end 1 issue:1:5,issue:2:6 -> unfit
-accept 1 shares:0:1,holds:1:2 -> 2
-take 2 -> Run([Some(5), Some(6), None, None], 0)
-end 2 keep:5,none -> unfit
-end 2 none,close -> unfit
-end 2 none,none -> stays
-accept 1 changes:0:1 -> 3
-take 3 -> Run([Some(5), None, None, None], 0)
-end 3 none -> unfit
-end 3 issue:3:7 -> unfit
-end 3 keep:7 -> stays
-end 4 - -> unfit
+join 0 -> 1
+accept 0 1 0.0 little answer opens:0:0,opens:1:0 - -> 1
+end 1 none,none out:- -> unfit
+take 1 - -> Run([None, None, None, None], 1)
+end 1 none out:- -> unfit
+end 1 none,none,none out:- -> unfit
+end 1 close,none out:- -> unfit
+end 1 keep:5,none out:- -> unfit
+end 1 issue:2:5,none out:- -> unfit
+end 1 issue:1:5,issue:1:6 out:- -> unfit
+end 1 issue:1:5,issue:2:6 out:- -> stays
+end 1 issue:1:5,issue:2:6 out:- -> unfit
+accept 0 1 0.0 little answer shares:0:0000000001020304050607080000000100000001,holds:1:0000000001020304050607080000000100000002 - -> 2
+take 2 - -> Run([Some(5), Some(6), None, None], 0)
+end 2 keep:5,none out:- -> unfit
+end 2 none,close out:- -> unfit
+end 2 none,none out:- -> stays
+accept 0 1 0.0 little answer changes:0:0000000001020304050607080000000100000001 - -> 3
+take 3 - -> Run([Some(5), None, None, None], 0)
+end 3 none out:- -> unfit
+end 3 issue:3:7 out:- -> unfit
+end 3 keep:7 out:- -> stays
+end 4 - out:- -> unfit
 leave 1 -> [DueItem { serial: 1, kind: 0, cookie: 7 }, DueItem { serial: 2, kind: 1, cookie: 6 }]
 ";
 
 /// The serials of slots that may issue a handle go on, whether one was issued or not.
 const SERIALS_GO_ON: &str = "\
-join -> 1
-accept 1 opens:0,shares:0:null,opens:0 -> 1
-take 1 -> Denied(1)
-accept 1 opens:0 -> 2
-take 2 -> Run([None, None, None, None], 3)
-end 2 none -> stays
-accept 1 shares:0:3,opens:0 -> 3
-take 3 -> Denied(0)
-accept 1 opens:0,opens:1,opens:0,opens:1 -> 4
-take 4 -> Run([None, None, None, None], 5)
-end 4 issue:5:1,none,none,issue:8:2 -> stays
-accept 1 opens:0,opens:0,opens:0,opens:0,opens:0 -> unfit
+join 0 -> 1
+accept 0 1 0.0 little answer opens:0:0,shares:0:0000000000000000000000000000000000000000,opens:0:0 - -> 1
+take 1 - -> Denied(1)
+accept 0 1 0.0 little answer opens:0:0 - -> 2
+take 2 - -> Run([None, None, None, None], 3)
+end 2 none out:- -> stays
+accept 0 1 0.0 little answer shares:0:0000000001020304050607080000000100000003,opens:0:0 - -> 3
+take 3 - -> Denied(0)
+accept 0 1 0.0 little answer opens:0:0,opens:1:0,opens:0:0,opens:1:0 - -> 4
+take 4 - -> Run([None, None, None, None], 5)
+end 4 issue:5:1,none,none,issue:8:2 out:- -> stays
+accept 0 1 0.0 little answer opens:0:0,opens:0:0,opens:0:0,opens:0:0,opens:0:0 - -> unfit
 leave 1 -> [DueItem { serial: 5, kind: 0, cookie: 1 }, DueItem { serial: 8, kind: 1, cookie: 2 }]
 
 group 1 boot 0102030405060708
@@ -562,13 +562,13 @@ shut 5:0:1,8:1:2
 
 /// Three connections, one after the other: behind the first one's handle the journal is folded.
 const FOLDED_BEHIND_AN_OPENING: &str = "\
-join -> 1
-accept 1 opens:0 -> 1
-take 1 -> Run([None, None, None, None], 1)
-end 1 issue:1:5 -> stays
-join -> 2
+join 0 -> 1
+accept 0 1 0.0 little answer opens:0:0 - -> 1
+take 1 - -> Run([None, None, None, None], 1)
+end 1 issue:1:5 out:- -> stays
+join 0 -> 2
 leave 1 -> stays
-join -> 3
+join 0 -> 3
 leave 2 -> stays
 leave 3 -> [DueItem { serial: 1, kind: 0, cookie: 5 }]
 
@@ -584,14 +584,14 @@ shut 1:0:5
 
 /// The Accept of a call that runs stays, though its connection has left.
 const FOLDED_BEFORE_A_RUNNING_CALL: &str = "\
-join -> 1
-accept 1 opens:0 -> 1
-take 1 -> Run([None, None, None, None], 1)
+join 0 -> 1
+accept 0 1 0.0 little answer opens:0:0 - -> 1
+take 1 - -> Run([None, None, None, None], 1)
 leave 1 -> stays
-join -> 2
+join 0 -> 2
 cancel 1 -> Flagged
 asked 1 -> true
-end 1 none -> stays
+end 1 none out:- -> stays
 leave 2 -> []
 
 group 1 boot 0102030405060708
@@ -608,18 +608,18 @@ shut -
 
 /// The base keeps a call that was cancelled while it ran, and one that waits.
 const CALLS_IN_A_BASE: &str = "\
-join -> 1
-accept 1 opens:0 -> 1
-take 1 -> Run([None, None, None, None], 1)
+join 0 -> 1
+accept 0 1 0.0 little answer opens:0:0 - -> 1
+take 1 - -> Run([None, None, None, None], 1)
 cancel 1 -> Flagged
-accept 1 - -> 2
-join -> 2
-end 1 none -> stays
-take 2 -> Run([None, None, None, None], 0)
+accept 0 1 0.0 little answer - - -> 2
+join 0 -> 2
+end 1 none out:- -> stays
+take 2 - -> Run([None, None, None, None], 0)
 cancel 2 -> Flagged
 leave 1 -> stays
-end 2 - -> stays
-join -> 3
+end 2 - out:- -> stays
+join 0 -> 3
 asked 1 -> true
 asked 2 -> true
 cancel 1 -> Late
@@ -639,19 +639,19 @@ join 3
 
 /// Of calls that were over before its base a journal says nothing.
 const CALLS_BEFORE_A_BASE: &str = "\
-join -> 1
-accept 1 - -> 1
-take 1 -> Run([None, None, None, None], 0)
+join 0 -> 1
+accept 0 1 0.0 little answer - - -> 1
+take 1 - -> Run([None, None, None, None], 0)
 cancel 1 -> Flagged
 asked 1 -> true
-end 1 - -> stays
+end 1 - out:- -> stays
 asked 1 -> true
-join -> 2
+join 0 -> 2
 leave 1 -> stays
-join -> 3
+join 0 -> 3
 asked 1 -> false
 stage 1 -> Over
-accept 2 - -> 2
+accept 0 2 0.0 little answer - - -> 2
 
 group 1 boot 0102030405060708
 base 5 1 1 0 1 -
@@ -663,10 +663,21 @@ accept 2 2 0.0 little answer - -
 
 /// 65,536 handles are live: a call that might issue another is refused, one that doesn't is not.
 const AS_MANY_HANDLES_AS_MAY_BE: &str = "\
-join -> 1
+join 0 -> 1
 issue 65536 -> stays
-accept 1 opens:0 -> Handles
-accept 1 - -> 65537
+accept 0 1 0.0 little answer opens:0:0 - -> Handles
+accept 0 1 0.0 little answer - - -> 65537
+";
+
+/// 10,000 connections come and go, one after the other, beside one that joined after the first of them:
+/// the first one's Join is folded once, and no entry after that.
+const ONE_STAYS_BESIDE_MANY: &str = "\
+join 0 -> 1
+join 0 -> 2
+leave 1 -> stays
+visits 1 -> 1
+visits 9998 -> 1
+leave 2 -> []
 ";
 
 /// How often a call is made, and its words.
@@ -677,20 +688,15 @@ fn repeated(words: &str) -> (u32, &str) {
     }
 }
 
-/// Makes the call that the words name.
-fn made(alloc: Global, group: &mut Group, words: &str) -> Answer {
-    match read_step(alloc, words) {
-        Some(step) => play(alloc, group, step),
-        None => Answer::Unread,
-    }
-}
-
 /// What the last of the calls of a line comes to.
 fn last(alloc: Global, group: &mut Group, words: &str) -> Answer {
     let (count, step) = repeated(words);
     let mut answer = Answer::Unread;
     for _ in 0..count {
-        answer = made(alloc, group, step);
+        answer = match read_step(alloc, step) {
+            Some(step) => play(alloc, group, step),
+            None => Answer::Unread,
+        };
     }
     answer
 }
@@ -779,6 +785,7 @@ const STORIES: &[&str] = &[
     CALLS_IN_A_BASE,
     CALLS_BEFORE_A_BASE,
     AS_MANY_HANDLES_AS_MAY_BE,
+    ONE_STAYS_BESIDE_MANY,
 ];
 
 #[test]

@@ -1,61 +1,9 @@
 //! Journals by hand, and what the plain rules say of them: of the whole, with one entry changed, and of
 //! their calls.
-use crate::words::{HOME, number, read_asked, read_end, read_list};
+use crate::words::{HOME, number, read_entry};
 use handle_model::{Base, Entry};
 use handle_rules::{Record, Verdict, audited, cookies_of, reply};
 use std::alloc::Global;
-
-/// An entry of one number.
-fn read_numbered(name: &str, number: u32) -> Option<Entry> {
-    match name {
-        "join" => Some(Entry::Join { conn: number }),
-        "cancel" => Some(Entry::Cancel { call: number }),
-        "orphan" => Some(Entry::Orphan { call: number }),
-        "leave" => Some(Entry::Leave { conn: number }),
-        _ => None,
-    }
-}
-
-/// An entry of a call and one word, or more.
-fn read_called(alloc: Global, name: &str, words: &str) -> Option<Entry> {
-    let (call, rest) = words.split_once(" ")?;
-    let call = number(call)?;
-    match name {
-        "accept" => Some(Entry::Accept {
-            call,
-            asked: read_asked(alloc, rest)?,
-        }),
-        "take" => Some(Entry::Take {
-            call,
-            cookies: read_list(alloc, rest)?,
-        }),
-        "deny" => Some(Entry::Deny {
-            call,
-            slot: rest.parse().ok()?,
-        }),
-        _ => None,
-    }
-}
-
-/// The entry that the words name.
-fn read_entry(alloc: Global, line: &str) -> Option<Entry> {
-    let (name, words) = line.split_once(" ")?;
-    match name {
-        "accept" | "take" | "deny" => read_called(alloc, name, words),
-        "end" => {
-            let (call, results, said) = read_end(alloc, words)?;
-            Some(Entry::End {
-                call,
-                results,
-                said,
-            })
-        }
-        "shut" => Some(Entry::Shut {
-            due: read_list(alloc, words)?,
-        }),
-        _ => read_numbered(name, number(words)?),
-    }
-}
 
 /// What is done with the lines of a journal, at which line, and the line that is put there.
 fn read_edit(edit: &str) -> Option<(&str, usize, &str)> {
@@ -147,11 +95,11 @@ fn first_otherwise(alloc: Global) -> Option<&'static str> {
     None
 }
 
-/// A line with bars is a journal, its entries without interfaces, stubs and answers. The lines below
+/// A line with bars is a journal, its entries' lines one after the other. The lines below
 /// it are edits of it, by the index of an entry from 0, each with the verdict, or ask of one of its
 /// calls.
 const STORIES: &str = "\
-join 1|accept 1 1 opens:0:1|take 1 none|end 1 issue:1:5|accept 2 1 changes:0:1|take 2 5|end 2 close|leave 1|shut -
+join 1|accept 1 1 0.0 little answer opens:0:1 -|take 1 none|end 1 issue:1:5 out:-|accept 2 1 0.0 little answer changes:0:0000000001020304050607080000000100000001 -|take 2 5|end 2 close out:-|leave 1|shut -
 whole = legal 9
 drop 0 = breach 0
 drop 1 = breach 1
@@ -165,64 +113,64 @@ swap 1 = breach 1
 swap 3 = legal 9
 swap 5 = breach 5
 swap 7 = breach 7
-put 1 accept 1 1 opens:0:2 = breach 1
-put 1 accept 1 2 opens:0:1 = breach 1
-put 1 accept 1 1 opens:0:1,opens:0:2,opens:0:3,opens:0:4,opens:0:5 = breach 1
+put 1 accept 1 1 0.0 little answer opens:0:2 - = breach 1
+put 1 accept 1 2 0.0 little answer opens:0:1 - = breach 1
+put 1 accept 1 1 0.0 little answer opens:0:1,opens:0:2,opens:0:3,opens:0:4,opens:0:5 - = breach 1
 put 2 take 1 5 = breach 2
 put 2 take 1 - = breach 2
-put 3 end 1 issue:2:5 = breach 3
-put 3 end 1 none = breach 5
-put 3 end 1 close = breach 3
-put 4 accept 3 1 changes:0:1 = breach 4
-put 4 accept 2 1 changes:1:1 = breach 5
+put 3 end 1 issue:2:5 out:- = breach 3
+put 3 end 1 none out:- = breach 5
+put 3 end 1 close out:- = breach 3
+put 4 accept 3 1 0.0 little answer changes:0:0000000001020304050607080000000100000001 - = breach 4
+put 4 accept 2 1 0.0 little answer changes:1:0000000001020304050607080000000100000001 - = breach 5
 put 5 take 2 6 = breach 5
 put 5 deny 2 0 = breach 5
-put 6 end 2 none = breach 6
-put 6 end 2 keep:6 = breach 8
+put 6 end 2 none out:- = breach 6
+put 6 end 2 keep:6 out:- = breach 8
 put 8 shut 1:0:5 = breach 8
-join 1|accept 1 1 opens:0:1|take 1 none|end 1 issue:1:5|accept 2 1 changes:0:1|take 2 5|end 2 close|accept 3 1 changes:0:1|deny 3 0|leave 1|shut -
+join 1|accept 1 1 0.0 little answer opens:0:1 -|take 1 none|end 1 issue:1:5 out:-|accept 2 1 0.0 little answer changes:0:0000000001020304050607080000000100000001 -|take 2 5|end 2 close out:-|accept 3 1 0.0 little answer changes:0:0000000001020304050607080000000100000001 -|deny 3 0|leave 1|shut -
 whole = legal 11
 drop 8 = legal 10
 put 8 deny 3 1 = breach 8
 put 8 take 3 5 = breach 8
-join 1|accept 1 1 opens:0:1|take 1 none|end 1 issue:1:6|accept 2 1 changes:0:foreign|deny 2 0|leave 1|shut 1:0:6
+join 1|accept 1 1 0.0 little answer opens:0:1 -|take 1 none|end 1 issue:1:6 out:-|accept 2 1 0.0 little answer changes:0:0000000001020304050607080000000200000001 -|deny 2 0|leave 1|shut 1:0:6
 whole = legal 8
 put 5 take 2 6 = breach 5
 put 7 shut - = breach 7
-join 1|accept 1 1 holds:65536:null,opens:65537:1|deny 1 0|leave 1|shut -
+join 1|accept 1 1 0.0 little answer holds:65536:0000000000000000000000000000000000000000,opens:65537:1 -|deny 1 0|leave 1|shut -
 whole = legal 5
 put 2 deny 1 1 = breach 2
 put 2 take 1 none,none = breach 2
-join 1|accept 1 1 shares:65537:null|deny 1 0|accept 2 1 opens:65536:1|take 2 none|end 2 none|leave 1|shut -
+join 1|accept 1 1 0.0 little answer shares:65537:0000000000000000000000000000000000000000 -|deny 1 0|accept 2 1 0.0 little answer opens:65536:1 -|take 2 none|end 2 none out:-|leave 1|shut -
 whole = legal 8
 put 2 take 1 none = breach 2
-join 1|join 2|accept 1 1 opens:65536:1|take 1 none|end 1 issue:1:4294967296|accept 2 1 changes:65536:1|accept 3 2 changes:65536:1|take 2 4294967296|end 2 keep:4294967299|take 3 4294967299|end 3 keep:4294967301|leave 1|leave 2|shut 1:65536:4294967301
+join 1|join 2|accept 1 1 0.0 little answer opens:65536:1 -|take 1 none|end 1 issue:1:4294967296 out:-|accept 2 1 0.0 little answer changes:65536:0000000001020304050607080000000100000001 -|accept 3 2 0.0 little answer changes:65536:0000000001020304050607080000000100000001 -|take 2 4294967296|end 2 keep:4294967299 out:-|take 3 4294967299|end 3 keep:4294967301 out:-|leave 1|leave 2|shut 1:65536:4294967301
 whole = legal 14
 put 7 take 3 4294967296 = breach 7
 put 8 take 3 4294967296 = breach 8
 swap 8 = breach 8
 put 9 take 3 4294967296 = breach 9
 put 13 shut 1:65536:4294967296 = breach 13
-join 1|join 2|join 3|accept 1 1 opens:65536:1|take 1 none|end 1 issue:1:4294967296|accept 2 1 holds:65536:1,opens:65537:2|take 2 4294967296,none|end 2 none,issue:2:4294967296|accept 3 1 shares:65537:2|take 3 4294967296|accept 4 2 shares:65537:2|take 4 4294967296|accept 5 3 changes:65537:2|end 3 none|end 4 none|take 5 4294967296|end 5 close|leave 1|leave 2|leave 3|shut 1:65536:4294967296
+join 1|join 2|join 3|accept 1 1 0.0 little answer opens:65536:1 -|take 1 none|end 1 issue:1:4294967296 out:-|accept 2 1 0.0 little answer holds:65536:0000000001020304050607080000000100000001,opens:65537:2 -|take 2 4294967296,none|end 2 none,issue:2:4294967296 out:-|accept 3 1 0.0 little answer shares:65537:0000000001020304050607080000000100000002 -|take 3 4294967296|accept 4 2 0.0 little answer shares:65537:0000000001020304050607080000000100000002 -|take 4 4294967296|accept 5 3 0.0 little answer changes:65537:0000000001020304050607080000000100000002 -|end 3 none out:-|end 4 none out:-|take 5 4294967296|end 5 close out:-|leave 1|leave 2|leave 3|shut 1:65536:4294967296
 whole = legal 22
 swap 14 = legal 22
 swap 15 = breach 15
 put 14 take 5 4294967296 = breach 14
 put 7 take 2 4294967296,4294967296 = breach 7
-put 8 end 2 issue:2:4294967296,none = breach 8
-join 1|join 2|join 3|accept 1 1 opens:65536:1|take 1 none|end 1 issue:1:4294967296|accept 2 1 changes:65536:1|take 2 4294967296|accept 3 2 changes:65536:1|accept 4 3 changes:65536:1|end 2 keep:4294967299|take 3 4294967299|end 3 close|deny 4 0|leave 1|leave 2|leave 3|shut -
+put 8 end 2 issue:2:4294967296,none out:- = breach 8
+join 1|join 2|join 3|accept 1 1 0.0 little answer opens:65536:1 -|take 1 none|end 1 issue:1:4294967296 out:-|accept 2 1 0.0 little answer changes:65536:0000000001020304050607080000000100000001 -|take 2 4294967296|accept 3 2 0.0 little answer changes:65536:0000000001020304050607080000000100000001 -|accept 4 3 0.0 little answer changes:65536:0000000001020304050607080000000100000001 -|end 2 keep:4294967299 out:-|take 3 4294967299|end 3 close out:-|deny 4 0|leave 1|leave 2|leave 3|shut -
 whole = legal 18
 drop 13 = legal 17
 put 11 deny 4 0 = breach 11
 put 11 take 4 4294967299 = breach 11
 put 13 take 4 4294967299 = breach 13
-join 1|accept 1 1 opens:0:1|take 1 none|leave 1|end 1 issue:1:5|shut 1:0:5
+join 1|accept 1 1 0.0 little answer opens:0:1 -|take 1 none|leave 1|end 1 issue:1:5 out:-|shut 1:0:5
 whole = legal 6
 swap 4 = breach 4
 drop 5 = breach 5
 put 5 shut - = breach 5
 put 5 join 2 = breach 5
-join 1|accept 1 1 opens:0:1|take 1 none|end 1 issue:1:5|accept 2 1 opens:0:2|take 2 none|end 2 issue:2:6|accept 3 1 opens:0:3|take 3 none|end 3 issue:3:7|leave 1|shut 1:0:5,2:0:6,3:0:7
+join 1|accept 1 1 0.0 little answer opens:0:1 -|take 1 none|end 1 issue:1:5 out:-|accept 2 1 0.0 little answer opens:0:2 -|take 2 none|end 2 issue:2:6 out:-|accept 3 1 0.0 little answer opens:0:3 -|take 3 none|end 3 issue:3:7 out:-|leave 1|shut 1:0:5,2:0:6,3:0:7
 whole = legal 12
 put 11 shut 2:0:6,1:0:5,3:0:7 = breach 11
 put 11 shut 1:0:5,3:0:7 = breach 11
@@ -234,22 +182,22 @@ drop 1 = breach 1
 drop 2 = breach 2
 double 1 = breach 2
 put 1 leave 2 = breach 1
-join 1|join 2|accept 1 1 opens:65536:1|take 1 none|end 1 issue:1:4294967296|accept 2 1 changes:65536:1|accept 3 2 changes:65536:1|take 2 4294967296|cancel 3|end 2 keep:4294967299|leave 1|leave 2|shut 1:65536:4294967299
+join 1|join 2|accept 1 1 0.0 little answer opens:65536:1 -|take 1 none|end 1 issue:1:4294967296 out:-|accept 2 1 0.0 little answer changes:65536:0000000001020304050607080000000100000001 -|accept 3 2 0.0 little answer changes:65536:0000000001020304050607080000000100000001 -|take 2 4294967296|cancel 3|end 2 keep:4294967299 out:-|leave 1|leave 2|shut 1:65536:4294967299
 whole = legal 13
 double 8 = breach 9
 put 8 orphan 3 = legal 13
 put 8 cancel 4 = breach 8
-join 1|accept 1 1 opens:0:1|take 1 none|cancel 1|end 1 none cancelled|leave 1|shut -
+join 1|accept 1 1 0.0 little answer opens:0:1 -|take 1 none|cancel 1|end 1 none fault:1c00000d|leave 1|shut -
 whole = legal 7
 double 3 = breach 4
 swap 3 = breach 4
 put 3 orphan 1 = legal 7
-join 1|accept 1 1 opens:0:1|take 1 none|end 1 issue:1:5|accept 2 1 shares:0:1,holds:0:1|deny 2 1|leave 1|shut 1:0:5
+join 1|accept 1 1 0.0 little answer opens:0:1 -|take 1 none|end 1 issue:1:5 out:-|accept 2 1 0.0 little answer shares:0:0000000001020304050607080000000100000001,holds:0:0000000001020304050607080000000100000001 -|deny 2 1|leave 1|shut 1:0:5
 whole = legal 8
 put 5 deny 2 0 = breach 5
 put 5 take 2 5,5 = breach 5
-put 4 accept 2 1 shares:0:1,shares:0:1 = breach 5
-join 1|join 2|accept 1 1 opens:0:1|take 1 none|end 1 issue:1:5|accept 2 2 changes:0:1|accept 3 1 changes:0:1|take 2 5|cancel 3|leave 2|end 2 keep:6|accept 4 1 changes:7:1|deny 4 0|accept 5 1 changes:0:1
+put 4 accept 2 1 0.0 little answer shares:0:0000000001020304050607080000000100000001,shares:0:0000000001020304050607080000000100000001 - = breach 5
+join 1|join 2|accept 1 1 0.0 little answer opens:0:1 -|take 1 none|end 1 issue:1:5 out:-|accept 2 2 0.0 little answer changes:0:0000000001020304050607080000000100000001 -|accept 3 1 0.0 little answer changes:0:0000000001020304050607080000000100000001 -|take 2 5|cancel 3|leave 2|end 2 keep:6 out:-|accept 4 1 0.0 little answer changes:7:0000000001020304050607080000000100000001 -|deny 4 0|accept 5 1 0.0 little answer changes:0:0000000001020304050607080000000100000001 -
 whole = legal 14
 reply 1 = Ran(Out(Items { items: [] }))
 reply 2 = Dropped

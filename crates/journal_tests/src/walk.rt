@@ -8,7 +8,7 @@ use crate::calls::play;
 use crate::plain::{Came, expected, is_asked_since, stage};
 use crate::random::{Random, next_step};
 use crate::step::{Answer, Step};
-use crate::whole::{Whole, base_of, floor};
+use crate::whole::{Whole, base_of, floor, number};
 use group_core::Group;
 use handle_model::{Base, Entry, Home};
 use handle_rules::{Record, Verdict, accept_count, audited, is_due};
@@ -120,7 +120,7 @@ fn step(alloc: Global, walk: &mut Walk) -> Result<(), Trouble> {
 fn told_apart(walk: &Walk) -> Option<u32> {
     let journal = walk.whole.record();
     let front = walk.whole.front(walk.folded);
-    let calls = u32::try_from(accept_count(journal)).unwrap_or(0);
+    let calls = number(accept_count(journal));
     for call in 0..calls.saturating_add(2) {
         if walk.group.asked(call) != is_asked_since(journal, front, call)
             || walk.group.stage(call) != stage(journal, call)

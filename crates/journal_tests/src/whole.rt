@@ -168,7 +168,8 @@ fn base_call(
     })
 }
 
-fn number(count: u128) -> u32 {
+/// The number, where it has 32 bits, and else 0.
+pub fn number(count: u128) -> u32 {
     u32::try_from(count).unwrap_or(0)
 }
 
