@@ -1,5 +1,5 @@
 -- A text is journals in one way, and is none where it departs from them.
-use Rattle.std.proofs.Common.{◌≡◌, ◌≢◌, ℕ, ◌+◌, Bool, true, false, ◌⊎◌, inl, inr, List, [], ◌∷◌, ◌++◌, length, refl, ap, sym, ◌∙◌, subst, arith, append_assoc}
+use Rattle.std.proofs.Common.{◌≡◌, ◌≢◌, ℕ, true, false, inl, inr, List, [], ◌∷◌, ◌++◌, length, refl, ap, sym, ◌∙◌, subst, arith, append_assoc}
 use Rattle.std.specs.List.{AllByRecursion}
 use Rattle.std.proofs.lemmas.List.{append-nil, length-append}
 use Rattle.handle_model.specs.declared.entry.Home.{Home}
@@ -7,7 +7,7 @@ use Rattle.handle_model.specs.declared.entry.Entry.{Entry}
 use Rattle.handle_model.specs.declared.base.BaseCall.{BaseCall}
 use Rattle.handle_model.specs.declared.base.Base.{Base}
 use Rattle.handle_model.specs.Sound.{is_held}
-use Rattle.handle_text.specs.Texts.{group_text, base_text, base_call_text, base_calls_text, entry_text, entries_text}
+use Rattle.handle_text.specs.Texts.{base_text, base_call_text, base_calls_text, entry_text, entries_text}
 use Rattle.journal_bases.specs.SoFar.{with_call, IsSoundSoFar}
 use Rattle.journal_reader.specs.Fits.{FitsCall, FitsEntry}
 use Rattle.journal_reader.specs.Lines.{BeginsWithNoCall, BeginsWithNoEntry}
@@ -20,13 +20,13 @@ use Rattle.audit_laws.proofs.SoFar.{with_calls, front_so_far}
 -- CALLS OF A BASE
 
 -- those calls begin with these
-record Fronts (front all : List BaseCall) (x y : List ℕ) : Type 0 where
+pub record Fronts (front all : List BaseCall) (x y : List ℕ) : Type 0 where
   pub more : List BaseCall
   pub all_is : all ≡ front ++ more
   pub rest : x ≡ base_calls_text more ++ y
   pub fit : AllByRecursion FitsCall more
 
-calls_front : (cs ds : List BaseCall) (x y : List ℕ) → AllByRecursion FitsCall cs → AllByRecursion FitsCall ds → base_calls_text cs ++ x ≡ base_calls_text ds ++ y → BeginsWithNoCall y → Fronts cs ds x y
+pub calls_front : (cs ds : List BaseCall) (x y : List ℕ) → AllByRecursion FitsCall cs → AllByRecursion FitsCall ds → base_calls_text cs ++ x ≡ base_calls_text ds ++ y → BeginsWithNoCall y → Fronts cs ds x y
 calls_front [] ds x y f g e n = record { more = ds; all_is = refl; rest = e; fit = g }
 calls_front (c ∷ cs) [] x y f g e n =
     absurd (n c (base_calls_text cs ++ x) f.0 (sym e ∙ append_assoc (base_call_text c) (base_calls_text cs) x))
@@ -58,12 +58,12 @@ own_text : (b : Base) → base_text b ≡ base_text (head_of b)
 unfolding base_text
 own_text b = refl
 
-begins : (home : Home) (b : Base) (x text : List ℕ) → HasBase home b x text → text ≡ base_text (head_of b) ++ (base_calls_text b.calls ++ x)
+pub begins : (home : Home) (b : Base) (x text : List ℕ) → HasBase home b x text → text ≡ base_text (head_of b) ++ (base_calls_text b.calls ++ x)
 begins home b x text h =
     h.text_is ∙ (append_assoc (base_text b) (base_calls_text b.calls) x ∙ ap (λ t. t ++ (base_calls_text b.calls ++ x)) (own_text b))
 
 -- two bases that begin one text have one head, and their calls begin one text
-heads_same : (k l : Home) (b c : Base) (x y t u : List ℕ) → t ≡ u → HasBase k b x t → HasBase l c y u → (head_of b ≡ head_of c) × (base_calls_text b.calls ++ x ≡ base_calls_text c.calls ++ y)
+pub heads_same : (k l : Home) (b c : Base) (x y t u : List ℕ) → t ≡ u → HasBase k b x t → HasBase l c y u → (head_of b ≡ head_of c) × (base_calls_text b.calls ++ x ≡ base_calls_text c.calls ++ y)
 heads_same k l b c x y t u e f g =
     base_first (head_of b) (head_of c) (base_calls_text b.calls ++ x) (base_calls_text c.calls ++ y) f.head_fits g.head_fits (sym (begins k b x t f) ∙ (e ∙ begins l c y u g))
 
@@ -71,7 +71,7 @@ heads_same k l b c x y t u e f g =
 same_calls : (b c : Base) (calls : List BaseCall) → head_of b ≡ head_of c → calls ≡ c.calls → with_calls b calls ≡ c
 same_calls b c calls heads e = ap (λ h. with_calls h calls) heads ∙ ap (λ cs. with_calls c cs) e
 
-has_same : (k l : Home) (b c : Base) (x y t u : List ℕ) → t ≡ u → HasBase k b x t → HasBase l c y u → BeginsWithNoCall x → BeginsWithNoCall y → (b ≡ c) × (x ≡ y)
+pub has_same : (k l : Home) (b c : Base) (x y t u : List ℕ) → t ≡ u → HasBase k b x t → HasBase l c y u → BeginsWithNoCall x → BeginsWithNoCall y → (b ≡ c) × (x ≡ y)
 has_same k l b c x y t u e f g m n =
     let one = heads_same k l b c x y t u e f g in
     let calls = calls_same b.calls c.calls x y f.calls_fit g.calls_fit one.1 m n in
@@ -103,7 +103,7 @@ entries_same (a ∷ es) (b ∷ fs) x y f g e m n =
 abbrev journal : Home → Base → List Entry → Journal
 journal home base entries = record { home = home; base = base; entries = entries }
 
-journal_first : (g h : Journal) (x y text : List ℕ) → HasJournal g x text → HasJournal h y text → (g ≡ h) × (x ≡ y)
+pub journal_first : (g h : Journal) (x y text : List ℕ) → HasJournal g x text → HasJournal h y text → (g ≡ h) × (x ≡ y)
 journal_first g h x y text f q =
     let home = group_first g.home h.home f.0 q.0 f.2.0 q.2.0 (sym f.2.1 ∙ q.2.1) in
     let base = goes_same g.home h.home g.base h.base f.1 q.1 f.0 q.0 home.1 f.3 q.3 in
@@ -127,14 +127,14 @@ one_reading text (g ∷ gs) (h ∷ hs) f q =
 -- DEPARTURES
 
 -- a base whose first lines are those of another
-more_sound : (k l : Home) (b c : Base) (front more : List BaseCall) → k ≡ l → head_of b ≡ head_of c → c.calls ≡ front ++ more → IsSoundSoFar l c → IsSoundSoFar k (with_calls b front)
+pub more_sound : (k l : Home) (b c : Base) (front more : List BaseCall) → k ≡ l → head_of b ≡ head_of c → c.calls ≡ front ++ more → IsSoundSoFar l c → IsSoundSoFar k (with_calls b front)
 more_sound k l b c front more home heads calls s =
     let whole : with_calls b (front ++ more) ≡ c = same_calls b c (front ++ more) heads (sym calls) in
     let sound : IsSoundSoFar k (with_calls b (front ++ more)) = subst (λ h. IsSoundSoFar h (with_calls b (front ++ more))) (sym home) (subst (λ x. IsSoundSoFar l x) (sym whole) s) in
     front_so_far k b front more sound
 
 -- the call that departs is the next one
-next_sound : (k l : Home) (b c : Base) (call : BaseCall) (rest later y : List ℕ) (more : List BaseCall) → k ≡ l → head_of b ≡ head_of c → c.calls ≡ b.calls ++ more → rest ≡ base_calls_text more ++ y → AllByRecursion FitsCall more → BeginsWithNoCall y → FitsCall call → rest ≡ base_call_text call ++ later → IsSoundSoFar l c → IsSoundSoFar k (with_call b call)
+pub next_sound : (k l : Home) (b c : Base) (call : BaseCall) (rest later y : List ℕ) (more : List BaseCall) → k ≡ l → head_of b ≡ head_of c → c.calls ≡ b.calls ++ more → rest ≡ base_calls_text more ++ y → AllByRecursion FitsCall more → BeginsWithNoCall y → FitsCall call → rest ≡ base_call_text call ++ later → IsSoundSoFar l c → IsSoundSoFar k (with_call b call)
 next_sound k l b c call rest later y [] home heads calls e fit none f q s = absurd (none call later f (sym e ∙ q))
 next_sound k l b c call rest later y (d ∷ ds) home heads calls e fit none f q s =
     let one = call_first call d later (base_calls_text ds ++ y) f fit.0 (sym q ∙ (e ∙ append_assoc (base_call_text d) (base_calls_text ds) y)) in
@@ -161,7 +161,7 @@ base_departs k l t u n c y home e (inr (inr h)) (inr g) =
     let held : true ≡ false = sym g.1 ∙ (ap is_held (sym one.0) ∙ h.4) in
     absurd (cc)
 
-journal_departs : (text : List ℕ) (m : ℕ) (g : Journal) (y : List ℕ) → JournalDeparts text m → HasJournal g y text → ⊥
+pub journal_departs : (text : List ℕ) (m : ℕ) (g : Journal) (y : List ℕ) → JournalDeparts text m → HasJournal g y text → ⊥
 journal_departs text m g y (inl d) q = d.0 g.home q.0 q.2.0 q.2.1
 journal_departs text m g y (inr d) q =
     let one = group_first d.0 g.home d.1 q.0 d.3.0 q.2.0 (sym d.3.1 ∙ q.2.1) in

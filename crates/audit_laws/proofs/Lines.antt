@@ -1,5 +1,5 @@
 -- A line of a journal is that of one value, and a text begins with one line.
-use Rattle.std.proofs.Common.{◌≡◌, ℕ, ◌<◌, ◌^◌, Bool, Option, List, [], ◌∷◌, ◌++◌, length, refl, ap, sym, ◌∙◌, arith, decimal}
+use Rattle.std.proofs.Common.{◌≡◌, ℕ, Bool, Option, List, ◌++◌, refl, ap, sym, ◌∙◌, arith, decimal}
 use Rattle.std.specs.List.{AllByRecursion}
 use Rattle.std.proofs.lemmas.Fmt.{decimal_injective}
 use Rattle.rpc_base.specs.declared.identifiers.Order.{Order}
@@ -17,7 +17,7 @@ use Rattle.handle_model.specs.declared.entry.Entry.TheVariants.{Join, Accept, Ta
 use Rattle.handle_model.specs.declared.base.BaseCall.{BaseCall}
 use Rattle.handle_model.specs.declared.base.Base.{Base}
 use Rattle.handle_text.specs.Texts.{list_text, slot_text, outcome_text, cookie_text, due_text, asked_text, group_text, base_text, base_call_text, entry_text, line, base_line, call_line}
-use Rattle.journal_reader.specs.Fits.{FitsSlot, FitsOutcome, FitsCookie, FitsDue, FitsAsked, FitsAccept, FitsTake, FitsDeny, FitsEnd, FitsEntry, FitsConn, FitsHome, FitsBase, FitsStage, FitsCalled, FitsCall}
+use Rattle.journal_reader.specs.Fits.{FitsSlot, FitsOutcome, FitsCookie, FitsDue, FitsAsked, FitsAccept, FitsTake, FitsDeny, FitsEnd, FitsEntry, FitsConn, FitsHome, FitsBase, FitsCalled, FitsCall}
 use Rattle.journal_reader.specs.Parts.{asked_parts, accept_parts, accept_text, take_parts, take_text, deny_parts, deny_text, end_parts, end_text, entry_parts, home_parts, home_text, base_parts, base_rest, called_parts, called_text, call_parts, call_text, group_line, group_parts, headed_base, headed_call}
 use Rattle.journal_reader.proofs.Above.{slot_item, outcome_item, cookie_item, due_item, conn_item}
 use Rattle.journal_reader.proofs.BaseWords.{home_own, base_own, called_own, call_own, home_joined, base_joined, call_joined}

@@ -1,5 +1,5 @@
 -- A base that is sound as far as some of its lines is so as far as the first of them.
-use Rattle.std.proofs.Common.{◌≡◌, ℕ, Bool, true, false, not, ◌&&◌, ◌||◌, List, [], ◌∷◌, ◌++◌, refl, ap, sym, ◌∙◌, subst, append_assoc}
+use Rattle.std.proofs.Common.{◌≡◌, ℕ, Bool, true, false, not, ◌||◌, List, [], ◌∷◌, ◌++◌, refl, ap, sym, ◌∙◌, subst, append_assoc}
 use Rattle.std.specs.Prelude.{nat_le, nat_lt, filter}
 use Rattle.std.specs.List.{list_any, list_all, filter_map}
 use Rattle.std.proofs.lemmas.List.{map-append}
@@ -7,7 +7,7 @@ use Rattle.std.proofs.lemmas.List.Elements.{filter-append}
 use Rattle.handle_model.specs.declared.entry.Home.{Home}
 use Rattle.handle_model.specs.declared.base.BaseCall.{BaseCall}
 use Rattle.handle_model.specs.declared.base.Base.{Base}
-use Rattle.handle_model.specs.Bases.{is_number, has_item, taken_calls, numbers_of}
+use Rattle.handle_model.specs.Bases.{is_number, has_item, numbers_of}
 use Rattle.handle_model.specs.Sound.{rise_above, rise, differ, is_fresh, is_within, conflicts_with, are_apart, names_apart, is_known, opening, serial_of}
 use Rattle.handle_model.proofs.Held.{and_left, and_right}
 use Rattle.journal_bases.specs.SoFar.{IsSoundSoFar}

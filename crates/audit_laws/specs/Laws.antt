@@ -17,6 +17,16 @@ OneReading = (text : List ℕ) (some others : List Journal) → HasJournals some
 abbrev pub NeitherBoth : Type 0
 NeitherBoth = (text : List ℕ) (n : ℕ) (journals : List Journal) → DepartsAt text n → HasJournals journals [] text → ⊥
 
+-- and departs at one line
+abbrev pub OneDeparture : Type 0
+OneDeparture = (text : List ℕ) (n m : ℕ) → DepartsAt text n → DepartsAt text m → n ≡ m
+
+-- of a journal one thing is told
+abbrev pub OneVerdict : Type 0
+OneVerdict =
+    (home : Home) (base : Base) (entries : List Entry) (some other : Verdict) → Tells home base entries some
+    → Tells home base entries other → some ≡ other
+
 -- of a journal that is legal and settled it is told that it is legal, with the number of its entries, and nothing else
 abbrev pub GoodIsLegal : Type 0
 GoodIsLegal =

@@ -1,7 +1,7 @@
 //! Laws of the texts of journals: what an audit says of a text is one.
 #![tactic(auto)]
 
-ghost use Rattle.audit_laws.specs.Laws.{OneReading, NeitherBoth, GoodIsLegal};
+ghost use Rattle.audit_laws.specs.Laws.{OneReading, NeitherBoth, OneDeparture, OneVerdict, GoodIsLegal};
 
 /// A text is journals in one way.
 pub fn one_reading()
@@ -11,6 +11,17 @@ pub fn one_reading()
 /// A text that departs from journals at a line isn't journals.
 pub fn neither_both()
     ensures { NeitherBoth }
+{}
+
+/// It departs from them at one line.
+pub fn one_departure()
+    ensures { OneDeparture }
+{}
+
+/// Of a journal one verdict is told: that it is legal, with the number of its entries, or the first place at which it is
+/// not.
+pub fn one_verdict()
+    ensures { OneVerdict }
 {}
 
 /// Of a journal that is legal and settled nothing else is told.

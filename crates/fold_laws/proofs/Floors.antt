@@ -1,12 +1,12 @@
 -- No fold passes what is still open.
-use Rattle.std.proofs.Common.{◌≡◌, ℕ, ◌+◌, ◌-◌, ◌≤◌, ◌<◌, Bool, true, Option, Some, None, unwrap_or, zero, suc, List, [], ◌∷◌, ◌++◌, length, take, drop, refl, sym, ◌∙◌, ap, subst, arith, inl, inr}
+use Rattle.std.proofs.Common.{◌≡◌, ℕ, ◌+◌, ◌-◌, ◌≤◌, ◌<◌, true, Option, Some, None, unwrap_or, zero, suc, List, [], ◌∷◌, ◌++◌, length, take, refl, sym, ◌∙◌, ap, subst, arith, inl, inr}
 use Rattle.std.specs.Prelude.{min}
 use Rattle.std.proofs.lemmas.Bool.{cases_Bool}
 use Rattle.std.proofs.lemmas.List.{length-append}
 use Rattle.handle_model.specs.declared.entry.Asked.{Asked}
 use Rattle.handle_model.specs.declared.entry.Entry.{Entry}
 use Rattle.handle_model.specs.declared.entry.Entry.TheVariants.{Join, Accept}
-use Rattle.handle_model.specs.Folds.{begins, places, floor, fold, folded}
+use Rattle.handle_model.specs.Folds.{begins, places, floor, folded}
 use Rattle.handle_model.specs.History.{History, size}
 use Rattle.handle_model.specs.Journal.{least, lesser, is_open, runs}
 use Rattle.fold_laws.specs.Kept.{Keeps}
@@ -54,7 +54,7 @@ front (x ∷ newer) e older zero lt = absurd (omega (arith, lt))
 front (x ∷ newer) e older (suc m) lt =
     let more = front newer e older m (omega (arith, lt)) in (more.0, ap (λ xs. x ∷ xs) more.1)
 
-keeps : (j : History) (newer older : List Entry) (e : Entry) → j.past ≡ newer ++ e ∷ older → begins j e ≡ true → Keeps j newer e
+keeps : (j : History) (newer older : List Entry) (e : Entry) → j.past ≡ newer ++ e ∷ older → begins j e ≡ true → Keeps (folded j) newer e
 keeps j newer older e p b =
     let low : floor j ≤ j.base.count + length older = unwrapped (least (places j j.past)) (j.base.count + length older) (size j) (subst (λ past. IsUpTo (least (places j past)) (j.base.count + length older)) (sym p) (placed j newer older e b)) in
     let m : ℕ = length j.past - (floor j - j.base.count) in
@@ -63,8 +63,8 @@ keeps j newer older e p b =
     let f = front newer e older m within in
     record { rest = f.0; past_is = ap (take m) p ∙ f.1 }
 
-pub keeps_joins : (j : History) (newer older : List Entry) (c : ℕ) → j.past ≡ newer ++ Join c ∷ older → is_open j c ≡ true → Keeps j newer (Join c)
+pub keeps_joins : (j : History) (newer older : List Entry) (c : ℕ) → j.past ≡ newer ++ Join c ∷ older → is_open j c ≡ true → Keeps (folded j) newer (Join c)
 keeps_joins j newer older c p o = keeps j newer older (Join c) p o
 
-pub keeps_accepts : (j : History) (newer older : List Entry) (k : ℕ) (a : Asked) → j.past ≡ newer ++ Accept k a ∷ older → runs j k ≡ true → Keeps j newer (Accept k a)
+pub keeps_accepts : (j : History) (newer older : List Entry) (k : ℕ) (a : Asked) → j.past ≡ newer ++ Accept k a ∷ older → runs j k ≡ true → Keeps (folded j) newer (Accept k a)
 keeps_accepts j newer older k a p r = keeps j newer older (Accept k a) p r

@@ -1,26 +1,25 @@
 -- What a call is told depends on the entries since its Accept alone.
-use Rattle.std.proofs.Common.{◌≡◌, ℕ, ◌+◌, ◌-◌, ◌≤◌, ◌<◌, Bool, true, false, ◌&&◌, ◌||◌, not, ◌==◌, if◌then◌else◌, Option, Some, None, List, [], ◌∷◌, ◌++◌, length, take, drop, refl, sym, ◌∙◌, ap, subst, arith, inl, inr, append_assoc}
+use Rattle.std.proofs.Common.{◌≡◌, ℕ, ◌+◌, Bool, true, false, ◌||◌, not, ◌==◌, Some, None, List, [], ◌∷◌, ◌++◌, refl, sym, ◌∙◌, ap, subst, arith, inl, inr, append_assoc}
 use Rattle.std.specs.List.{list_any}
 use Rattle.std.proofs.lemmas.Bool.{cases_Bool, eqb-true, eq-eqb, or_parts, false_from_ne_true, not-true}
-use Rattle.std.proofs.lemmas.List.{take-append-drop}
 use Rattle.std.proofs.lemmas.List.Folds.{list_any-append}
 use Rattle.handle_model.specs.declared.entry.Home.{Home}
 use Rattle.handle_model.specs.declared.entry.Asked.{Asked}
-use Rattle.handle_model.specs.declared.entry.Said.{Said}
 use Rattle.handle_model.specs.declared.entry.Entry.{Entry}
 use Rattle.handle_model.specs.declared.entry.Entry.TheVariants.{Join, Accept, Take, Deny, Cancel, Orphan, End, Leave, Shut}
 use Rattle.handle_model.specs.declared.base.Base.{Base}
 use Rattle.handle_model.specs.Bases.{taken_before, orphaned_before, cancelled_before}
-use Rattle.handle_model.specs.Folds.{advance, fold}
-use Rattle.handle_model.specs.History.{History, IsSound, since, with_entry}
-use Rattle.handle_model.specs.Journal.{Legal, any_since, leaves, takes, denies, cancels, orphans, ends, is_shut, asked, has_left, has_joined, is_decided, is_taken, is_orphaned, is_open, accept_count}
-use Rattle.handle_model.specs.Replies.{is_lost, ended_with, reply_by, replies, context_mismatch, cancelled}
+use Rattle.handle_model.specs.Folds.{advance}
+use Rattle.handle_model.specs.History.{History, since}
+use Rattle.handle_model.specs.Journal.{Legal, any_since, leaves, takes, denies, cancels, orphans, ends, asked, has_joined, is_decided, is_taken, is_orphaned, accept_count}
+use Rattle.handle_model.specs.Replies.{is_lost, ended_with, replies}
 use Rattle.handle_model.proofs.Held.{and_right}
 use Rattle.journal_laws.proofs.Older.{older_since}
 use Rattle.journal_laws.proofs.Stages.{since_right, undecided}
 use Rattle.call_table.proofs.Calls.{decided_within, ended_taken}
 use Rattle.journal_folds.specs.Laws.{BaseBegun}
-use Rattle.journal_folds.proofs.Folded.{folds}
+use Rattle.fold_laws.specs.FoldOf.{IsFoldOf}
+use Rattle.fold_laws.proofs.Alike.{folds_stand}
 use Rattle.journal_laws.specs.Calls.{accepts}
 
 -- WHERE IT WAS ACCEPTED
@@ -136,9 +135,13 @@ kept home base base' newer older k l l' h =
     let f = fresh home base (s.earlier ++ older) k s.asks (older_since home base s.later (Accept k s.asks ∷ (s.earlier ++ older)) (subst (λ xs. Legal (since home base xs)) whole l)) in
     ap (λ xs. replies (since home base' xs) k) s.is ∙ (told_same home base' s.earlier home base (s.earlier ++ older) s.later k s.asks f' f s.none ∙ ap (λ xs. replies (since home base xs) k) (sym whole))
 
-pub keeps_replies : (j : History) (n k : ℕ) → IsSound j → list_any is_shut j.past ≡ false → BaseBegun j.base → list_any (accepts k) (fold n j).past ≡ true → replies (fold n j) k ≡ replies j k
-keeps_replies j n k s u b h =
-    let m : ℕ = length j.past - n in
-    let e : take m j.past ++ drop m j.past ≡ j.past = take-append-drop m j.past in
-    let legal : Legal (since j.home j.base (take m j.past ++ drop m j.past)) = subst (λ past. Legal (since j.home j.base past)) (sym e) s.legal in
-    kept j.home j.base (advance j.home j.base (drop m j.past)) (take m j.past) (drop m j.past) k legal (folds j n s u b).sound.legal h ∙ ap (λ past. replies (since j.home j.base past) k) e
+told_to : (x j : History) (k : ℕ) (newer older : List Entry) (base : Base) → x ≡ since j.home base newer → j.past ≡ newer ++ older → Legal x → Legal j → list_any (accepts k) x.past ≡ true → replies x k ≡ replies j k
+told_to x j k newer older base e p l m h =
+    let mine : Legal (since j.home base newer) = subst Legal e l in
+    let legal : Legal (since j.home j.base (newer ++ older)) = subst (λ past. Legal (since j.home j.base past)) p m in
+    let there : list_any (accepts k) newer ≡ true = sym (ap (λ (z : History). list_any (accepts k) z.past) e) ∙ h in
+    ap (λ z. replies z k) e ∙ (kept j.home j.base base newer older k legal mine there ∙ sym (ap (λ past. replies (since j.home j.base past) k) p))
+
+pub keeps_replies : (x j : History) (k : ℕ) → Legal j → BaseBegun j.base → IsFoldOf x j → list_any (accepts k) x.past ≡ true → replies x k ≡ replies j k
+keeps_replies x j k l b f h =
+    told_to x j k f.newer f.older (advance j.home j.base f.older) f.fold_is f.past_is (folds_stand x j l b f).legal l h

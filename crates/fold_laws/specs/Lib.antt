@@ -1,1 +1,2 @@
+pub mod FoldOf
 pub mod Kept

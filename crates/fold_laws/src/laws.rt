@@ -1,5 +1,5 @@
 //! What a fold keeps of each connection and call, each law the contract of a function that does nothing.
-ghost use Rattle.fold_laws.specs.Kept.{AcceptsNext, JoinsNext, KeepsAccepts, KeepsJoins, KeepsReplies};
+ghost use Rattle.fold_laws.specs.Kept.{AcceptsNext, HoldsAccepts, HoldsCalls, HoldsJoins, HoldsSinceAccept, HoldsSinceJoin, JoinsNext, KeepsAccepts, KeepsJoins, KeepsReplies};
 
 /// A connection joins with the number that follows those that joined before.
 pub fn joins_next()
@@ -21,7 +21,33 @@ pub fn keeps_accepts()
     ensures { KeepsAccepts }
 {}
 
-/// A call whose Accept wasn't folded is told what it is told by the whole journal.
+/// The Joins of a fold are the journal's with a number above the joins of its base, so of each connection that was folded
+/// away the number is at most these.
+pub fn holds_joins()
+    ensures { HoldsJoins }
+{}
+
+/// So are its Accepts.
+pub fn holds_accepts()
+    ensures { HoldsAccepts }
+{}
+
+/// Each call of a connection whose Join a fold has, has its Accept there.
+pub fn holds_calls()
+    ensures { HoldsCalls }
+{}
+
+/// All that came after a Join stands in each fold that has the Join.
+pub fn holds_since_join()
+    ensures { HoldsSinceJoin }
+{}
+
+/// All that came after an Accept stands in each fold that has the Accept.
+pub fn holds_since_accept()
+    ensures { HoldsSinceAccept }
+{}
+
+/// A call whose Accept a fold has is told what it is told by the whole journal, where that has ended too.
 pub fn keeps_replies()
     ensures { KeepsReplies }
 {}

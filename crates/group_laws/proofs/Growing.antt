@@ -1,12 +1,10 @@
 -- Each call of a group adds entries or none.
-use Rattle.std.proofs.Common.{◌≡◌, ℕ, ◌⊎◌, Result, Ok, Err, List, [], ◌∷◌, ◌++◌, length, drop, refl, sym, ◌∙◌, ap, subst, arith, inl, inr, append_assoc}
-use Rattle.handle_model.specs.declared.entry.Home.{Home}
+use Rattle.std.proofs.Common.{◌≡◌, ℕ, Result, Ok, Err, List, [], ◌∷◌, ◌++◌, length, drop, refl, sym, ◌∙◌, ap, append_assoc}
 use Rattle.handle_model.specs.declared.entry.Entry.{Entry}
 use Rattle.handle_model.specs.declared.entry.Asked.{Asked}
 use Rattle.handle_model.specs.declared.entry.Outcome.{Outcome}
 use Rattle.handle_model.specs.declared.entry.Said.{Said}
 use Rattle.handle_model.specs.declared.entry.Entry.TheVariants.{Join, Accept, Take, Deny, Cancel, Orphan, End, Leave, Shut}
-use Rattle.handle_model.specs.declared.base.Base.{Base}
 use Rattle.handle_model.specs.Folds.{folded}
 use Rattle.handle_model.specs.History.{History, since}
 use Rattle.group_core.specs.declared.answer.AcceptRefusal.{AcceptRefusal}
@@ -25,16 +23,16 @@ use Rattle.group_core.specs.Adds.{Adds}
 use Rattle.group_core.specs.Conns.{Joins, Settles, Leaves}
 use Rattle.handle_model.specs.Journal.{slots, cookies_for}
 use Rattle.group_core.specs.Calls.{numbered, Accepts, Takes, Cancels, Orphans, Ends}
-use Rattle.group_laws.specs.Grows.{Grows, IsEarlier}
+use Rattle.group_laws.specs.Grows.{Grows, GrowsByJoin, IsEarlier}
 
 by : (old new : History) (more : List Entry) → Adds old more new → Grows old new
 by old new more a = record { more = more; adds = a }
 
-pub joins_grow : (old new : History) (answer : Result ℕ JoinRefusal) → Joins old answer new → Grows (folded old) new ⊎ (new ≡ old)
-joins_grow old new (Ok c) t = inl (by (folded old) new (Join c ∷ []) t.2)
-joins_grow old new (Err join.TooMany) t = inr t.1
-joins_grow old new (Err join.Numbers) t = inr t.1
-joins_grow old new (Err join.Memory) t = inr t
+pub joins_grow : (old new : History) (answer : Result ℕ JoinRefusal) → Joins old answer new → GrowsByJoin old answer new
+joins_grow old new (Ok c) t = by (folded old) new (Join c ∷ []) t.2
+joins_grow old new (Err join.TooMany) t = t.1
+joins_grow old new (Err join.Numbers) t = t.1
+joins_grow old new (Err join.Memory) t = t
 
 pub accepts_grow : (old new : History) (a : Asked) (answer : Result ℕ (Asked × AcceptRefusal)) → Accepts old a answer new → Grows old new
 accepts_grow old new a (Ok k) t = by old new (Accept k (numbered old a) ∷ []) t.2

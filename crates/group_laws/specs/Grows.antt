@@ -1,5 +1,5 @@
 -- How the history of a group grows by its calls.
-use Rattle.std.specs.Prelude.{◌≡◌, ℕ, ◌⊎◌, Result, List, drop}
+use Rattle.std.specs.Prelude.{◌≡◌, ℕ, Result, Ok, Err, List, drop}
 use Rattle.handle_model.specs.declared.entry.Asked.{Asked}
 use Rattle.handle_model.specs.declared.entry.Outcome.{Outcome}
 use Rattle.handle_model.specs.declared.entry.Said.{Said}
@@ -21,9 +21,13 @@ pub record Grows (old new : History) : Type 0 where
   pub more : List Entry
   pub adds : Adds old more new
 
--- a connection that joins adds to the folded history
+-- where a connection joined, the folded history grew; where it was refused, nothing was folded and nothing came
+abbrev pub GrowsByJoin : History → Result ℕ JoinRefusal → History → Type 0
+GrowsByJoin old (Ok conn) new = Grows (folded old) new
+GrowsByJoin old (Err refusal) new = new ≡ old
+
 abbrev pub JoinsGrow : Type 0
-JoinsGrow = (old new : History) (answer : Result ℕ JoinRefusal) → Joins old answer new → Grows (folded old) new ⊎ (new ≡ old)
+JoinsGrow = (old new : History) (answer : Result ℕ JoinRefusal) → Joins old answer new → GrowsByJoin old answer new
 
 -- each other call adds to the history
 abbrev pub AcceptsGrow : Type 0

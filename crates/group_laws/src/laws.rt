@@ -1,7 +1,7 @@
 //! What each call of a group makes of its history, each law the contract of a function that does nothing.
 ghost use Rattle.group_laws.specs.Grows.{AcceptsGrow, CancelsGrow, EndsGrow, GrowsOn, JoinsGrow, LeavesGrow, OrphansGrow, StaysEarlier, TakesGrow};
 
-/// A connection that joins adds to the folded history, and one that is refused adds nothing.
+/// A connection that joins adds to the folded history; where one is refused, nothing is folded and nothing added.
 pub fn joins_grow()
     ensures { JoinsGrow }
 {}
