@@ -25,6 +25,10 @@ pub struct Register {
 impl Storied for Register {
     type Entry = Mark;
 
+    type Start = ();
+
+    ghost first = { λ _. [] };
+
     ghost tells = { λ register history. register.marks ≡ history };
 
     ghost ties = { λ before mark place. ⊥ };

@@ -53,7 +53,7 @@ fn enter_both<R: Threads + Wait + Sync>(
 #[test]
 fn a_pass_enters_each_mark_once(rt: HostRuntime) -> Result<(), Fail> {
     let alloc = rt.alloc();
-    let (lock, pass) = TurnLock::new(alloc, Register::new(alloc))?;
+    let (lock, pass) = TurnLock::new(alloc, Register::new(alloc), &())?;
     let pass = enter_marks(&rt, &lock, pass, 7, 3);
     let (pass, count) = count_marks(&rt, &lock, pass, 7);
     let (_, others) = count_marks(&rt, &lock, pass, 8);
@@ -64,7 +64,7 @@ fn a_pass_enters_each_mark_once(rt: HostRuntime) -> Result<(), Fail> {
 #[test]
 fn two_threads_enter_each_mark_once(rt: HostRuntime) -> Result<(), Fail> {
     let alloc = rt.alloc();
-    let (lock, pass) = TurnLock::new(alloc, Register::new(alloc))?;
+    let (lock, pass) = TurnLock::new(alloc, Register::new(alloc), &())?;
     let pass = enter_both(&rt, &lock, pass);
     let (pass, first) = count_marks(&rt, &lock, pass, 1);
     let (_, second) = count_marks(&rt, &lock, pass, 2);

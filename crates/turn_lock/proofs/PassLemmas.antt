@@ -1,5 +1,5 @@
 -- A new lock meets the rule, and splitting and joining passes keeps it.
-use Rattle.std.proofs.Common.{◌≡◌, ◌≢◌, ℕ, ◌⊎◌, Bool, true, false, List, [], ◌∷◌, ◌++◌, length, get_or, set, Option, Some, refl, sym, ap, ◌∙◌, subst, ⊎_elim, arith}
+use Rattle.std.proofs.Common.{◌≡◌, ◌≢◌, ℕ, ◌+◌, ◌⊎◌, Bool, true, false, List, [], ◌∷◌, ◌++◌, length, get_or, set, Option, Some, refl, sym, ap, ◌∙◌, subst, ⊎_elim, arith}
 use Rattle.std.proofs.lemmas.List.{set-get_or}
 use mathlib.Core.Option.{some, none, some-injective, some-ne-none}
 use lib.ListN.{get_elem?}
@@ -12,7 +12,7 @@ use Rattle.turn_lock.specs.Steps.{joined, saw_all}
 use Rattle.turn_lock.proofs.HistoryLemmas.{times-append, times_either, total_at, total_set, total_snoc, once_most, starts_self, starts_length, longer_starts, shorter_starts, longer_length}
 use Rattle.turn_lock.proofs.ViewLemmas.{each}
 
-module _ {T E : Type 0} (tells : T → List E → Type 0) (ties : List E → E → ℕ → Type 0) where
+module _ {T E : Type 0} (tells : T → List E → Type 0) (ties : List E → E → ℕ → Type 0) (first : List E) where
   abbrev D : Type 0
   D = View E
 
@@ -23,7 +23,7 @@ module _ {T E : Type 0} (tells : T → List E → Type 0) (ties : List E → E �
   M = Me (Option T) D
 
   abbrev Rule : St → Type 0
-  Rule = Lawful tells ties
+  Rule = Lawful tells ties first
 
   abbrev turn : St → ℕ
   turn s = get_or s.words 0 0
@@ -41,6 +41,7 @@ module _ {T E : Type 0} (tells : T → List E → Type 0) (ties : List E → E �
         holder = r.holder;
         wide = r.wide;
         counted = r.counted;
+        told = r.told;
         free = λ off. let f = r.free off in (f.0, λ j d e. ⊎_elim (λ old. f.1 j d old) (λ (same : u ≡ d). ap (λ (z : D). z.holds) (sym same)) (more j d e));
         held = λ busy. let h = r.held busy in (
           h.0,
@@ -70,6 +71,7 @@ module _ {T E : Type 0} (tells : T → List E → Type 0) (ties : List E → E �
         holder = r.holder;
         wide = r.wide;
         counted = r.counted;
+        told = r.told;
         free = λ off. let f = r.free off in (f.0, all (λ j d. d.holds ≡ false) refl refl (λ j d _ _ e. f.1 j d e));
         held = λ busy. let h = r.held busy in
             let not_id : r.holder ≢ id = λ is. not_both v.holds idle_v (ap (λ (z : D). z.holds) (some-injective _ _ (sym at ∙ (λ k. get_elem? s.views (sym is k)) ∙ h.1.1)) ∙ h.1.2) in
@@ -103,6 +105,7 @@ module _ {T E : Type 0} (tells : T → List E → Type 0) (ties : List E → E �
         holder = r.holder;
         wide = r.wide;
         counted = r.counted;
+        told = r.told;
         free = λ off. let f = r.free off in (f.0, each (λ j d. d.holds ≡ false) s.views id w refl (λ j d _ e. f.1 j d e));
         held = λ busy. let h = r.held busy in
             let not_id : r.holder ≢ id = λ is. not_both v.holds idle (ap (λ (z : D). z.holds) (some-injective _ _ (sym at ∙ (λ k. get_elem? s.views (sym is k)) ∙ h.1.1)) ∙ h.1.2) in (
@@ -116,7 +119,7 @@ module _ {T E : Type 0} (tells : T → List E → Type 0) (ties : List E → E �
         tied = each (λ j d. Closed ties r.history d.own) s.views id w (r.tied id v at) (λ j d _ e. r.tied j d e);
       }
 
-  pub looks : (slots id : ℕ) (me : M) → me.0.holds ≡ false → Allows Rule slots id me 0 (λ n. n) (saw_all ties (step slots 0 0 0 none) me)
+  pub looks : (slots id : ℕ) (me : M) → me.0.holds ≡ false → Allows Rule slots id me 0 (λ n. n) (saw_all tells ties (step slots 0 0 0 none) me)
   looks slots id me idle s r _ at _ =
       let mine = r.fronts id me.0 at in
       let inside = starts_length r.history me.0.front mine.0 in (
@@ -132,22 +135,24 @@ module _ {T E : Type 0} (tells : T → List E → Type 0) (ties : List E → E �
           λ p own. let b = mine.1 p own in omega arith,
           r.tied id me.0 at,
           λ p. let a = total_at (owns p) s.views id me.0 at in let b = r.once p in let c = once_most p (length r.history) in omega arith,
+          r.told,
         ),
       )
 
   -- the table at the start
-  pub opens : (x : T) → tells x [] → Rule record { words = 0 ∷ 0 ∷ []; homes = some (Some x) ∷ []; views = view false [] [] ∷ [] }
+  pub opens : (x : T) → tells x first → Rule record { words = 0 ∷ 0 ∷ []; homes = some (Some x) ∷ []; views = view false first [] ∷ [] }
   opens x is_told =
-      let one : (Q : D → Type 0) → Q (view false [] []) → (j : ℕ) (d : D) → get_elem? (view false [] [] ∷ []) j ≡ some d → Q d = λ Q q j d e. ⊎_elim (λ (n : _). absurd (some-ne-none d (sym n))) (λ is. subst Q is q) (at_snoc [] (view false [] []) d j e) in
+      let one : (Q : D → Type 0) → Q (view false first []) → (j : ℕ) (d : D) → get_elem? (view false first [] ∷ []) j ≡ some d → Q d = λ Q q j d e. ⊎_elim (λ (n : _). absurd (some-ne-none d (sym n))) (λ is. subst Q is q) (at_snoc [] (view false first []) d j e) in
       record {
-        history = [];
+        history = first;
         holder = 0;
         wide = refl;
-        counted = refl;
+        counted = (0, let e : length first ≡ length first + 0 = omega arith in e, refl);
+        told = (x, is_told);
         free = λ _. ((x, refl, is_told), one (λ d. d.holds ≡ false) refl);
         held = λ busy. absurd (busy refl);
-        fronts = one (λ d. StartsWith [] d.front × Within d.own (length d.front)) (([], refl), λ p own. absurd (omega arith));
-        also = one (λ d. StartsWith [] d.also_seen) ([], refl);
+        fronts = one (λ d. StartsWith first d.front × Within d.own (length d.front)) (starts_self first, λ p own. absurd (omega arith));
+        also = one (λ d. StartsWith first d.also_seen) (first, refl);
         once = λ p. omega arith;
-        tied = one (λ d. Closed ties [] d.own) (λ q p t own. absurd (omega arith));
+        tied = one (λ d. Closed ties first d.own) (λ q p t own. absurd (omega arith));
       }

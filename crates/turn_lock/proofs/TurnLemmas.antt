@@ -20,7 +20,7 @@ is_false : (b : Bool) → ¬ (b ≡ true) → b ≡ false
 is_false true never = absurd (never refl)
 is_false false never = refl
 
-module _ {T E : Type 0} (tells : T → List E → Type 0) (ties : List E → E → ℕ → Type 0) where
+module _ {T E : Type 0} (tells : T → List E → Type 0) (ties : List E → E → ℕ → Type 0) (first : List E) where
   abbrev D : Type 0
   D = View E
 
@@ -31,7 +31,7 @@ module _ {T E : Type 0} (tells : T → List E → Type 0) (ties : List E → E �
   M = Me (Option T) D
 
   abbrev Rule : St → Type 0
-  Rule = Lawful tells ties
+  Rule = Lawful tells ties first
 
   abbrev turn : St → ℕ
   turn s = get_or s.words 0 0
@@ -57,7 +57,8 @@ module _ {T E : Type 0} (tells : T → List E → Type 0) (ties : List E → E �
         history = r.history;
         holder = id;
         wide = length-set s.words 0 1 ∙ r.wide;
-        counted = get_or-set_other s.words 0 1 1 0 (λ e. omega arith) ∙ r.counted;
+        counted = (r.counted.0, r.counted.1, get_or-set_other s.words 0 1 1 0 (λ e. omega arith) ∙ r.counted.2);
+        told = r.told;
         free = λ off. absurd (omega arith);
         held = λ _. (
           on,
@@ -107,7 +108,7 @@ module _ {T E : Type 0} (tells : T → List E → Type 0) (ties : List E → E �
       let whole : List E = v.front ++ may.0 in
       let new : List ℕ = places m n in
       let w : D = view true whole (v.own ++ new) in
-      let has = has_turn tells ties s r id v at holds in
+      let has = has_turn tells ties first s r id v at holds in
       let is : v.front ≡ r.history = has.1.1 in
       let long : length whole ≡ m + n = omega (arith, length-append v.front may.0, may.1) in
       let still : get_or (set s.words 1 ((get_or s.words 1 0 + n) % 2 ^ 64)) 0 0 ≡ turn s = get_or-set_other s.words 1 0 _ 0 (λ e. omega arith) in
@@ -121,8 +122,12 @@ module _ {T E : Type 0} (tells : T → List E → Type 0) (ties : List E → E �
         history = whole;
         holder = id;
         wide = length-set s.words 1 _ ∙ r.wide;
-        counted = get_or-set_same s.words 1 _ 0 (omega arith)
-            ∙ (ap (λ (z : ℕ). (z + n) % 2 ^ 64) r.counted ∙ (mod-add-mod (length r.history) (2 ^ 64) n ∙ ap (λ (z : ℕ). z % 2 ^ 64) (let same = ap length is in omega arith)));
+        counted = (
+          r.counted.0 + n,
+          let same = ap length is in let old = r.counted.1 in omega arith,
+          get_or-set_same s.words 1 _ 0 (omega arith) ∙ (ap (λ (z : ℕ). (z + n) % 2 ^ 64) r.counted.2 ∙ mod-add-mod r.counted.0 (2 ^ 64) n),
+        );
+        told = (x, may.2);
         free = λ off. absurd (has.0 (sym still ∙ off));
         held = λ _. (
           still ∙ held.0,
@@ -165,14 +170,15 @@ module _ {T E : Type 0} (tells : T → List E → Type 0) (ties : List E → E �
   gives_back s r id me x at holds room is_told =
       let v : D = me.0 in
       let w : D = view false v.front v.own in
-      let has = has_turn tells ties s r id v at holds in
+      let has = has_turn tells ties first s r id v at holds in
       let wide = r.wide in
       let off : get_or (set s.words 0 0) 0 0 ≡ 0 = get_or-set_same s.words 0 0 0 (omega arith) in
       record {
         history = r.history;
         holder = id;
         wide = length-set s.words 0 0 ∙ r.wide;
-        counted = get_or-set_other s.words 0 1 0 0 (λ e. omega arith) ∙ r.counted;
+        counted = (r.counted.0, r.counted.1, get_or-set_other s.words 0 1 0 0 (λ e. omega arith) ∙ r.counted.2);
+        told = r.told;
         free = λ _. (
           (x, set_here s.homes 0 (some (Some x)) room, subst (tells x) has.1.1 is_told),
           each (λ j u. u.holds ≡ false) s.views id w refl

@@ -29,7 +29,7 @@ and_some P o x is h = subst (λ p. IsSomeAnd p P) (sym is) h
 pub slot_now : {T : Type 0} (c d : List (ℕ × Option T)) (o : Option T) (x : T) → d ≡ (0, None) ∷ [] → c ≡ (0, o) ∷ rest d → o ≡ Some x → c ≡ (0, Some x) ∷ []
 slot_now c d o x was now is = now ∙ (λ i. (0, is i) ∷ rest (was i))
 
-module _ {T E : Type 0} (tells : T → List E → Type 0) (ties : List E → E → ℕ → Type 0) where
+module _ {T E : Type 0} (tells : T → List E → Type 0) (ties : List E → E → ℕ → Type 0) (first : List E) where
   abbrev D : Type 0
   D = View E
 
@@ -40,7 +40,7 @@ module _ {T E : Type 0} (tells : T → List E → Type 0) (ties : List E → E �
   M = Me (Option T) D
 
   abbrev Rule : St → Type 0
-  Rule = Lawful tells ties
+  Rule = Lawful tells ties first
 
   abbrev turn : St → ℕ
   turn s = get_or s.words 0 0

@@ -1,6 +1,6 @@
--- The rule of a turn lock. Its parts are word 0, the turn, word 1, the length of the history modulo 2 ^ 64, the slot, where the
--- value is at home, and the view of each pass.
-use Rattle.std.specs.Prelude.{◌≡◌, ◌≢◌, ℕ, ◌%◌, ◌^◌, ◌≤◌, Bool, true, false, List, [], length, slice_index, Option, Some}
+-- The rule of a turn lock. Its parts are word 0, the turn, word 1, the number of entries that were entered modulo 2 ^ 64, the slot,
+-- where the value is at home, and the view of each pass. `first` is what the history began with.
+use Rattle.std.specs.Prelude.{◌≡◌, ◌≢◌, ℕ, ◌+◌, ◌%◌, ◌^◌, ◌≤◌, Bool, true, false, List, [], length, slice_index, Option, Some}
 use mathlib.Core.Option.{some}
 use lib.ListN.{get_elem?}
 use Rattle.atomic_table.specs.Table.{State}
@@ -10,14 +10,16 @@ use Rattle.turn_lock.specs.Histories.{times, total, once_below, StartsWith, Clos
 abbrev pub view : {E : Type 0} → Bool → List E → List ℕ → View E
 view turn seen mine = record { holds = turn; front = seen; own = mine; also_seen = [] }
 
-module _ {T E : Type 0} (tells : T → List E → Type 0) (ties : List E → E → ℕ → Type 0) where
+module _ {T E : Type 0} (tells : T → List E → Type 0) (ties : List E → E → ℕ → Type 0) (first : List E) where
   pub record Lawful (s : State (Option T) (View E)) : Type 0 where
     -- the history of which all views speak, and who has the turn
     pub history : List E
     pub holder : ℕ
     pub wide : length s.words ≡ 2
-    -- the length word counts the history
-    pub counted : slice_index s.words 1 ≡ length history % 2 ^ 64
+    -- the count word counts what was entered
+    pub counted : (n : ℕ) × (length history ≡ length first + n) × (slice_index s.words 1 ≡ n % 2 ^ 64)
+    -- a value told the history
+    pub told : (x : T) × tells x history
     -- where the turn word is 0, no view has the turn, and the value is at home and tells the history
     pub free : slice_index s.words 0 ≡ 0
         → ((x : T) × (get_elem? s.homes 0 ≡ some (some (Some x))) × tells x history)

@@ -15,11 +15,11 @@ module _ {T E : Type 0} where
   abbrev pub gave_turn : Step (Option T) → Me (Option T) (View E) → ℕ → Me (Option T) (View E) → Type 0
   gave_turn st me r now = now ≡ (view false me.0.front me.0.own, rest me.1)
 
-module _ {T E : Type 0} (ties : List E → E → ℕ → Type 0) where
-  -- the front is then the whole history, and the own entries stand in it, each once, with what is tied to them
+module _ {T E : Type 0} (tells : T → List E → Type 0) (ties : List E → E → ℕ → Type 0) where
+  -- the front is then the whole history, which a value told, and the own entries stand in it, each once, with what is tied to them
   abbrev pub saw_all : Step (Option T) → Me (Option T) (View E) → ℕ → Me (Option T) (View E) → Type 0
   saw_all st me r now = (whole : List E) × (now ≡ (view false whole me.0.own, me.1)) × StartsWith whole me.0.front × StartsWith whole me.0.also_seen
-      × Within me.0.own (length whole) × Closed ties whole me.0.own × AtMostOnce me.0.own
+      × Within me.0.own (length whole) × Closed ties whole me.0.own × AtMostOnce me.0.own × ((x : T) × tells x whole)
 
 module _ {T E : Type 0} (tells : T → List E → Type 0) (ties : List E → E → ℕ → Type 0) where
   abbrev M : Type 0
@@ -43,6 +43,6 @@ module _ {T E : Type 0} (tells : T → List E → Type 0) (ties : List E → E �
   abbrev pub Adds : View E → T → ℕ → View E → Type 0
   Adds v x n w = (more : List E) × (length more ≡ n) × tells x (v.front ++ more) × (w ≡ view true (v.front ++ more) (v.own ++ places (length v.front) n))
 
-  -- the length word grew by the step's number
+  -- the count word grew by the step's number
   abbrev pub committed : Step (Option T) → M → ℕ → M → Type 0
   committed st me r now = (now.1 ≡ me.1) × ((x : T) → me.1 ≡ (0, Some x) ∷ [] → Adds me.0 x st.first now.0)

@@ -16,7 +16,7 @@ impl<'a, T: Storied> Held<'a, T> {
     /// The value. What is written through the borrow is in it when the borrow ends.
     pub fn value(&mut self) -> &mut T
         requires { IsSome self.old.value }
-        ensures* writes_back { sem 𝓛 (Lends (the_row (record { mir = named 0; lft = [] }) T.row T.Entry.row ⟦<T as Storied>⟧) T.row self.entry result (λ w. held_with self.old w)) }
+        ensures* writes_back { sem 𝓛 (Lends (the_row (record { mir = named 0; lft = [] }) T.row T.Entry.row T.Start.row ⟦<T as Storied>⟧) T.row self.entry result (λ w. held_with self.old w)) }
         ensures value { self.old.value ≡ Some result.now }
     {
         match &mut self.value {

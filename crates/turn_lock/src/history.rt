@@ -6,6 +6,12 @@ pub trait Storied: Drop {
     /// What the history consists of.
     type Entry;
 
+    /// What says how a history begins.
+    type Start;
+
+    // The entries that the history begins with. No pass entered them.
+    ghost first: { Self.Start → List Self.Entry };
+
     // The value stands for this history. Nothing else is known of the history by the value.
     ghost tells: { Self → List Self.Entry → Type 0 };
 

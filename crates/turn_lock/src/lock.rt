@@ -15,9 +15,9 @@ use std::thread;
 /// A value that threads take turns at.
 #[derive(Drop)]
 pub struct TurnLock<T: Storied> {
-    // Word 0 is 1 while a thread has the turn. Word 1 is the length of the history modulo 2^64. The
-    // slot has the value while nobody has the turn.
-    pub(crate) table: Table<Option<T>, View<T::Entry>, (), TurnRule<T>, Global>,
+    // Word 0 is 1 while a thread has the turn. Word 1 counts the entries that were entered, modulo
+    // 2^64. The slot has the value while nobody has the turn.
+    pub(crate) table: Table<Option<T>, View<T::Entry>, T::Start, TurnRule<T>, Global>,
     ghost sized: { (table.shared.table_id.words ≡ 2) × (table.shared.table_id.slots ≡ 1) },
 }
 
@@ -30,18 +30,22 @@ pub struct Held<'a, T: Storied> {
 }
 
 impl<T: Storied> TurnLock<T> {
-    /// A lock round a value that has no history yet, and its first pass.
+    /// A lock round a value whose history is what it begins with, and its first pass.
     ///
     /// # Errors
     ///
     /// `NoMemory` where there is no memory for it. No other call takes memory.
-    pub fn new(alloc: Global, value: T) -> Result<(TurnLock<T>, Pass<T>), NoMemory>
-        requires { T.tells value [] }
-        ensures { IfOk result (λ made. IsPassOf made.0.table.shared.table_id made.1 × (front made.1 ≡ []) × (own made.1 ≡ [])) }
+    pub fn new(
+        alloc: Global,
+        value: T,
+        start: &T::Start,
+    ) -> Result<(TurnLock<T>, Pass<T>), NoMemory>
+        requires { T.tells value (T.first start.now) }
+        ensures { IfOk result (λ made. IsPassOf made.0.table.shared.table_id made.1 × (front made.1 ≡ T.first start.now) × (own made.1 ≡ [])) }
     {
         let mut slots = Vec::new(alloc);
         slots.push(Some(value))?;
-        match Table::new(alloc, &[0, 0], slots, &()) {
+        match Table::new(alloc, &[0, 0], slots, start) {
             Ok((table, pass)) => Ok((TurnLock { table }, pass)),
             Err(_) => Err(NoMemory),
         }
@@ -87,6 +91,7 @@ impl<T: Storied> TurnLock<T> {
         ensures pass { IsPassOf self.now.table.shared.table_id pass.new }
         ensures front { StartsWith (front pass.new) (front pass.old) × StartsWith (front pass.new) (front other) }
         ensures own { own pass.new ≡ own pass.old ++ own other }
+        ensures told { (x : T) × T.tells x (front pass.new) }
         ensures places { Within (own pass.new) (length (front pass.new)) × Closed T.ties (front pass.new) (own pass.new) × AtMostOnce (own pass.new) }
     {
         self.table.shared.join_seat::<Both>(pass, other);

@@ -57,5 +57,5 @@ pub struct SeeAll<T> {
 }
 
 impl<T: Storied> Play<Option<T>, View<T::Entry>> for SeeAll<T> {
-    ghost then = { saw_all T.ties };
+    ghost then = { saw_all T.tells T.ties };
 }

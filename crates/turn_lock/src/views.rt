@@ -21,13 +21,13 @@ pub struct TurnRule<T> {
     of: PhantomData<T>,
 }
 
-impl<T: Storied> TableRule<Option<T>, View<T::Entry>, ()> for TurnRule<T> {
+impl<T: Storied> TableRule<Option<T>, View<T::Entry>, T::Start> for TurnRule<T> {
     ghost use Rattle.std.specs.Prelude.{[], false};
     ghost use Rattle.turn_lock.specs.Rule.{Lawful, view};
 
-    ghost holds = { λ _. Lawful T.tells T.ties };
+    ghost holds = { λ start. Lawful T.tells T.ties (T.first start) };
 
-    ghost first = { λ _. view false [] [] };
+    ghost first = { λ start. view false (T.first start) [] };
 }
 
 /// A thread's part in one lock. It has no octets. It can't be copied, so an entry is one pass's own.

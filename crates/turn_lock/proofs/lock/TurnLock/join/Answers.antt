@@ -3,7 +3,7 @@ use Rattle.turn_lock.proofs.PassLemmas.{joins, looks}
 use Rattle.turn_lock.proofs.lock.TurnLock.join.Goals as goal
 
 pub join_seat-requires : goal.join_seat-requires
-join_seat-requires g c = (search rules, search rules, search rules, search rules, joins _ _ _ _ _ _ (search rules) (search rules))
+join_seat-requires g c = (search rules, search rules, search rules, search rules, joins _ _ _ _ _ _ _ (search rules) (search rules))
 
 pub load-requires : goal.load-requires
-load-requires g c = (search rules, search rules, looks _ _ _ _ _ (search rules))
+load-requires g c = (search rules, search rules, looks _ _ _ _ _ _ (search rules))
