@@ -4,3 +4,5 @@ pub mod ApartLemmas
 pub mod OwnLemmas
 pub mod FoldLemmas
 pub mod WholeLemmas
+pub mod AskedLemmas
+pub mod HaveLemmas

@@ -5,3 +5,4 @@ pub mod Passes
 pub mod Folded
 pub mod Answers
 pub mod Calls
+pub mod Laws

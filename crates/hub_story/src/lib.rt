@@ -7,5 +7,7 @@
 #![tactic(auto)]
 
 mod item;
+mod laws;
 
 pub use item::{Item, Mark};
+pub use laws::{asked_is_asked, keeps_whole, runs_as_asked};

@@ -118,7 +118,6 @@ acted_missed x y log g Gives t is gives = subst (λ z. Acted x z log 1 Gives) (s
   told = record {
     story = story_missed x.boot x.number g log t.story;
     small = t.small;
-    begun_is = t.begun_is;
     marks_are = ap (λ m. Missed g ∷ m) t.marks_are ∙ sym (marks_marked g log);
     count = t.count;
     open_is = t.open_is;

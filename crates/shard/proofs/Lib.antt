@@ -3,3 +3,4 @@ pub mod CallLemmas
 pub mod FindLemmas
 pub mod OpenLemmas
 pub mod RetireLemmas
+pub mod StartLemmas

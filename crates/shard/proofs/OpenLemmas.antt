@@ -194,7 +194,6 @@ acted_opened a x y log id t o =
       told = record {
         story = story_opened x.boot x.number id log t.story new live few next sound;
         small = t.small;
-        begun_is = t.begun_is;
         marks_are = ap (λ m. Opened id ∷ m) t.marks_are ∙ sym marks;
         count = let c = t.count in omega (arith, c, length-append x.groups (o.listed ∷ []));
         open_is = ap (λ n. n + 1) (sym opens_) ∙ (sym (open_more id (marks_in log) new live) ∙ ap (λ m. length (open_ids (Opened id ∷ m))) (sym t.marks_are));

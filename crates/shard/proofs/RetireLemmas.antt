@@ -131,7 +131,6 @@ acts_retire a x y log r t o shut is e =
       told = record {
         story = story_retired x.boot x.number g log t.story shut few;
         small = t.small;
-        begun_is = t.begun_is;
         marks_are = ap (λ m. Retired g ∷ m) t.marks_are ∙ sym (marks_retired g log);
         count = set_length x.groups (index_of g) l ∙ t.count;
         open_is = let k : x.open_groups - 1 ≡ length (open_ids (Retired g ∷ marks_in log)) = omega (arith, less) in k ∙ ap (λ m. length (open_ids (Retired g ∷ m))) (sym t.marks_are);

@@ -187,7 +187,6 @@ acted x y log g l Says added t open_ touched k n =
       told = record {
         story = subst (λ (b : ℕ). IsStory b y.number (log ++ items_of g k.es)) (sym boot) (subst (λ (s : ℕ). IsStory x.boot s (log ++ items_of g k.es)) (sym number) (story_more x.boot x.number g log k.es t.story open_ k.sound));
         small = subst (λ (s : ℕ). s < 16) (sym number) t.small;
-        begun_is = ap (λ (z : ShardView). z.begun) touched.is ∙ t.begun_is;
         marks_are = marks_is ∙ (t.marks_are ∙ sym marks);
         count = count ∙ (t.count ∙ ap (λ m. length (opened_ids m)) (sym marks_is));
         open_is = ap (λ (z : ShardView). z.open_groups) touched.is ∙ (t.open_is ∙ ap (λ m. length (open_ids m)) (sym marks_is));

@@ -2,7 +2,6 @@ pub mod Shards
 pub mod Counts
 pub mod Answers
 pub mod Finds
-pub mod Beginnings
 pub mod Copies
 pub mod Openings
 pub mod Retirings

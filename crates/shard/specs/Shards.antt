@@ -1,5 +1,5 @@
 -- A shard, and the history that it tells.
-use Rattle.std.specs.Prelude.{◌≡◌, ℕ, ◌<◌, ◌≤◌, Bool, true, false, List, [], ◌∷◌, ◌++◌, length, slice_index_or, slice_set}
+use Rattle.std.specs.Prelude.{◌≡◌, ℕ, ◌<◌, ◌≤◌, false, List, [], ◌∷◌, ◌++◌, length, slice_index_or, slice_set}
 use Rattle.handle_model.specs.Bases.{empty_base}
 use Rattle.handle_model.specs.History.{History, IsSound, since}
 use Rattle.hub_story.specs.declared.item.Mark.{Mark}
@@ -9,12 +9,11 @@ use Rattle.hub_story.specs.Histories.{marks_in, past_in, journal_in, home_of, Is
 use Rattle.hub_story.specs.Folded.{kept}
 use Rattle.shard.specs.declared.shard.Listed.{Listed}
 
--- the boot word of its server and its number, whether its history has begun, the marks of its directory, the newest first, its
--- groups by index, and how many of them are open
+-- the boot word of its server and its number, the marks of its directory, the newest first, its groups by index, and how many of
+-- them are open
 pub record ShardView : Type 0 where
   pub boot : ℕ
   pub number : ℕ
-  pub begun : Bool
   pub marks : List Mark
   pub groups : List Listed
   pub open_groups : ℕ
@@ -29,28 +28,15 @@ listed_at x i = slice_index_or x.groups i unlisted
 abbrev pub group_of : ShardView → ℕ → History
 group_of x g = (listed_at x (index_of g)).group
 
--- a new shard
-pub record Fresh (x : ShardView) : Type 0 where
-  pub small : x.number < 16
-  pub begun_is : x.begun ≡ false
-  pub marks_are : x.marks ≡ []
-  pub groups_are : x.groups ≡ []
-  pub open_is : x.open_groups ≡ 0
-
--- a shard whose history has begun: each group keeps its journal
+-- a shard stands for its history: each group keeps its journal
 pub record Told (x : ShardView) (log : List Item) : Type 0 where
   pub story : IsStory x.boot x.number log
   pub small : x.number < 16
-  pub begun_is : x.begun ≡ true
   pub marks_are : x.marks ≡ marks_in log
   pub count : length x.groups ≡ length (opened_ids x.marks)
   pub open_is : x.open_groups ≡ length (open_ids x.marks)
   pub groups_are : (i : ℕ) → i < length x.groups → (listed_at x i).group ≡ kept (journal_in x.boot (id_of x.number i) log)
   pub flags_are : (i : ℕ) → i < length x.groups → (listed_at x i).retired ≡ is_retired_id x.marks (id_of x.number i)
-
-abbrev pub Tells : ShardView → List Item → Type 0
-Tells x [] = Fresh x
-Tells x (a ∷ log) = Told x (a ∷ log)
 
 -- ACTS
 

@@ -50,6 +50,15 @@ impl Model for ShutKey {
     ghost view = { λ k. k.group };
 }
 
+impl ShutKey {
+    /// The group that it retires.
+    pub fn group(&self) -> u32
+        ensures { result ≡ self.now }
+    {
+        self.group
+    }
+}
+
 /// Whether a group goes on.
 pub enum HubRest {
     Stays,

@@ -3,12 +3,12 @@
 //!
 //! No thread and no lock stands here. Each call of the shard is an `Act`, which runs in one turn: whatever
 //! history the shard tells before, it tells that history with the act's items behind afterwards, and
-//! the answer is by that history. A group keeps its journal folded; no clause of an act speaks of that.
+//! the answer is by that history. A group keeps its journal folded; only the acts that tell what it keeps
+//! speak of that.
 #![tactic(auto)]
 
 mod act;
 mod answer;
-mod begin;
 mod calls;
 mod copy;
 mod find;
@@ -23,4 +23,4 @@ pub use copy::Copied;
 pub use find::Find;
 pub use opening::OpenNext;
 pub use retiring::Retire;
-pub use shard::{Listed, Shard};
+pub use shard::{Listed, Shard, Whose};

@@ -1,7 +1,8 @@
 //! The value under one lock.
-ghost use Rattle.std.specs.Prelude.{◌≡◌, ◌<◌, ◌≤◌};
+ghost use Rattle.std.specs.Prelude.{◌≡◌, ◌<◌, ◌≤◌, [], ◌∷◌};
 ghost use Rattle.hub_story.specs.Directories.{index_of};
-ghost use Rattle.shard.specs.Shards.{Fresh};
+ghost use Rattle.hub_story.specs.declared.item.Item.TheVariants.{Begun};
+ghost use Rattle.shard.specs.Shards.{Told};
 
 use group_core::Group;
 use hub_story::{Item, Mark};
@@ -24,8 +25,6 @@ pub struct Shard {
     pub(crate) alloc: Global,
     pub(crate) boot: u64,
     pub(crate) number: u32,
-    /// Whether its history has begun.
-    pub(crate) begun: bool,
     pub(crate) marks: Vec<Mark>,
     pub(crate) groups: Vec<Listed>,
     /// How many groups are open.
@@ -38,35 +37,47 @@ impl Model for Shard {
 
     ghost Value = { ShardView };
 
-    ghost view = { λ s. record { boot = s.boot; number = s.number; begun = s.begun; marks = reverse s.marks.items; groups = s.groups.items; open_groups = s.open_groups } };
+    ghost view = { λ s. record { boot = s.boot; number = s.number; marks = reverse s.marks.items; groups = s.groups.items; open_groups = s.open_groups } };
 
     // There is room for the Retired of each group that is open.
     ghost invariant = { λ s. vec_len s.marks + s.open_groups ≤ vec_capacity s.marks };
 }
 
+/// Whose history a shard's is: the boot word of the server, and the number of the shard.
+#[derive(Clone, Copy, Debug, PartialEq, Eq)]
+pub struct Whose {
+    pub boot: u64,
+    pub number: u32,
+}
+
 impl Storied for Shard {
+    ghost use Rattle.std.specs.Prelude.{[], ◌∷◌};
+    ghost use Rattle.hub_story.specs.declared.item.Item.TheVariants.{Begun};
     ghost use Rattle.hub_story.specs.Ties.{ties};
-    ghost use Rattle.shard.specs.Shards.{Tells};
+    ghost use Rattle.shard.specs.Shards.{Told};
 
     type Entry = Item;
 
-    ghost tells = { Tells };
+    type Start = Whose;
+
+    ghost first = { λ whose. Begun whose.boot whose.number ∷ [] };
+
+    ghost tells = { Told };
 
     ghost ties = { ties };
 }
 
 impl Shard {
-    /// A shard without a group, whose history has yet to begin. It takes no memory.
+    /// A shard without a group. Its history says whose it is, and nothing else. It takes no memory.
     pub fn new(alloc: Global, boot: u64, number: u32) -> Shard
         requires { number < 16 }
         ensures whose { (result.boot ≡ boot) × (result.number ≡ number) }
-        ensures fresh { Fresh result }
+        ensures told { Told result (Begun boot number ∷ []) }
     {
         Shard {
             alloc,
             boot,
             number,
-            begun: false,
             marks: Vec::new(alloc),
             groups: Vec::new(alloc),
             open_groups: 0,

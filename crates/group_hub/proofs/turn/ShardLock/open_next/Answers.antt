@@ -1,9 +1,0 @@
-use Rattle.group_hub.specs.Seats.{seen_by}
-use Rattle.group_hub.proofs.OpenLemmas.{open_may, ran_opened}
-use Rattle.group_hub.proofs.turn.ShardLock.open_next.Goals as goal
-
-pub run-requires-clause-ties : goal.run-requires-clause-ties
-run-requires-clause-ties g c = λ log r more met d. open_may c.args.self.now.boot c.args.self.now.number (record {}) (seen_by c.args.seat) log r more d
-
-pub returns-clause-call : goal.returns-clause-call
-returns-clause-call g c = ran_opened c.args.self.now.boot c.args.self.now.number (record {}) (seen_by c.args.seat) (seen_by c.run.result.0) c.run.result.1 c.run.ensures.call

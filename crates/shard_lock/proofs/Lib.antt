@@ -1,0 +1,5 @@
+pub mod TurnLemmas
+pub mod CallLemmas
+pub mod FindLemmas
+pub mod OpenLemmas
+pub mod RetireLemmas

@@ -1,0 +1,12 @@
+use Rattle.group_core.specs.Calls.{Accepts}
+use Rattle.shard_lock.proofs.CallLemmas.{asked_accept, accept_may, ran_calls}
+use Rattle.shard_lock.proofs.lock.ShardLock.accept.Goals as goal
+
+pub run-requires-clause-asks : goal.run-requires-clause-asks
+run-requires-clause-asks g c = λ log met. let a = asked_accept c.args.self.now.boot c.args.self.now.number c.args.pass.now log met c.args.group c.args.asked c.requires.serves in (a.0, a.1, c.requires.few)
+
+pub run-requires-clause-ties : goal.run-requires-clause-ties
+run-requires-clause-ties g c = λ log r more met d. accept_may c.args.self.now.boot c.args.self.now.number c.args.pass.now log met c.args.group c.args.asked r more c.requires.serves d
+
+pub returns-clause-call : goal.returns-clause-call
+returns-clause-call g c = ran_calls c.args.self.now.boot c.args.self.now.number c.args.group c.args.pass.now c.run.new.pass (λ j k. Accepts j c.args.asked c.run.result k) c.run.ensures.call

@@ -1,0 +1,15 @@
+use Rattle.std.proofs.Common.{◌≡◌}
+use Rattle.group_core.specs.Stages.{stage_of}
+use Rattle.hub_story.specs.Histories.{journal_in}
+use Rattle.hub_story.proofs.OwnLemmas.{known_opened}
+use Rattle.shard_lock.proofs.CallLemmas.{nothing_may, ran_none}
+use Rattle.shard_lock.proofs.lock.ShardLock.stage.Goals as goal
+
+pub run-requires-clause-asks : goal.run-requires-clause-asks
+run-requires-clause-asks g c = λ log met. known_opened c.args.self.now.boot c.args.self.now.number c.args.pass.now log met c.args.group c.args.call c.requires.known
+
+pub run-requires-clause-ties : goal.run-requires-clause-ties
+run-requires-clause-ties g c = λ log r more met d. nothing_may c.args.self.now.boot c.args.self.now.number c.args.pass.now log met c.args.group more d.0
+
+pub returns-clause-call : goal.returns-clause-call
+returns-clause-call g c = ran_none c.args.self.now.boot c.args.self.now.number c.args.pass.now c.run.new.pass (λ log. c.run.result ≡ stage_of (journal_in c.args.self.now.boot c.args.group log) c.args.call) c.run.ensures.call

@@ -1,0 +1,3 @@
+pub mod Passes
+pub mod Locks
+pub mod Turns

@@ -1,0 +1,43 @@
+//! A group is opened at one shard, and a group's journal is copied.
+ghost use Rattle.std.specs.Prelude.{◌≡◌, List, ◌++◌, IfOk};
+ghost use Rattle.hub_story.specs.declared.item.Item.{Item};
+ghost use Rattle.hub_story.specs.Passes.{Serves};
+ghost use Rattle.hub_story.specs.Calls.{Enters};
+ghost use Rattle.shard.specs.Openings.{gives_open};
+ghost use Rattle.shard.specs.Copies.{gives_copy};
+ghost use Rattle.shard_lock.specs.Locks.{IsPassOf};
+
+use crate::lock::ShardLock;
+use crate::pass::ShardPass;
+use group_core::Journal;
+use rpc_base::NoMemory;
+use shard::{Copied, OpenNext, OpenRefusal};
+use std::sync::Wait;
+
+impl ShardLock {
+    /// Opens the group of the least id that was not opened, which connection 1 of this pass has joined.
+    pub fn open_next<R: Wait>(&self, rt: &R, pass: &mut ShardPass) -> Result<u32, OpenRefusal>
+        requires pass { IsPassOf self.now pass.old }
+        ensures pass { IsPassOf self.now pass.new }
+        ensures call { (between : List Item) × (more : List Item) × Enters self.now.boot self.now.number pass.old pass.new between more
+            × gives_open (record {}) self.now.boot self.now.number (pass.old.log ++ between) result more }
+        ensures serves { IfOk result (λ id. Serves pass.new id 1) }
+    {
+        self.run::<OpenNext, R>(rt, pass, OpenNext)
+    }
+
+    /// A copy of a group's journal as it stands in the hub, retired or not. It enters nothing.
+    pub fn journal<R: Wait>(
+        &self,
+        rt: &R,
+        pass: &mut ShardPass,
+        id: u32,
+    ) -> Result<Option<Journal>, NoMemory>
+        requires pass { IsPassOf self.now pass.old }
+        ensures pass { IsPassOf self.now pass.new }
+        ensures call { (between : List Item) × (more : List Item) × Enters self.now.boot self.now.number pass.old pass.new between more
+            × gives_copy (record { id = id }) self.now.boot self.now.number (pass.old.log ++ between) result more }
+    {
+        self.run::<Copied, R>(rt, pass, Copied { id })
+    }
+}
