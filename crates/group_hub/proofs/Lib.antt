@@ -1,0 +1,4 @@
+pub mod ListLemmas
+pub mod PassLemmas
+pub mod OpenLemmas
+pub mod MakeLemmas

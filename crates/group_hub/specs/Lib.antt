@@ -1,0 +1,4 @@
+pub mod Shards
+pub mod Passes
+pub mod Openings
+pub mod Making

@@ -1,0 +1,139 @@
+//! Calls on a group.
+ghost use Rattle.std.specs.Prelude.{◌≡◌, ◌≤◌, ℕ, true, false, ◌&&◌, not, length};
+ghost use Rattle.handle_model.specs.declared.entry.Entry.TheVariants as entry;
+ghost use Rattle.handle_model.specs.Journal.{runs};
+ghost use Rattle.group_core.specs.Calls.{Accepts, Takes, Cancels, Orphans};
+ghost use Rattle.group_core.specs.Stages.{stage_of, is_asked};
+ghost use Rattle.hub_story.specs.Directories.{is_retired_id};
+ghost use Rattle.hub_story.specs.Histories.{marks_in, journal_in};
+ghost use Rattle.hub_story.specs.Folded.{kept};
+ghost use Rattle.hub_story.specs.Passes.{Serves, HasCall, Knows, Runs};
+ghost use Rattle.shard.specs.Answers.{SettlesWith};
+ghost use Rattle.group_hub.specs.Shards.{shard_of};
+ghost use Rattle.group_hub.specs.Passes.{IsPassOf, at_shard, CallsAt, LooksAt, HasItsShut};
+
+use crate::hub::{Hub, shard_of};
+use crate::pass::Pass;
+use group_core::{AcceptRefusal, Cancelled, Orphaned, Stage, Taking};
+use handle_model::{Asked, Outcomes, Said};
+use shard::HubRest;
+use std::sync::Wait;
+
+impl Hub {
+    /// Accepts a call of a connection that is this pass's, as `Group::accept`.
+    pub fn accept<R: Wait>(
+        &self,
+        rt: &R,
+        pass: &mut Pass,
+        group: u32,
+        asked: Asked,
+    ) -> Result<u32, (Asked, AcceptRefusal)>
+        requires pass { IsPassOf self.now pass.old }
+        requires serves { Serves (at_shard pass.old (shard_of group)) group asked.conn }
+        requires few { length asked.slots ≤ 4 }
+        ensures pass { IsPassOf self.now pass.new }
+        ensures call { CallsAt self.now.boot group pass.old pass.new (λ j k. Accepts j asked result k) }
+    {
+        let number = shard_of(group);
+        self.shard(number)
+            .accept(rt, &mut pass.shards[number], group, asked)
+    }
+
+    /// Takes or denies a call of a connection that is this pass's, as `Group::take`. It takes no memory.
+    pub fn take<R: Wait>(&self, rt: &R, pass: &mut Pass, group: u32, call: u32) -> Taking
+        requires pass { IsPassOf self.now pass.old }
+        requires serves { (conn : ℕ) × HasCall (at_shard pass.old (shard_of group)) group conn call }
+        ensures pass { IsPassOf self.now pass.new }
+        ensures call { CallsAt self.now.boot group pass.old pass.new (λ j k. Takes j call result k) }
+    {
+        let number = shard_of(group);
+        self.shard(number)
+            .take(rt, &mut pass.shards[number], group, call)
+    }
+
+    /// Cancels a call of a connection that is this pass's, as `Group::cancel`. It takes no memory.
+    pub fn cancel<R: Wait>(&self, rt: &R, pass: &mut Pass, group: u32, call: u32) -> Cancelled
+        requires pass { IsPassOf self.now pass.old }
+        requires serves { (conn : ℕ) × HasCall (at_shard pass.old (shard_of group)) group conn call }
+        ensures pass { IsPassOf self.now pass.new }
+        ensures call { CallsAt self.now.boot group pass.old pass.new (λ j k. Cancels j call result k) }
+    {
+        let number = shard_of(group);
+        self.shard(number)
+            .cancel(rt, &mut pass.shards[number], group, call)
+    }
+
+    /// Orphans a call of a connection that is this pass's, as `Group::orphan`. It takes no memory.
+    pub fn orphan<R: Wait>(&self, rt: &R, pass: &mut Pass, group: u32, call: u32) -> Orphaned
+        requires pass { IsPassOf self.now pass.old }
+        requires serves { (conn : ℕ) × HasCall (at_shard pass.old (shard_of group)) group conn call }
+        ensures pass { IsPassOf self.now pass.new }
+        ensures call { CallsAt self.now.boot group pass.old pass.new (λ j k. Orphans j call result k) }
+    {
+        let number = shard_of(group);
+        self.shard(number)
+            .orphan(rt, &mut pass.shards[number], group, call)
+    }
+
+    /// Ends a call that this pass took, and the group where that is then due. It takes no memory.
+    pub fn end<R: Wait>(
+        &self,
+        rt: &R,
+        pass: &mut Pass,
+        group: u32,
+        call: u32,
+        results: Outcomes,
+        said: Said,
+    ) -> HubRest
+        requires pass { IsPassOf self.now pass.old }
+        requires runs { Runs (at_shard pass.old (shard_of group)) group call results }
+        ensures pass { IsPassOf self.now pass.new }
+        ensures call { CallsAt self.now.boot group pass.old pass.new (SettlesWith group (entry.End call results said) result) }
+        ensures shut { HasItsShut pass.new result }
+    {
+        let number = shard_of(group);
+        self.shard(number)
+            .end(rt, &mut pass.shards[number], group, call, results, said)
+    }
+
+    /// A connection that is this pass's leaves, and the group ends where that is then due. It takes no memory.
+    pub fn leave<R: Wait>(&self, rt: &R, pass: &mut Pass, group: u32, conn: u32) -> HubRest
+        requires pass { IsPassOf self.now pass.old }
+        requires serves { Serves (at_shard pass.old (shard_of group)) group conn }
+        ensures pass { IsPassOf self.now pass.new }
+        ensures call { CallsAt self.now.boot group pass.old pass.new (SettlesWith group (entry.Leave conn) result) }
+        ensures shut { HasItsShut pass.new result }
+    {
+        let number = shard_of(group);
+        self.shard(number)
+            .leave(rt, &mut pass.shards[number], group, conn)
+    }
+
+    /// Where a call is. It enters nothing and takes no memory.
+    pub fn stage<R: Wait>(&self, rt: &R, pass: &mut Pass, group: u32, call: u32) -> Stage
+        requires pass { IsPassOf self.now pass.old }
+        requires known { Knows (at_shard pass.old (shard_of group)) group call }
+        ensures pass { IsPassOf self.now pass.new }
+        ensures call { LooksAt self.now.boot group pass.old pass.new (λ log. result ≡ stage_of (journal_in self.now.boot group log) call) }
+    {
+        let number = shard_of(group);
+        self.shard(number)
+            .stage(rt, &mut pass.shards[number], group, call)
+    }
+
+    /// Whether a call was asked to end, by the journal as the group keeps it; of a group that was retired it
+    /// answers false. What it tells is so by the whole journal, and of a call that runs it tells that. It
+    /// enters nothing and takes no memory.
+    pub fn asked<R: Wait>(&self, rt: &R, pass: &mut Pass, group: u32, call: u32) -> bool
+        requires pass { IsPassOf self.now pass.old }
+        requires known { Knows (at_shard pass.old (shard_of group)) group call }
+        ensures pass { IsPassOf self.now pass.new }
+        ensures call { LooksAt self.now.boot group pass.old pass.new (λ log. result ≡ (not (is_retired_id (marks_in log) group) && is_asked (kept (journal_in self.now.boot group log)) call)) }
+        ensures told { result ≡ true → is_asked (journal_in self.now.boot group (at_shard pass.new (shard_of group)).log) call ≡ true }
+        ensures running { is_retired_id (marks_in (at_shard pass.new (shard_of group)).log) group ≡ false → runs (journal_in self.now.boot group (at_shard pass.new (shard_of group)).log) call ≡ true → result ≡ is_asked (journal_in self.now.boot group (at_shard pass.new (shard_of group)).log) call }
+    {
+        let number = shard_of(group);
+        self.shard(number)
+            .asked(rt, &mut pass.shards[number], group, call)
+    }
+}
