@@ -2,6 +2,7 @@
 use Rattle.std.proofs.Common.{◌≡◌, ℕ, List, Option, Some, None, Result, Ok, Err, refl, sym, ap, subst, ◌∙◌}
 use Rattle.std.specs.Prelude.{slice_get, IfOk}
 use Rattle.rpc_base.specs.declared.identifiers.Order.{Order}
+use Rattle.rpc_base.specs.Fields.{IsOctets}
 use Rattle.ndr_value.specs.Forms.{Form}
 use Rattle.ndr_value.specs.Values.{Vals, Msg, msg}
 use Rattle.ndr_value.specs.declared.value.Message.{Message}
@@ -22,6 +23,8 @@ use Rattle.ndr_read.specs.Gives.{Fails}
 use Rattle.ndr_read.specs.Readings.{reading, reading_of}
 use Rattle.ndr_laws.specs.Laws.{IsOp}
 use Rattle.ndr_laws.proofs.Stubs.{read_stands, stub_found}
+use Rattle.ndr_written.specs.Fits.{IsOfOp}
+use Rattle.ndr_written.proofs.Stubs.{read_of_op}
 use Rattle.ndr_codec.specs.declared.fault.NdrFault.{NdrFault}
 use Rattle.ndr_codec.specs.declared.fault.NdrFault.TheVariants.{Short, Bound, Tag, Pointer, Text, TooDeep, Trailing, Memory}
 use Rattle.ndr_codec.specs.Faults.{fault_of, of_error, IsFault, Decodes, IsThat}
@@ -100,3 +103,8 @@ pub found_all : (types : List Form) (ops : List OpForm) (n : ℕ) (way : Way) (o
     → ((o : OpForm) → slice_get ops n ≡ Some o → Decodes r (read_stub types o way order asked octets)) → IfOk r (λ m. (o : OpForm) → slice_get ops n ≡ Some o → IsStub types o way order asked (msg m) octets)
 found_all types ops n way order asked octets (Ok m) h = λ o is. read_stands types o way order asked octets (msg m) (h o is)
 found_all types ops n way order asked octets (Err f) h = tt
+
+pub of_op_all : (types : List Form) (ops : List OpForm) (n : ℕ) (way : Way) (order : Order) (asked : Option Msg) (octets : List ℕ) (r : Result Message NdrFault) → IsOctets octets
+    → ((o : OpForm) → slice_get ops n ≡ Some o → Decodes r (read_stub types o way order asked octets)) → IfOk r (λ m. (o : OpForm) → slice_get ops n ≡ Some o → IsOfOp types o way asked (msg m))
+of_op_all types ops n way order asked octets (Ok m) are h = λ o is. read_of_op types o way order asked octets (msg m) are (h o is)
+of_op_all types ops n way order asked octets (Err f) are h = tt

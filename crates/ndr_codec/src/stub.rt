@@ -5,6 +5,7 @@ ghost use Rattle.table_form.specs.Shown.{shown};
 ghost use Rattle.table_form.specs.Tables.{OpForm, op_form};
 ghost use Rattle.ndr_model.specs.Message.{IsStub, read_stub};
 ghost use Rattle.ndr_model.specs.Message as model;
+ghost use Rattle.ndr_written.specs.Fits.{IsOfOp};
 ghost use Rattle.ndr_agree.specs.Views.{asked_of};
 ghost use Rattle.ndr_codec.specs.Faults.{Decodes, IsThat};
 
@@ -77,6 +78,8 @@ pub fn decode(
     // What is decoded has the octets as a stub, and what has them is decoded.
     ensures found { IfOk result (λ m. (o : OpForm) → slice_get (shown table.now).ops op ≡ Some o → IsStub (shown table.now).types o way order (asked_of (λ m. m.now) asked.entry) (msg m) stub.now) }
     ensures only { (o : OpForm) (m : Msg) → slice_get (shown table.now).ops op ≡ Some o → IsStub (shown table.now).types o way order (asked_of (λ m. m.now) asked.entry) m stub.now → IsThat result m }
+    // It is of the operation, by its values.
+    ensures of_op { IfOk result (λ m. (o : OpForm) → slice_get (shown table.now).ops op ≡ Some o → IsOfOp (shown table.now).types o way (asked_of (λ m. m.now) asked.entry) (msg m)) }
     // Which departure it is.
     ensures exact { (o : OpForm) → slice_get (shown table.now).ops op ≡ Some o → Decodes result (read_stub (shown table.now).types o way order (asked_of (λ m. m.now) asked.entry) stub.now) }
 {

@@ -22,12 +22,6 @@ pub record IsStub (types : List Form) (op : OpForm) (way : Way) (order : Order) 
   pub left : List Mark
   pub agree : AgreeTogether types (record { op = op; way = way; asked = asked; said = m }) (entries way op) m.values end.marks left
 
--- a message of the operation: one with a stub
-pub record IsMessage (types : List Form) (op : OpForm) (way : Way) (asked : Option Msg) (m : Msg) : Type 0 where
-  pub order : Order
-  pub octets : List ℕ
-  pub stub : IsStub types op way order asked m octets
-
 -- ---- how it is read, and the first departure
 
 -- types, parameters and results nest by value 16 levels at most, so between a pointer and the next there are less than 1024

@@ -1,4 +1,4 @@
--- Pieces of a flat part: pointers of each kind, handles, and the mark of a max_count in its place.
+-- Pieces of a flat part: pointers of each kind, names, handles, texts, and the mark of a max_count in its place.
 use Rattle.std.specs.Prelude.{ℕ, suc, pos, List, [], ◌∷◌, ◌++◌, Option, Some, None, Ok}
 use Rattle.rpc_base.specs.declared.identifiers.Order.{Order}
 use Rattle.ndr_value.specs.Forms.{Form}
@@ -9,9 +9,9 @@ use Rattle.ndr_pointers.specs.declared.referents.Points.TheVariants.{Ref, Unique
 use Rattle.ndr_model.specs.declared.mark.Mark.{Mark}
 use Rattle.ndr_model.specs.declared.mark.Mark.TheVariants.{Number}
 use Rattle.ndr_model.specs.Places.{Place, Last, past}
-use Rattle.ndr_model.specs.Reading.{number, wire_at}
-use Rattle.ndr_value.specs.Values.{VHandle}
-use Rattle.ndr_model.specs.Build.{Cursor, Built, ends}
+use Rattle.ndr_model.specs.Reading.{number, name_at, wire_at, chars_at}
+use Rattle.ndr_value.specs.Values.{VEnum, VText, VHandle}
+use Rattle.ndr_model.specs.Build.{Cursor, Built, ahead, ends}
 use Rattle.ndr_model.specs.Scan.{Scanned, level, unique_by, full_by}
 
 abbrev pub pointer_by : Points → ℕ → ℕ → Form → Place → ℕ → Scanned
@@ -27,6 +27,12 @@ wire_scan order octets p = wire_at order octets p.at >>= λ x. Ok (record { at =
 
 abbrev pub wire_build : Order → List ℕ → Cursor → Last → Built
 wire_build order octets a q = wire_at order octets a.at >>= λ x. Ok (VHandle a.handles, ends (record { at = x.1; ids = a.ids; handles = suc a.handles }) q)
+
+abbrev pub name_build : Order → List ℕ → ℕ → Cursor → Last → Built
+name_build order octets count a q = name_at order octets count a.at >>= λ x. Ok (VEnum x.0, ends (ahead a x.1) q)
+
+abbrev pub chars_build : Order → List ℕ → Option ℕ → Option ℕ → Cursor → Last → Built
+chars_build order octets size moved a q = chars_at order octets size moved a.at >>= λ x. Ok (VText x.0, ends (ahead a x.1) q)
 
 -- a max_count after index i, unless it has moved in front of a structure
 abbrev pub most_marks : Option ℕ → ℕ → ℕ → List Mark

@@ -1,25 +1,27 @@
 //! A value whose flat part stands at one place, and whose referents stand at another.
-ghost use Rattle.std.specs.Prelude.{◌≡◌, ◌∷◌, [], ◌+◌, ◌-◌, ◌≤◌, ◌<◌, ◌==◌, ℕ, Option, None, Some, Ok, true, not, length, slice_get};
-ghost use Rattle.ndr_value.specs.Forms.{form, forms, body, OfByte, OfText, OfHandle, OfInt};
+ghost use Rattle.std.specs.Prelude.{◌≡◌, ◌∷◌, [], ◌++◌, ◌+◌, ◌-◌, ◌≤◌, ◌<◌, ◌==◌, ℕ, Option, None, Some, Ok, OnOk, true, not, length, slice_get};
+ghost use Rattle.ndr_value.specs.Forms.{form, forms, arms_of, body, OfByte, OfStruct, OfUnion, OfArray, OfRef, OfUnique, OfFull};
 ghost use Rattle.ndr_value.specs.Values.{val, vals, bytes, VStruct, VArray, VUnion, VEmpty, VPtr, VNull, VFull};
-ghost use Rattle.ndr_scalars.specs.Scalars.{up, signed};
+ghost use Rattle.ndr_scalars.specs.Scalars.{up};
 ghost use Rattle.ndr_model.specs.declared.mark.Mark.TheVariants.{Referent};
 ghost use Rattle.ndr_model.specs.Places.{Last, noting, look};
 ghost use Rattle.ndr_model.specs.Reading.{number};
 ghost use Rattle.ndr_model.specs.Scan.{scan};
 ghost use Rattle.ndr_model.specs.Build.{ahead, ends, build, build_at, built_each, built_times, built_arm, whole, referent, behind_ref, behind_unique, behind_full, behind_known, in_struct, in_array};
 ghost use Rattle.ndr_read.specs.Gives.{Gives};
-ghost use Rattle.ndr_read.specs.Pointing.{wire_build};
 ghost use Rattle.ndr_read.specs.Views.{types_in, cursor_of, last_of};
 
 use crate::fault::ReadError;
+use crate::leaves::{
+    build_bool, build_byte, build_char, build_enum, build_handle, build_int, build_text, build_uint,
+};
 use crate::notes::{note, note_counts, note_front};
 use crate::pieces::{arm_for, tag_octets};
 use crate::scan::{if_last, scan_flat};
 use crate::state::{Flat, Kept, Reader, Tail};
 use ndr_model::{Departure, Mark};
-use ndr_value::{Arm, Shape, Value};
-use rpc_base::Octets;
+use ndr_value::{Arm, ArrayKind, Shape, Value};
+use rpc_base::{NoMemory, Octets};
 
 #[tactic(auto, unfolding(ndr_model::specs::Build::build))]
 #[cycle(build)]
@@ -29,10 +31,10 @@ pub(crate) fn build_value<'a>(
     room: u16,
     moved: Option<u32>,
     shape: &'a Shape,
-    flat: Flat,
+    flat: &mut Flat,
     tail: &mut Tail<'a>,
-) -> Result<(Value, Flat), ReadError>
-    ensures { Gives (λ x. (val x.0, ends (cursor_of x.1) (last_of tail.new))) result (build (types_in reader.now) reader.now.order reader.now.octets.now fuel room moved (form shape.now) (cursor_of flat) (last_of tail.old)) }
+) -> Result<Value, ReadError>
+    ensures { Gives (λ v. (val v, ends (cursor_of flat.new) (last_of tail.new))) result (build (types_in reader.now) reader.now.order reader.now.octets.now fuel room moved (form shape.now) (cursor_of flat.old) (last_of tail.old)) }
 {
     if fuel == 0 {
         return Err(ReadError::Departs(Departure::TooDeep(flat.at)));
@@ -47,122 +49,37 @@ fn build_one<'a>(
     room: u16,
     moved: Option<u32>,
     shape: &'a Shape,
-    flat: Flat,
+    flat: &mut Flat,
     tail: &mut Tail<'a>,
-) -> Result<(Value, Flat), ReadError>
-    ensures { Gives (λ x. (val x.0, ends (cursor_of x.1) (last_of tail.new))) result (build_at (types_in reader.now) reader.now.order reader.now.octets.now (scan (types_in reader.now) reader.now.order reader.now.octets.now fuel) (build (types_in reader.now) reader.now.order reader.now.octets.now fuel) room moved (form shape.now) (cursor_of flat) (last_of tail.old)) }
+) -> Result<Value, ReadError>
+    ensures { Gives (λ v. (val v, ends (cursor_of flat.new) (last_of tail.new))) result (build_at (types_in reader.now) reader.now.order reader.now.octets.now (scan (types_in reader.now) reader.now.order reader.now.octets.now fuel) (build (types_in reader.now) reader.now.order reader.now.octets.now fuel) room moved (form shape.now) (cursor_of flat.old) (last_of tail.old)) }
 {
     match shape {
-        Shape::Bool => {
-            let (octet, after) = reader.octet(flat.at)?;
-            Ok((Value::Bool(octet != 0), flat.ahead(after)))
-        }
-        Shape::Byte => {
-            let (octet, after) = reader.octet(flat.at)?;
-            Ok((Value::Byte(octet), flat.ahead(after)))
-        }
-        Shape::Char => {
-            let (octet, after) = reader.octet(flat.at)?;
-            Ok((Value::Char(octet), flat.ahead(after)))
-        }
-        Shape::Int(size) => {
-            let (number, after) = reader.signed(*size, flat.at)?;
-            Ok((Value::Int(number), flat.ahead(after)))
-        }
-        Shape::Uint(size) => {
-            let (number, after) = reader.number(*size, flat.at)?;
-            Ok((Value::Uint(number), flat.ahead(after)))
-        }
-        Shape::Enum(count) => {
-            let (name, after) = reader.name(*count, flat.at)?;
-            Ok((Value::Enum(name), flat.ahead(after)))
-        }
+        Shape::Bool => build_bool(reader, flat),
+        Shape::Byte => build_byte(reader, flat),
+        Shape::Char => build_char(reader, flat),
+        Shape::Int(size) => build_int(reader, *size, flat),
+        Shape::Uint(size) => build_uint(reader, *size, flat),
+        Shape::Enum(count) => build_enum(reader, *count, flat),
         Shape::Handle(_) => build_handle(reader, flat),
-        Shape::Text(size) => {
-            let (found, after) = reader.chars(*size, moved, flat.at)?;
-            let text = Vec::from_slice(reader.alloc, found)?;
-            Ok((Value::Text(Octets::from_vec(text)), flat.ahead(after)))
-        }
+        Shape::Text(size) => build_text(reader, *size, moved, flat),
         Shape::Named(number, _) => match reader.named(*number) {
             None => Err(ReadError::Departs(Departure::TooDeep(flat.at))),
             Some(other) => build_value(fuel, reader, room, moved, other, flat, tail),
         },
         Shape::Struct(members) => {
-            let (own, begin) = reader.begin(shape, moved, flat.at)?;
-            note_front(reader, moved, own, flat.at, tail)?;
-            build_struct(fuel, reader, room, own, members, flat.ahead(begin), tail)
+            build_struct(fuel, reader, room, moved, shape, members, flat, tail)
         }
-        Shape::Union { tag: kind, arms } => {
-            let (tag, after) = reader.union_tag(shape, kind, flat.at)?;
-            let place = after - tag_octets(kind) as usize;
-            match arm_for(kind, arms, tag) {
-                None => Err(ReadError::Departs(Departure::Tag(place))),
-                Some(arm) => {
-                    note(Mark::Number(place, tag), tail)?;
-                    build_arm(fuel, reader, room, arm, tag, flat.ahead(after), tail)
-                }
-            }
+        Shape::Union { tag, arms } => {
+            build_union(fuel, reader, room, shape, tag, arms, flat, tail)
         }
         Shape::Array(kind, inner) => {
-            let (counts, after) = reader.counts(kind, moved, flat.at)?;
-            note_counts(reader, kind, moved, counts, flat.at, after, tail)?;
-            build_items(
-                fuel,
-                reader,
-                room,
-                inner,
-                counts.actual,
-                flat.ahead(after),
-                tail,
-            )
+            build_array(fuel, reader, room, moved, kind, inner, flat, tail)
         }
-        Shape::Ref(inner) => {
-            let (_, after) = reader.word(flat.at)?;
-            let value = build_referent(fuel, reader, room, after - 4, inner, tail)?;
-            Ok((value, flat.ahead(after)))
-        }
-        Shape::Unique(inner) => {
-            let (id, after) = reader.word(flat.at)?;
-            build_unique(
-                fuel,
-                reader,
-                room,
-                id,
-                after - 4,
-                inner,
-                flat.ahead(after),
-                tail,
-            )
-        }
-        Shape::Full(inner) => {
-            let (id, after) = reader.word(flat.at)?;
-            build_full(
-                fuel,
-                reader,
-                room,
-                id,
-                after - 4,
-                inner,
-                flat.ahead(after),
-                tail,
-            )
-        }
+        Shape::Ref(inner) => build_ref(fuel, reader, room, inner, flat, tail),
+        Shape::Unique(inner) => build_unique(fuel, reader, room, inner, flat, tail),
+        Shape::Full(inner) => build_full(fuel, reader, room, inner, flat, tail),
     }
-}
-
-fn build_handle(reader: &Reader<'_>, flat: Flat) -> Result<(Value, Flat), ReadError>
-    ensures { (q : Last) → Gives (λ x. (val x.0, ends (cursor_of x.1) q)) result (wire_build reader.now.order reader.now.octets.now (cursor_of flat) q) }
-{
-    let (_, after) = reader.wire(flat.at)?;
-    if flat.handles > 255 {
-        return Err(ReadError::Memory);
-    }
-    let next = Flat {
-        at: after,
-        ids: flat.ids,
-        handles: flat.handles + 1,
-    };
-    Ok((Value::Handle(flat.handles as u8), next))
 }
 
 fn made_struct(values: Vec<Value>) -> Value
@@ -177,20 +94,50 @@ fn made_array(values: Vec<Value>) -> Value
     Value::Array(values)
 }
 
+// Adds a value to those before it.
+#[inline(never)]
+fn add(value: Value, values: &mut Vec<Value>) -> Result<(), NoMemory>
+    ensures { OnOk result (values.new.items ≡ values.old.items ++ value ∷ []) }
+{
+    values.push(value)?;
+    Ok(())
+}
+
 #[cycle(build)]
+#[inline(never)]
 fn build_struct<'a>(
+    fuel: u32,
+    reader: &Reader<'a>,
+    room: u16,
+    moved: Option<u32>,
+    shape: &'a Shape,
+    members: &'a [Shape],
+    flat: &mut Flat,
+    tail: &mut Tail<'a>,
+) -> Result<Value, ReadError>
+    requires { form shape.now ≡ OfStruct (forms members.now) }
+    ensures { Gives (λ v. (val v, ends (cursor_of flat.new) (last_of tail.new))) result (build_at (types_in reader.now) reader.now.order reader.now.octets.now (scan (types_in reader.now) reader.now.order reader.now.octets.now fuel) (build (types_in reader.now) reader.now.order reader.now.octets.now fuel) room moved (form shape.now) (cursor_of flat.old) (last_of tail.old)) }
+{
+    let (own, begin) = reader.begin(shape, moved, flat.at)?;
+    note_front(reader, moved, own, flat.at, tail)?;
+    flat.at = begin;
+    build_members(fuel, reader, room, own, members, flat, tail)
+}
+
+#[cycle(build)]
+fn build_members<'a>(
     fuel: u32,
     reader: &Reader<'a>,
     room: u16,
     own: Option<u32>,
     shapes: &'a [Shape],
-    flat: Flat,
+    flat: &mut Flat,
     tail: &mut Tail<'a>,
-) -> Result<(Value, Flat), ReadError>
-    ensures { Gives (λ x. (val x.0, ends (cursor_of x.1) (last_of tail.new))) result (in_struct (built_each (build (types_in reader.now) reader.now.order reader.now.octets.now fuel room) own (forms shapes.now) (cursor_of flat) (last_of tail.old))) }
+) -> Result<Value, ReadError>
+    ensures { Gives (λ v. (val v, ends (cursor_of flat.new) (last_of tail.new))) result (in_struct (built_each (build (types_in reader.now) reader.now.order reader.now.octets.now fuel room) own (forms shapes.now) (cursor_of flat.old) (last_of tail.old))) }
 {
-    let (values, next) = build_each(fuel, reader, room, own, shapes, flat, tail)?;
-    Ok((made_struct(values), next))
+    let values = build_each(fuel, reader, room, own, shapes, flat, tail)?;
+    Ok(made_struct(values))
 }
 
 #[cycle(build)]
@@ -200,22 +147,47 @@ fn build_each<'a>(
     room: u16,
     own: Option<u32>,
     shapes: &'a [Shape],
-    flat: Flat,
+    flat: &mut Flat,
     tail: &mut Tail<'a>,
-) -> Result<(Vec<Value>, Flat), ReadError>
-    ensures { Gives (λ x. (vals x.0.items, ends (cursor_of x.1) (last_of tail.new))) result (built_each (build (types_in reader.now) reader.now.order reader.now.octets.now fuel room) own (forms shapes.now) (cursor_of flat) (last_of tail.old)) }
+) -> Result<Vec<Value>, ReadError>
+    ensures { Gives (λ vs. (vals vs.items, ends (cursor_of flat.new) (last_of tail.new))) result (built_each (build (types_in reader.now) reader.now.order reader.now.octets.now fuel room) own (forms shapes.now) (cursor_of flat.old) (last_of tail.old)) }
 {
     let mut values = Vec::new(reader.alloc);
-    let mut place = flat;
     let mut left = shapes.len();
     for shape in shapes {
         left -= 1;
         let moved = if_last(left, own);
-        let (value, next) = build_value(fuel, reader, room, moved, shape, place, tail)?;
-        values.push(value)?;
-        place = next;
+        let value = build_value(fuel, reader, room, moved, shape, flat, tail)?;
+        add(value, &mut values)?;
     }
-    Ok((values, place))
+    Ok(values)
+}
+
+#[cycle(build)]
+#[inline(never)]
+fn build_union<'a>(
+    fuel: u32,
+    reader: &Reader<'a>,
+    room: u16,
+    shape: &'a Shape,
+    kind: &'a Shape,
+    arms: &'a [Arm],
+    flat: &mut Flat,
+    tail: &mut Tail<'a>,
+) -> Result<Value, ReadError>
+    requires { form shape.now ≡ OfUnion (form kind.now) (arms_of arms.now) }
+    ensures { (moved : Option ℕ) → Gives (λ v. (val v, ends (cursor_of flat.new) (last_of tail.new))) result (build_at (types_in reader.now) reader.now.order reader.now.octets.now (scan (types_in reader.now) reader.now.order reader.now.octets.now fuel) (build (types_in reader.now) reader.now.order reader.now.octets.now fuel) room moved (form shape.now) (cursor_of flat.old) (last_of tail.old)) }
+{
+    let (tag, after) = reader.union_tag(shape, kind, flat.at)?;
+    let place = after - tag_octets(kind) as usize;
+    match arm_for(kind, arms, tag) {
+        None => Err(ReadError::Departs(Departure::Tag(place))),
+        Some(arm) => {
+            note(Mark::Number(place, tag), tail)?;
+            flat.at = after;
+            build_arm(fuel, reader, room, arm, tag, flat, tail)
+        }
+    }
 }
 
 #[cycle(build)]
@@ -225,19 +197,39 @@ fn build_arm<'a>(
     room: u16,
     arm: &'a Arm,
     tag: i64,
-    flat: Flat,
+    flat: &mut Flat,
     tail: &mut Tail<'a>,
-) -> Result<(Value, Flat), ReadError>
-    ensures { (i : ℕ) → Gives (λ x. (val x.0, ends (cursor_of x.1) (last_of tail.new))) result (built_arm (Some (body arm.now.shape)) i tag (cursor_of flat) (last_of tail.old) (build (types_in reader.now) reader.now.order reader.now.octets.now fuel room None)) }
+) -> Result<Value, ReadError>
+    ensures { (i : ℕ) → Gives (λ v. (val v, ends (cursor_of flat.new) (last_of tail.new))) result (built_arm (Some (body arm.now.shape)) i tag (cursor_of flat.old) (last_of tail.old) (build (types_in reader.now) reader.now.order reader.now.octets.now fuel room None)) }
 {
     match &arm.shape {
-        None => Ok((Value::Union { tag, arm: None }, flat)),
+        None => Ok(Value::Union { tag, arm: None }),
         Some(shape) => {
-            let (value, next) = build_value(fuel, reader, room, None, shape, flat, tail)?;
+            let value = build_value(fuel, reader, room, None, shape, flat, tail)?;
             let arm = Some(Box::new(reader.alloc, value)?);
-            Ok((Value::Union { tag, arm }, next))
+            Ok(Value::Union { tag, arm })
         }
     }
+}
+
+#[cycle(build)]
+#[inline(never)]
+fn build_array<'a>(
+    fuel: u32,
+    reader: &Reader<'a>,
+    room: u16,
+    moved: Option<u32>,
+    kind: &ArrayKind,
+    inner: &'a Shape,
+    flat: &mut Flat,
+    tail: &mut Tail<'a>,
+) -> Result<Value, ReadError>
+    ensures { Gives (λ v. (val v, ends (cursor_of flat.new) (last_of tail.new))) result (build_at (types_in reader.now) reader.now.order reader.now.octets.now (scan (types_in reader.now) reader.now.order reader.now.octets.now fuel) (build (types_in reader.now) reader.now.order reader.now.octets.now fuel) room moved (OfArray kind.now (form inner.now)) (cursor_of flat.old) (last_of tail.old)) }
+{
+    let (counts, after) = reader.counts(kind, moved, flat.at)?;
+    note_counts(reader, kind, moved, counts, flat.at, after, tail)?;
+    flat.at = after;
+    build_items(fuel, reader, room, inner, counts.actual, flat, tail)
 }
 
 #[cycle(build)]
@@ -247,31 +239,31 @@ fn build_items<'a>(
     room: u16,
     shape: &'a Shape,
     count: u32,
-    flat: Flat,
+    flat: &mut Flat,
     tail: &mut Tail<'a>,
-) -> Result<(Value, Flat), ReadError>
-    ensures { Gives (λ x. (val x.0, ends (cursor_of x.1) (last_of tail.new))) result (in_array (built_times (build (types_in reader.now) reader.now.order reader.now.octets.now fuel room None (form shape.now)) count (cursor_of flat) (last_of tail.old))) }
+) -> Result<Value, ReadError>
+    ensures { Gives (λ v. (val v, ends (cursor_of flat.new) (last_of tail.new))) result (in_array (built_times (build (types_in reader.now) reader.now.order reader.now.octets.now fuel room None (form shape.now)) count (cursor_of flat.old) (last_of tail.old))) }
 {
     match shape {
         Shape::Byte => build_bytes(fuel, reader, room, count, flat),
-        _ => build_array(fuel, reader, room, shape, count, flat, tail),
+        _ => build_each_item(fuel, reader, room, shape, count, flat, tail),
     }
 }
 
 #[cycle(build)]
-fn build_array<'a>(
+fn build_each_item<'a>(
     fuel: u32,
     reader: &Reader<'a>,
     room: u16,
     shape: &'a Shape,
     count: u32,
-    flat: Flat,
+    flat: &mut Flat,
     tail: &mut Tail<'a>,
-) -> Result<(Value, Flat), ReadError>
-    ensures { Gives (λ x. (val x.0, ends (cursor_of x.1) (last_of tail.new))) result (in_array (built_times (build (types_in reader.now) reader.now.order reader.now.octets.now fuel room None (form shape.now)) count (cursor_of flat) (last_of tail.old))) }
+) -> Result<Value, ReadError>
+    ensures { Gives (λ v. (val v, ends (cursor_of flat.new) (last_of tail.new))) result (in_array (built_times (build (types_in reader.now) reader.now.order reader.now.octets.now fuel room None (form shape.now)) count (cursor_of flat.old) (last_of tail.old))) }
 {
-    let (values, next) = build_times(fuel, reader, room, shape, count, flat, tail)?;
-    Ok((made_array(values), next))
+    let values = build_times(fuel, reader, room, shape, count, flat, tail)?;
+    Ok(made_array(values))
 }
 
 #[cycle(build)]
@@ -281,33 +273,32 @@ fn build_times<'a>(
     room: u16,
     shape: &'a Shape,
     count: u32,
-    flat: Flat,
+    flat: &mut Flat,
     tail: &mut Tail<'a>,
-) -> Result<(Vec<Value>, Flat), ReadError>
-    ensures { Gives (λ x. (vals x.0.items, ends (cursor_of x.1) (last_of tail.new))) result (built_times (build (types_in reader.now) reader.now.order reader.now.octets.now fuel room None (form shape.now)) count (cursor_of flat) (last_of tail.old)) }
+) -> Result<Vec<Value>, ReadError>
+    ensures { Gives (λ vs. (vals vs.items, ends (cursor_of flat.new) (last_of tail.new))) result (built_times (build (types_in reader.now) reader.now.order reader.now.octets.now fuel room None (form shape.now)) count (cursor_of flat.old) (last_of tail.old)) }
 {
     let mut values = Vec::new(reader.alloc);
-    let mut place = flat;
     for _ in 0..count {
-        let (value, next) = build_value(fuel, reader, room, None, shape, place, tail)?;
-        values.push(value)?;
-        place = next;
+        let value = build_value(fuel, reader, room, None, shape, flat, tail)?;
+        add(value, &mut values)?;
     }
-    Ok((values, place))
+    Ok(values)
 }
 
 // As many octets, as they stand.
+#[inline(never)]
 fn build_bytes(
     fuel: u32,
     reader: &Reader<'_>,
     room: u16,
     count: u32,
-    flat: Flat,
-) -> Result<(Value, Flat), ReadError>
-    ensures { (q : Last) → Gives (λ x. (val x.0, ends (cursor_of x.1) q)) result (in_array (built_times (build (types_in reader.now) reader.now.order reader.now.octets.now fuel room None OfByte) count (cursor_of flat) q)) }
+    flat: &mut Flat,
+) -> Result<Value, ReadError>
+    ensures { (q : Last) → Gives (λ v. (val v, ends (cursor_of flat.new) q)) result (in_array (built_times (build (types_in reader.now) reader.now.order reader.now.octets.now fuel room None OfByte) count (cursor_of flat.old) q)) }
 {
     if count == 0 {
-        return Ok((Value::Octets(Octets::new(reader.alloc)), flat));
+        return Ok(Value::Octets(Octets::new(reader.alloc)));
     }
     if fuel == 0 {
         return Err(ReadError::Departs(Departure::TooDeep(flat.at)));
@@ -321,45 +312,82 @@ fn build_bytes(
     }
     let end = flat.at + count as usize;
     let octets = Vec::from_slice(reader.alloc, &reader.octets[flat.at..end])?;
-    Ok((Value::Octets(Octets::from_vec(octets)), flat.ahead(end)))
+    flat.at = end;
+    Ok(Value::Octets(Octets::from_vec(octets)))
 }
 
 #[cycle(build)]
+#[inline(never)]
+fn build_ref<'a>(
+    fuel: u32,
+    reader: &Reader<'a>,
+    room: u16,
+    inner: &'a Shape,
+    flat: &mut Flat,
+    tail: &mut Tail<'a>,
+) -> Result<Value, ReadError>
+    ensures { Gives (λ v. (val v, ends (cursor_of flat.new) (last_of tail.new))) result (build_at (types_in reader.now) reader.now.order reader.now.octets.now (scan (types_in reader.now) reader.now.order reader.now.octets.now fuel) (build (types_in reader.now) reader.now.order reader.now.octets.now fuel) room None (OfRef (form inner.now)) (cursor_of flat.old) (last_of tail.old)) }
+{
+    let (_, after) = reader.word(flat.at)?;
+    flat.at = after;
+    build_referent(fuel, reader, room, after - 4, inner, tail)
+}
+
+#[cycle(build)]
+#[inline(never)]
 fn build_unique<'a>(
     fuel: u32,
     reader: &Reader<'a>,
     room: u16,
-    id: u32,
-    place: usize,
     inner: &'a Shape,
-    flat: Flat,
+    flat: &mut Flat,
     tail: &mut Tail<'a>,
-) -> Result<(Value, Flat), ReadError>
-    ensures { Gives (λ x. (val x.0, ends (cursor_of x.1) (last_of tail.new))) result (behind_unique id (cursor_of flat) (last_of tail.old) (referent (scan (types_in reader.now) reader.now.order reader.now.octets.now fuel) (build (types_in reader.now) reader.now.order reader.now.octets.now fuel) room place (form inner.now) (last_of tail.old))) }
+) -> Result<Value, ReadError>
+    ensures { Gives (λ v. (val v, ends (cursor_of flat.new) (last_of tail.new))) result (build_at (types_in reader.now) reader.now.order reader.now.octets.now (scan (types_in reader.now) reader.now.order reader.now.octets.now fuel) (build (types_in reader.now) reader.now.order reader.now.octets.now fuel) room None (OfUnique (form inner.now)) (cursor_of flat.old) (last_of tail.old)) }
 {
+    let (id, after) = reader.word(flat.at)?;
+    flat.at = after;
     if id == 0 {
-        return Ok((Value::Ptr(None), flat));
+        return Ok(Value::Ptr(None));
     }
-    let value = build_referent(fuel, reader, room, place, inner, tail)?;
+    let value = build_referent(fuel, reader, room, after - 4, inner, tail)?;
     let pointed = Box::new(reader.alloc, value)?;
-    Ok((Value::Ptr(Some(pointed)), flat))
+    Ok(Value::Ptr(Some(pointed)))
 }
 
 #[cycle(build)]
+#[inline(never)]
 fn build_full<'a>(
+    fuel: u32,
+    reader: &Reader<'a>,
+    room: u16,
+    inner: &'a Shape,
+    flat: &mut Flat,
+    tail: &mut Tail<'a>,
+) -> Result<Value, ReadError>
+    ensures { Gives (λ v. (val v, ends (cursor_of flat.new) (last_of tail.new))) result (build_at (types_in reader.now) reader.now.order reader.now.octets.now (scan (types_in reader.now) reader.now.order reader.now.octets.now fuel) (build (types_in reader.now) reader.now.order reader.now.octets.now fuel) room None (OfFull (form inner.now)) (cursor_of flat.old) (last_of tail.old)) }
+{
+    let (id, after) = reader.word(flat.at)?;
+    flat.at = after;
+    build_known(fuel, reader, room, id, after - 4, inner, flat, tail)
+}
+
+// What a full pointer's id stands for.
+#[cycle(build)]
+fn build_known<'a>(
     fuel: u32,
     reader: &Reader<'a>,
     room: u16,
     id: u32,
     place: usize,
     inner: &'a Shape,
-    flat: Flat,
+    flat: &mut Flat,
     tail: &mut Tail<'a>,
-) -> Result<(Value, Flat), ReadError>
-    ensures { Gives (λ x. (val x.0, ends (cursor_of x.1) (last_of tail.new))) result (behind_full id place (cursor_of flat) (last_of tail.old) (referent (scan (types_in reader.now) reader.now.order reader.now.octets.now fuel) (build (types_in reader.now) reader.now.order reader.now.octets.now fuel) room place (form inner.now) (noting (Referent true ∷ []) (last_of tail.old)))) }
+) -> Result<Value, ReadError>
+    ensures { Gives (λ v. (val v, ends (cursor_of flat.new) (last_of tail.new))) result (behind_full id place (cursor_of flat.old) (last_of tail.old) (referent (scan (types_in reader.now) reader.now.order reader.now.octets.now fuel) (build (types_in reader.now) reader.now.order reader.now.octets.now fuel) room place (form inner.now) (noting (Referent true ∷ []) (last_of tail.old)))) }
 {
     if id == 0 {
-        return Ok((Value::Full(None), flat));
+        return Ok(Value::Full(None));
     }
     match tail.seen.referents.find(id) {
         None => Err(ReadError::Departs(Departure::Pointer(place))),
@@ -368,7 +396,7 @@ fn build_full<'a>(
                 return build_new(fuel, reader, room, number, place, inner, flat, tail);
             }
             note(Mark::Referent(false), tail)?;
-            Ok((Value::Full(Some(number)), flat))
+            Ok(Value::Full(Some(number)))
         }
     }
 }
@@ -382,21 +410,17 @@ fn build_new<'a>(
     number: u32,
     place: usize,
     inner: &'a Shape,
-    flat: Flat,
+    flat: &mut Flat,
     tail: &mut Tail<'a>,
-) -> Result<(Value, Flat), ReadError>
-    requires { flat.ids ≡ number }
-    ensures { Gives (λ x. (val x.0, ends (cursor_of x.1) (last_of tail.new))) result (behind_known number true (cursor_of flat) (last_of tail.old) (referent (scan (types_in reader.now) reader.now.order reader.now.octets.now fuel) (build (types_in reader.now) reader.now.order reader.now.octets.now fuel) room place (form inner.now) (noting (Referent true ∷ []) (last_of tail.old)))) }
+) -> Result<Value, ReadError>
+    requires { flat.old.ids ≡ number }
+    ensures { Gives (λ v. (val v, ends (cursor_of flat.new) (last_of tail.new))) result (behind_known number true (cursor_of flat.old) (last_of tail.old) (referent (scan (types_in reader.now) reader.now.order reader.now.octets.now fuel) (build (types_in reader.now) reader.now.order reader.now.octets.now fuel) room place (form inner.now) (noting (Referent true ∷ []) (last_of tail.old)))) }
 {
     note(Mark::Referent(true), tail)?;
     let value = build_referent(fuel, reader, room, place, inner, tail)?;
     tail.items.push(Kept { number, value })?;
-    let next = Flat {
-        at: flat.at,
-        ids: number as usize + 1,
-        handles: flat.handles,
-    };
-    Ok((Value::Full(Some(number)), next))
+    flat.ids = number as usize + 1;
+    Ok(Value::Full(Some(number)))
 }
 
 #[cycle(build)]
@@ -427,12 +451,11 @@ pub(crate) fn build_whole<'a>(
 ) -> Result<Value, ReadError>
     ensures { Gives (λ v. (val v, last_of tail.new)) result (whole (types_in reader.now) reader.now.order reader.now.octets.now fuel room (form shape.now) (last_of tail.old)) }
 {
-    let flat = Flat {
+    let mut flat = Flat {
         at: tail.at,
         ids: tail.seen.referents.len() as usize,
         handles: tail.seen.wires.len(),
     };
     tail.at = scan_flat(fuel, reader, room, None, shape, tail.at, &mut tail.seen)?;
-    let (value, _) = build_value(fuel, reader, room, None, shape, flat, tail)?;
-    Ok(value)
+    build_value(fuel, reader, room, None, shape, &mut flat, tail)
 }

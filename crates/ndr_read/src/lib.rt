@@ -5,6 +5,7 @@
 mod build;
 mod fault;
 mod heap;
+mod leaves;
 mod notes;
 mod pieces;
 mod scan;

@@ -13,6 +13,7 @@ use ndr_model::Mark;
 use ndr_value::ArrayKind;
 use rpc_base::NoMemory;
 
+#[inline(never)]
 pub(crate) fn note(mark: Mark, tail: &mut Tail<'_>) -> Result<(), NoMemory>
     ensures { OnOk result (last_of tail.new ≡ noting (mark ∷ []) (last_of tail.old)) }
 {
@@ -37,6 +38,7 @@ fn note_word(
 }
 
 /// The max_count in front of a structure, after an index.
+#[inline(never)]
 pub(crate) fn note_front(
     reader: &Reader<'_>,
     moved: Option<u32>,
@@ -82,6 +84,7 @@ fn note_actual(actual: u32, after: usize, tail: &mut Tail<'_>) -> Result<(), NoM
 }
 
 /// The counts of an array, which stand between two indexes.
+#[inline(never)]
 pub(crate) fn note_counts(
     reader: &Reader<'_>,
     kind: &ArrayKind,

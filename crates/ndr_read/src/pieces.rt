@@ -144,6 +144,7 @@ impl<'a> Reader<'a> {
         }
     }
 
+    #[inline(never)]
     pub(crate) fn counts(
         &self,
         kind: &ArrayKind,
@@ -195,6 +196,7 @@ impl<'a> Reader<'a> {
     }
 
     // The tag of a union, and the index after it.
+    #[inline(never)]
     pub(crate) fn union_tag(
         &self,
         union: &Shape,
@@ -252,6 +254,7 @@ impl<'a> Reader<'a> {
     }
 
     // The max_count in front of a structure, and where the structure begins.
+    #[inline(never)]
     pub(crate) fn begin(
         &self,
         structure: &Shape,

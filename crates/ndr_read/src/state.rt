@@ -24,28 +24,11 @@ pub(crate) struct Seen<'a> {
 }
 
 /// Where a flat part goes on, and how many full pointers' ids and how many handles were met before.
-#[derive(Clone, Copy)]
+#[derive(Drop)]
 pub(crate) struct Flat {
     pub(crate) at: usize,
     pub(crate) ids: usize,
     pub(crate) handles: usize,
-}
-
-impl Flat {
-    ghost use Rattle.std.specs.Prelude.{◌≡◌};
-    ghost use Rattle.ndr_model.specs.Build.{ahead};
-    ghost use Rattle.ndr_read.specs.Views.{cursor_of};
-
-    /// The same behind more octets.
-    pub(crate) fn ahead(self, at: usize) -> Flat
-        ensures { cursor_of result ≡ ahead (cursor_of self) at }
-    {
-        Flat {
-            at,
-            ids: self.ids,
-            handles: self.handles,
-        }
-    }
 }
 
 /// An item of the heap.
