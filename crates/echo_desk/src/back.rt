@@ -4,7 +4,7 @@ ghost use Rattle.ndr_value.specs.Forms.{types_of};
 ghost use Rattle.ndr_value.specs.Values.{Vals, msg, then_val, val, vals};
 ghost use Rattle.ndr_model.specs.Named.{nth};
 ghost use Rattle.table_form.specs.Tables.{op_form, param_form, result_form};
-ghost use Rattle.response_laws.specs.Rows.{vals_then};
+ghost use Rattle.message_parts.specs.Rows.{vals_then};
 ghost use Rattle.echo_desk.specs.Numbered as numbers;
 ghost use Rattle.echo_desk.specs.Steps as spec;
 
@@ -17,7 +17,7 @@ use std::alloc::Global;
 use table_form::{Op, Param};
 
 // The value of a parameter that comes back, behind the others.
-#[tactic(auto, using(response_laws::proofs::Rows::rows))]
+#[tactic(auto, using(message_parts::proofs::Rows::rows))]
 fn bring(alloc: Global, met: &Met, value: &Value, into: &mut Values) -> Result<(), NoMemory>
     ensures { OnOk result ((rest : Vals) → vals_then into.new.items rest ≡ vals_then into.old.items (then_val (numbers.numbered met.now (val value.now)) rest)) }
 {
@@ -54,7 +54,7 @@ fn bring_back(
 }
 
 // The result that says success, where there is one.
-#[tactic(auto, using(response_laws::proofs::Rows::rows))]
+#[tactic(auto, using(message_parts::proofs::Rows::rows))]
 fn succeed(shape: &Option<Shape>, into: &mut Values) -> Result<(), NoMemory>
     ensures { OnOk result (vals into.new.items ≡ vals_then into.old.items (spec.success (result_form shape.now))) }
 {
@@ -94,7 +94,7 @@ fn bring_item(
 }
 
 // The items that were met.
-#[tactic(auto, using(response_laws::proofs::Rows::rows))]
+#[tactic(auto, using(message_parts::proofs::Rows::rows))]
 fn items(alloc: Global, met: &Met, heap: &[Value]) -> Result<Values, NoMemory>
     ensures { IfOk result (λ vs. vals vs.items ≡ numbers.items_of (vals heap.now) met.now met.now) }
 {

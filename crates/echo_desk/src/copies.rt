@@ -1,9 +1,10 @@
 //! Copies of values, whose items of the heap have other numbers.
 ghost use Rattle.std.specs.Prelude.{◌≡◌, IfOk};
-ghost use Rattle.ndr_value.specs.Values.{VArray, VStruct, val, vals};
+ghost use Rattle.ndr_value.specs.Values.{val, vals};
 ghost use Rattle.echo_desk.specs.Numbered as spec;
 
 use crate::met::Met;
+use message_parts::{array, structure};
 use ndr_value::{Value, Values};
 use rpc_base::NoMemory;
 use std::alloc::Global;
@@ -53,18 +54,6 @@ pub fn numbered(value: &Value, met: &Met, alloc: Global) -> Result<Value, NoMemo
     }
 }
 
-fn structure(members: Values) -> Value
-    ensures { val result ≡ VStruct (vals members.items) }
-{
-    Value::Struct(members)
-}
-
-fn array(items: Values) -> Value
-    ensures { val result ≡ VArray (vals items.items) }
-{
-    Value::Array(items)
-}
-
 #[cycle(numbered)]
 fn boxed(value: &Value, met: &Met, alloc: Global) -> Result<Box<Value>, NoMemory>
     ensures { IfOk result (λ copy. val copy.value ≡ spec.numbered met.now (val value.now)) }
@@ -73,7 +62,7 @@ fn boxed(value: &Value, met: &Met, alloc: Global) -> Result<Box<Value>, NoMemory
     Ok(Box::new(alloc, copy)?)
 }
 
-#[tactic(auto, using(response_laws::proofs::Rows::rows))]
+#[tactic(auto, using(message_parts::proofs::Rows::rows))]
 #[cycle(numbered)]
 fn all_numbered(values: &[Value], met: &Met, alloc: Global) -> Result<Values, NoMemory>
     ensures { IfOk result (λ copies. vals copies.items ≡ spec.all_numbered met.now (vals values.now)) }

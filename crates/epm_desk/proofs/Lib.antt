@@ -1,4 +1,1 @@
-pub mod Rows
-pub mod Sound
-pub mod Suits
-pub mod Owed
+pub mod Whole

@@ -1,23 +1,23 @@
 //! The desk behind the interface.
-ghost use Rattle.std.specs.Prelude.{◌≡◌, ◌↔◌, ◌==◌, ◌≤◌, ◌∷◌, [], not, ◌+◌, nat_le, nat_lt, true, length, map, take, IfOk, OnErr, OnOk, Err};
-ghost use Rattle.ndr_value.specs.Values.{val, msg};
+ghost use Rattle.std.specs.Prelude.{◌≡◌, ◌↔◌, ◌==◌, ◌≤◌, ◌∷◌, [], not, ◌+◌, nat_le, nat_lt, true, length, take, IfOk, OnErr, OnOk, Err};
+ghost use Rattle.ndr_value.specs.Values.{msg, vals};
 ghost use Rattle.manager_api.specs.Answers.{Gives};
 ghost use Rattle.manager_api.specs.Arguments.{uint_at as uint_at_spec};
 ghost use Rattle.epm_model.specs.Entries.{is_note, most_entries};
-ghost use Rattle.epm_desk.specs.Wholes.{AllTyped, IsWhole, all_noted, have_notes};
+ghost use Rattle.epm_laws.specs.Wholes.{AllTyped, IsWhole, all_noted, have_notes};
 ghost use Rattle.epm_model.specs.Found.{after, found as found_spec, kept_by as kept_by_spec, handles_by as handles_by_spec};
 ghost use Rattle.epm_model.specs.Asked.{entries_at as entries_at_spec, lookup_wants as lookup_wants_spec, map_wants as map_wants_spec};
 ghost use Rattle.epm_model.specs.Steps.{with_new, status_of as status_of_spec, insert_new, insert_step, delete_step, lists, lookup_step, map_step, free_step};
 
-use crate::answers::{listing, status_alone};
 use crate::numbering::{note_types, numbered_from};
-use crate::values::{entry_values, pointer_values, tower_values};
+use epm_answers::{entry_values, listing, status_alone, tower_values};
 use epm_model::{
-    Given, Likeness, MapEntry, Numbered, Wanted, are_there, entries_at, find, last_number,
-    lookup_wants, map_wants, unlike,
+    Given, Likeness, MapEntry, Numbered, Wanted, are_there, find, last_number, unlike,
 };
+use epm_requests::{entries_at, lookup_wants, map_wants};
 use handle_model::{CookieRow, DueItem, Rundown};
 use manager_api::{Answer, Desk, FixedDesk, Kept, Probe, handle_and_status, or_no_memory, uint_at};
+use message_parts::pointers;
 use ndr_value::{Message, Values};
 use rpc_base::{NoMemory, Status};
 use std::alloc::Global;
@@ -50,7 +50,7 @@ pub struct EpmDesk {
 
 impl Model for EpmDesk {
     ghost use Rattle.epm_model.specs.Entries.{EndpointMap};
-    ghost use Rattle.epm_desk.specs.Wholes.{IsWhole};
+    ghost use Rattle.epm_laws.specs.Wholes.{IsWhole};
 
     ghost Value = { EndpointMap };
 
@@ -212,7 +212,7 @@ impl EpmDesk {
         given: &Given,
         items: Values,
     ) -> Result<Answer, NoMemory>
-        ensures { Gives result (lists (map val items.items) self.old cookie given.now.more given.now.entries.items) self.old self.new }
+        ensures { Gives result (lists (vals items.items) self.old cookie given.now.more given.now.entries.items) self.old self.new }
     {
         let kept = kept_by(cookie, given);
         let towers = tower_values(self.alloc, &given.entries)?;
@@ -240,7 +240,7 @@ impl EpmDesk {
     {
         let wanted = map_wants(self.alloc, message)?;
         let given = self.found(&wanted, cookie, uint_at(message, 3))?;
-        let items = pointer_values(self.alloc, &given.entries)?;
+        let items = pointers(self.alloc, 0, given.entries.len() as u32)?;
         self.listed(cookie, &given, items)
     }
 

@@ -1,4 +1,1 @@
-pub mod TowerLemmas
 pub mod Filters
-pub mod EntryLemmas
-pub mod Shapes

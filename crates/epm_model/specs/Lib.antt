@@ -5,4 +5,3 @@ pub mod Asked
 pub mod Answered
 pub mod Steps
 pub mod Table
-pub mod Laws

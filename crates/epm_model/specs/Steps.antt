@@ -1,6 +1,7 @@
 -- What the operations of the endpoint map do.
 use Rattle.std.specs.Prelude.{ℕ, ◌+◌, ◌==◌, not, Bool, nat_le, nat_lt, List, [], ◌∷◌, ◌++◌, length, take, Option, Some, None, if◌then◌else◌}
-use Rattle.ndr_value.specs.Values.{Val, Msg}
+use Rattle.ndr_value.specs.Values.{Vals, Msg}
+use Rattle.message_parts.specs.Parts.{pointers}
 use Rattle.manager_api.specs.declared.answer.Kept.{Kept}
 use Rattle.manager_api.specs.declared.answer.Kept.TheVariants.{Null}
 use Rattle.manager_api.specs.Answers.{Step, AOut}
@@ -15,7 +16,7 @@ use Rattle.epm_model.specs.declared.wanted.Wanted.{Wanted}
 use Rattle.epm_model.specs.Entries.{EndpointMap, unlike, are_there, numbered_from, last_of, most_entries}
 use Rattle.epm_model.specs.Found.{found, after, kept_by, handles_by}
 use Rattle.epm_model.specs.Asked.{entries_at, lookup_wants, map_wants}
-use Rattle.epm_model.specs.Answered.{tower_vals, entry_vals, pointer_vals, listing, status_alone}
+use Rattle.epm_model.specs.Answered.{tower_values, entry_values, listing, status_alone}
 
 -- ept_s_not_registered: there is no such entry
 abbrev pub not_registered : ℕ
@@ -62,19 +63,19 @@ abbrev pub with_handles : EndpointMap → ℕ → EndpointMap
 with_handles s handles = record { entries = s.entries; last = s.last; handles = handles }
 
 -- these items, which point to the towers of those that are given
-abbrev pub lists : List Val → EndpointMap → Option ℕ → Bool → List Numbered → Step EndpointMap
+abbrev pub lists : Vals → EndpointMap → Option ℕ → Bool → List Numbered → Step EndpointMap
 lists items s cookie more given =
     let kept = kept_by cookie more given in
-    record { answer = AOut (listing items (tower_vals given) (status_of given)) (kept ∷ []); next = with_handles s (handles_by cookie kept s.handles) }
+    record { answer = AOut (listing items (tower_values given) (status_of given)) (kept ∷ []); next = with_handles s (handles_by cookie kept s.handles) }
 
-abbrev pub gives : (List Numbered → List Val) → EndpointMap → Option ℕ → ℕ → List Numbered → Step EndpointMap
+abbrev pub gives : (List Numbered → Vals) → EndpointMap → Option ℕ → ℕ → List Numbered → Step EndpointMap
 gives items s cookie most all = lists (items (take most all)) s cookie (nat_lt most (length all)) (take most all)
 
 abbrev pub lookup_step : EndpointMap → Option ℕ → Wanted → ℕ → Step EndpointMap
-lookup_step s cookie what most = gives (entry_vals 0) s cookie most (found what (after cookie) s.entries)
+lookup_step s cookie what most = gives (entry_values 0) s cookie most (found what (after cookie) s.entries)
 
 abbrev pub map_step : EndpointMap → Option ℕ → Wanted → ℕ → Step EndpointMap
-map_step s cookie what most = gives (pointer_vals 0) s cookie most (found what (after cookie) s.entries)
+map_step s cookie what most = gives (λ given. pointers 0 (length given)) s cookie most (found what (after cookie) s.entries)
 
 -- ---- free: the handle is null then
 

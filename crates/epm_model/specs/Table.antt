@@ -1,49 +1,25 @@
 -- The table of the endpoint map's interface.
 use Rattle.std.specs.Prelude.{ℕ, ◌+◌, List, [], ◌∷◌, Some, None, true, false, codes}
 use Rattle.ndr_value.specs.declared.shape.Count.TheVariants.{Param, Member}
-use Rattle.ndr_value.specs.declared.shape.ArrayKind.TheVariants.{Fixed, Conformant, ConformantVarying}
-use Rattle.ndr_value.specs.Forms.{Form, OfByte, OfUint, OfNamed, OfStruct, OfText, OfArray, OfRef, OfFull, OfHandle, Forms, no_form, then_form}
+use Rattle.ndr_value.specs.declared.shape.ArrayKind.TheVariants.{Conformant, ConformantVarying}
+use Rattle.ndr_value.specs.Forms.{Form, OfByte, OfUint, OfStruct, OfText, OfArray, OfRef, OfFull, OfHandle, no_form, then_form}
 use Rattle.table_form.specs.declared.operation.HandleUse.{HandleUse}
 use Rattle.table_form.specs.Tables.{ParamForm, OpForm, TableForm}
-use Rattle.table_parts.specs.Parts.{goes_in, goes_out, goes_both, used}
+use Rattle.table_parts.specs.Parts.{named, uuid_form, syntax_form, goes_in, goes_out, goes_both, number_out, procedure, used}
 
 -- ---- types, by number: a UUID, an interface, a tower, an entry
 
-abbrev pub members_form : List Form → Forms
-members_form [] = no_form
-members_form (s ∷ ss) = then_form s (members_form ss)
-
-abbrev pub structure : List Form → Form
-structure ss = OfStruct (members_form ss)
-
-abbrev pub named : ℕ → Form
-named number = OfNamed number None
-
-abbrev pub uuid_form : Form
-uuid_form = structure (OfUint 4 ∷ OfUint 2 ∷ OfUint 2 ∷ OfArray (Fixed 8) OfByte ∷ [])
-
-abbrev pub interface_form : Form
-interface_form = structure (named 0 ∷ OfUint 2 ∷ OfUint 2 ∷ [])
-
 -- as many octets as the first member says
 abbrev pub tower_form : Form
-tower_form = structure (OfUint 4 ∷ OfArray (Conformant (Member 0 0)) OfByte ∷ [])
+tower_form = OfStruct (then_form (OfUint 4) (then_form (OfArray (Conformant (Member 0 0)) OfByte) no_form))
 
 abbrev pub entry_form : Form
-entry_form = structure (named 0 ∷ OfFull (named 2) ∷ OfText (Some 64) ∷ [])
+entry_form = OfStruct (then_form (named 0) (then_form (OfFull (named 2)) (then_form (OfText (Some 64)) no_form)))
 
 abbrev pub epm_types : List Form
-epm_types = uuid_form ∷ interface_form ∷ tower_form ∷ entry_form ∷ []
+epm_types = uuid_form ∷ syntax_form ∷ tower_form ∷ entry_form ∷ []
 
--- ---- operations
-
--- one without a result
-abbrev pub procedure : List ℕ → List ParamForm → OpForm
-procedure name params = record { name = name; params = params; result = None; status = false; maybe = false }
-
--- a number that comes out, as a status does
-abbrev pub number_out : ParamForm
-number_out = goes_out (OfRef (OfUint 4))
+-- ---- operations, which have no result
 
 abbrev pub handle_form : ParamForm
 handle_form = goes_both (OfRef (OfHandle 0))
@@ -57,21 +33,21 @@ abbrev pub found_out : ℕ → Form → ParamForm
 found_out most s = goes_out (OfArray (ConformantVarying (Param most false 0) (Param (most + 1) true 0)) s)
 
 abbrev pub insert_form : OpForm
-insert_form = procedure (codes "ept_insert") (goes_in (OfUint 4) ∷ entries_in ∷ goes_in (OfUint 4) ∷ number_out ∷ [])
+insert_form = procedure (codes "ept_insert") (goes_in (OfUint 4) ∷ entries_in ∷ goes_in (OfUint 4) ∷ number_out ∷ []) None
 
 abbrev pub delete_form : OpForm
-delete_form = procedure (codes "ept_delete") (goes_in (OfUint 4) ∷ entries_in ∷ number_out ∷ [])
+delete_form = procedure (codes "ept_delete") (goes_in (OfUint 4) ∷ entries_in ∷ number_out ∷ []) None
 
 abbrev pub lookup_form : OpForm
 lookup_form = procedure (codes "ept_lookup") (goes_in (OfUint 4) ∷ goes_in (OfFull (named 0)) ∷ goes_in (OfFull (named 1)) ∷ goes_in (OfUint 4) ∷ handle_form
-    ∷ goes_in (OfUint 4) ∷ number_out ∷ found_out 5 (named 3) ∷ number_out ∷ [])
+    ∷ goes_in (OfUint 4) ∷ number_out ∷ found_out 5 (named 3) ∷ number_out ∷ []) None
 
 abbrev pub map_form : OpForm
 map_form = procedure (codes "ept_map") (goes_in (OfFull (named 0)) ∷ goes_in (OfFull (named 2)) ∷ handle_form
-    ∷ goes_in (OfUint 4) ∷ number_out ∷ found_out 3 (OfFull (named 2)) ∷ number_out ∷ [])
+    ∷ goes_in (OfUint 4) ∷ number_out ∷ found_out 3 (OfFull (named 2)) ∷ number_out ∷ []) None
 
 abbrev pub free_form : OpForm
-free_form = procedure (codes "ept_lookup_handle_free") (handle_form ∷ number_out ∷ [])
+free_form = procedure (codes "ept_lookup_handle_free") (handle_form ∷ number_out ∷ []) None
 
 -- calls with one handle come one after another
 abbrev pub of_lookup : List HandleUse

@@ -1,4 +1,7 @@
 //! Entries of the map.
+ghost use Rattle.std.specs.Prelude.{◌≡◌};
+ghost use Rattle.ndr_value.specs.Fits.{has_nul as has_nul_spec};
+ghost use Rattle.epm_model.specs.Entries.{is_note as is_note_spec};
 
 use rpc_base::Octets;
 use tower_codec::Tower;
@@ -27,4 +30,17 @@ pub enum Likeness {
     Service,
     /// The object and the tower.
     Entry,
+}
+
+fn has_nul(note: &[u8]) -> bool
+    ensures { result ≡ has_nul_spec note.now }
+{
+    note.iter().any(|octet| *octet == 0)
+}
+
+/// Whether an entry may have the note.
+pub fn is_note(note: &[u8]) -> bool
+    ensures { result ≡ is_note_spec note.now }
+{
+    note.len() <= 63 && !has_nul(note)
 }

@@ -1,56 +1,19 @@
 //! The table of the interface, as its text gives it.
 ghost use Rattle.std.specs.Prelude.{◌≡◌, ◌<◌, IfOk, map};
-ghost use Rattle.ndr_value.specs.Forms.{OfFull, form, types_of};
+ghost use Rattle.ndr_value.specs.Forms.{form, types_of};
 ghost use Rattle.table_form.specs.Tables.{op_form, param_form};
 ghost use Rattle.table_form.specs.Shown.{shown};
 ghost use Rattle.epm_model.specs.Table as spec;
 
 use ndr_value::{ArrayKind, Count, Shape, Shapes};
-use rpc_base::{NoMemory, Octets, SyntaxId};
+use rpc_base::{NoMemory, SyntaxId};
 use std::alloc::Global;
-use table_form::{HandleUses, Op, Ops, Param, Params, Table, Uses};
-use table_parts::{array_of, behind, both_ways, inward, one_use, outward, used};
+use table_form::{HandleUses, Op, Ops, Param, Table, Uses};
+use table_parts::{
+    array_of, behind, both_ways, inward, named, number_out, one_use, outward, pointer_to,
+    procedure, structure_of, syntax_shape, used, uuid_shape,
+};
 use uuid::Uuid;
-
-fn named(number: usize) -> Shape
-    ensures { form result ≡ spec.named number }
-{
-    Shape::Named(number, None)
-}
-
-fn pointer_to(alloc: Global, shape: Shape) -> Result<Shape, NoMemory>
-    ensures { IfOk result (λ s. form s ≡ OfFull (form shape)) }
-{
-    Ok(Shape::Full(Box::new(alloc, shape)?))
-}
-
-#[tactic(auto, using(crate::proofs::Shapes::structure_is))]
-fn structure(members: Shapes) -> Shape
-    ensures { form result ≡ spec.structure (map form members.items) }
-{
-    Shape::Struct(members)
-}
-
-fn uuid_shape(alloc: Global) -> Result<Shape, NoMemory>
-    ensures { IfOk result (λ s. form s ≡ spec.uuid_form) }
-{
-    let mut members = Shapes::new(alloc);
-    members.push(Shape::Uint(4))?;
-    members.push(Shape::Uint(2))?;
-    members.push(Shape::Uint(2))?;
-    members.push(array_of(alloc, ArrayKind::Fixed(8), Shape::Byte)?)?;
-    Ok(structure(members))
-}
-
-fn interface_shape(alloc: Global) -> Result<Shape, NoMemory>
-    ensures { IfOk result (λ s. form s ≡ spec.interface_form) }
-{
-    let mut members = Shapes::new(alloc);
-    members.push(named(0))?;
-    members.push(Shape::Uint(2))?;
-    members.push(Shape::Uint(2))?;
-    Ok(structure(members))
-}
 
 fn tower_shape(alloc: Global) -> Result<Shape, NoMemory>
     ensures { IfOk result (λ s. form s ≡ spec.tower_form) }
@@ -59,7 +22,7 @@ fn tower_shape(alloc: Global) -> Result<Shape, NoMemory>
     let mut members = Shapes::new(alloc);
     members.push(Shape::Uint(4))?;
     members.push(array_of(alloc, ArrayKind::Conformant(count), Shape::Byte)?)?;
-    Ok(structure(members))
+    Ok(structure_of(members))
 }
 
 fn entry_shape(alloc: Global) -> Result<Shape, NoMemory>
@@ -69,7 +32,7 @@ fn entry_shape(alloc: Global) -> Result<Shape, NoMemory>
     members.push(named(0))?;
     members.push(pointer_to(alloc, named(2))?)?;
     members.push(Shape::Text(Some(64)))?;
-    Ok(structure(members))
+    Ok(structure_of(members))
 }
 
 fn types(alloc: Global) -> Result<Shapes, NoMemory>
@@ -77,29 +40,10 @@ fn types(alloc: Global) -> Result<Shapes, NoMemory>
 {
     let mut types = Shapes::new(alloc);
     types.push(uuid_shape(alloc)?)?;
-    types.push(interface_shape(alloc)?)?;
+    types.push(syntax_shape(alloc)?)?;
     types.push(tower_shape(alloc)?)?;
     types.push(entry_shape(alloc)?)?;
     Ok(types)
-}
-
-// An operation without a result.
-fn procedure(alloc: Global, name: &[u8], params: Params) -> Result<Op, NoMemory>
-    ensures { IfOk result (λ o. op_form o ≡ spec.procedure name.now (map param_form params.items)) }
-{
-    Ok(Op {
-        name: Octets::from_vec(Vec::from_slice(alloc, name)?),
-        params,
-        result: None,
-        status: false,
-        maybe: false,
-    })
-}
-
-fn number(alloc: Global) -> Result<Param, NoMemory>
-    ensures { IfOk result (λ p. param_form p ≡ spec.number_out) }
-{
-    Ok(outward(behind(alloc, Shape::Uint(4))?))
 }
 
 fn handle(alloc: Global) -> Result<Param, NoMemory>
@@ -145,8 +89,8 @@ fn insert_op(alloc: Global) -> Result<Op, NoMemory>
     params.push(inward(Shape::Uint(4)))?;
     params.push(entries(alloc)?)?;
     params.push(inward(Shape::Uint(4)))?;
-    params.push(number(alloc)?)?;
-    procedure(alloc, b"ept_insert", params)
+    params.push(number_out(alloc)?)?;
+    procedure(alloc, b"ept_insert", params, None)
 }
 
 fn delete_op(alloc: Global) -> Result<Op, NoMemory>
@@ -155,8 +99,8 @@ fn delete_op(alloc: Global) -> Result<Op, NoMemory>
     let mut params = Vec::new(alloc);
     params.push(inward(Shape::Uint(4)))?;
     params.push(entries(alloc)?)?;
-    params.push(number(alloc)?)?;
-    procedure(alloc, b"ept_delete", params)
+    params.push(number_out(alloc)?)?;
+    procedure(alloc, b"ept_delete", params, None)
 }
 
 fn lookup_op(alloc: Global) -> Result<Op, NoMemory>
@@ -169,10 +113,10 @@ fn lookup_op(alloc: Global) -> Result<Op, NoMemory>
     params.push(inward(Shape::Uint(4)))?;
     params.push(handle(alloc)?)?;
     params.push(inward(Shape::Uint(4)))?;
-    params.push(number(alloc)?)?;
+    params.push(number_out(alloc)?)?;
     params.push(found(alloc, 5, named(3))?)?;
-    params.push(number(alloc)?)?;
-    procedure(alloc, b"ept_lookup", params)
+    params.push(number_out(alloc)?)?;
+    procedure(alloc, b"ept_lookup", params, None)
 }
 
 fn map_op(alloc: Global) -> Result<Op, NoMemory>
@@ -183,10 +127,10 @@ fn map_op(alloc: Global) -> Result<Op, NoMemory>
     params.push(inward(pointer_to(alloc, named(2))?))?;
     params.push(handle(alloc)?)?;
     params.push(inward(Shape::Uint(4)))?;
-    params.push(number(alloc)?)?;
+    params.push(number_out(alloc)?)?;
     params.push(found(alloc, 3, pointer_to(alloc, named(2))?)?)?;
-    params.push(number(alloc)?)?;
-    procedure(alloc, b"ept_map", params)
+    params.push(number_out(alloc)?)?;
+    procedure(alloc, b"ept_map", params, None)
 }
 
 fn free_op(alloc: Global) -> Result<Op, NoMemory>
@@ -194,8 +138,8 @@ fn free_op(alloc: Global) -> Result<Op, NoMemory>
 {
     let mut params = Vec::new(alloc);
     params.push(handle(alloc)?)?;
-    params.push(number(alloc)?)?;
-    procedure(alloc, b"ept_lookup_handle_free", params)
+    params.push(number_out(alloc)?)?;
+    procedure(alloc, b"ept_lookup_handle_free", params, None)
 }
 
 fn operations(alloc: Global) -> Result<Ops, NoMemory>

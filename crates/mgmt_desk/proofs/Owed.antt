@@ -1,92 +1,54 @@
 -- The messages of the management interface are responses.
-use Rattle.std.proofs.Common.{◌≡◌, ℕ, suc, ◌+◌, ◌^◌, ◌<◌, List, [], ◌∷◌, ◌++◌, length, length-append, take, drop, Some, None, Result, Ok, Err, refl, sym, ap, subst, ◌∙◌, arith}
+use Rattle.std.proofs.Common.{◌≡◌, ℕ, suc, ◌+◌, ◌^◌, ◌<◌, List, [], ◌∷◌, length, take, Some, Result, Ok, Err, refl, sym, ap, subst, ◌∙◌, arith}
 use Rattle.std.specs.Prelude.{pos, IfOk}
 use Rattle.rpc_base.specs.declared.identifiers.SyntaxId.{SyntaxId}
-use Rattle.ndr_value.specs.declared.shape.ArrayKind.TheVariants.{Fixed}
-use Rattle.ndr_value.specs.Forms.{Form, OfUint, OfNamed}
-use Rattle.ndr_value.specs.Values.{VFull, Vals, no_val, bytes, count_of, Msg}
+use Rattle.ndr_value.specs.Forms.{OfUint}
+use Rattle.ndr_value.specs.Values.{VUint, VArray, Vals, no_val, then_val, count_of, Msg}
+use Rattle.table_parts.specs.Parts.{named}
+use Rattle.message_parts.specs.Parts.{pointers}
+use Rattle.message_parts.proofs.Counted.{count-pointers}
 use Rattle.ndr_model.specs.declared.way.Way.TheVariants.{Response}
 use Rattle.ndr_model.specs.Named.{Call, nth}
 use Rattle.ndr_written.specs.Written.{call_of}
-use Rattle.ndr_written.specs.Fits.{Seen, with_item, nothing_seen, Suits, suits_uint, suits_name, suits_struct, suits_array, suits_new, no_member, then_member, SuitsCounts, counts_fixed, counts_conformant, SuitAll, no_element, then_element, no_entry, then_entry, IsOfOp}
+use Rattle.ndr_written.specs.Fits.{Seen, with_item, nothing_seen, suits_uint, suits_name, suits_struct, suits_array, suits_new, no_member, then_member, counts_conformant, SuitAll, no_element, then_element, no_entry, then_entry, IsOfOp}
 use Rattle.rpc_base.specs.declared.fault.NoMemory.{NoMemory}
 use Rattle.manager_api.specs.declared.answer.Answer.{Answer}
 use Rattle.manager_api.specs.Answers.{AOut, ans, settled}
 use Rattle.manager_api.specs.Calls.{Owes}
-use Rattle.response_laws.proofs.Suits.{bytes_count, bytes_suit, plus_none}
+use Rattle.response_laws.specs.Parts.{EachSuits, with_items}
+use Rattle.response_laws.proofs.Suits.{plus_none}
+use Rattle.response_laws.proofs.Parts.{syntax_suits, pointers_suit, items_long, items_wires}
 use Rattle.response_laws.proofs.Owed.{for_op}
-use Rattle.mgmt_desk.specs.Table.{mgmt_table, mgmt_types, if_id_pointer, ids_form, stats_form, listening_form}
-use Rattle.mgmt_desk.specs.Fits.{FitsId, FitIds, AreWords}
-use Rattle.mgmt_desk.specs.Steps.{if_id_value, if_id_values, pointers, ids_message, uints, stats_message, listening_message}
+use Rattle.mgmt_desk.specs.Table.{mgmt_table, mgmt_types, syntax_pointer, ids_form, stats_form, listening_form}
+use Rattle.mgmt_desk.specs.Fits.{AreSyntaxes, AreWords}
+use Rattle.mgmt_desk.specs.Steps.{syntax_values, ids_message, uints, stats_message, listening_message}
 
 -- ---- inq_if_ids
 
-abbrev one : Form
-one = OfNamed 1 None
+ids_suit : (call : Call) (room : ℕ) (body : Vals) (ids : List SyntaxId) → AreSyntaxes ids → EachSuits mgmt_types call room body (named 1) (syntax_values ids)
+ids_suit call room body [] are = tt
+ids_suit call room body (s ∷ ss) are = (λ q. syntax_suits mgmt_types call room body 1 s q q refl refl are.0, ids_suit call room body ss are.1)
 
-module _ (call : Call) where
-  octets_suit : (room : ℕ) (body : Vals) (octets : List ℕ) (p q : Seen) → length octets ≡ 8 → SuitsCounts call body (Fixed 8) (count_of (bytes octets))
-  octets_suit room body octets p q e = subst (λ (n : ℕ). SuitsCounts call body (Fixed 8) n) (sym (bytes_count octets ∙ e)) counts_fixed
-
-  id_suits : (room : ℕ) (body : Vals) (s : SyntaxId) (p q : Seen) → FitsId s → Suits mgmt_types call room body None one (if_id_value s) p p q q
-  id_suits room body s p q f =
-      suits_name refl
-      (suits_struct
-      (then_member
-      (suits_name refl
-      (suits_struct
-      (then_member (suits_uint f.id.a)
-      (then_member (suits_uint f.id.b)
-      (then_member (suits_uint f.id.c)
-      (then_member (suits_array (octets_suit room _ (drop 8 s.id) p q f.id.d_length) (bytes_suit mgmt_types call room _ (drop 8 s.id) p q f.id.d))
-      no_member))))))
-      (then_member (suits_uint f.major)
-      (then_member (suits_uint f.minor)
-      no_member))))
-
-  -- what was seen, and as many items
-  abbrev with_all : Seen → List SyntaxId → Seen
-  with_all p [] = p
-  with_all p (s ∷ ss) = with_all (with_item p one) ss
-
-  pointers_suit : (room : ℕ) (body : Vals) (ids : List SyntaxId) (k : ℕ) (p q : Seen) → length p.shapes ≡ k → ((j : ℕ) → nth call.said.heap (k + j) ≡ nth (if_id_values ids) j) → FitIds ids
-      → SuitAll mgmt_types call (suc room) body if_id_pointer (pointers k ids) p (with_all p ids) q q
-  pointers_suit room body [] k p q e there fit = no_element
-  pointers_suit room body (s ∷ ss) k p q e there fit =
-      let none : k + 0 ≡ k = omega arith in
-      let at : nth call.said.heap (length p.shapes) ≡ Some (if_id_value s) = ap (λ (n : ℕ). nth call.said.heap n) (e ∙ sym none) ∙ there 0 in
-      let more : length (p.shapes ++ one ∷ []) ≡ suc k = omega (arith, length-append p.shapes (one ∷ []), e) in
-      let shift : (j : ℕ) → suc k + j ≡ k + suc j = λ j. omega arith in
-      then_element (subst (λ (n : ℕ). Suits mgmt_types call (suc room) body None if_id_pointer (VFull (Some n)) p (with_item p one) q q) e (suits_new at (id_suits room body s q q fit.0)))
-      (pointers_suit room body ss (suc k) (with_item p one) q more (λ j. ap (λ (n : ℕ). nth call.said.heap n) (shift j) ∙ there (suc j)) fit.1)
-
-  all_long : (p : Seen) (ids : List SyntaxId) → length (with_all p ids).shapes ≡ length p.shapes + length ids
-  all_long p [] = omega arith
-  all_long p (s ∷ ss) = omega (arith, all_long (with_item p one) ss, length-append p.shapes (one ∷ []))
-
-  all_wires : (p : Seen) (ids : List SyntaxId) → (with_all p ids).wires ≡ p.wires
-  all_wires p [] = refl
-  all_wires p (s ∷ ss) = all_wires (with_item p one) ss
-
-pointers_count : (k : ℕ) (ids : List SyntaxId) → count_of (pointers k ids) ≡ length ids
-pointers_count k [] = refl
-pointers_count k (s ∷ ss) = ap suc (pointers_count (suc k) ss)
-
-values_count : (ids : List SyntaxId) → count_of (if_id_values ids) ≡ length ids
+values_count : (ids : List SyntaxId) → count_of (syntax_values ids) ≡ length ids
 values_count [] = refl
 values_count (s ∷ ss) = ap suc (values_count ss)
 
 abbrev first_seen : Seen
-first_seen = with_item nothing_seen (OfNamed 2 None)
+first_seen = with_item nothing_seen (named 2)
 
-ids_are : (asked : Msg) (ids : List SyntaxId) → FitIds ids → length ids < 2 ^ 32 → IsOfOp mgmt_types ids_form Response (Some asked) (ids_message ids)
-ids_are asked ids fit few =
+ids_are : (asked : Msg) (ids : List SyntaxId) → AreSyntaxes ids → length ids < 2 ^ 32 → IsOfOp mgmt_types ids_form Response (Some asked) (ids_message ids)
+ids_are asked ids are few =
     let m = ids_message ids in
     let call = call_of ids_form Response (Some asked) m in
-    let end = with_all call first_seen ids in
-    let n : count_of (pointers 1 ids) ≡ length ids = pointers_count 1 ids in
-    let plus : (j : ℕ) → nth m.heap (1 + j) ≡ nth (if_id_values ids) j = λ j. let e : 1 + j ≡ suc j = omega arith in ap (λ (i : ℕ). nth m.heap i) e in
-    let small : count_of (pointers 1 ids) < 2 ^ 32 = omega (arith, n, few) in
+    let end = with_items first_seen (named 1) (length ids) in
+    let body : Vals = then_val (VUint (length ids)) (then_val (VArray (pointers 1 (length ids))) no_val) in
+    let n : count_of (syntax_values ids) ≡ length ids = values_count ids in
+    let plus : (i : ℕ) → nth m.heap (1 + i) ≡ nth (syntax_values ids) i = λ i. let e : 1 + i ≡ suc i = omega arith in ap (λ (k : ℕ). nth m.heap k) e in
+    let all : SuitAll mgmt_types call 255 body syntax_pointer (pointers 1 (length ids)) first_seen end end end =
+    subst (λ (k : ℕ). SuitAll mgmt_types call 255 body syntax_pointer (pointers 1 k) first_seen (with_items first_seen (named 1) k) end end) n
+    (pointers_suit mgmt_types call 254 body (named 1) (syntax_values ids) 1 first_seen end refl plus (ids_suit call 254 body ids are)) in
+    let count : count_of (pointers 1 (length ids)) ≡ length ids = count-pointers 1 (length ids) in
+    let small : count_of (pointers 1 (length ids)) < 2 ^ 32 = omega (arith, count, few) in
     record {
       end = end;
       suits = then_entry
@@ -94,16 +56,16 @@ ids_are asked ids fit few =
           (suits_name refl
           (suits_struct
           (then_member (suits_uint few)
-          (then_member (suits_array (counts_conformant small (ap Some (plus_none (length ids) ∙ ap pos (sym n)))) (pointers_suit call 254 _ ids 1 first_seen end refl plus fit))
+          (then_member (suits_array (counts_conformant small (ap Some (plus_none (length ids) ∙ ap pos (sym count)))) all)
           no_member)))))
           tt
           (then_entry (suits_uint (omega arith)) tt no_entry);
-      heap = omega (arith, values_count ids, all_long call first_seen ids);
-      wires = sym (all_wires call first_seen ids);
+      heap = omega (arith, n, items_long first_seen (named 1) (length ids));
+      wires = sym (items_wires first_seen (named 1) (length ids));
     }
 
-pub ids_owe : (asked : Msg) (ids : List SyntaxId) → FitIds ids → length ids < 2 ^ 32 → Owes mgmt_table 0 asked (AOut (ids_message ids) [])
-ids_owe asked ids fit few = (for_op mgmt_table 0 (λ o. IsOfOp mgmt_types o Response (Some asked) (ids_message ids)) ids_form refl (ids_are asked ids fit few), refl)
+pub ids_owe : (asked : Msg) (ids : List SyntaxId) → AreSyntaxes ids → length ids < 2 ^ 32 → Owes mgmt_table 0 asked (AOut (ids_message ids) [])
+ids_owe asked ids are few = (for_op mgmt_table 0 (λ o. IsOfOp mgmt_types o Response (Some asked) (ids_message ids)) ids_form refl (ids_are asked ids are few), refl)
 
 -- ---- inq_stats
 

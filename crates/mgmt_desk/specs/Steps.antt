@@ -1,8 +1,8 @@
 -- What the management interface answers: by the interfaces that are served, and by numbers of calls and packets.
-use Rattle.std.specs.Prelude.{◌≡◌, ◌⊎◌, ℕ, suc, min, ◌==◌, List, [], ◌∷◌, length, take, drop, Some, if◌then◌else◌}
-use Rattle.std.specs.Int.{w16, w32, from_be_bytes}
+use Rattle.std.specs.Prelude.{◌≡◌, ◌⊎◌, ℕ, min, ◌==◌, List, [], ◌∷◌, length, take, Some, if◌then◌else◌}
 use Rattle.rpc_base.specs.declared.identifiers.SyntaxId.{SyntaxId}
-use Rattle.ndr_value.specs.Values.{Val, VUint, VStruct, VArray, VFull, Vals, no_val, then_val, bytes, Msg}
+use Rattle.ndr_value.specs.Values.{Val, VUint, VStruct, VArray, VFull, Vals, no_val, then_val, Msg}
+use Rattle.message_parts.specs.Parts.{syntax_value, pointers}
 use Rattle.manager_api.specs.Answers.{Ans, AOut, no_memory}
 use Rattle.manager_api.specs.Arguments.{uint_at}
 use Rattle.manager_api.specs.Calls.{Call}
@@ -10,32 +10,16 @@ use Rattle.manager_api.specs.Responses.{response}
 
 -- ---- inq_if_ids: all served interfaces by rising number
 
--- a UUID's first three fields as numbers, and its last eight octets
-abbrev pub uuid_value : List ℕ → Val
-uuid_value id = VStruct
-    (then_val (VUint (from_be_bytes w32 (take 4 id)))
-    (then_val (VUint (from_be_bytes w16 (take 2 (drop 4 id))))
-    (then_val (VUint (from_be_bytes w16 (take 2 (drop 6 id))))
-    (then_val (VArray (bytes (drop 8 id))) no_val))))
-
-abbrev pub if_id_value : SyntaxId → Val
-if_id_value s = VStruct (then_val (uuid_value s.id) (then_val (VUint s.major) (then_val (VUint s.minor) no_val)))
-
-abbrev pub if_id_values : List SyntaxId → Vals
-if_id_values [] = no_val
-if_id_values (s ∷ ss) = then_val (if_id_value s) (if_id_values ss)
-
--- pointers to as many items of the heap, from that number on
-abbrev pub pointers : ℕ → List SyntaxId → Vals
-pointers n [] = no_val
-pointers n (s ∷ ss) = then_val (VFull (Some n)) (pointers (suc n) ss)
+abbrev pub syntax_values : List SyntaxId → Vals
+syntax_values [] = no_val
+syntax_values (s ∷ ss) = then_val (syntax_value s) (syntax_values ss)
 
 -- their number, and a pointer to each
 abbrev pub vector : List SyntaxId → Val
-vector ids = VStruct (then_val (VUint (length ids)) (then_val (VArray (pointers 1 ids)) no_val))
+vector ids = VStruct (then_val (VUint (length ids)) (then_val (VArray (pointers 1 (length ids))) no_val))
 
 abbrev pub heap : List SyntaxId → Vals
-heap ids = then_val (vector ids) (if_id_values ids)
+heap ids = then_val (vector ids) (syntax_values ids)
 
 -- a pointer to the vector, status 0
 abbrev pub ids_message : List SyntaxId → Msg

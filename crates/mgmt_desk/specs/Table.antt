@@ -1,50 +1,38 @@
 -- The table of the management interface.
-use Rattle.std.specs.Prelude.{List, [], ◌∷◌, Option, Some, None, true, false, codes, ℕ}
+use Rattle.std.specs.Prelude.{List, [], ◌∷◌, Some, None, true, codes}
 use Rattle.ndr_value.specs.declared.shape.Count.TheVariants.{Param, Member}
-use Rattle.ndr_value.specs.declared.shape.ArrayKind.TheVariants.{Fixed, Conformant}
-use Rattle.ndr_value.specs.Forms.{Form, OfByte, OfUint, OfNamed, OfStruct, OfArray, OfRef, OfFull, Forms, no_form, then_form}
-use Rattle.table_form.specs.Tables.{ParamForm, OpForm, TableForm}
-use Rattle.table_parts.specs.Parts.{goes_out, goes_both}
+use Rattle.ndr_value.specs.declared.shape.ArrayKind.TheVariants.{Conformant}
+use Rattle.ndr_value.specs.Forms.{Form, OfUint, OfStruct, OfArray, OfRef, OfFull, no_form, then_form}
+use Rattle.table_form.specs.Tables.{OpForm, TableForm}
+use Rattle.table_parts.specs.Parts.{named, uuid_form, syntax_form, goes_out, goes_both, number_out, procedure}
 
 -- ---- types
 
-abbrev pub uuid_members : Forms
-uuid_members = then_form (OfUint 4) (then_form (OfUint 2) (then_form (OfUint 2) (then_form (OfArray (Fixed 8) OfByte) no_form)))
-
-abbrev pub if_id_members : Forms
-if_id_members = then_form (OfNamed 0 None) (then_form (OfUint 2) (then_form (OfUint 2) no_form))
-
-abbrev pub if_id_pointer : Form
-if_id_pointer = OfFull (OfNamed 1 None)
+-- a pointer to an interface's identifier, which is type 1
+abbrev pub syntax_pointer : Form
+syntax_pointer = OfFull (named 1)
 
 -- as many pointers as the first member says
-abbrev pub vector_members : Forms
-vector_members = then_form (OfUint 4) (then_form (OfArray (Conformant (Member 0 0)) if_id_pointer) no_form)
+abbrev pub vector_form : Form
+vector_form = OfStruct (then_form (OfUint 4) (then_form (OfArray (Conformant (Member 0 0)) syntax_pointer) no_form))
 
 abbrev pub mgmt_types : List Form
-mgmt_types = OfStruct uuid_members ∷ OfStruct if_id_members ∷ OfStruct vector_members ∷ []
+mgmt_types = uuid_form ∷ syntax_form ∷ vector_form ∷ []
 
 -- ---- operations
 
--- an operation whose result isn't an error_status_t
-abbrev pub without_status : List ℕ → List ParamForm → Option Form → OpForm
-without_status name params result = record { name = name; params = params; result = result; status = false; maybe = false }
-
-abbrev pub status : ParamForm
-status = goes_out (OfRef (OfUint 4))
-
 abbrev pub ids_form : OpForm
-ids_form = without_status (codes "inq_if_ids") (goes_out (OfRef (OfFull (OfNamed 2 None))) ∷ status ∷ []) None
+ids_form = procedure (codes "inq_if_ids") (goes_out (OfRef (OfFull (named 2))) ∷ number_out ∷ []) None
 
 -- as many as the first parameter points to
 abbrev pub statistics : Form
 statistics = OfArray (Conformant (Param 0 true 0)) (OfUint 4)
 
 abbrev pub stats_form : OpForm
-stats_form = without_status (codes "inq_stats") (goes_both (OfRef (OfUint 4)) ∷ goes_out statistics ∷ status ∷ []) None
+stats_form = procedure (codes "inq_stats") (goes_both (OfRef (OfUint 4)) ∷ goes_out statistics ∷ number_out ∷ []) None
 
 abbrev pub listening_form : OpForm
-listening_form = without_status (codes "is_server_listening") (status ∷ []) (Some (OfUint 4))
+listening_form = procedure (codes "is_server_listening") (number_out ∷ []) (Some (OfUint 4))
 
 abbrev pub mgmt_table : TableForm
 mgmt_table = record {

@@ -1,65 +1,14 @@
 //! Parts of the answers.
 ghost use Rattle.std.specs.Prelude.{◌≡◌, ◌<◌, ◌^◌, IfOk, length, min, take};
-ghost use Rattle.ndr_value.specs.Values.{VArray, VStruct, msg, val, vals};
-ghost use Rattle.mgmt_desk.specs.Fits.{AreWords, FitIds, FitsId, FitsUuid};
+ghost use Rattle.ndr_value.specs.Values.{msg, val, vals};
+ghost use Rattle.mgmt_desk.specs.Fits.{AreSyntaxes, AreWords};
 ghost use Rattle.mgmt_desk.specs.Steps as spec;
 
 use manager_api::response;
+use message_parts::{array, note_syntax, pointers, structure, syntax_value};
 use ndr_value::{Message, Value, Values, Wires};
-use rpc_base::{NoMemory, Octets, SyntaxId};
+use rpc_base::{NoMemory, SyntaxId};
 use std::alloc::Global;
-use uuid::Uuid;
-
-fn structure(members: Values) -> Value
-    ensures { val result ≡ VStruct (vals members.items) }
-{
-    Value::Struct(members)
-}
-
-fn array(items: Values) -> Value
-    ensures { val result ≡ VArray (vals items.items) }
-{
-    Value::Array(items)
-}
-
-fn uuid(alloc: Global, id: &Uuid) -> Result<Value, NoMemory>
-    ensures value { IfOk result (λ v. val v ≡ spec.uuid_value id.now) }
-    ensures fits { FitsUuid id.now }
-{
-    let (a, b, c, d) = id.as_fields();
-    let mut members = Vec::new(alloc);
-    members.push(Value::Uint(u64::from(a)))?;
-    members.push(Value::Uint(u64::from(b)))?;
-    members.push(Value::Uint(u64::from(c)))?;
-    members.push(Value::Octets(Octets::from_vec(Vec::from_slice(alloc, &d)?)))?;
-    Ok(structure(members))
-}
-
-fn if_id(alloc: Global, syntax: &SyntaxId) -> Result<Value, NoMemory>
-    ensures value { IfOk result (λ v. val v ≡ spec.if_id_value syntax.now) }
-    ensures fits { IfOk result (λ v. FitsId syntax.now) }
-{
-    let mut members = Vec::new(alloc);
-    members.push(uuid(alloc, &syntax.id)?)?;
-    members.push(Value::Uint(u64::from(syntax.major)))?;
-    members.push(Value::Uint(u64::from(syntax.minor)))?;
-    Ok(structure(members))
-}
-
-// Pointers to so many items, from number 1 on.
-#[tactic(auto, using(response_laws::proofs::Rows::rows))]
-fn pointers(alloc: Global, ids: &[SyntaxId]) -> Result<Values, NoMemory>
-    requires { length ids.now < 2 ^ 31 }
-    ensures { IfOk result (λ vs. vals vs.items ≡ spec.pointers 1 ids.now) }
-{
-    let mut pointers = Vec::new(alloc);
-    let mut number = 1;
-    for _id in ids {
-        pointers.push(Value::Full(Some(number)))?;
-        number += 1;
-    }
-    Ok(pointers)
-}
 
 fn vector(alloc: Global, ids: &[SyntaxId]) -> Result<Value, NoMemory>
     requires { length ids.now < 2 ^ 31 }
@@ -67,21 +16,22 @@ fn vector(alloc: Global, ids: &[SyntaxId]) -> Result<Value, NoMemory>
 {
     let mut members = Vec::new(alloc);
     members.push(Value::Uint(ids.len() as u64))?;
-    members.push(array(pointers(alloc, ids)?))?;
+    members.push(array(pointers(alloc, 1, ids.len() as u32)?))?;
     Ok(structure(members))
 }
 
 // The heap: the vector, and what it points to.
-#[tactic(auto, using(response_laws::proofs::Rows::rows))]
+#[tactic(auto, using(message_parts::proofs::Rows::rows))]
 fn heap(alloc: Global, ids: &[SyntaxId]) -> Result<Values, NoMemory>
     requires { length ids.now < 2 ^ 31 }
     ensures values { IfOk result (λ vs. vals vs.items ≡ spec.heap ids.now) }
-    ensures fits { IfOk result (λ vs. FitIds ids.now) }
+    ensures fits { IfOk result (λ vs. AreSyntaxes ids.now) }
 {
     let mut heap = Vec::new(alloc);
     heap.push(vector(alloc, ids)?)?;
     for id in ids {
-        heap.push(if_id(alloc, id)?)?;
+        note_syntax(id);
+        heap.push(syntax_value(alloc, id)?)?;
     }
     Ok(heap)
 }
@@ -90,7 +40,7 @@ fn heap(alloc: Global, ids: &[SyntaxId]) -> Result<Values, NoMemory>
 pub fn ids_message(alloc: Global, ids: &[SyntaxId]) -> Result<Message, NoMemory>
     requires { length ids.now < 2 ^ 31 }
     ensures values { IfOk result (λ m. msg m ≡ spec.ids_message ids.now) }
-    ensures fits { IfOk result (λ m. FitIds ids.now) }
+    ensures fits { IfOk result (λ m. AreSyntaxes ids.now) }
 {
     let mut values = Vec::new(alloc);
     values.push(Value::Full(Some(0)))?;
@@ -102,7 +52,7 @@ pub fn ids_message(alloc: Global, ids: &[SyntaxId]) -> Result<Message, NoMemory>
     })
 }
 
-#[tactic(auto, using(response_laws::proofs::Rows::rows))]
+#[tactic(auto, using(message_parts::proofs::Rows::rows))]
 fn uints(alloc: Global, numbers: &[u32]) -> Result<Values, NoMemory>
     ensures values { IfOk result (λ vs. vals vs.items ≡ spec.uints numbers.now) }
     ensures fits { AreWords numbers.now }

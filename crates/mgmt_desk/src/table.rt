@@ -1,58 +1,25 @@
 //! The table of the interface, as its text gives it.
-ghost use Rattle.std.specs.Prelude.{◌≡◌, IfOk, map, None};
-ghost use Rattle.ndr_value.specs.Forms.{form, forms, types_of, OfStruct, OfNamed, OfFull};
-ghost use Rattle.table_form.specs.Tables.{op_form, param_form, result_form};
+ghost use Rattle.std.specs.Prelude.{◌≡◌, IfOk, map};
+ghost use Rattle.ndr_value.specs.Forms.{form, types_of};
+ghost use Rattle.table_form.specs.Tables.{op_form};
 ghost use Rattle.table_form.specs.Shown.{shown};
 ghost use Rattle.mgmt_desk.specs.Table as spec;
 
 use ndr_value::{ArrayKind, Count, Shape, Shapes};
-use rpc_base::{NoMemory, Octets, SyntaxId};
+use rpc_base::{NoMemory, SyntaxId};
 use std::alloc::Global;
-use table_form::{HandleUses, Op, Ops, Param, Params, Table, Uses};
-use table_parts::{array_of, behind, both_ways, outward};
+use table_form::{HandleUses, Op, Ops, Table, Uses};
+use table_parts::{
+    array_of, behind, both_ways, named, number_out, outward, pointer_to, procedure, structure_of,
+    syntax_shape, uuid_shape,
+};
 use uuid::Uuid;
 
-// ---- types
-
-fn structure_of(members: Shapes) -> Shape
-    ensures { form result ≡ OfStruct (forms members.items) }
-{
-    Shape::Struct(members)
-}
-
-fn uuid_type(alloc: Global) -> Result<Shape, NoMemory>
-    ensures { IfOk result (λ s. form s ≡ OfStruct spec.uuid_members) }
-{
-    let mut members = Vec::new(alloc);
-    members.push(Shape::Uint(4))?;
-    members.push(Shape::Uint(2))?;
-    members.push(Shape::Uint(2))?;
-    members.push(array_of(alloc, ArrayKind::Fixed(8), Shape::Byte)?)?;
-    Ok(structure_of(members))
-}
-
-fn if_id_type(alloc: Global) -> Result<Shape, NoMemory>
-    ensures { IfOk result (λ s. form s ≡ OfStruct spec.if_id_members) }
-{
-    let mut members = Vec::new(alloc);
-    members.push(Shape::Named(0, None))?;
-    members.push(Shape::Uint(2))?;
-    members.push(Shape::Uint(2))?;
-    Ok(structure_of(members))
-}
-
-// A full pointer to the type of that number.
-fn pointer_to(alloc: Global, number: usize) -> Result<Shape, NoMemory>
-    ensures { IfOk result (λ s. form s ≡ OfFull (OfNamed number None)) }
-{
-    Ok(Shape::Full(Box::new(alloc, Shape::Named(number, None))?))
-}
-
-fn vector_type(alloc: Global) -> Result<Shape, NoMemory>
-    ensures { IfOk result (λ s. form s ≡ OfStruct spec.vector_members) }
+fn vector_shape(alloc: Global) -> Result<Shape, NoMemory>
+    ensures { IfOk result (λ s. form s ≡ spec.vector_form) }
 {
     let count = Count::Member { index: 0, plus: 0 };
-    let pointer = pointer_to(alloc, 1)?;
+    let pointer = pointer_to(alloc, named(1))?;
     let mut members = Vec::new(alloc);
     members.push(Shape::Uint(4))?;
     members.push(array_of(alloc, ArrayKind::Conformant(count), pointer)?)?;
@@ -63,45 +30,20 @@ fn types(alloc: Global) -> Result<Shapes, NoMemory>
     ensures { IfOk result (λ types. types_of types.items ≡ spec.mgmt_types) }
 {
     let mut types = Vec::new(alloc);
-    types.push(uuid_type(alloc)?)?;
-    types.push(if_id_type(alloc)?)?;
-    types.push(vector_type(alloc)?)?;
+    types.push(uuid_shape(alloc)?)?;
+    types.push(syntax_shape(alloc)?)?;
+    types.push(vector_shape(alloc)?)?;
     Ok(types)
-}
-
-// ---- operations
-
-fn without_status(
-    alloc: Global,
-    name: &[u8],
-    params: Params,
-    answer: Option<Shape>,
-) -> Result<Op, NoMemory>
-    ensures { IfOk result (λ o. op_form o ≡ spec.without_status name.now (map param_form params.items) (result_form answer)) }
-{
-    Ok(Op {
-        name: Octets::from_vec(Vec::from_slice(alloc, name)?),
-        params,
-        result: answer,
-        status: false,
-        maybe: false,
-    })
-}
-
-fn status(alloc: Global) -> Result<Param, NoMemory>
-    ensures { IfOk result (λ p. param_form p ≡ spec.status) }
-{
-    Ok(outward(behind(alloc, Shape::Uint(4))?))
 }
 
 fn ids_op(alloc: Global) -> Result<Op, NoMemory>
     ensures { IfOk result (λ o. op_form o ≡ spec.ids_form) }
 {
-    let vector = pointer_to(alloc, 2)?;
+    let vector = pointer_to(alloc, named(2))?;
     let mut params = Vec::new(alloc);
     params.push(outward(behind(alloc, vector)?))?;
-    params.push(status(alloc)?)?;
-    without_status(alloc, b"inq_if_ids", params, None)
+    params.push(number_out(alloc)?)?;
+    procedure(alloc, b"inq_if_ids", params, None)
 }
 
 // As many numbers as the first parameter points to.
@@ -122,16 +64,16 @@ fn stats_op(alloc: Global) -> Result<Op, NoMemory>
     let mut params = Vec::new(alloc);
     params.push(both_ways(behind(alloc, Shape::Uint(4))?))?;
     params.push(outward(statistics(alloc)?))?;
-    params.push(status(alloc)?)?;
-    without_status(alloc, b"inq_stats", params, None)
+    params.push(number_out(alloc)?)?;
+    procedure(alloc, b"inq_stats", params, None)
 }
 
 fn listening_op(alloc: Global) -> Result<Op, NoMemory>
     ensures { IfOk result (λ o. op_form o ≡ spec.listening_form) }
 {
     let mut params = Vec::new(alloc);
-    params.push(status(alloc)?)?;
-    without_status(alloc, b"is_server_listening", params, Some(Shape::Uint(4)))
+    params.push(number_out(alloc)?)?;
+    procedure(alloc, b"is_server_listening", params, Some(Shape::Uint(4)))
 }
 
 fn operations(alloc: Global) -> Result<Ops, NoMemory>

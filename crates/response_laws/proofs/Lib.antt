@@ -1,3 +1,3 @@
 pub mod Suits
+pub mod Parts
 pub mod Owed
-pub mod Rows

@@ -1,9 +1,10 @@
 //! Operations and their parameters.
 ghost use Rattle.std.specs.Prelude.{◌≡◌, IfOk, map};
 ghost use Rattle.ndr_value.specs.Forms.{form};
-ghost use Rattle.table_form.specs.Tables.{op_form, param_form};
+ghost use Rattle.table_form.specs.Tables.{op_form, param_form, result_form};
 ghost use Rattle.table_parts.specs.Parts as spec;
 
+use crate::shapes::behind;
 use ndr_value::Shape;
 use rpc_base::{NoMemory, Octets};
 use std::alloc::Global;
@@ -45,6 +46,13 @@ pub fn both_ways(shape: Shape) -> Param
     }
 }
 
+/// A number of 32 bits that comes out, as a status does.
+pub fn number_out(alloc: Global) -> Result<Param, NoMemory>
+    ensures { IfOk result (λ p. param_form p ≡ spec.number_out) }
+{
+    Ok(outward(behind(alloc, Shape::Uint(4))?))
+}
+
 /// An operation whose result is an `error_status_t`.
 pub fn operation(alloc: Global, name: &[u8], params: Params) -> Result<Op, NoMemory>
     ensures { IfOk result (λ o. op_form o ≡ spec.operation name.now (map param_form params.items)) }
@@ -54,6 +62,24 @@ pub fn operation(alloc: Global, name: &[u8], params: Params) -> Result<Op, NoMem
         params,
         result: Some(Shape::Uint(4)),
         status: true,
+        maybe: false,
+    })
+}
+
+/// An operation with another result, or none.
+pub fn procedure(
+    alloc: Global,
+    name: &[u8],
+    params: Params,
+    answer: Option<Shape>,
+) -> Result<Op, NoMemory>
+    ensures { IfOk result (λ o. op_form o ≡ spec.procedure name.now (map param_form params.items) (result_form answer)) }
+{
+    Ok(Op {
+        name: Octets::from_vec(Vec::from_slice(alloc, name)?),
+        params,
+        result: answer,
+        status: false,
         maybe: false,
     })
 }

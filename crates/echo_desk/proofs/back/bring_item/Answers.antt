@@ -1,7 +1,7 @@
 use Rattle.std.proofs.Common.{◌≡◌, sym, ap, ◌∙◌}
 use Rattle.ndr_value.specs.Values.{Vals, val, vals}
 use Rattle.ndr_model.specs.Named.{nth}
-use Rattle.response_laws.specs.Rows.{vals_then}
+use Rattle.message_parts.specs.Rows.{vals_then}
 use Rattle.echo_desk.proofs.Anew.{item_some, item_none}
 use Rattle.echo_desk.proofs.Walks.{then_so}
 use Rattle.echo_desk.proofs.back.bring_item.Goals as goal

@@ -1,6 +1,6 @@
 use Rattle.std.proofs.Common.{◌≡◌, drop}
 use Rattle.ndr_value.specs.Values.{vals}
-use Rattle.response_laws.specs.Rows.{vals_then}
+use Rattle.message_parts.specs.Rows.{vals_then}
 use Rattle.echo_desk.specs.Numbered as numbers
 use Rattle.echo_desk.proofs.back.items.Given as goal
 

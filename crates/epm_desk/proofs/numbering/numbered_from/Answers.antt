@@ -1,9 +1,8 @@
 use Rattle.std.proofs.Common.{◌≡◌, ◌∙◌, List, [], ◌∷◌, ◌++◌, sym, ap, subst}
 use Rattle.epm_model.specs.declared.entry.Numbered.{Numbered}
 use Rattle.epm_model.specs.Entries.{next_number, last_of}
-use Rattle.epm_desk.specs.Wholes.{AllTyped}
-use Rattle.epm_desk.proofs.Rows.{numbered_push, last_push}
-use Rattle.epm_desk.proofs.Sound.{typed_append}
+use Rattle.epm_laws.specs.Wholes.{AllTyped}
+use Rattle.epm_desk.proofs.Whole.{typed_append, numbered_push, last_push}
 use Rattle.epm_desk.proofs.numbering.numbered_from.Goals as goal
 
 pub loop-entry-preserved : goal.loop-entry-preserved

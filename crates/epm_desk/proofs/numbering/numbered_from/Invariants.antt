@@ -1,6 +1,6 @@
 use Rattle.std.proofs.Common.{◌≡◌}
 use Rattle.epm_model.specs.Entries.{numbered_from, last_of}
-use Rattle.epm_desk.specs.Wholes.{AllTyped}
+use Rattle.epm_laws.specs.Wholes.{AllTyped}
 use Rattle.epm_desk.proofs.numbering.numbered_from.Given as goal
 
 abbrev pub invariant-loop-entry : goal.invariant-loop-entry

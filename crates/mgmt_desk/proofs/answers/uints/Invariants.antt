@@ -1,5 +1,5 @@
 use Rattle.std.proofs.Common.{◌≡◌, drop}
-use Rattle.response_laws.specs.Rows.{vals_then}
+use Rattle.message_parts.specs.Rows.{vals_then}
 use Rattle.mgmt_desk.specs.Steps as spec
 use Rattle.mgmt_desk.proofs.answers.uints.Given as goal
 

@@ -1,8 +1,8 @@
 use Rattle.std.proofs.Common.{◌∙◌, filter, sym, ap, subst}
 use Rattle.epm_model.specs.declared.entry.Likeness.TheVariants.{Entry}
 use Rattle.epm_model.specs.Entries.{is_unlike}
-use Rattle.epm_desk.specs.Wholes.{IsWhole}
-use Rattle.epm_desk.proofs.Sound.{whole_filter}
+use Rattle.epm_laws.specs.Wholes.{IsWhole}
+use Rattle.epm_desk.proofs.Whole.{whole_filter}
 use Rattle.epm_desk.proofs.desk.EpmDesk.delete.Goals as goal
 
 pub invariant_of-self : goal.invariant_of-self

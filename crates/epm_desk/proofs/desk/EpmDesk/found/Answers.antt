@@ -6,7 +6,7 @@ use Rattle.epm_model.specs.declared.finding.Given.{Given}
 use Rattle.epm_model.specs.declared.wanted.Wanted.{Wanted}
 use Rattle.epm_model.specs.Entries.{most_entries}
 use Rattle.epm_model.specs.Found.{found, is_found}
-use Rattle.epm_desk.proofs.Sound.{few_taken}
+use Rattle.epm_desk.proofs.Whole.{few_taken}
 use Rattle.epm_desk.proofs.desk.EpmDesk.found.Goals as goal
 
 few_given : (r : Result Given NoMemory) (most after : ℕ) (what : Wanted) (ns : List Numbered) → IfOk r (λ g. g.entries.items ≡ take most (found what after ns)) → length ns ≤ most_entries

@@ -4,8 +4,8 @@ use Rattle.manager_api.specs.Arguments.{value_at}
 use Rattle.epm_model.specs.declared.entry.Likeness.TheVariants.{Service}
 use Rattle.epm_model.specs.Entries.{is_unlike}
 use Rattle.epm_model.specs.Asked.{elements_of, listed}
-use Rattle.epm_desk.specs.Wholes.{IsWhole}
-use Rattle.epm_desk.proofs.Sound.{entries_noted, whole_filter}
+use Rattle.epm_laws.specs.Wholes.{IsWhole}
+use Rattle.epm_desk.proofs.Whole.{entries_noted, whole_filter}
 use Rattle.epm_desk.proofs.desk.EpmDesk.insert.Goals as goal
 
 pub insert_behind-requires : goal.insert_behind-requires

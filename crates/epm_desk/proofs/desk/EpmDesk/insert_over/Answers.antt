@@ -1,8 +1,8 @@
 use Rattle.std.proofs.Common.{◌≡◌, ◌+◌, ◌∙◌, true, length, rules, sym, subst}
 use Rattle.std.specs.Prelude.{nat_le}
 use Rattle.epm_model.specs.Entries.{most_entries}
-use Rattle.epm_desk.specs.Wholes.{IsWhole}
-use Rattle.epm_desk.proofs.Sound.{whole_new}
+use Rattle.epm_laws.specs.Wholes.{IsWhole}
+use Rattle.epm_desk.proofs.Whole.{whole_new}
 use Rattle.epm_desk.proofs.desk.EpmDesk.insert_over.Goals as goal
 
 pub invariant_of-self : goal.invariant_of-self

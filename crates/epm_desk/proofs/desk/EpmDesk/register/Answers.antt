@@ -3,8 +3,9 @@ use Rattle.std.specs.Prelude.{is_ok}
 use Rattle.std.proofs.lemmas.Grind.{common_steps}
 use Rattle.epm_model.specs.declared.entry.Numbered.{Numbered}
 use Rattle.epm_model.specs.Entries.{most_entries}
-use Rattle.epm_desk.specs.Wholes.{all_noted}
-use Rattle.epm_desk.proofs.Sound.{and_true, whole_more, whole_if}
+use Rattle.epm_laws.specs.Wholes.{all_noted}
+use Rattle.epm_laws.proofs.Sound.{and_true}
+use Rattle.epm_desk.proofs.Whole.{whole_more, whole_if}
 use Rattle.epm_desk.proofs.desk.EpmDesk.register.Goals as goal
 
 pub invariant_of-self-2 : goal.invariant_of-self-2

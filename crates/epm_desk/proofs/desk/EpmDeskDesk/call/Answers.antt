@@ -8,7 +8,7 @@ use Rattle.manager_api.specs.Calls.{Owes}
 use Rattle.epm_model.specs.Asked.{entries_at, lookup_wants, map_wants}
 use Rattle.epm_model.specs.Steps.{insert_step, delete_step, lookup_step, map_step, free_step}
 use Rattle.epm_model.specs.Table.{epm_table}
-use Rattle.epm_desk.proofs.Owed.{gives_owes, insert_owes, delete_owes, lookup_owes, map_owes, free_owes}
+use Rattle.epm_laws.proofs.Owed.{gives_owes, insert_owes, delete_owes, lookup_owes, map_owes, free_owes}
 use Rattle.epm_desk.proofs.desk.EpmDeskDesk.call.Goals as goal
 
 pub returns-in-0-clause-owes : goal.returns-in-0-clause-owes
