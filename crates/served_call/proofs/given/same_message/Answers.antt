@@ -1,0 +1,12 @@
+use Rattle.ndr_value.specs.Values.{msg}
+use Rattle.table_form.specs.Shown.{shown}
+use Rattle.served_tables.specs.Served.{tables_in}
+use Rattle.served_call.proofs.Facts.{same_message}
+use Rattle.served_call.proofs.given.same_message.Goals as goal
+
+pub returns : goal.returns
+returns c =
+    let a = c.args.asked.now in
+    let t = shown c.in-Some.table.now in
+    let tables = tables_in c.args.served.now in
+    same_message tables t a.iface a.op a.order a.stub c.in-Some.ensures c.is_whole.ensures c.is_shallow.ensures c.one_message.ensures (msg c.args.first.now) (msg c.args.second.now) c.requires.first c.requires.second
