@@ -1,0 +1,108 @@
+-- The groups of a replay, and the whole journals that they keep.
+use Rattle.std.specs.Prelude.{◌≡◌, ℕ, ◌+◌, ◌-◌, ◌^◌, ◌<◌, ◌≤◌, false, suc, Result, Ok, Err, List, [], ◌∷◌, ◌++◌, ◌⊎◌, length, filter, get_or, slice_set, slice_index_or, ⊤}
+use Rattle.std.specs.List.{list_any}
+use Rattle.handle_model.specs.declared.entry.Home.{Home}
+use Rattle.handle_model.specs.declared.entry.Entry.{Entry}
+use Rattle.handle_model.specs.declared.entry.Entry.TheVariants.{Join}
+use Rattle.handle_model.specs.Bases.{empty_base}
+use Rattle.handle_model.specs.Entries.{is_shut}
+use Rattle.handle_model.specs.History.{History, IsSound, since}
+use Rattle.group_core.specs.declared.answer.Rest.{Rest}
+use Rattle.group_core.specs.declared.answer.Rest.TheVariants as rest
+use Rattle.group_core.specs.Conns.{Joins}
+use Rattle.replay_world.specs.Groups.{most_groups}
+use Rattle.replay_world.specs.Worlds.{goes_on}
+use Rattle.replay_world.specs.Replays.{journals_from}
+use Rattle.replay_groups.specs.declared.opening.OpenRefusal.{OpenRefusal}
+use Rattle.replay_groups.specs.declared.opening.OpenRefusal.TheVariants.{Full, Memory}
+
+-- the server's boot word, the journals as the groups keep them, by id from 1, and how many groups are open
+pub record GroupsView : Type 0 where
+  pub boot : ℕ
+  pub groups : List History
+  pub open_groups : ℕ
+
+abbrev pub home_in : ℕ → ℕ → Home
+home_in boot g = record { boot = boot; group = g }
+
+-- the whole journal of a group
+abbrev pub whole_of : ℕ → ℕ → List Entry → History
+whole_of boot g past = since (home_in boot g) empty_base past
+
+abbrev pub past_at : List (List Entry) → ℕ → List Entry
+past_at pasts g = get_or pasts (g - 1) []
+
+-- the whole journals are legal and settled, by their ids
+abbrev pub AllSound : ℕ → ℕ → List (List Entry) → Type 0
+AllSound boot id [] = ⊤
+AllSound boot id (past ∷ more) = IsSound (whole_of boot id past) × AllSound boot (suc id) more
+
+-- The groups keep the journals of these entries.
+pub record Keeps (x : GroupsView) (pasts : List (List Entry)) : Type 0 where
+  pub journals : x.groups ≡ journals_from x.boot 1 pasts
+  pub sound : AllSound x.boot 1 pasts
+  pub open_is : x.open_groups ≡ length (filter goes_on pasts)
+
+-- the group of that id was opened
+abbrev pub Has : GroupsView → ℕ → Type 0
+Has x g = (1 ≤ g) × (g - 1 < length x.groups)
+
+abbrev pub no_journal : History
+no_journal = whole_of 0 0 []
+
+abbrev pub group_at : GroupsView → ℕ → History
+group_at x g = slice_index_or x.groups (g - 1) no_journal
+
+-- the group has not ended
+abbrev pub GoesOn : GroupsView → ℕ → Type 0
+GoesOn x g = (pasts : List (List Entry)) → Keeps x pasts → list_any is_shut (past_at pasts g) ≡ false
+
+-- The group answers by its whole journal, which then goes on so; and no other group changes.
+abbrev pub Answers : GroupsView → ℕ → (History → History → Type 0) → GroupsView → Type 0
+Answers x g Says y =
+    (y.boot ≡ x.boot)
+    × ((pasts : List (List Entry)) → Keeps x pasts
+    → (new : List Entry) × Says (whole_of x.boot g (past_at pasts g)) (whole_of x.boot g new) × Keeps y (slice_set pasts (g - 1) new))
+
+-- the group of that id alone changed, and keeps this; so many are open then
+abbrev pub Touched : GroupsView → ℕ → History → ℕ → GroupsView → Type 0
+Touched x g j n y = (y ≡ record x { groups = slice_set x.groups (g - 1) j; open_groups = n }) × IsSound j
+
+-- a group is open no longer where it has ended
+abbrev pub left_open : ℕ → Rest → ℕ
+left_open n rest.Stays = n
+left_open n (rest.Shut items) = n - 1
+
+-- ---- a group is opened
+
+-- a new group, which its first connection joined
+pub record IsFirst (home : Home) (j : History) : Type 0 where
+  pub conn : ℕ
+  pub joins : Joins (since home empty_base []) (Ok conn) j
+  pub sound : IsSound j
+
+-- the next id is opened
+pub record OpensAs (x : GroupsView) (id : ℕ) (y : GroupsView) : Type 0 where
+  pub room : x.open_groups < most_groups
+  pub id_is : id ≡ length x.groups + 1
+  pub small : id < 2 ^ 32
+  pub first : History
+  pub is_first : IsFirst (home_in x.boot id) first
+  pub is : y ≡ record x { groups = x.groups ++ first ∷ []; open_groups = x.open_groups + 1 }
+
+abbrev pub OpensAt : GroupsView → Result ℕ OpenRefusal → GroupsView → Type 0
+OpensAt x (Ok id) y = OpensAs x id y
+OpensAt x (Err Full) y = ((most_groups ≤ x.open_groups) ⊎ (2 ^ 32 ≤ length x.groups + 1)) × (y ≡ x)
+OpensAt x (Err Memory) y = y ≡ x
+
+-- so many groups are open that none more may be, or no id is left
+abbrev pub IsFull : List (List Entry) → Type 0
+IsFull pasts = (most_groups ≤ length (filter goes_on pasts)) ⊎ (2 ^ 32 ≤ length pasts + 1)
+
+-- The group of the next id is opened, and its first connection has joined it; or no further group may be; or memory ran out.
+abbrev pub Opens : GroupsView → Result ℕ OpenRefusal → GroupsView → Type 0
+Opens x (Ok id) y =
+    (y.boot ≡ x.boot)
+    × ((pasts : List (List Entry)) → Keeps x pasts → (IsFull pasts → ⊥) × (id ≡ length pasts + 1) × Keeps y (pasts ++ (Join 1 ∷ []) ∷ []))
+Opens x (Err Full) y = (y ≡ x) × ((pasts : List (List Entry)) → Keeps x pasts → IsFull pasts)
+Opens x (Err Memory) y = y ≡ x

@@ -1,0 +1,40 @@
+//! The groups.
+ghost use Rattle.std.specs.Prelude.{◌≡◌, [], IfOk};
+ghost use Rattle.replay_groups.specs.Keeps.{Keeps};
+
+use group_core::Group;
+use std::alloc::Global;
+use std::marker::Model;
+
+/// The groups of a replay, by their ids from 1. Contracts see the journal that each of them keeps.
+#[derive(Drop)]
+pub struct Groups {
+    pub(crate) alloc: Global,
+    pub(crate) boot: u64,
+    pub(crate) groups: Vec<Group>,
+    /// How many are open.
+    pub(crate) open_groups: usize,
+}
+
+impl Model for Groups {
+    ghost use Rattle.replay_groups.specs.Keeps.{GroupsView};
+
+    ghost Value = { GroupsView };
+
+    ghost view = { λ g. record { boot = g.boot; groups = g.groups.items; open_groups = g.open_groups } };
+}
+
+impl Groups {
+    /// No groups, of a server with that boot word. It takes no memory.
+    pub fn new(alloc: Global, boot: u64) -> Groups
+        ensures whose { result.boot ≡ boot }
+        ensures none { Keeps result [] }
+    {
+        Groups {
+            alloc,
+            boot,
+            groups: Vec::new(alloc),
+            open_groups: 0,
+        }
+    }
+}

@@ -1,0 +1,10 @@
+pub mod Basics
+pub mod Requests
+pub mod Groups
+pub mod Packets
+pub mod Printed
+pub mod Ended
+pub mod Events
+pub mod Lines
+pub mod Once
+pub mod Coming

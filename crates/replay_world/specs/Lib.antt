@@ -1,0 +1,9 @@
+pub mod Services
+pub mod Worlds
+pub mod Printing
+pub mod Counting
+pub mod Groups
+pub mod Events
+pub mod Plays
+pub mod Replays
+pub mod Promised
