@@ -1,5 +1,5 @@
--- What the program is asked, and what it makes of a file.
-use Rattle.std.specs.Prelude.{◌≡◌, ◌⊎◌, ℕ, ◌++◌, List, [], ◌∷◌, codes, decimal}
+-- What the program makes of a file.
+use Rattle.std.specs.Prelude.{◌≡◌, ◌⊎◌, ℕ, ◌++◌, List, [], codes, decimal}
 use Rattle.replay_script.specs.Scripts.{IsScript, DepartsAt}
 use Rattle.idl_tree.specs.Idl.{IsIdl}
 use Rattle.idl_tree.specs.declared.declaration.Ast.{Ast}
@@ -8,30 +8,16 @@ use Rattle.idl_reader.specs.declared.fault.IdlFault.TheVariants as faults
 use Rattle.idl_reader.specs.Causes.{IsCause}
 use Rattle.idl_rules.specs.Broken.{NoneBroken, IsLeastBreach}
 use Rattle.idl_print.specs.Canonical.{canonical_text}
-use Rattle.rpc_app.specs.declared.command.Command.{Command}
-use Rattle.rpc_app.specs.declared.command.Command.TheVariants.{Replay, Idl, Audit}
+use Rattle.command_line.specs.declared.command.Command.{Command}
+use Rattle.command_line.specs.declared.command.Command.TheVariants.{Replay, Idl, Audit}
 use Rattle.rpc_app.specs.Audits.{AreGood, IsAudited, HasBreach, DepartsAtJournalLine}
 use Rattle.replay.specs.Replays.{IsReplay, Replays}
-
--- the first word of a command
-abbrev pub word_of : Command → List ℕ
-word_of Replay = codes "replay"
-word_of Idl = codes "idl"
-word_of Audit = codes "audit"
 
 -- the longest file that it takes: 64 MiB of a script or of journals, 1 MiB of an interface text
 abbrev pub limit : Command → ℕ
 limit Replay = 67108864
 limit Idl = 1048576
 limit Audit = 67108864
-
--- the words are a command and the name of its file
-abbrev pub AsksFor : List (List ℕ) → Command → List ℕ → Type 0
-AsksFor words command file = words ≡ word_of command ∷ file ∷ []
-
--- they are none
-abbrev pub AsksForNothing : List (List ℕ) → Type 0
-AsksForNothing words = (command : Command) (file : List ℕ) → AsksFor words command file → ⊥
 
 -- The text has a tree that breaks no rule, whose canonical text this is.
 pub record IsPrinted (text printed : List ℕ) : Type 0 where

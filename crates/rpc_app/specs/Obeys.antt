@@ -2,8 +2,9 @@
 use Rattle.std.specs.Prelude.{◌≡◌, ◌≢◌, ◌⊎◌, ℕ, ◌<◌, ◌≤◌, List, length, Option}
 use Rattle.rpc_base.specs.Causes.{Rose}
 use Rattle.rpc_base.specs.Shelves.{Files, Tells}
-use Rattle.rpc_app.specs.declared.command.Command.{Command}
-use Rattle.rpc_app.specs.Commands.{AsksFor, AsksForNothing, IsTextFor, limit}
+use Rattle.command_line.specs.declared.command.Command.{Command}
+use Rattle.command_line.specs.Asks.{AsksFor, AsksForNothing}
+use Rattle.rpc_app.specs.Commands.{IsTextFor, limit}
 use Rattle.rpc_app.specs.Runs.{words_refusal, Growth, Gains, GainsFront, IsDone, IsRefused, IsCutShort}
 
 -- a shelf: its files, where it tells them, and how often it had failed before and has failed since
@@ -70,8 +71,8 @@ pub record Obeys (given : List (List ℕ)) (store : Shelf) (out log : Output) (s
   -- nothing is said where the shelf failed, or memory ran out
   pub silent : (status ≡ 3) ⊎ (status ≡ 5) → IsKept out
   pub quiet : (status ≡ 3) ⊎ (status ≡ 5) → IsKept log
-  -- words that name no file are refused
-  pub unknown : AsksForNothing given → (status ≡ 1) ⊎ (status ≡ 4)
+  -- words that ask for nothing are refused, unless memory runs out
+  pub unknown : AsksForNothing given → (status ≡ 1) ⊎ (status ≡ 4) ⊎ (status ≡ 5)
   -- a file that is told and that the command takes isn't refused; of one that it doesn't take nothing is made
   pub taken : WhereTold given store (λ command octets. IsTaken command octets → (status ≢ 1) × (status ≢ 2))
   pub refused : WhereTold given store (λ command octets. (IsTextFor command octets → ⊥) → status ≢ 0)

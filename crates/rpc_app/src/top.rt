@@ -6,11 +6,12 @@ ghost use Rattle.rpc_app.specs.Commands.{IsTextFor, limit};
 ghost use Rattle.rpc_app.specs.Obeys.{Obeys};
 ghost use Rattle.rpc_app.specs.Runs.{Gains, IsDone, IsRefused, IsCutShort};
 
-use crate::command::{Command, asked};
+use crate::limits::limit;
 use crate::load::{LoadFault, load_file};
 use crate::make::{MakeFault, make};
 use crate::say::{print, refuse};
-use rpc_base::{Shelf, Sink};
+use command_line::{Command, asked};
+use rpc_base::{NoMemory, Shelf, Sink};
 use std::alloc::Global;
 use std::sync::Wait;
 use std::thread::Threads;
@@ -41,7 +42,7 @@ fn carry_out<F: Shelf, S: Sink, L: Sink>(
         → (IsTextFor command octets → ⊥) → result ≢ 0 }
     ensures too_long { (octets : List ℕ) → Tells (F.files shelf.old) name.now octets → limit command < length octets → result ≢ 0 }
 {
-    let octets = match load_file(alloc, shelf, name, command.limit()) {
+    let octets = match load_file(alloc, shelf, name, limit(command)) {
         Ok(octets) => octets,
         Err(LoadFault::Failed) => return 3,
         Err(LoadFault::TooLong) => return refuse(out, b"refused: file too long\n", 2),
@@ -69,7 +70,11 @@ pub fn obey<F: Shelf, S: Sink, L: Sink>(
         (record { before = L.faults log.old; after = L.faults log.new; had = L.written log.old; has = L.written log.new })
         result }
 {
-    match asked(words) {
+    let found = match asked(alloc, words) {
+        Ok(found) => found,
+        Err(NoMemory) => return 5,
+    };
+    match found {
         Some((command, name)) => carry_out(alloc, command, name, shelf, out, log),
         None => refuse(out, b"refused: words\n", 1),
     }

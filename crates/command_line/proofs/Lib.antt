@@ -1,0 +1,6 @@
+pub mod WordKinds
+pub mod Leaf
+pub mod Top
+pub mod Found
+pub mod Told
+pub mod Answered

@@ -1,0 +1,25 @@
+-- What `clap` is told of the program's words.
+use Rattle.std.specs.Prelude.{true, false, [], ◌∷◌, codes}
+use Rattle.clap.specs.Words.{App, Shape, Rule, Text, new_rule}
+use Rattle.clap.specs.Simple.{new_shape}
+
+-- its one argument, the file, which must be given
+abbrev pub file_rule : Rule
+file_rule = record (new_rule (codes "FILE")) { required = true }
+
+-- a command that takes a file
+abbrev pub of_file : Text → Shape
+of_file name = record (new_shape name) { rules = file_rule ∷ [] }
+
+-- the program: one of its commands must be named, and it has no words for help
+abbrev pub program : App
+program = record {
+  top = record (new_shape (codes "dcerpc")) {
+    no_binary_name = true;
+    disable_help_flag = true;
+    disable_help_subcommand = true;
+    subcommand_required = true;
+    is_leaf = false;
+  };
+  subs = of_file (codes "replay") ∷ of_file (codes "idl") ∷ of_file (codes "audit") ∷ [];
+}

@@ -1,0 +1,30 @@
+//! What `clap` is told of the program's words.
+ghost use Rattle.std.specs.Prelude.{◌≡◌, false, IfOk};
+ghost use Rattle.clap.specs.Words.{app_of, shape_of};
+ghost use Rattle.clap.specs.declared.builder.command.Command.TheViews.{out-Command};
+ghost use Rattle.command_line.specs.Usage as spec;
+
+use clap::{Arg, Command};
+use std::alloc::{AllocError, Global};
+
+/// A command that takes a file.
+fn of_file<'a>(alloc: Global, name: &'a str) -> Result<Command<'a>, AllocError>
+    ensures shape { IfOk result (λ c. shape_of c ≡ spec.of_file name.entry.now) }
+    ensures local { IfOk result (λ c. (out-Command c).has_globals ≡ false) }
+{
+    Command::new(alloc, name).arg(Arg::new(alloc, "FILE").required(true))
+}
+
+/// The program and its commands. No word asks for help or for a version.
+pub fn program<'a>(alloc: Global) -> Result<Command<'a>, AllocError>
+    ensures app { IfOk result (λ c. app_of c ≡ spec.program) }
+{
+    Command::new(alloc, "dcerpc")
+        .no_binary_name(true)
+        .disable_help_flag(true)
+        .disable_help_subcommand(true)
+        .subcommand_required(true)
+        .subcommand(of_file(alloc, "replay")?)?
+        .subcommand(of_file(alloc, "idl")?)?
+        .subcommand(of_file(alloc, "audit")?)
+}
