@@ -1,22 +1,11 @@
 //! Binds and alter_contexts.
 
-use crate::play::wrong_line;
+use crate::play::first_wrong;
 use rpc_base::NoMemory;
-use std::alloc::Global;
-use std::process::Abort;
 use std::test::*;
 
-/// The first of the cases with a line that doesn't hold.
-fn hold(rt: &impl Abort, alloc: Global, cases: &[&str]) -> Result<(), NoMemory> {
-    for case in cases {
-        let line = wrong_line(alloc, case)?;
-        assert!(rt; line == 0, "line {line} of {case}");
-    }
-    Ok(())
-}
-
 /// Two calls of the probe, octet for octet, little-endian and big-endian.
-const WHOLE: [&str; 2] = [
+const WHOLE: &[&str] = &[
     "
 feed BIND
 group 0
@@ -47,13 +36,8 @@ none
 ",
 ];
 
-#[test]
-fn whole_connections(rt: HostRuntime) -> Result<(), NoMemory> {
-    hold(&rt, rt.alloc(), &WHOLE)
-}
-
 /// What a server agrees to.
-const AGREED: [&str; 7] = [
+const AGREED: &[&str] = &[
     // Three offers of the store by which Windows finds out what a server knows: over NDR, over NDR64, and its
     // feature negotiation. Maxima of 5,840 are more than a server wants.
     "
@@ -105,13 +89,8 @@ answer NO_CONTEXT
 ",
 ];
 
-#[test]
-fn what_is_agreed_to(rt: HostRuntime) -> Result<(), NoMemory> {
-    hold(&rt, rt.alloc(), &AGREED)
-}
-
 /// Binds that are refused, and what closes a connection before or at a bind.
-const REFUSED: [&str; 9] = [
+const REFUSED: &[&str] = &[
     // A client that takes 1,431 octets.
     "
 feed BIND =18:9705
@@ -191,13 +170,8 @@ none
 ",
 ];
 
-#[test]
-fn binds_that_are_refused(rt: HostRuntime) -> Result<(), NoMemory> {
-    hold(&rt, rt.alloc(), &REFUSED)
-}
-
 /// Requests and alter_contexts before a bind.
-const UNBOUND: [&str; 6] = [
+const UNBOUND: &[&str] = &[
     "
 feed OPEN
 close unbound 05000323 10000000 2000 0000 02000000 00000000 0000 00 00 0b00011c 00000000
@@ -244,13 +218,8 @@ none
 ",
 ];
 
-#[test]
-fn before_a_bind(rt: HostRuntime) -> Result<(), NoMemory> {
-    hold(&rt, rt.alloc(), &UNBOUND)
-}
-
 /// Further contexts.
-const ALTERED: [&str; 4] = [
+const ALTERED: &[&str] = &[
     // The sizes and the group are those of the bind_ack, whatever an alter_context says.
     "
 feed BIND
@@ -304,6 +273,8 @@ call 2 0 31 0 little - 05000000
 ];
 
 #[test]
-fn further_contexts(rt: HostRuntime) -> Result<(), NoMemory> {
-    hold(&rt, rt.alloc(), &ALTERED)
+fn binds_and_alter_contexts(rt: HostRuntime) -> Result<(), NoMemory> {
+    let cases = [WHOLE, AGREED, REFUSED, UNBOUND, ALTERED];
+    assert_eq!(rt; first_wrong(rt.alloc(), "", &cases)?, None);
+    Ok(())
 }

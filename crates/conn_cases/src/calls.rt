@@ -1,23 +1,11 @@
 //! Calls: what waits for them, what calls them off, and what answers them.
 
-use crate::play::wrong_line;
+use crate::play::{BOUND, first_wrong};
 use rpc_base::NoMemory;
-use std::alloc::Global;
-use std::process::Abort;
 use std::test::*;
 
-/// Asserts that each line holds, behind a bind and its answer.
-fn hold(rt: &impl Abort, alloc: Global, cases: &[&str]) -> Result<(), NoMemory> {
-    for case in cases {
-        let text = format!(in alloc; "feed BIND\ngroup 0\nbound 1 ACK\n{case}")?;
-        let line = wrong_line(alloc, text.as_str())?;
-        assert!(rt; line == 0, "line {line} of {text}");
-    }
-    Ok(())
-}
-
 /// A co_cancel and an orphaned while no call is unanswered and none is being joined.
-const FREE: [&str; 3] = [
+const FREE: &[&str] = &[
     "
 feed CANCEL
 none
@@ -57,13 +45,8 @@ none
 ",
 ];
 
-#[test]
-fn nothing_to_call_off(rt: HostRuntime) -> Result<(), NoMemory> {
-    hold(&rt, rt.alloc(), &FREE)
-}
-
 /// The same between the fragments of a request.
-const JOINING: [&str; 8] = [
+const JOINING: &[&str] = &[
     // A co_cancel marks the request.
     "
 feed FIRST
@@ -172,13 +155,8 @@ none
 ",
 ];
 
-#[test]
-fn called_off_between_fragments(rt: HostRuntime) -> Result<(), NoMemory> {
-    hold(&rt, rt.alloc(), &JOINING)
-}
-
 /// The same while a call is unanswered, and what has to wait then.
-const UNANSWERED: [&str; 7] = [
+const UNANSWERED: &[&str] = &[
     // What stands in front holds others up once its header has come, unless it calls off.
     "
 open
@@ -289,13 +267,8 @@ none
 ",
 ];
 
-#[test]
-fn while_a_call_is_unanswered(rt: HostRuntime) -> Result<(), NoMemory> {
-    hold(&rt, rt.alloc(), &UNANSWERED)
-}
-
 /// Answers of calls.
-const ANSWERED: [&str; 6] = [
+const ANSWERED: &[&str] = &[
     // A fault before the call was executed, and one of an executed call.
     "
 feed OPEN
@@ -355,6 +328,8 @@ out 0102 as 05000203 00000000 001a0000 01020304 00000002 00000000 0102
 ];
 
 #[test]
-fn answers_of_calls(rt: HostRuntime) -> Result<(), NoMemory> {
-    hold(&rt, rt.alloc(), &ANSWERED)
+fn calls_behind_a_bind(rt: HostRuntime) -> Result<(), NoMemory> {
+    let cases = [FREE, JOINING, UNANSWERED, ANSWERED];
+    assert_eq!(rt; first_wrong(rt.alloc(), BOUND, &cases)?, None);
+    Ok(())
 }

@@ -1,9 +1,7 @@
 //! Requests and responses in fragments.
 
-use crate::play::{agree, wrong_line, wrong_whole_line};
+use crate::play::{BOUND, agree, first_wrong, wrong_whole_line};
 use rpc_base::NoMemory;
-use std::alloc::Global;
-use std::process::Abort;
 use std::test::*;
 
 /// An append of 4,000 octets to the store: a stub of 4,028 octets in fragments of 1,408, 1,408 and 1,212.
@@ -49,17 +47,8 @@ fn an_append_in_three_fragments(rt: HostRuntime) -> Result<(), NoMemory> {
     Ok(())
 }
 
-/// Asserts that each line holds, behind a bind and its answer.
-fn hold(rt: &impl Abort, alloc: Global, cases: &[&str]) -> Result<(), NoMemory> {
-    for case in cases {
-        let text = format!(in alloc; "feed BIND\ngroup 0\nbound 1 ACK\n{case}")?;
-        let line = wrong_line(alloc, text.as_str())?;
-        assert!(rt; line == 0, "line {line} of {text}");
-    }
-    Ok(())
-}
-
-const SIZES: [&str; 3] = [
+/// Requests in fragments of all sizes.
+const SIZES: &[&str] = &[
     // One octet in each fragment, and none in some.
     "
 feed 05000001 10000000 19000000 02000000 04000000 00000000 05
@@ -99,13 +88,8 @@ call 2 0 0 0 little - 05060708
 ",
 ];
 
-#[test]
-fn fragments_of_all_sizes(rt: HostRuntime) -> Result<(), NoMemory> {
-    hold(&rt, rt.alloc(), &SIZES)
-}
-
 /// A client that takes 4,280 octets, and one that takes 1,440.
-const WIDE: [&str; 2] = [
+const WIDE: &[&str] = &[
     "
 feed BIND =16:b810b810
 group 0
@@ -128,15 +112,14 @@ out @0+1417 as 05000201 10000000 a0050000 02000000 89050000 00000000 @0+1416 | 0
 ];
 
 #[test]
-fn responses_as_large_as_the_client_takes(rt: HostRuntime) -> Result<(), NoMemory> {
-    for case in WIDE {
-        assert_eq!(rt; wrong_line(rt.alloc(), case)?, 0, "{case}");
-    }
+fn fragments_of_all_sizes(rt: HostRuntime) -> Result<(), NoMemory> {
+    assert_eq!(rt; first_wrong(rt.alloc(), BOUND, &[SIZES])?, None);
+    assert_eq!(rt; first_wrong(rt.alloc(), "", &[WIDE])?, None);
     Ok(())
 }
 
 /// 1,024 fragments of 65,535 octets have 67,083,264 octets of stub data. With 25,600 more they have 64 MiB.
-const LONG: [&str; 2] = [
+const LONG: &[&str] = &[
     "
 feed 05000001 10000000 ffff0000 02000000 00000000 00000000 @0+65511
 none
@@ -161,7 +144,7 @@ none
 #[test]
 fn the_longest_stub_and_one_octet_more(rt: HostRuntime) -> Result<(), NoMemory> {
     for case in LONG {
-        let text = format!(in rt.alloc(); "feed BIND\ngroup 0\nbound 1 ACK\n{case}")?;
+        let text = format!(in rt.alloc(); "{BOUND}{case}")?;
         assert_eq!(rt; wrong_whole_line(rt.alloc(), text.as_str())?, 0, "{case}");
     }
     Ok(())

@@ -4,21 +4,25 @@
 use crate::play::{agree, agree_on, left_of};
 use rpc_base::NoMemory;
 use std::alloc::Global;
-use std::process::Abort;
 use std::test::*;
 
 /// A stream, and the lines of its acts and answers.
 type Case = (&'static str, &'static str);
 
-fn all_agree(rt: &impl Abort, alloc: Global, cases: &[Case]) -> Result<(), NoMemory> {
-    for (stream, acts) in cases {
-        assert!(rt; agree(alloc, stream, acts, 1)?, "{stream}");
+/// The first stream that comes to something else.
+fn first_apart(alloc: Global, cases: &[&[Case]]) -> Result<Option<&'static str>, NoMemory> {
+    for group in cases {
+        for (stream, acts) in *group {
+            if !agree(alloc, stream, acts, 1)? {
+                return Ok(Some(*stream));
+            }
+        }
     }
-    Ok(())
+    Ok(None)
 }
 
 /// Faults of headers, and of bodies, before a bind.
-const FAULTS: [Case; 24] = [
+const FAULTS: &[Case] = &[
     // A bind of another version.
     (
         "BIND =0:04",
@@ -67,13 +71,8 @@ const FAULTS: [Case; 24] = [
     ),
 ];
 
-#[test]
-fn faults_before_a_bind(rt: HostRuntime) -> Result<(), NoMemory> {
-    all_agree(&rt, rt.alloc(), &FAULTS)
-}
-
 /// Headers with several faults: the first of them in the order of their tests.
-const ORDERED: [Case; 6] = [
+const ORDERED: &[Case] = &[
     (
         "04000103 21000000 0f000100 02000000",
         "close version BROKEN",
@@ -88,13 +87,8 @@ const ORDERED: [Case; 6] = [
     ("05000003 10000000 10000000 02000000", "close body BROKEN"),
 ];
 
-#[test]
-fn the_first_fault_of_a_header(rt: HostRuntime) -> Result<(), NoMemory> {
-    all_agree(&rt, rt.alloc(), &ORDERED)
-}
-
 /// The same behind other PDUs, of which nothing is lost, and before others, of which nothing is heard.
-const BEHIND: [Case; 8] = [
+const BEHIND: &[Case] = &[
     (
         "BIND | OPEN =0:04 | OPEN",
         "group 0\nbound 1 ACK\nclose version BROKEN",
@@ -125,13 +119,8 @@ const BEHIND: [Case; 8] = [
     ("BIND | OPEN =0:04", "group 0\nnak 2 NAK =16:0200"),
 ];
 
-#[test]
-fn faults_behind_other_pdus(rt: HostRuntime) -> Result<(), NoMemory> {
-    all_agree(&rt, rt.alloc(), &BEHIND)
-}
-
 /// Fragments that don't go on with the request.
-const FRAGMENTS: [Case; 12] = [
+const FRAGMENTS: &[Case] = &[
     // A later one with none before; a first one again.
     (
         "BIND | OPEN =3:02",
@@ -187,14 +176,9 @@ const FRAGMENTS: [Case; 12] = [
     ),
 ];
 
-#[test]
-fn fragments_that_do_not_go_on(rt: HostRuntime) -> Result<(), NoMemory> {
-    all_agree(&rt, rt.alloc(), &FRAGMENTS)
-}
-
 /// PDUs for a client: a response, a fault, a bind_ack, a bind_nak, an alter_context_resp, a shutdown; before a
 /// bind, behind one, between fragments.
-const FOR_CLIENTS: [Case; 10] = [
+const FOR_CLIENTS: &[Case] = &[
     (
         "05000203 10000000 18000000 02000000 00000000 00000000",
         "close direction BROKEN",
@@ -221,8 +205,10 @@ const FOR_CLIENTS: [Case; 10] = [
 ];
 
 #[test]
-fn pdus_for_a_client(rt: HostRuntime) -> Result<(), NoMemory> {
-    all_agree(&rt, rt.alloc(), &FOR_CLIENTS)
+fn streams_that_break_the_protocol(rt: HostRuntime) -> Result<(), NoMemory> {
+    let cases = [FAULTS, ORDERED, BEHIND, FRAGMENTS, FOR_CLIENTS];
+    assert_eq!(rt; first_apart(rt.alloc(), &cases)?, None);
+    Ok(())
 }
 
 /// What a header alone comes to, with that PTYPE and call 2.
@@ -246,7 +232,7 @@ fn each_ptype(rt: HostRuntime) -> Result<(), NoMemory> {
 }
 
 /// How many octets are left of a stream, behind its whole PDUs.
-const LEFT: [(&str, usize); 8] = [
+const LEFT: &[(&str, usize)] = &[
     ("BIND", 0),
     ("05", 1),
     ("BIND | OPEN | 050000", 3),
@@ -262,7 +248,7 @@ const LEFT: [(&str, usize); 8] = [
 #[test]
 fn what_is_left(rt: HostRuntime) -> Result<(), NoMemory> {
     for (stream, count) in LEFT {
-        assert_eq!(rt; left_of(rt.alloc(), stream)?, Some(count), "{stream}");
+        assert_eq!(rt; left_of(rt.alloc(), stream)?, Some(*count), "{stream}");
     }
     Ok(())
 }

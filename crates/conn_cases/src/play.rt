@@ -117,10 +117,31 @@ pub fn wrong_whole_line(alloc: Global, text: &str) -> Result<usize, NoMemory> {
     play(alloc, text, false)
 }
 
+/// A bind and its answer.
+pub const BOUND: &str = "feed BIND\ngroup 0\nbound 1 ACK\n";
+
+/// The first line of a case that doesn't hold, where those lines stand before each, and the case.
+pub fn first_wrong(
+    alloc: Global,
+    before: &str,
+    cases: &[&[&'static str]],
+) -> Result<Option<(usize, &'static str)>, NoMemory> {
+    for group in cases {
+        for case in *group {
+            let text = format!(in alloc; "{before}{case}")?;
+            let line = wrong_line(alloc, text.as_str())?;
+            if line != 0 {
+                return Ok(Some((line, *case)));
+            }
+        }
+    }
+    Ok(None)
+}
+
 /// Plays the lines one after the other: `feed OCTETS` lets octets come, whole and then again one by one; `none`
 /// wants no act; `held` wants that what stands in front must wait, and `open` that it needn't; others want an act, or answer the group or the call. The number of the first line that doesn't
 /// hold, or 0.
-pub fn wrong_line(alloc: Global, text: &str) -> Result<usize, NoMemory> {
+fn wrong_line(alloc: Global, text: &str) -> Result<usize, NoMemory> {
     match play(alloc, text, false)? {
         0 => play(alloc, text, true),
         at => Ok(at),

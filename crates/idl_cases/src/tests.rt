@@ -5,11 +5,13 @@
 use idl_check::{CheckFault, check};
 use idl_reader::read_idl;
 use std::alloc::Global;
-use std::process::Abort;
 use std::test::Fail;
 
+/// The number of the rule that is named, the octet, and declarations.
+type Row = (u8, usize, &'static str);
+
 /// Names that are not declared before, and names that are.
-const UNKNOWN: &[(u8, usize, &str)] = &[
+const UNKNOWN: &[Row] = &[
     (1, 67, "void f([in]foo x);"),
     (1, 74, "void f([in]struct S*x);"),
     (1, 74, "void f([in]long x[N]);"),
@@ -41,7 +43,7 @@ const UNKNOWN: &[(u8, usize, &str)] = &[
 ];
 
 /// Names that are declared twice, and equal names of other kinds or lists.
-const DUPLICATE: &[(u8, usize, &str)] = &[
+const DUPLICATE: &[Row] = &[
     (2, 84, "const long a=1;typedef long a;"),
     (2, 71, "typedef long a,a;"),
     (2, 65, "enum E{a,a};"),
@@ -70,7 +72,7 @@ const DUPLICATE: &[(u8, usize, &str)] = &[
 ];
 
 /// Attributes that stand twice, have no meaning or are missing, and good ones.
-const ATTRIBUTES: &[(u8, usize, &str)] = &[
+const ATTRIBUTES: &[Row] = &[
     (3, 67, "void f([in,in]long a);"),
     (3, 78, "void f([in,size_is(1),max_is(1)]long a[]);"),
     (3, 71, "void f([in,ref,unique]long*a);"),
@@ -224,7 +226,7 @@ const ATTRIBUTES: &[(u8, usize, &str)] = &[
 ];
 
 /// Names in attributes, of the right type and of others.
-const SIZES: &[(u8, usize, &str)] = &[
+const SIZES: &[Row] = &[
     (4, 75, "void f([in,size_is(n)]long a[]);"),
     (4, 75, "void f([in,size_is(N)]long a[],[in]long n);"),
     (4, 74, "struct S{[size_is(n)]long a[];};"),
@@ -316,7 +318,7 @@ const SIZES: &[(u8, usize, &str)] = &[
 ];
 
 /// Handles: their types, where they are used, and how many.
-const HANDLES: &[(u8, usize, &str)] = &[
+const HANDLES: &[Row] = &[
     (5, 84, "typedef[context_handle]long*h;"),
     (5, 84, "typedef[context_handle]long h;"),
     (5, 85, "typedef[context_handle]void**h;"),
@@ -375,7 +377,7 @@ const HANDLES: &[(u8, usize, &str)] = &[
 ];
 
 /// Structures that hold themselves, and the tags and cases of unions.
-const TYPES: &[(u8, usize, &str)] = &[
+const TYPES: &[Row] = &[
     (7, 63, "struct S{struct S a;};"),
     (7, 63, "struct S{struct S a[2];};"),
     (7, 63, "struct S{struct{struct S a;}b;};"),
@@ -481,7 +483,7 @@ const TYPES: &[(u8, usize, &str)] = &[
 ];
 
 /// What lies outside the profile, and what lies just inside.
-const PROFILE: &[(u8, usize, &str)] = &[
+const PROFILE: &[Row] = &[
     (9, 86, "typedef long float;void f([in]float a);"),
     (9, 85, "typedef long double;struct S{double a;};"),
     (9, 85, "typedef long wchar_t;typedef wchar_t a;"),
@@ -535,7 +537,7 @@ const PROFILE: &[(u8, usize, &str)] = &[
 ];
 
 /// Several breaches in one text: the first is named, and at one place the least number.
-const TOGETHER: &[(u8, usize, &str)] = &[
+const TOGETHER: &[Row] = &[
     (1, 67, "void f([in]foo a);void f();"),
     (1, 64, "typedef foo a;typedef bar a;"),
     (2, 71, "typedef long a,a;typedef foo b;"),
@@ -579,7 +581,7 @@ const TOGETHER: &[(u8, usize, &str)] = &[
 ];
 
 /// Whole texts, for what is said of the interface's own attributes.
-const FILES: &[(u8, usize, &str)] = &[
+const FILES: &[Row] = &[
     (3, 25, "[version(1.0)]\ninterface x {\n}\n"),
     (
         3,
@@ -637,63 +639,29 @@ fn interface(alloc: Global, declarations: &str) -> Result<String, Fail> {
     Ok(text)
 }
 
-fn compare(rt: &impl Abort, alloc: Global, table: &[(u8, usize, &str)]) -> Result<(), Fail> {
-    for (number, at, declarations) in table {
-        let text = interface(alloc, declarations)?;
-        let (rule, place) = named(alloc, text.as_str());
-        assert_eq!(rt; rule, *number, "{declarations}");
-        assert_eq!(rt; place, *at, "{declarations}");
+/// The first declarations of the tables by which something else is named.
+fn first_wrong(alloc: Global, tables: &[&[Row]]) -> Result<Option<&'static str>, Fail> {
+    for table in tables {
+        for (number, at, declarations) in *table {
+            let text = interface(alloc, declarations)?;
+            if named(alloc, text.as_str()) != (*number, *at) {
+                return Ok(Some(*declarations));
+            }
+        }
+    }
+    Ok(None)
+}
+
+#[test]
+fn each_rule_is_named(rt: HostRuntime) -> Result<(), Fail> {
+    let tables = [
+        UNKNOWN, DUPLICATE, ATTRIBUTES, SIZES, HANDLES, TYPES, PROFILE, TOGETHER,
+    ];
+    assert_eq!(rt; first_wrong(rt.alloc(), &tables)?, None);
+    for (number, at, text) in FILES {
+        assert_eq!(rt; named(rt.alloc(), text), (*number, *at), "{text}");
     }
     Ok(())
-}
-
-#[test]
-fn names_are_declared_before(rt: HostRuntime) -> Result<(), Fail> {
-    compare(&rt, rt.alloc(), UNKNOWN)
-}
-
-#[test]
-fn names_are_declared_once(rt: HostRuntime) -> Result<(), Fail> {
-    compare(&rt, rt.alloc(), DUPLICATE)
-}
-
-#[test]
-fn attributes_stand_where_they_mean_something(rt: HostRuntime) -> Result<(), Fail> {
-    compare(&rt, rt.alloc(), ATTRIBUTES)
-}
-
-#[test]
-fn sizes_and_switches_are_named(rt: HostRuntime) -> Result<(), Fail> {
-    compare(&rt, rt.alloc(), SIZES)
-}
-
-#[test]
-fn handles_are_used_as_they_may_be(rt: HostRuntime) -> Result<(), Fail> {
-    compare(&rt, rt.alloc(), HANDLES)
-}
-
-#[test]
-fn structures_and_unions_are_sound(rt: HostRuntime) -> Result<(), Fail> {
-    compare(&rt, rt.alloc(), TYPES)
-}
-
-#[test]
-fn the_profile_is_kept(rt: HostRuntime) -> Result<(), Fail> {
-    compare(&rt, rt.alloc(), PROFILE)
-}
-
-#[test]
-fn the_first_breach_is_named(rt: HostRuntime) -> Result<(), Fail> {
-    compare(&rt, rt.alloc(), TOGETHER)
-}
-
-#[test]
-fn the_interface_has_its_own_attributes(rt: HostRuntime) {
-    for (number, at, text) in FILES {
-        let (rule, place) = named(rt.alloc(), text);
-        assert_eq!(rt; rule, *number, "{text}");
-        assert_eq!(rt; place, *at, "{text}");
-    }
 }
 
 /// How many of a thing there may be: a text of them is `head`, `before` and a number and `after` so
@@ -706,33 +674,6 @@ struct Limit {
     after: &'static str,
     tail: &'static str,
 }
-
-const OPERATIONS: Limit = Limit {
-    most: 65_535,
-    head: "",
-    before: "void f",
-    name_at: 5,
-    after: "();",
-    tail: "",
-};
-
-const TYPEDEFS: Limit = Limit {
-    most: 65_535,
-    head: "",
-    before: "typedef byte t",
-    name_at: 13,
-    after: ";",
-    tail: "",
-};
-
-const ENUM_NAMES: Limit = Limit {
-    most: 65_534,
-    head: "enum E{e",
-    before: ",a",
-    name_at: 1,
-    after: "",
-    tail: "};",
-};
 
 /// Parameters and members.
 const LISTS: &[Limit] = &[
@@ -762,6 +703,34 @@ const LISTS: &[Limit] = &[
     },
 ];
 
+/// Operations, typedefs and names of enumerations.
+const LARGE: &[Limit] = &[
+    Limit {
+        most: 65_535,
+        head: "",
+        before: "void f",
+        name_at: 5,
+        after: "();",
+        tail: "",
+    },
+    Limit {
+        most: 65_535,
+        head: "",
+        before: "typedef byte t",
+        name_at: 13,
+        after: ";",
+        tail: "",
+    },
+    Limit {
+        most: 65_534,
+        head: "enum E{e",
+        before: ",a",
+        name_at: 1,
+        after: "",
+        tail: "};",
+    },
+];
+
 /// So many of the things, behind the head.
 fn things(alloc: Global, limit: &Limit, count: u32) -> Result<String, Fail> {
     let mut text = String::from_str(alloc, limit.head)?;
@@ -786,36 +755,25 @@ fn place_of(alloc: Global, limit: &Limit) -> Result<usize, Fail> {
     Ok(before.len().wrapping_add(limit.name_at).wrapping_add(HEAD))
 }
 
-/// With two too many, the name of the first one is named.
-fn too_many(rt: &impl Abort, alloc: Global, limit: &Limit) -> Result<(), Fail> {
+/// Whether with two too many the name of the first one is named.
+fn is_bounded(alloc: Global, limit: &Limit) -> Result<bool, Fail> {
     let wanted = place_of(alloc, limit)?;
-    let (rule, place) = named_of(alloc, limit, limit.most.saturating_add(2))?;
-    assert_eq!(rt; rule, 9);
-    assert_eq!(rt; place, wanted);
-    Ok(())
+    Ok(named_of(alloc, limit, limit.most.saturating_add(2))? == (9, wanted))
 }
 
 #[test]
-fn a_parameter_or_member_is_too_many(rt: HostRuntime) -> Result<(), Fail> {
+fn one_too_many_is_named(rt: HostRuntime) -> Result<(), Fail> {
     for limit in LISTS {
-        let (rule, _) = named_of(rt.alloc(), limit, limit.most)?;
-        assert_eq!(rt; rule, 0);
-        too_many(&rt, rt.alloc(), limit)?;
+        assert_eq!(rt;
+            named_of(rt.alloc(), limit, limit.most)?,
+            (0, 0),
+            "{}",
+            limit.head
+        );
+        assert!(rt; is_bounded(rt.alloc(), limit)?, "{}", limit.head);
+    }
+    for limit in LARGE {
+        assert!(rt; is_bounded(rt.alloc(), limit)?, "{}", limit.before);
     }
     Ok(())
-}
-
-#[test]
-fn an_operation_is_too_many(rt: HostRuntime) -> Result<(), Fail> {
-    too_many(&rt, rt.alloc(), &OPERATIONS)
-}
-
-#[test]
-fn a_typedef_is_too_many(rt: HostRuntime) -> Result<(), Fail> {
-    too_many(&rt, rt.alloc(), &TYPEDEFS)
-}
-
-#[test]
-fn a_name_of_an_enumeration_is_too_many(rt: HostRuntime) -> Result<(), Fail> {
-    too_many(&rt, rt.alloc(), &ENUM_NAMES)
 }
