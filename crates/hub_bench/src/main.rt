@@ -1,0 +1,234 @@
+//! The program: `hub_bench THREADS STEP GROUPS HANDLES VISITS CALLS`. It opens so many groups at a hub.
+//! Then 1, 2 or 4 threads call, the first in group 1 and each other one in the group STEP after the one
+//! before: STEP 0 is one group, 16 are groups of one shard, 1 are groups of different shards. A thread is
+//! issued so many handles, and then visits its group so often: it joins the group, makes so many calls,
+//! which use the last of its handles, and leaves. It prints how many calls were made that way, and ends
+//! with 1 where a visit wasn't whole. `bench/hub.sh` times it.
+#![tactic(auto)]
+
+ghost use Rattle.std.specs.Prelude.{◌≤◌};
+ghost use Rattle.group_hub.specs.Passes.{IsPassOf};
+
+mod calls;
+
+use calls::{Halt, visit};
+use group_hub::{Hub, Pass};
+use handle_model::{Home, Slot};
+use std::alloc::Global;
+use std::process::ExitCode;
+use std::rt::Env;
+use std::sync::Wait;
+use std::thread::Threads;
+use std::{env, thread};
+
+const BOOT: u64 = 1;
+
+/// In which groups the threads call and how often.
+#[derive(Clone, Copy, Drop)]
+struct Sizes {
+    step: u32,
+    handles: u32,
+    visits: u32,
+    calls: u32,
+}
+
+/// Opens so many groups, in which the pass stays.
+fn open<R: Wait>(rt: &R, hub: &Hub, pass: &mut Pass, count: u32) -> bool
+    requires { IsPassOf hub.now pass.old }
+    ensures { IsPassOf hub.now pass.new }
+{
+    for _ in 0..count {
+        if hub.open_group(rt, pass).is_err() {
+            return false;
+        }
+    }
+    true
+}
+
+/// So many visits; how many were whole before one wasn't.
+fn visits<R: Wait>(
+    rt: &R,
+    alloc: Global,
+    hub: &Hub,
+    pass: &mut Pass,
+    group: u32,
+    slot: Option<Slot>,
+    sizes: Sizes,
+) -> u64
+    requires pass { IsPassOf hub.now pass.old }
+    requires id { 1 ≤ group }
+    ensures { IsPassOf hub.now pass.new }
+{
+    let mut whole: u64 = 0;
+    for _ in 0..sizes.visits {
+        if visit(rt, alloc, hub, pass, group, slot, sizes.calls).is_err() {
+            return whole;
+        }
+        whole = whole.saturating_add(1);
+    }
+    whole
+}
+
+/// What the last of so many handles is named by; nothing where it is none.
+fn issued<R: Wait>(
+    rt: &R,
+    alloc: Global,
+    hub: &Hub,
+    pass: &mut Pass,
+    group: u32,
+    count: u32,
+) -> Result<Option<Slot>, Halt>
+    requires pass { IsPassOf hub.now pass.old }
+    requires id { 1 ≤ group }
+    ensures { IsPassOf hub.now pass.new }
+{
+    if count == 0 {
+        return Ok(None);
+    }
+    let slot = Slot::Opens { kind: 0, serial: 0 };
+    let serial = visit(rt, alloc, hub, pass, group, Some(slot), count)?;
+    let home = Home { boot: BOOT, group };
+    Ok(Some(Slot::Changes {
+        kind: 0,
+        wire: home.wire(serial),
+    }))
+}
+
+/// What the thread of a number does; the pass, and how many visits were whole.
+fn one<R: Wait>(
+    rt: &R,
+    alloc: Global,
+    hub: &Hub,
+    pass: Pass,
+    number: u32,
+    sizes: Sizes,
+) -> (Pass, u64)
+    requires { IsPassOf hub.now pass }
+    ensures { IsPassOf hub.now result.0 }
+{
+    let mut pass = pass;
+    let group = number.saturating_mul(sizes.step).saturating_add(1);
+    match issued(rt, alloc, hub, &mut pass, group, sizes.handles) {
+        Ok(slot) => {
+            let whole = visits(rt, alloc, hub, &mut pass, group, slot, sizes);
+            (pass, whole)
+        }
+        Err(_) => (pass, 0),
+    }
+}
+
+/// Two threads, from that number on.
+fn two<R: Threads + Wait + Sync>(
+    rt: &R,
+    alloc: Global,
+    hub: &Hub,
+    pass: Pass,
+    number: u32,
+    sizes: Sizes,
+) -> (Pass, u64)
+    requires { IsPassOf hub.now pass }
+    ensures { IsPassOf hub.now result.0 }
+{
+    let mut pass = pass;
+    let other = hub.split(&mut pass);
+    let next = number.saturating_add(1);
+    let (first, second) = thread::join(
+        rt,
+        || -> (Pass, u64)
+            requires { IsPassOf hub.now pass }
+            ensures { IsPassOf hub.entry.now result.0 }
+        { one(rt, alloc, hub, pass, number, sizes) },
+        || -> (Pass, u64)
+            requires { IsPassOf hub.now other }
+            ensures { IsPassOf hub.entry.now result.0 }
+        { one(rt, alloc, hub, other, next, sizes) },
+    );
+    let (mut pass, whole) = first;
+    hub.join(&mut pass, second.0);
+    (pass, whole.saturating_add(second.1))
+}
+
+/// Four threads.
+fn four<R: Threads + Wait + Sync>(
+    rt: &R,
+    alloc: Global,
+    hub: &Hub,
+    pass: Pass,
+    sizes: Sizes,
+) -> (Pass, u64)
+    requires { IsPassOf hub.now pass }
+    ensures { IsPassOf hub.now result.0 }
+{
+    let mut pass = pass;
+    let other = hub.split(&mut pass);
+    let (first, second) = thread::join(
+        rt,
+        || -> (Pass, u64)
+            requires { IsPassOf hub.now pass }
+            ensures { IsPassOf hub.entry.now result.0 }
+        { two(rt, alloc, hub, pass, 0, sizes) },
+        || -> (Pass, u64)
+            requires { IsPassOf hub.now other }
+            ensures { IsPassOf hub.entry.now result.0 }
+        { two(rt, alloc, hub, other, 2, sizes) },
+    );
+    let (mut pass, whole) = first;
+    hub.join(&mut pass, second.0);
+    (pass, whole.saturating_add(second.1))
+}
+
+/// How many visits were whole; nothing where there was no hub or a group wasn't opened.
+fn run<R: Threads + Wait + Sync>(
+    rt: &R,
+    alloc: Global,
+    threads: u32,
+    groups: u32,
+    sizes: Sizes,
+) -> Option<u64> {
+    let Ok((hub, mut pass)) = Hub::new(alloc, BOOT) else {
+        return None;
+    };
+    if !open(rt, &hub, &mut pass, groups) {
+        return None;
+    }
+    let (_, whole) = match threads {
+        1 => one(rt, alloc, &hub, pass, 0, sizes),
+        2 => two(rt, alloc, &hub, pass, 0, sizes),
+        4 => four(rt, alloc, &hub, pass, sizes),
+        _ => return None,
+    };
+    Some(whole)
+}
+
+/// The numbers after the program's name, 0 where there is none.
+fn numbers(rt: &(impl Env + AllocGlobal)) -> [u32; 6] {
+    let mut numbers = [0; 6];
+    let Ok(all) = env::args(rt) else {
+        return numbers;
+    };
+    for (at, word) in all.skip(1).enumerate() {
+        if at < 6 {
+            numbers[at] = word.parse().unwrap_or(0);
+        }
+    }
+    numbers
+}
+
+fn main(rt: HostRuntime) -> ExitCode {
+    let [threads, step, groups, handles, visits, calls] = numbers(&rt);
+    let sizes = Sizes {
+        step,
+        handles,
+        visits,
+        calls,
+    };
+    let wanted = u64::from(threads).saturating_mul(u64::from(visits));
+    match run(&rt, rt.alloc(), threads, groups, sizes) {
+        Some(whole) => {
+            let made = whole.saturating_mul(u64::from(calls));
+            let told = println!(rt; "{made} calls");
+            ExitCode::from(u8::from(told.is_err() || whole != wanted))
+        }
+        None => ExitCode::from(1),
+    }
+}
