@@ -1,0 +1,63 @@
+#!/usr/bin/env bash
+# Times calls on a hub by `hub_bench`, each accepted, taken and ended: calls a second by 1, 2 and 4 threads in one group,
+# in groups of one shard and in groups of different shards, with the ratio to one thread; and how the cost of a call of
+# one thread grows with the calls before, with the open groups and with the live handles. A connection leaves after 250
+# calls and joins again, at which the group folds its journal, so the journal stays as long. What it takes to open the
+# groups and to issue the handles is timed alone and taken off. Each time is the least of three.
+set -eu
+top=$(cd "$(dirname "$0")/.." && pwd)
+. "$top/bench/timing.sh"
+program=$top/crates/hub_bench/out/hub_bench
+(cd "$top/crates/hub_bench" && rt run >/dev/null) # builds it where it is stale
+calls=250
+
+# Of so many visits by each thread, in microseconds. No time or a run that failed ends the script.
+visited() { # THREADS STEP GROUPS HANDLES VISITS
+    local bare whole
+    bare=$(least 0 "$program" "$1" "$2" "$3" "$4" 0 "$calls") || return 1
+    whole=$(least 0 "$program" "$1" "$2" "$3" "$4" "$5" "$calls") || return 1
+    [ "$whole" -gt "$bare" ] || { echo "too few visits to time: $*" >&2; return 1; }
+    echo $((whole - bare))
+}
+
+show_rate() { # WHAT CALLS MICROSECONDS [RATE]
+    awk -v what="$1" -v calls="$2" -v time="$3" -v one="${4-}" 'BEGIN {
+        rate = calls * 1e6 / time
+        printf "%-38s %9.0f calls a second", what, rate
+        if (one != "") printf ", %.2f times those of one thread", rate / one
+        printf "\n"
+    }'
+}
+
+show_cost() { # WHAT CALLS MICROSECONDS [BEFORE]: as `show`, by the call
+    awk -v what="$1" -v calls="$2" -v time="$3" -v before="${4-}" 'BEGIN {
+        printf "%-38s %9.3f microseconds a call", what, time / calls
+        if (before != "") printf ", %.2f times the one before", time / calls / before
+        printf "\n"
+    }'
+}
+
+visits=400
+for case in "0 one group" "16 groups of one shard" "1 groups of different shards"; do
+    one=
+    for threads in 1 2 4; do
+        time=$(visited "$threads" "${case%% *}" 64 0 "$visits")
+        made=$((threads * visits * calls))
+        show_rate "$threads threads, ${case#* }" "$made" "$time" "$one"
+        if [ -z "$one" ]; then one=$((made * 1000000 / time)); fi
+    done
+done
+
+cost() { # WHAT GROUPS HANDLES VISITS: and keeps the cost in `before`
+    local time
+    time=$(visited 1 1 "$2" "$3" "$4")
+    show_cost "$1" $(($4 * calls)) "$time" "$before"
+    before=$(awk -v calls=$(($4 * calls)) -v time="$time" 'BEGIN { print time / calls }')
+}
+
+before=
+for visits in 200 400 800 1600; do cost "$((visits * calls)) calls" 1 0 "$visits"; done
+before=
+for groups in 1 16 256 1024; do cost "$groups groups are open" "$groups" 0 400; done
+before=
+for handles in 1 1000 8000 64000; do cost "$handles handles are live" 1 "$handles" 400; done
