@@ -1,0 +1,154 @@
+//! A hub on passes of eight threads.
+ghost use Rattle.group_hub.specs.Passes.{IsPassOf};
+
+use crate::judge::{Judged, each_once, judge_all};
+use crate::visit::{CALLS, Made, retire, visit_all};
+use group_hub::{Hub, Pass};
+use std::alloc::Global;
+use std::sync::Wait;
+use std::test::Fail;
+use std::thread;
+use std::thread::Threads;
+
+/// What two made.
+fn both(one: Option<Made>, other: Option<Made>) -> Option<Made> {
+    let mut all = one?;
+    for call in other? {
+        if all.push(call).is_err() {
+            return None;
+        }
+    }
+    Some(all)
+}
+
+fn in_two<R: Threads + Wait + Sync>(
+    rt: &R,
+    hub: &Hub,
+    pass: Pass,
+    alloc: Global,
+    first: u32,
+) -> (Pass, Option<Made>)
+    requires { IsPassOf hub.now pass }
+    ensures { IsPassOf hub.now result.0 }
+{
+    let mut pass = pass;
+    let next = first.wrapping_add(2);
+    let other = hub.split(&mut pass);
+    let ((mut pass, made), (other, others)) = thread::join(
+        rt,
+        || -> (Pass, Option<Made>)
+            requires { IsPassOf hub.now pass }
+            ensures { IsPassOf hub.entry.now result.0 }
+        { visit_all(rt, hub, pass, alloc, first) },
+        || -> (Pass, Option<Made>)
+            requires { IsPassOf hub.now other }
+            ensures { IsPassOf hub.entry.now result.0 }
+        { visit_all(rt, hub, other, alloc, next) },
+    );
+    hub.join(&mut pass, other);
+    (pass, both(made, others))
+}
+
+fn in_four<R: Threads + Wait + Sync>(
+    rt: &R,
+    hub: &Hub,
+    pass: Pass,
+    alloc: Global,
+    first: u32,
+) -> (Pass, Option<Made>)
+    requires { IsPassOf hub.now pass }
+    ensures { IsPassOf hub.now result.0 }
+{
+    let mut pass = pass;
+    let next = first.wrapping_add(4);
+    let other = hub.split(&mut pass);
+    let ((mut pass, made), (other, others)) = thread::join(
+        rt,
+        || -> (Pass, Option<Made>)
+            requires { IsPassOf hub.now pass }
+            ensures { IsPassOf hub.entry.now result.0 }
+        { in_two(rt, hub, pass, alloc, first) },
+        || -> (Pass, Option<Made>)
+            requires { IsPassOf hub.now other }
+            ensures { IsPassOf hub.entry.now result.0 }
+        { in_two(rt, hub, other, alloc, next) },
+    );
+    hub.join(&mut pass, other);
+    (pass, both(made, others))
+}
+
+fn in_eight<R: Threads + Wait + Sync>(
+    rt: &R,
+    hub: &Hub,
+    pass: Pass,
+    alloc: Global,
+) -> (Pass, Option<Made>)
+    requires { IsPassOf hub.now pass }
+    ensures { IsPassOf hub.now result.0 }
+{
+    let mut pass = pass;
+    let other = hub.split(&mut pass);
+    let ((mut pass, made), (other, others)) = thread::join(
+        rt,
+        || -> (Pass, Option<Made>)
+            requires { IsPassOf hub.now pass }
+            ensures { IsPassOf hub.entry.now result.0 }
+        { in_four(rt, hub, pass, alloc, 0) },
+        || -> (Pass, Option<Made>)
+            requires { IsPassOf hub.now other }
+            ensures { IsPassOf hub.entry.now result.0 }
+        { in_four(rt, hub, other, alloc, 8) },
+    );
+    hub.join(&mut pass, other);
+    (pass, both(made, others))
+}
+
+/// Opens so many groups, in which eight threads then make their calls, and leaves each: what was made,
+/// where each group then ended.
+#[tactic(auto, using(crate::proofs::SeatLemmas::same_serves))]
+fn hold<R: Threads + Wait + Sync>(
+    rt: &R,
+    hub: &Hub,
+    pass: &mut Pass,
+    alloc: Global,
+    count: u32,
+) -> Option<Made>
+    requires { IsPassOf hub.now pass.old }
+    ensures { IsPassOf hub.now pass.new }
+{
+    if count == 0 {
+        let other = hub.split(pass);
+        let (other, made) = in_eight(rt, hub, other, alloc);
+        hub.join(pass, other);
+        return made;
+    }
+    let Ok((group, conn)) = hub.open_group(rt, pass) else {
+        return None;
+    };
+    let mut other = hub.split(pass);
+    let made = hold(rt, hub, &mut other, alloc, count - 1);
+    let rest = hub.leave(rt, pass, group, conn);
+    let ended = retire(rt, hub, pass, rest);
+    hub.join(pass, other);
+    if ended == Some(0) { made } else { None }
+}
+
+#[test]
+fn eight_threads_make_calls_in_sixteen_groups(rt: HostRuntime) -> Result<(), Fail> {
+    let alloc = rt.alloc();
+    let (hub, mut pass) = Hub::new(alloc, 1)?;
+    let Some(mut made) = hold(&rt, &hub, &mut pass, alloc, 16) else {
+        return Err(Fail::new("a call was refused"));
+    };
+    made.sort()?;
+    assert!(rt; each_once(made.as_slice(), 16, 8 * CALLS));
+    let judged = judge_all(&rt, &hub, &mut pass, alloc, 16);
+    assert_eq!(rt;
+        judged,
+        Some(Judged {
+            entries: 16 * 139,
+            accepts: 16 * 48
+        })
+    );
+    Ok(())
+}
