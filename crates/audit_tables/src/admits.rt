@@ -2,11 +2,11 @@
 ghost use Rattle.std.specs.Prelude.{◌≡◌, ◌↔◌, IsTrue};
 ghost use Rattle.journal_tables.specs.Tables as spec;
 
-use crate::fits::{
-    comes_next, fits_cancel, fits_deny, fits_end, fits_orphan, fits_slots, fits_take,
-};
 use crate::tables::AuditTables;
 use handle_model::{Asked, Entry};
+use journal_tables::{
+    comes_next, fits_cancel, fits_deny, fits_end, fits_orphan, fits_slots, fits_take,
+};
 
 impl AuditTables {
     /// Whether the end of the group is due: a connection joined, none is open, no call runs, and the

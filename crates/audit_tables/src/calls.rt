@@ -1,7 +1,6 @@
 //! The calls that wait or run.
 ghost use Rattle.std.specs.Prelude.{◌≡◌, ◌↔◌, ◌++◌, ◌∷◌, [], true, None, IfOk, IsTrue};
 ghost use Rattle.std.specs.List.{list_any};
-ghost use Rattle.std.specs.Option.{option_copied};
 ghost use Rattle.std.specs.Map.{values_of};
 ghost use Rattle.handle_model.specs.Sound.{IsSoundBase};
 ghost use Rattle.call_table.specs.Shown.{base_rows};
@@ -11,7 +10,7 @@ ghost use Rattle.audit_tables.specs.Index.{AnyBefore};
 ghost use Rattle.audit_tables.specs.Calls as spec;
 
 use crate::index::{Index, first_of, stands_before};
-use call_table::{CallSlots, Row};
+use call_table::{CallSlots, OpenRows, Row};
 use handle_model::{Base, Home, Slot};
 use rpc_base::NoMemory;
 use std::alloc::Global;
@@ -36,6 +35,26 @@ impl Model for CallMap {
     ghost view = { λ c. values_of c.rows.entries };
 
     ghost invariant = { λ c. IsKept c.rows c.index };
+}
+
+impl OpenRows for CallMap {
+    ghost use Rattle.std.specs.Prelude.{◌≡◌, ◌↔◌, None, IsTrue};
+    ghost use Rattle.std.specs.Option.{option_copied};
+    ghost use Rattle.call_table.specs.Rows.{row_at, blocker_of};
+
+    ghost rows = { λ c. c };
+
+    fn row_of(&self, call: u32) -> Option<&Row>
+        ensures { option_copied result ≡ row_at self.now call }
+    {
+        self.rows.get(&call)
+    }
+
+    fn is_free(&self, call: u32, slots: &[Slot]) -> bool
+        ensures { IsTrue result ↔ (blocker_of slots.now call self.now ≡ None) }
+    {
+        !any_stands_before(&self.index, slots, call)
+    }
 }
 
 impl CallMap {
@@ -104,13 +123,6 @@ impl CallMap {
         }
     }
 
-    /// The call of that number.
-    pub(crate) fn row(&self, call: u32) -> Option<&Row>
-        ensures { option_copied result ≡ rows.row_at self.now call }
-    {
-        self.rows.get(&call)
-    }
-
     /// Whether a call runs.
     pub(crate) fn any_runs(&self) -> bool
         ensures { result ≡ list_any rows.is_running self.now }
@@ -126,13 +138,6 @@ impl CallMap {
             Some((last, _)) => *last < call,
             None => true,
         }
-    }
-
-    /// Whether no other call stands in the way of one with these slots.
-    pub(crate) fn is_free(&self, call: u32, slots: &[Slot]) -> bool
-        ensures { IsTrue result ↔ (rows.blocker_of slots.now call self.now ≡ None) }
-    {
-        !any_stands_before(&self.index, slots, call)
     }
 
     /// The same without the waiting calls of the connection.

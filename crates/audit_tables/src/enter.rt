@@ -6,10 +6,10 @@ ghost use Rattle.call_table.specs.Rows.{row_at, slots_at, over, with_start, with
 ghost use Rattle.journal_tables.specs.Conns as spec_conns;
 ghost use Rattle.journal_tables.specs.Tables as spec;
 
-use crate::calls::CallMap;
 use crate::tables::AuditTables;
 use call_table::{CallSlots, Row};
 use handle_model::{Asked, Entry, Outcome, count_opens};
+use journal_tables::call_runs;
 use rpc_base::NoMemory;
 
 impl AuditTables {
@@ -83,7 +83,7 @@ impl AuditTables {
     fn cancel(self, call: u32) -> Result<AuditTables, NoMemory>
         ensures { IfOk result (λ t. t ≡ record self { rows = if spec.runs_in (row_at self.rows call) then with_cancel call self.rows else without call self.rows }) }
     {
-        if !runs(&self.calls, call) {
+        if !call_runs(&self.calls, call) {
             return Ok(self.deny(call));
         }
         let mut tables = self;
@@ -94,7 +94,7 @@ impl AuditTables {
     fn orphan(self, call: u32) -> Result<AuditTables, NoMemory>
         ensures { IfOk result (λ t. t ≡ record self { rows = if spec.runs_in (row_at self.rows call) then with_orphan call self.rows else without call self.rows }) }
     {
-        if !runs(&self.calls, call) {
+        if !call_runs(&self.calls, call) {
             return Ok(self.deny(call));
         }
         let mut tables = self;
@@ -131,15 +131,5 @@ impl AuditTables {
         tables.handles.close_all();
         tables.shut = true;
         tables
-    }
-}
-
-/// Whether the call runs.
-fn runs(calls: &CallMap, call: u32) -> bool
-    ensures { result ≡ spec.runs_in (row_at calls.now call) }
-{
-    match calls.row(call) {
-        Some(row) => row.runs,
-        None => false,
     }
 }

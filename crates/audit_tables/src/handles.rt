@@ -7,6 +7,7 @@ ghost use Rattle.handle_table.specs.Uses as uses;
 ghost use Rattle.handle_table.specs.Ended as ended;
 
 use handle_model::{Base, DueItem, Home, Outcome, Slot};
+use handle_table::LiveHandles;
 use rpc_base::{NoMemory, WireHandle};
 use std::alloc::Global;
 use std::collections::BTreeMap;
@@ -29,6 +30,24 @@ impl Model for HandleMap {
     ghost view = { λ h. record { home = h.home; items = values_of h.items.entries } };
 
     ghost invariant = { λ h. IsTable serial_of h.items.entries };
+}
+
+impl LiveHandles for HandleMap {
+    ghost use Rattle.std.specs.Prelude.{◌≡◌};
+    ghost use Rattle.handle_table.specs.Uses.{item_named};
+
+    ghost home = { λ h. h.home };
+
+    ghost items = { λ h. h.items };
+
+    fn named(&self, slot: &Slot) -> Option<DueItem>
+        ensures { result ≡ item_named self.now.home self.now.items slot.now }
+    {
+        match slot.named() {
+            Some(wire) => self.item_of(&wire),
+            None => None,
+        }
+    }
 }
 
 impl HandleMap {
@@ -70,16 +89,6 @@ impl HandleMap {
             self.item_at(serial)
         } else {
             None
-        }
-    }
-
-    /// The live handle that a slot names.
-    pub(crate) fn named(&self, slot: &Slot) -> Option<DueItem>
-        ensures { result ≡ uses.item_named self.now.home self.now.items slot.now }
-    {
-        match slot.named() {
-            Some(wire) => self.item_of(&wire),
-            None => None,
         }
     }
 

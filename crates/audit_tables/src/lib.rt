@@ -7,10 +7,8 @@ mod admits;
 mod calls;
 mod conns;
 mod enter;
-mod fits;
 mod handles;
 mod index;
-mod slots;
 mod tables;
 mod users;
 

@@ -4,12 +4,14 @@
 
 mod based;
 mod blocks;
+mod held;
 mod laws;
 mod lists;
 mod row;
 mod rows;
 mod table;
 
+pub use held::OpenRows;
 pub use laws::{
     follows_entries, numbers_rise, shows_base, shows_blocker, shows_calls, shows_counts, shows_row,
     shows_slots, shows_stage,

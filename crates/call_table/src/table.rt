@@ -10,10 +10,11 @@ ghost use Rattle.std.specs.Option.{option_copied};
 
 use crate::based::{least_place, stored_calls};
 use crate::blocks::blocker_of;
+use crate::held::OpenRows;
 use crate::lists::{cut, fill};
 use crate::row::{CallSlots, Row};
 use crate::rows::{all_below, openings_of, owed_of, place, rows_of};
-use handle_model::{Base, BaseCalls, Cookies, Entry, Slots};
+use handle_model::{Base, BaseCalls, Cookies, Entry, Slot, Slots};
 use rpc_base::{Items, NoMemory};
 use std::alloc::Global;
 use std::marker::Model;
@@ -36,6 +37,26 @@ impl Model for CallTable {
     ghost view = { λ t. record { rows = t.rows.items; room = t.room } };
 
     ghost invariant = { λ t. IsKept t.rows t.lists t.room };
+}
+
+impl OpenRows for CallTable {
+    ghost use Rattle.std.specs.Prelude.{◌≡◌, ◌↔◌, None, IsTrue};
+    ghost use Rattle.std.specs.Option.{option_copied};
+    ghost use Rattle.call_table.specs.Rows.{row_at, blocker_of};
+
+    ghost rows = { λ t. t.rows };
+
+    fn row_of(&self, call: u32) -> Option<&Row>
+        ensures { option_copied result ≡ row_at self.now.rows call }
+    {
+        self.row(call)
+    }
+
+    fn is_free(&self, call: u32, slots: &[Slot]) -> bool
+        ensures { IsTrue result ↔ (blocker_of slots.now call self.now.rows ≡ None) }
+    {
+        blocker_of(slots, call, self.rows.as_slice()).is_none()
+    }
 }
 
 impl CallTable {

@@ -3,6 +3,7 @@ ghost use Rattle.std.specs.Prelude.{◌≡◌, ◌+◌, ◌≤◌};
 ghost use Rattle.handle_table.specs.Ended as spec;
 ghost use Rattle.handle_table.specs.Uses.{item_named};
 
+use crate::known::LiveHandles;
 use crate::table::HandleTable;
 use handle_model::{DueItem, Outcome, Slot};
 

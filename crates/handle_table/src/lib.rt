@@ -3,12 +3,15 @@
 #![tactic(auto)]
 
 mod ended;
+mod known;
 mod laws;
 mod seek;
 mod table;
 mod uses;
 
+pub use known::LiveHandles;
 pub use laws::{
     follows_entries, grows_within, shows_base, shows_cookies, shows_faults, shows_kind, shows_live,
 };
 pub use table::HandleTable;
+pub use uses::{cookies_agree, fault};

@@ -3,8 +3,9 @@ ghost use Rattle.std.specs.Prelude.{◌≡◌, ◌+◌, ◌<◌, ◌≤◌, ◌^
 ghost use Rattle.handle_model.specs.Bases.{serials_of};
 ghost use Rattle.handle_model.specs.Sound.{rise_above, at_most};
 
+use crate::known::LiveHandles;
 use crate::seek::{item_at, item_of, seek};
-use crate::uses::{fault_at, item_named};
+use crate::uses::{cookie, fault};
 use handle_model::{Base, DueItem, DueItems, Home, Slot};
 use rpc_base::{Items, NoMemory, WireHandle, same_items};
 use std::alloc::Global;
@@ -30,6 +31,24 @@ impl Model for HandleTable {
     ghost view = { λ t. record { home = t.home; items = t.items.items; room = t.room } };
 
     ghost invariant = { λ t. IsKept t.items t.copies t.room };
+}
+
+impl LiveHandles for HandleTable {
+    ghost use Rattle.std.specs.Prelude.{◌≡◌};
+    ghost use Rattle.handle_table.specs.Uses.{item_named};
+
+    ghost home = { λ t. t.home };
+
+    ghost items = { λ t. t.items };
+
+    fn named(&self, slot: &Slot) -> Option<DueItem>
+        ensures { result ≡ item_named self.now.home self.now.items slot.now }
+    {
+        match slot.named() {
+            Some(wire) => item_of(self.home, self.items.as_slice(), &wire),
+            None => None,
+        }
+    }
 }
 
 impl HandleTable {
@@ -193,27 +212,14 @@ impl HandleTable {
         requires { length slots.now ≤ 4 }
         ensures { result ≡ uses.fault_at self.now.home self.now.items slots.now }
     {
-        match fault_at(self.home, self.items.as_slice(), slots) {
-            Some(at) => Some(at as u8),
-            None => None,
-        }
+        fault(self, slots)
     }
 
     /// The cookie of the live handle that a slot names.
     pub fn cookie(&self, slot: &Slot) -> Option<u64>
         ensures { result ≡ uses.cookie_at self.now.home self.now.items slot.now }
     {
-        match self.named(slot) {
-            Some(item) => Some(item.cookie),
-            None => None,
-        }
-    }
-
-    /// The live handle that a slot names.
-    pub(crate) fn named(&self, slot: &Slot) -> Option<DueItem>
-        ensures { result ≡ uses.item_named self.now.home self.now.items slot.now }
-    {
-        item_named(self.home, self.items.as_slice(), slot)
+        cookie(self, slot)
     }
 
     /// The live handles in two lists, as the end of a group wants them: none is live afterwards.

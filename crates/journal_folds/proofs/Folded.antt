@@ -46,7 +46,7 @@ front_quiet j (e ∷ newer) l u d =
 
 -- WHAT ALIKE TABLES SAY
 
-says_same : (new old : History) → Legal new → Legal old → size new ≡ size old → unplaced (tables_of new) ≡ unplaced (tables_of old) → ((k : ℕ) → (waits old k || runs old k) ≡ true → asked new k ≡ asked old k) → SaysSame new old
+pub says_same : (new old : History) → Legal new → Legal old → size new ≡ size old → unplaced (tables_of new) ≡ unplaced (tables_of old) → ((k : ℕ) → (waits old k || runs old k) ≡ true → asked new k ≡ asked old k) → SaysSame new old
 says_same new old l m n q f =
     let w : (k : ℕ) → waits new k ≡ waits old k =
     λ k. sym (waits_row new k) ∙ (sym (row_waits (rows_of new) k) ∙ (ap (λ (t : Tables). waits_in (row_at t.rows k)) q ∙ (row_waits (rows_of old) k ∙ waits_row old k))) in

@@ -6,6 +6,7 @@ ghost use Rattle.call_table.specs.Rows.{row_at, slots_at, over, with_start, with
 ghost use Rattle.journal_tables.specs.Conns as spec_conns;
 ghost use Rattle.journal_tables.specs.Tables as spec;
 
+use crate::fits::call_runs;
 use crate::tables::Tables;
 use call_table::CallTable;
 use handle_model::{Asked, Cookies, DueItems, Entry, Outcome, count_opens};
@@ -108,7 +109,7 @@ fn cancel(calls: &mut CallTable, call: u32)
     ensures rows { calls.new.rows ≡ (if spec.runs_in (row_at calls.old.rows call) then with_cancel call calls.old.rows else without call calls.old.rows) }
     ensures room { calls.new.room ≡ calls.old.room }
 {
-    if runs(calls, call) {
+    if call_runs(calls, call) {
         calls.cancel(call);
     } else {
         calls.end(call);
@@ -121,20 +122,10 @@ fn orphan(calls: &mut CallTable, call: u32)
     ensures rows { calls.new.rows ≡ (if spec.runs_in (row_at calls.old.rows call) then with_orphan call calls.old.rows else without call calls.old.rows) }
     ensures room { calls.new.room ≡ calls.old.room }
 {
-    if runs(calls, call) {
+    if call_runs(calls, call) {
         calls.orphan(call);
     } else {
         calls.end(call);
-    }
-}
-
-/// Whether the call runs.
-fn runs(calls: &CallTable, call: u32) -> bool
-    ensures { result ≡ spec.runs_in (row_at calls.now.rows call) }
-{
-    match calls.row(call) {
-        Some(row) => row.runs,
-        None => false,
     }
 }
 

@@ -6,10 +6,9 @@ ghost use Rattle.handle_table.specs.Uses.{fault_at, cookies_at};
 ghost use Rattle.call_table.specs.Rows.{row_at, slots_at, conflict_of};
 ghost use Rattle.journal_tables.specs.Tables as spec;
 
-use crate::slots::cookies_agree;
-use call_table::CallTable;
+use call_table::OpenRows;
 use handle_model::{Outcome, Slot, count_opens, follow, suit};
-use handle_table::HandleTable;
+use handle_table::{LiveHandles, cookies_agree, fault};
 
 /// Whether the number comes next after a count, and has 32 bits.
 pub fn comes_next(number: u32, count: u32) -> bool
@@ -29,62 +28,72 @@ pub fn fits_slots(last: u32, slots: &[Slot]) -> bool
 
 /// Whether a call waits, no other stands in its way, no slot is at fault, and those are the cookies
 /// of its handles.
-#[tactic(auto, using(crate::proofs::Found::waits_there))]
-pub fn fits_take(
-    handles: &HandleTable,
-    calls: &CallTable,
+pub fn fits_take<H: LiveHandles, C: OpenRows>(
+    handles: &H,
+    calls: &C,
     call: u32,
     cookies: &[Option<u64>],
 ) -> bool
-    ensures { IsTrue result ↔ (IsTrue (spec.waits_in (row_at calls.now.rows call)) × (conflict_of calls.now.rows call ≡ None) × (fault_at handles.now.home handles.now.items (slots_at calls.now.rows call) ≡ None) × (cookies.now ≡ cookies_at handles.now.home handles.now.items (slots_at calls.now.rows call))) }
+    ensures { IsTrue result ↔ (IsTrue (spec.waits_in (row_at (C.rows calls.now) call)) × (conflict_of (C.rows calls.now) call ≡ None) × (fault_at (H.home handles.now) (H.items handles.now) (slots_at (C.rows calls.now) call) ≡ None) × (cookies.now ≡ cookies_at (H.home handles.now) (H.items handles.now) (slots_at (C.rows calls.now) call))) }
 {
-    let Some(row) = calls.row(call) else {
+    let Some(row) = calls.row_of(call) else {
         return false;
     };
     let slots = row.slots.as_slice();
     !row.runs
-        && calls.conflict(call).is_none()
-        && handles.fault(slots).is_none()
+        && calls.is_free(call, slots)
+        && fault(handles, slots).is_none()
         && cookies_agree(handles, slots, cookies)
 }
 
 /// Whether a call waits, no other stands in its way, and that slot is the first at fault.
-#[tactic(auto, using(crate::proofs::Found::waits_there))]
-pub fn fits_deny(handles: &HandleTable, calls: &CallTable, call: u32, slot: u8) -> bool
-    ensures { IsTrue result ↔ (IsTrue (spec.waits_in (row_at calls.now.rows call)) × (conflict_of calls.now.rows call ≡ None) × (fault_at handles.now.home handles.now.items (slots_at calls.now.rows call) ≡ Some slot)) }
+pub fn fits_deny<H: LiveHandles, C: OpenRows>(handles: &H, calls: &C, call: u32, slot: u8) -> bool
+    ensures { IsTrue result ↔ (IsTrue (spec.waits_in (row_at (C.rows calls.now) call)) × (conflict_of (C.rows calls.now) call ≡ None) × (fault_at (H.home handles.now) (H.items handles.now) (slots_at (C.rows calls.now) call) ≡ Some slot)) }
 {
-    let Some(row) = calls.row(call) else {
+    let Some(row) = calls.row_of(call) else {
         return false;
     };
-    !row.runs && calls.conflict(call).is_none() && handles.fault(row.slots.as_slice()) == Some(slot)
+    !row.runs
+        && calls.is_free(call, row.slots.as_slice())
+        && fault(handles, row.slots.as_slice()) == Some(slot)
 }
 
 /// Whether a call waits, or runs and was not cancelled.
-pub fn fits_cancel(calls: &CallTable, call: u32) -> bool
-    ensures { result ≡ spec.cancels_in (row_at calls.now.rows call) }
+pub fn fits_cancel<C: OpenRows>(calls: &C, call: u32) -> bool
+    ensures { result ≡ spec.cancels_in (row_at (C.rows calls.now) call) }
 {
-    match calls.row(call) {
+    match calls.row_of(call) {
         Some(row) => !row.runs || !row.cancelled,
         None => false,
     }
 }
 
 /// Whether a call waits, or runs and was not orphaned.
-pub fn fits_orphan(calls: &CallTable, call: u32) -> bool
-    ensures { result ≡ spec.orphans_in (row_at calls.now.rows call) }
+pub fn fits_orphan<C: OpenRows>(calls: &C, call: u32) -> bool
+    ensures { result ≡ spec.orphans_in (row_at (C.rows calls.now) call) }
 {
-    match calls.row(call) {
+    match calls.row_of(call) {
         Some(row) => !row.runs || !row.orphaned,
         None => false,
     }
 }
 
 /// Whether a call runs, and the results suit its slots.
-pub fn fits_end(calls: &CallTable, call: u32, results: &[Outcome]) -> bool
-    ensures { IsTrue result ↔ (IsTrue (spec.runs_in (row_at calls.now.rows call)) × IsTrue (journal.suit (slots_at calls.now.rows call) results.now)) }
+pub fn fits_end<C: OpenRows>(calls: &C, call: u32, results: &[Outcome]) -> bool
+    ensures { IsTrue result ↔ (IsTrue (spec.runs_in (row_at (C.rows calls.now) call)) × IsTrue (journal.suit (slots_at (C.rows calls.now) call) results.now)) }
 {
-    match calls.row(call) {
+    match calls.row_of(call) {
         Some(row) => row.runs && suit(row.slots.as_slice(), results),
+        None => false,
+    }
+}
+
+/// Whether a call runs.
+pub fn call_runs<C: OpenRows>(calls: &C, call: u32) -> bool
+    ensures { result ≡ spec.runs_in (row_at (C.rows calls.now) call) }
+{
+    match calls.row_of(call) {
+        Some(row) => row.runs,
         None => false,
     }
 }

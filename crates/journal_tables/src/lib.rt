@@ -8,9 +8,11 @@ mod enter;
 mod fits;
 mod fold;
 mod laws;
-mod slots;
 mod tables;
 
 pub use conns::{ConnTable, OpenConn};
+pub use fits::{
+    call_runs, comes_next, fits_cancel, fits_deny, fits_end, fits_orphan, fits_slots, fits_take,
+};
 pub use laws::{admits_allowed, follows_entries, shows_base, shows_conns, shows_due, shows_floor};
 pub use tables::Tables;

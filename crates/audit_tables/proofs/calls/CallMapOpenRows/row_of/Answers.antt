@@ -2,7 +2,7 @@ use Rattle.std.proofs.Common.{◌∙◌, ap}
 use Rattle.call_table.specs.Rows.{row_at}
 use Rattle.audit_tables.specs.Calls.{call_of}
 use Rattle.audit_tables.proofs.Keyed.{found}
-use Rattle.audit_tables.proofs.calls.CallMap.row.Goals as goal
+use Rattle.audit_tables.proofs.calls.CallMapOpenRows.row_of.Goals as goal
 
 pub returns : goal.returns
 returns c =

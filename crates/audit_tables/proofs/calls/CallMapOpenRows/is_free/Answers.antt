@@ -3,7 +3,7 @@ use Rattle.std.specs.Map.{values_of}
 use Rattle.call_table.specs.Rows.{blocker_of}
 use Rattle.audit_tables.proofs.Rows.{table_rises}
 use Rattle.audit_tables.proofs.Indexed.{free, stopped, untold, untrue}
-use Rattle.audit_tables.proofs.calls.CallMap.is_free.Goals as goal
+use Rattle.audit_tables.proofs.calls.CallMapOpenRows.is_free.Goals as goal
 
 pub returns : goal.returns
 returns c =
