@@ -1,5 +1,5 @@
 -- A folded journal and the whole one: their tables are the same but for places.
-use Rattle.std.proofs.Common.{◌≡◌, ℕ, ◌-◌, false, ◌||◌, List, [], ◌∷◌, ◌++◌, length, take, drop, reverse, refl, sym, ◌∙◌, ap, subst, arith, inl, inr, append_assoc}
+use Rattle.std.proofs.Common.{◌≡◌, ℕ, ◌-◌, true, false, ◌||◌, List, [], ◌∷◌, ◌++◌, length, take, drop, reverse, refl, sym, ◌∙◌, ap, subst, arith, inl, inr, append_assoc}
 use Rattle.std.specs.List.{list_any}
 use Rattle.std.proofs.lemmas.Bool.{cases_Bool, or_parts}
 use Rattle.std.proofs.lemmas.List.{take-append-drop, length-append, reverse-reverse}
@@ -8,21 +8,15 @@ use Rattle.handle_model.specs.declared.entry.Home.{Home}
 use Rattle.handle_model.specs.declared.entry.Entry.{Entry}
 use Rattle.handle_model.specs.declared.base.Base.{Base}
 use Rattle.handle_model.specs.Folds.{base_of, advance, fold}
-use Rattle.handle_model.specs.History.{History, IsSound, since}
-use Rattle.handle_model.specs.Journal.{Legal, conns, is_shut, due}
+use Rattle.handle_model.specs.History.{History, IsSound, since, size}
+use Rattle.handle_model.specs.Journal.{Legal, asked, waits, runs, is_shut, due}
 use Rattle.journal_laws.specs.Further.{with_entries}
-use Rattle.call_table.specs.Rows.{row_at}
-use Rattle.call_table.specs.Shown.{rows_of}
-use Rattle.journal_tables.specs.Tables.{Tables, waits_in, runs_in, is_due}
-use Rattle.journal_tables.specs.Shown.{tables_of}
-use Rattle.journal_tables.proofs.Shown.{waits_row, runs_row, due_shown}
 use Rattle.journal_folds.specs.Laws.{HasBegun, BaseBegun}
-use Rattle.journal_folds.proofs.Places.{row_waits, row_runs, due_same}
 use Rattle.journal_folds.proofs.Going.{goes_on}
 use Rattle.journal_folds.proofs.Sounds.{base_sound}
-use Rattle.journal_folds.proofs.Stood.{stands, conns_alike}
+use Rattle.journal_folds.proofs.Stood.{stands, asked_newer}
 use Rattle.journal_folds.proofs.Advanced.{has_begun, advance_since, advance_twice}
-use Rattle.journal_folds.proofs.Folded.{front_legal}
+use Rattle.journal_folds.proofs.Folded.{front_legal, says_same}
 use Rattle.fold_laws.specs.FoldOf.{IsFoldOf, StandsFor}
 
 -- WHAT BOTH ARE
@@ -41,17 +35,27 @@ stands_to home base newer older l b u q =
     let sound = base_sound j l1 u q h in
     let w = goes_on j (base_of j) newer sound (stands j u) l in
     let new : History = since home (base_of j) newer in
+    let counts : size new ≡ size old = omega (arith, length-append newer older) in
+    let asks : (k : ℕ) → (waits old k || runs old k) ≡ true → asked new k ≡ asked old k = λ k c. asked_newer j newer k sound l c in
+    let says = says_same new old w.legal l counts w.tables asks in
     subst (λ a. StandsFor (since home a newer) old) (sym (advance_since home base older b l1 u)) (record {
       legal = w.legal;
       begun = begun_of j h;
-      sizes = omega (arith, length-append newer older);
-      joins_same = ap (λ (t : Tables). t.joins) w.tables;
-      accepts_same = ap (λ (t : Tables). t.accepts) w.tables;
-      conns_same = sym (reverse-reverse (conns new)) ∙ (ap reverse (conns_alike new old w.tables) ∙ reverse-reverse (conns old));
-      waits_same = λ k. sym (waits_row new k) ∙ (sym (row_waits (rows_of new) k) ∙ (ap (λ (t : Tables). waits_in (row_at t.rows k)) w.tables ∙ (row_waits (rows_of old) k ∙ waits_row old k)));
-      runs_same = λ k. sym (runs_row new k w.legal) ∙ (sym (row_runs (rows_of new) k) ∙ (ap (λ (t : Tables). runs_in (row_at t.rows k)) w.tables ∙ (row_runs (rows_of old) k ∙ runs_row old k l)));
-      live_same = ap (λ (t : Tables). t.items) w.tables;
-      due_same = sym (due_shown new w.legal) ∙ (sym (due_same (tables_of new)) ∙ (ap is_due w.tables ∙ (due_same (tables_of old) ∙ due_shown old l)));
+      sizes = says.sizes;
+      joins_same = says.joins;
+      accepts_same = says.accepts;
+      opens_same = says.opens;
+      conns_same = says.conns_same;
+      calls_same = says.calls;
+      asked_same = asks;
+      waits_same = says.waits_same;
+      runs_same = says.runs_same;
+      blockers_same = says.blockers;
+      live_same = says.live;
+      faults_same = says.faults;
+      cookies_same = says.cookies;
+      due_same = says.dues;
+      allows_same = says.allows;
     })
 
 pub folds_stand : (x j : History) → Legal j → BaseBegun j.base → IsFoldOf x j → StandsFor x j

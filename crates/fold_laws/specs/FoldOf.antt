@@ -1,11 +1,12 @@
 -- A journal and the same journal with its older entries in its base, as a group keeps it. The newest entry of a
 -- history is its first.
-use Rattle.std.specs.Prelude.{◌≡◌, ℕ, false, List, ◌++◌}
+use Rattle.std.specs.Prelude.{◌≡◌, ◌↔◌, ℕ, true, false, ◌||◌, None, List, ◌++◌}
 use Rattle.std.specs.List.{list_any}
+use Rattle.handle_model.specs.declared.entry.Slot.{Slot}
 use Rattle.handle_model.specs.declared.entry.Entry.{Entry}
-use Rattle.handle_model.specs.Folds.{advance, fold}
+use Rattle.handle_model.specs.Folds.{open_calls, advance, fold}
 use Rattle.handle_model.specs.History.{History, IsSound, since, size}
-use Rattle.handle_model.specs.Journal.{Legal, conns, join_count, accept_count, waits, runs, due_items, is_shut, due}
+use Rattle.handle_model.specs.Journal.{Legal, Allowed, conns, join_count, accept_count, opened, asked, waits, runs, blocker, due_items, fault_in, cookies_for, is_shut, due}
 use Rattle.journal_laws.specs.Further.{with_entries}
 use Rattle.journal_folds.specs.Laws.{BaseBegun}
 
@@ -40,19 +41,27 @@ FoldsAgain =
 
 -- WHAT BOTH ARE
 
--- both are as long, with as many connections and calls; the same connections are open, the same calls wait and run, the
--- same handles are live; a Shut is due in both or in neither
+-- Both are as long, with as many connections, calls and serials; the same connections are open, the same calls wait and run,
+-- with what they asked, their marks and what blocks them; the same handles are live, slots at fault and cookies given; the same
+-- entries may come next.
 pub record StandsFor (x j : History) : Type 0 where
   pub legal : Legal x
   pub begun : BaseBegun x.base
   pub sizes : size x ≡ size j
   pub joins_same : join_count x ≡ join_count j
   pub accepts_same : accept_count x ≡ accept_count j
+  pub opens_same : opened x ≡ opened j
   pub conns_same : conns x ≡ conns j
+  pub calls_same : open_calls x ≡ open_calls j
+  pub asked_same : (k : ℕ) → (waits j k || runs j k) ≡ true → asked x k ≡ asked j k
   pub waits_same : (k : ℕ) → waits x k ≡ waits j k
   pub runs_same : (k : ℕ) → runs x k ≡ runs j k
+  pub blockers_same : (k : ℕ) → waits j k ≡ true → blocker x k ≡ blocker j k
   pub live_same : due_items x ≡ due_items j
+  pub faults_same : (ss : List Slot) → fault_in x ss ≡ fault_in j ss
+  pub cookies_same : (ss : List Slot) → fault_in j ss ≡ None → cookies_for x ss ≡ cookies_for j ss
   pub due_same : due x ≡ due j
+  pub allows_same : (e : Entry) → Allowed x e ↔ Allowed j e
 
 abbrev pub FoldsStand : Type 0
 FoldsStand = (x j : History) → Legal j → BaseBegun j.base → IsFoldOf x j → StandsFor x j
