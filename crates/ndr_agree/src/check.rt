@@ -10,7 +10,7 @@ use ndr_model::{Departure, Mark};
 use ndr_value::{ArrayKind, Count, Value};
 
 /// The first that disagrees so far, and the marks that are left.
-#[derive(Clone, Copy)]
+#[derive(Drop)]
 pub(crate) struct Check<'m> {
     pub(crate) off: Option<Departure>,
     pub(crate) left: &'m [Mark],
@@ -88,90 +88,73 @@ fn tied_off(call: &Call<'_>, body: &[Value], link: Option<Count>, stood: Stood) 
 
 impl<'m> Check<'m> {
     // The value doesn't go with the marks.
-    pub(crate) fn stray(self) -> Check<'m>
-        ensures { check_of result ≡ spec.stray (check_of self.entry) }
+    #[inline(never)]
+    pub(crate) fn stray(&mut self)
+        ensures { check_of self.new ≡ spec.stray (check_of self.old) }
     {
-        Check {
-            off: sooner(self.off, Some(Departure::TooDeep(0))),
-            left: self.left,
-        }
+        self.off = sooner(self.off, Some(Departure::TooDeep(0)));
     }
 
-    pub(crate) fn judged(self, found: Option<Departure>, left: &'m [Mark]) -> Check<'m>
-        ensures { check_of result ≡ spec.judged (check_of self.entry) found left.now }
+    pub(crate) fn judge(&mut self, found: Option<Departure>, left: &'m [Mark])
+        ensures { check_of self.new ≡ spec.judged (check_of self.old) found left.now }
     {
-        Check {
-            off: sooner(self.off, found),
-            left,
-        }
-    }
-
-    // The marks behind the first.
-    pub(crate) fn behind(self, left: &'m [Mark]) -> Check<'m>
-        ensures { check_of result ≡ record { off = self.entry.off; left = left.now } }
-    {
-        Check {
-            off: self.off,
-            left,
-        }
+        self.off = sooner(self.off, found);
+        self.left = left;
     }
 
     // A count that has to be so.
-    fn count(self, want: Option<i128>) -> Check<'m>
-        ensures { check_of result ≡ spec.count_in want self.entry.left.now (check_of self.entry) }
+    fn count(&mut self, want: Option<i128>)
+        ensures { check_of self.new ≡ spec.count_in want self.old.left.now (check_of self.old) }
     {
         match self.left.split_first() {
             None => self.stray(),
             Some((mark, rest)) => match mark {
-                Mark::Number(at, is) => self.judged(count_off(want, (*at, *is)), rest),
+                Mark::Number(at, is) => self.judge(count_off(want, (*at, *is)), rest),
                 _ => self.stray(),
             },
         }
     }
 
-    fn max_count(self, want: Option<i128>, moved: Option<Stood>) -> Check<'m>
-        ensures { check_of result ≡ spec.most_in want moved (check_of self.entry) }
+    fn max_count(&mut self, want: Option<i128>, moved: Option<Stood>)
+        ensures { check_of self.new ≡ spec.most_in want moved (check_of self.old) }
     {
         match moved {
-            Some(stood) => self.judged(count_off(want, stood), self.left),
+            Some(stood) => self.judge(count_off(want, stood), self.left),
             None => self.count(want),
         }
     }
 
     /// The counts of an array.
+    #[inline(never)]
     pub(crate) fn counts(
-        self,
+        &mut self,
         call: &Call<'_>,
         body: &[Value],
         moved: Option<Stood>,
-        kind: ArrayKind,
-    ) -> Check<'m>
-        ensures { check_of result ≡ spec.compare_counts (call_of call.now) (vals body.now) moved kind (check_of self.entry) }
+        kind: &ArrayKind,
+    )
+        ensures { check_of self.new ≡ spec.compare_counts (call_of call.now) (vals body.now) moved kind.now (check_of self.old) }
     {
         match kind {
-            ArrayKind::Fixed(_) => self,
-            ArrayKind::Varying(_, count) => self.count(named(call, body, count)),
-            ArrayKind::Conformant(count) => self.max_count(named(call, body, count), moved),
-            ArrayKind::ConformantVarying(most, count) => self
-                .max_count(named(call, body, most), moved)
-                .count(named(call, body, count)),
+            ArrayKind::Fixed(_) => {}
+            ArrayKind::Varying(_, count) => self.count(named(call, body, *count)),
+            ArrayKind::Conformant(count) => self.max_count(named(call, body, *count), moved),
+            ArrayKind::ConformantVarying(most, count) => {
+                self.max_count(named(call, body, *most), moved);
+                self.count(named(call, body, *count));
+            }
         }
     }
 
     /// A union's tag.
-    pub(crate) fn tag(
-        self,
-        call: &Call<'_>,
-        body: &[Value],
-        link: Option<Count>,
-        tag: i64,
-    ) -> Check<'m>
-        ensures { check_of result ≡ spec.compare_tag (call_of call.now) (vals body.now) link tag (check_of self.entry) }
+    #[inline(never)]
+    pub(crate) fn tag(&mut self, call: &Call<'_>, body: &[Value], link: Option<Count>, tag: i64)
+        ensures { check_of self.new ≡ spec.compare_tag (call_of call.now) (vals body.now) link tag (check_of self.old) }
     {
         match self.left.split_first() {
             None => self.stray(),
             Some((mark, rest)) => match mark {
-                Mark::Number(at, _) => self.judged(tied_off(call, body, link, (*at, tag)), rest),
+                Mark::Number(at, _) => self.judge(tied_off(call, body, link, (*at, tag)), rest),
                 _ => self.stray(),
             },
         }

@@ -1,10 +1,10 @@
-//! Values, compared part by part.
-ghost use Rattle.std.specs.Prelude.{◌≡◌, MatchOption, Option, Some, None};
-ghost use Rattle.ndr_value.specs.Forms.{form, forms, arms_of, body, OfUnion};
+//! Values, compared part by part. Each step is a function of its own that isn't taken into its caller,
+//! and the check goes by reference, so that the walk keeps little of each level on the stack.
+ghost use Rattle.std.specs.Prelude.{◌≡◌, MatchOption, slice_get, Some, None};
+ghost use Rattle.ndr_value.specs.Forms.{form, forms, arms_of, body, OfStruct, OfUnion};
 ghost use Rattle.ndr_value.specs.Fits.{arm_of};
 ghost use Rattle.ndr_value.specs.Values.{val, vals, bytes, msg};
 ghost use Rattle.ndr_model.specs.Named.{nth};
-ghost use Rattle.ndr_model.specs.Part.{opens_with};
 ghost use Rattle.ndr_model.specs.Agree as agree;
 ghost use Rattle.ndr_model.specs.Compare as spec;
 ghost use Rattle.ndr_agree.specs.Views.{types_in, call_of, check_of};
@@ -33,6 +33,7 @@ fn is_plain(shape: &Shape) -> bool
 }
 
 // The arm that a tag selects, where it is of the union's kind.
+#[inline(never)]
 fn arm_for<'a>(kind: &Shape, arms: &'a [Arm], tag: i64) -> Option<&'a Arm>
     ensures { MatchOption result (arm_of (OfUnion (form kind.now) (arms_of arms.now)) tag ≡ None) (λ a. arm_of (OfUnion (form kind.now) (arms_of arms.now)) tag ≡ Some (body a.now.shape)) }
 {
@@ -47,7 +48,7 @@ fn arm_for<'a>(kind: &Shape, arms: &'a [Arm], tag: i64) -> Option<&'a Arm>
 /// max_count that stood in front of it.
 #[tactic(auto, unfolding(ndr_model::specs::Compare::compare))]
 #[cycle(compare)]
-pub(crate) fn compare_value<'m>(
+pub(crate) fn compare_value(
     fuel: u32,
     call: &Call<'_>,
     room: u16,
@@ -56,9 +57,9 @@ pub(crate) fn compare_value<'m>(
     moved: Option<Stood>,
     shape: &Shape,
     value: &Value,
-    check: Check<'m>,
-) -> Check<'m>
-    ensures { check_of result ≡ spec.compare (types_in call.now) (call_of call.now) fuel room (vals body.now) link moved (form shape.now) (val value.now) (check_of check.entry) }
+    check: &mut Check<'_>,
+)
+    ensures { check_of check.new ≡ spec.compare (types_in call.now) (call_of call.now) fuel room (vals body.now) link moved (form shape.now) (val value.now) (check_of check.old) }
 {
     if fuel == 0 {
         return check.stray();
@@ -67,7 +68,7 @@ pub(crate) fn compare_value<'m>(
 }
 
 #[cycle(compare)]
-fn compare_one<'m>(
+fn compare_one(
     fuel: u32,
     call: &Call<'_>,
     room: u16,
@@ -76,80 +77,112 @@ fn compare_one<'m>(
     moved: Option<Stood>,
     shape: &Shape,
     value: &Value,
-    check: Check<'m>,
-) -> Check<'m>
-    ensures { check_of result ≡ spec.compare_at (types_in call.now) (call_of call.now) (spec.compare (types_in call.now) (call_of call.now) fuel) room (vals body.now) link moved (form shape.now) (val value.now) (check_of check.entry) }
+    check: &mut Check<'_>,
+)
+    ensures { check_of check.new ≡ spec.compare_at (types_in call.now) (call_of call.now) (spec.compare (types_in call.now) (call_of call.now) fuel) room (vals body.now) link moved (form shape.now) (val value.now) (check_of check.old) }
 {
     match shape {
-        Shape::Named(number, switch) => match call.table.types().get(*number) {
-            None => check.stray(),
-            Some(other) => compare_value(
-                fuel, call, room, body, *switch, moved, other, value, check,
-            ),
-        },
-        Shape::Struct(members) => {
-            let in_front = call.table.ends_open(shape);
-            compare_struct(fuel, call, room, moved, in_front, members, value, check)
+        Shape::Named(number, switch) => {
+            compare_named(
+                fuel, call, room, body, *number, *switch, moved, value, check,
+            )
         }
-        Shape::Union { tag, arms } => compare_union(
-            fuel, call, room, body, link, tag, arms, value, check,
-        ),
-        Shape::Array(kind, inner) => compare_array(
-            fuel, call, room, body, moved, *kind, inner, value, check,
-        ),
+        Shape::Struct(members) => {
+            compare_struct(fuel, call, room, moved, shape, members, value, check)
+        }
+        Shape::Union { tag, arms } => {
+            compare_union(fuel, call, room, body, link, tag, arms, value, check)
+        }
+        Shape::Array(kind, inner) => {
+            compare_array(fuel, call, room, body, moved, kind, inner, value, check)
+        }
         Shape::Ref(inner) => compare_referent(fuel, call, room, body, inner, value, check),
         Shape::Unique(inner) => compare_unique(fuel, call, room, body, inner, value, check),
         Shape::Full(inner) => compare_full(fuel, call, room, body, inner, value, check),
-        _ => check,
+        _ => {}
     }
 }
 
-// The max_count in front of a structure, and what is left behind it.
-fn front(moved: Option<Stood>, in_front: bool, check: Check<'_>) -> (Option<Stood>, Check<'_>)
-    ensures { (types : _) (ss : _) → in_front ≡ opens_with types ss → (result.0, check_of result.1) ≡ spec.fronted types ss moved (check_of check.entry) }
+#[cycle(compare)]
+fn compare_named(
+    fuel: u32,
+    call: &Call<'_>,
+    room: u16,
+    body: &[Value],
+    number: usize,
+    switch: Option<Count>,
+    moved: Option<Stood>,
+    value: &Value,
+    check: &mut Check<'_>,
+)
+    ensures { check_of check.new ≡ spec.compare_type (spec.compare (types_in call.now) (call_of call.now) fuel room) (vals body.now) switch moved (slice_get (types_in call.now) number) (val value.now) (check_of check.old) }
 {
-    match moved {
-        Some(stood) => (Some(stood), check),
-        None => {
-            if in_front {
-                taken(check)
-            } else {
-                (None, check)
-            }
-        }
+    match call.table.types().get(number) {
+        None => check.stray(),
+        Some(shape) => compare_value(fuel, call, room, body, switch, moved, shape, value, check),
     }
+}
+
+// The max_count in front of a structure.
+#[inline(never)]
+fn front(
+    call: &Call<'_>,
+    structure: &Shape,
+    moved: Option<Stood>,
+    check: &mut Check<'_>,
+) -> Option<Stood>
+    ensures { (ss : _) → form structure.now ≡ OfStruct ss → (result, check_of check.new) ≡ spec.fronted (types_in call.now) ss moved (check_of check.old) }
+{
+    if moved.is_some() {
+        return moved;
+    }
+    if call.table.ends_open(structure) {
+        return taken(check);
+    }
+    None
 }
 
 // The first mark, which is a max_count.
-fn taken(check: Check<'_>) -> (Option<Stood>, Check<'_>)
-    ensures { (result.0, check_of result.1) ≡ spec.front_in check.entry.left.now (check_of check.entry) }
+fn taken(check: &mut Check<'_>) -> Option<Stood>
+    ensures { (result, check_of check.new) ≡ spec.front_in check.old.left.now (check_of check.old) }
 {
     match check.left.split_first() {
-        None => (None, check.stray()),
+        None => {
+            check.stray();
+            None
+        }
         Some((mark, rest)) => match mark {
-            Mark::Number(at, is) => (Some((*at, *is)), check.behind(rest)),
-            _ => (None, check.stray()),
+            Mark::Number(at, is) => {
+                check.left = rest;
+                Some((*at, *is))
+            }
+            _ => {
+                check.stray();
+                None
+            }
         },
     }
 }
 
 #[cycle(compare)]
-fn compare_struct<'m>(
+#[inline(never)]
+fn compare_struct(
     fuel: u32,
     call: &Call<'_>,
     room: u16,
     moved: Option<Stood>,
-    in_front: bool,
+    shape: &Shape,
     members: &[Shape],
     value: &Value,
-    check: Check<'m>,
-) -> Check<'m>
-    ensures { in_front ≡ opens_with (types_in call.now) (forms members.now) → check_of result ≡ spec.compare_struct (types_in call.now) (spec.compare (types_in call.now) (call_of call.now) fuel room) moved (forms members.now) (val value.now) (check_of check.entry) }
+    check: &mut Check<'_>,
+)
+    requires { form shape.now ≡ OfStruct (forms members.now) }
+    ensures { check_of check.new ≡ spec.compare_struct (types_in call.now) (spec.compare (types_in call.now) (call_of call.now) fuel room) moved (forms members.now) (val value.now) (check_of check.old) }
 {
     match value {
         Value::Struct(values) => {
-            let (own, behind) = front(moved, in_front, check);
-            compare_each(fuel, call, room, own, members, values, behind)
+            let own = front(call, shape, moved, check);
+            compare_each(fuel, call, room, own, members, values, check)
         }
         _ => check.stray(),
     }
@@ -165,38 +198,36 @@ fn for_last(others: &[Shape], own: Option<Stood>) -> Option<Stood>
 
 // Members, in the body that they are.
 #[cycle(compare)]
-fn compare_each<'m>(
+fn compare_each(
     fuel: u32,
     call: &Call<'_>,
     room: u16,
     own: Option<Stood>,
     members: &[Shape],
     values: &[Value],
-    check: Check<'m>,
-) -> Check<'m>
-    ensures { check_of result ≡ spec.compare_each (spec.compare (types_in call.now) (call_of call.now) fuel room) (vals values.now) own (forms members.now) (vals values.now) (check_of check.entry) }
+    check: &mut Check<'_>,
+)
+    ensures { check_of check.new ≡ spec.compare_each (spec.compare (types_in call.now) (call_of call.now) fuel room) (vals values.now) own (forms members.now) (vals values.now) (check_of check.old) }
 {
     let mut rest = members;
-    let mut state = check;
     for value in values {
         match rest.split_first() {
-            None => return state.stray(),
+            None => return check.stray(),
             Some((member, others)) => {
                 let moved = for_last(others, own);
-                state = compare_value(fuel, call, room, values, None, moved, member, value, state);
+                compare_value(fuel, call, room, values, None, moved, member, value, check);
                 rest = others;
             }
         }
     }
-    if rest.is_empty() {
-        state
-    } else {
-        state.stray()
+    if !rest.is_empty() {
+        check.stray();
     }
 }
 
 #[cycle(compare)]
-fn compare_union<'m>(
+#[inline(never)]
+fn compare_union(
     fuel: u32,
     call: &Call<'_>,
     room: u16,
@@ -205,16 +236,16 @@ fn compare_union<'m>(
     kind: &Shape,
     arms: &[Arm],
     value: &Value,
-    check: Check<'m>,
-) -> Check<'m>
-    ensures { check_of result ≡ spec.compare_union (spec.compare (types_in call.now) (call_of call.now) fuel room) (call_of call.now) (vals body.now) link (OfUnion (form kind.now) (arms_of arms.now)) (val value.now) (check_of check.entry) }
+    check: &mut Check<'_>,
+)
+    ensures { check_of check.new ≡ spec.compare_union (spec.compare (types_in call.now) (call_of call.now) fuel room) (call_of call.now) (vals body.now) link (OfUnion (form kind.now) (arms_of arms.now)) (val value.now) (check_of check.old) }
 {
     match value {
         Value::Union { tag, arm } => {
-            let judged = check.tag(call, body, link, *tag);
+            check.tag(call, body, link, *tag);
             match arm {
-                None => judged,
-                Some(inner) => compare_arm(fuel, call, room, kind, arms, *tag, inner, judged),
+                None => {}
+                Some(inner) => compare_arm(fuel, call, room, kind, arms, *tag, inner, check),
             }
         }
         _ => check.stray(),
@@ -222,7 +253,7 @@ fn compare_union<'m>(
 }
 
 #[cycle(compare)]
-fn compare_arm<'m>(
+fn compare_arm(
     fuel: u32,
     call: &Call<'_>,
     room: u16,
@@ -230,9 +261,9 @@ fn compare_arm<'m>(
     arms: &[Arm],
     tag: i64,
     value: &Value,
-    check: Check<'m>,
-) -> Check<'m>
-    ensures { check_of result ≡ spec.compare_arm (spec.compare (types_in call.now) (call_of call.now) fuel room) (arm_of (OfUnion (form kind.now) (arms_of arms.now)) tag) (val value.now) (check_of check.entry) }
+    check: &mut Check<'_>,
+)
+    ensures { check_of check.new ≡ spec.compare_arm (spec.compare (types_in call.now) (call_of call.now) fuel room) (arm_of (OfUnion (form kind.now) (arms_of arms.now)) tag) (val value.now) (check_of check.old) }
 {
     match arm_for(kind, arms, tag) {
         None => check.stray(),
@@ -244,89 +275,87 @@ fn compare_arm<'m>(
 }
 
 #[cycle(compare)]
-fn compare_array<'m>(
+#[inline(never)]
+fn compare_array(
     fuel: u32,
     call: &Call<'_>,
     room: u16,
     body: &[Value],
     moved: Option<Stood>,
-    kind: ArrayKind,
+    kind: &ArrayKind,
     inner: &Shape,
     value: &Value,
-    check: Check<'m>,
-) -> Check<'m>
-    ensures { check_of result ≡ spec.compare_array (spec.compare (types_in call.now) (call_of call.now) fuel room) (call_of call.now) (vals body.now) moved kind (form inner.now) (val value.now) (check_of check.entry) }
+    check: &mut Check<'_>,
+)
+    ensures { check_of check.new ≡ spec.compare_array (spec.compare (types_in call.now) (call_of call.now) fuel room) (call_of call.now) (vals body.now) moved kind.now (form inner.now) (val value.now) (check_of check.old) }
 {
     match value {
         Value::Array(values) => {
-            let counted = check.counts(call, body, moved, kind);
-            compare_elements(fuel, call, room, body, inner, values, counted)
+            check.counts(call, body, moved, kind);
+            compare_elements(fuel, call, room, body, inner, values, check)
         }
         Value::Octets(octets) => {
-            let counted = check.counts(call, body, moved, kind);
-            compare_octets(fuel, call, room, body, inner, octets.as_slice(), counted)
+            check.counts(call, body, moved, kind);
+            compare_octets(fuel, call, room, body, inner, octets.as_slice(), check)
         }
         _ => check.stray(),
     }
 }
 
 #[cycle(compare)]
-fn compare_elements<'m>(
+fn compare_elements(
     fuel: u32,
     call: &Call<'_>,
     room: u16,
     body: &[Value],
     inner: &Shape,
     values: &[Value],
-    check: Check<'m>,
-) -> Check<'m>
-    ensures { check_of result ≡ spec.compare_elements (spec.compare (types_in call.now) (call_of call.now) fuel room) (vals body.now) (form inner.now) (vals values.now) (check_of check.entry) }
+    check: &mut Check<'_>,
+)
+    ensures { check_of check.new ≡ spec.compare_elements (spec.compare (types_in call.now) (call_of call.now) fuel room) (vals body.now) (form inner.now) (vals values.now) (check_of check.old) }
 {
     if is_plain(inner) {
-        return check;
+        return;
     }
-    let mut state = check;
     for value in values {
-        state = compare_value(fuel, call, room, body, None, None, inner, value, state);
+        compare_value(fuel, call, room, body, None, None, inner, value, check);
     }
-    state
 }
 
 #[cycle(compare)]
-fn compare_octets<'m>(
+#[inline(never)]
+fn compare_octets(
     fuel: u32,
     call: &Call<'_>,
     room: u16,
     body: &[Value],
     inner: &Shape,
     octets: &[u8],
-    check: Check<'m>,
-) -> Check<'m>
-    ensures { check_of result ≡ spec.compare_elements (spec.compare (types_in call.now) (call_of call.now) fuel room) (vals body.now) (form inner.now) (bytes octets.now) (check_of check.entry) }
+    check: &mut Check<'_>,
+)
+    ensures { check_of check.new ≡ spec.compare_elements (spec.compare (types_in call.now) (call_of call.now) fuel room) (vals body.now) (form inner.now) (bytes octets.now) (check_of check.old) }
 {
     if is_plain(inner) {
-        return check;
+        return;
     }
-    let mut state = check;
     for octet in octets {
         let value = Value::Byte(*octet);
-        state = compare_value(fuel, call, room, body, None, None, inner, &value, state);
+        compare_value(fuel, call, room, body, None, None, inner, &value, check);
     }
-    state
 }
 
 // What a pointer points to, where there is a level for it.
 #[cycle(compare)]
-fn compare_referent<'m>(
+fn compare_referent(
     fuel: u32,
     call: &Call<'_>,
     room: u16,
     body: &[Value],
     inner: &Shape,
     value: &Value,
-    check: Check<'m>,
-) -> Check<'m>
-    ensures { check_of result ≡ spec.compare_referent (spec.compare (types_in call.now) (call_of call.now) fuel) room (vals body.now) (form inner.now) (Some (val value.now)) (check_of check.entry) }
+    check: &mut Check<'_>,
+)
+    ensures { check_of check.new ≡ spec.compare_referent (spec.compare (types_in call.now) (call_of call.now) fuel) room (vals body.now) (form inner.now) (Some (val value.now)) (check_of check.old) }
 {
     if room == 0 {
         return check.stray();
@@ -335,20 +364,21 @@ fn compare_referent<'m>(
 }
 
 #[cycle(compare)]
-fn compare_unique<'m>(
+#[inline(never)]
+fn compare_unique(
     fuel: u32,
     call: &Call<'_>,
     room: u16,
     body: &[Value],
     inner: &Shape,
     value: &Value,
-    check: Check<'m>,
-) -> Check<'m>
-    ensures { check_of result ≡ spec.compare_unique (spec.compare (types_in call.now) (call_of call.now) fuel) room (vals body.now) (form inner.now) (val value.now) (check_of check.entry) }
+    check: &mut Check<'_>,
+)
+    ensures { check_of check.new ≡ spec.compare_unique (spec.compare (types_in call.now) (call_of call.now) fuel) room (vals body.now) (form inner.now) (val value.now) (check_of check.old) }
 {
     match value {
         Value::Ptr(pointed) => match pointed {
-            None => check,
+            None => {}
             Some(pointed) => compare_referent(fuel, call, room, body, inner, pointed, check),
         },
         _ => check.stray(),
@@ -356,20 +386,21 @@ fn compare_unique<'m>(
 }
 
 #[cycle(compare)]
-fn compare_full<'m>(
+#[inline(never)]
+fn compare_full(
     fuel: u32,
     call: &Call<'_>,
     room: u16,
     body: &[Value],
     inner: &Shape,
     value: &Value,
-    check: Check<'m>,
-) -> Check<'m>
-    ensures { check_of result ≡ spec.compare_full (spec.compare (types_in call.now) (call_of call.now) fuel) room (call_of call.now) (vals body.now) (form inner.now) (val value.now) (check_of check.entry) }
+    check: &mut Check<'_>,
+)
+    ensures { check_of check.new ≡ spec.compare_full (spec.compare (types_in call.now) (call_of call.now) fuel) room (call_of call.now) (vals body.now) (form inner.now) (val value.now) (check_of check.old) }
 {
     match value {
         Value::Full(item) => match item {
-            None => check,
+            None => {}
             Some(item) => compare_item(fuel, call, room, body, inner, *item, check),
         },
         _ => check.stray(),
@@ -378,26 +409,24 @@ fn compare_full<'m>(
 
 // An item of the heap, where its pointer was met first.
 #[cycle(compare)]
-fn compare_item<'m>(
+fn compare_item(
     fuel: u32,
     call: &Call<'_>,
     room: u16,
     body: &[Value],
     inner: &Shape,
     item: u32,
-    check: Check<'m>,
-) -> Check<'m>
-    ensures { check_of result ≡ spec.full_in (spec.compare (types_in call.now) (call_of call.now) fuel) room (call_of call.now) (vals body.now) (form inner.now) item check.entry.left.now (check_of check.entry) }
+    check: &mut Check<'_>,
+)
+    ensures { check_of check.new ≡ spec.full_in (spec.compare (types_in call.now) (call_of call.now) fuel) room (call_of call.now) (vals body.now) (form inner.now) item check.old.left.now (check_of check.old) }
 {
     match check.left.split_first() {
         None => check.stray(),
         Some((mark, rest)) => match mark {
             Mark::Referent(follows) => {
-                let behind = check.behind(rest);
+                check.left = rest;
                 if *follows {
-                    compare_known(fuel, call, room, body, inner, item, behind)
-                } else {
-                    behind
+                    compare_known(fuel, call, room, body, inner, item, check);
                 }
             }
             _ => check.stray(),
@@ -406,16 +435,16 @@ fn compare_item<'m>(
 }
 
 #[cycle(compare)]
-fn compare_known<'m>(
+fn compare_known(
     fuel: u32,
     call: &Call<'_>,
     room: u16,
     body: &[Value],
     inner: &Shape,
     item: u32,
-    check: Check<'m>,
-) -> Check<'m>
-    ensures { check_of result ≡ spec.compare_referent (spec.compare (types_in call.now) (call_of call.now) fuel) room (vals body.now) (form inner.now) (nth (msg call.now.said.now).heap item) (check_of check.entry) }
+    check: &mut Check<'_>,
+)
+    ensures { check_of check.new ≡ spec.compare_referent (spec.compare (types_in call.now) (call_of call.now) fuel) room (vals body.now) (form inner.now) (nth (msg call.now.said.now).heap item) (check_of check.old) }
 {
     match value_at(call.said.heap.as_slice(), item as usize) {
         None => check.stray(),

@@ -47,20 +47,15 @@ fn range_off(call: &Call<'_>, bounds: Bounds, number: Option<i128>, at: usize) -
     }
 }
 
-fn compare_range<'m>(
-    call: &Call<'_>,
-    range: Option<Bounds>,
-    value: &Value,
-    check: Check<'m>,
-) -> Check<'m>
-    ensures { check_of result ≡ spec.compare_range (types_in call.now) (call_of call.now) range (val value.now) (check_of check.entry) }
+fn compare_range(call: &Call<'_>, range: Option<Bounds>, value: &Value, check: &mut Check<'_>)
+    ensures { check_of check.new ≡ spec.compare_range (types_in call.now) (call_of call.now) range (val value.now) (check_of check.old) }
 {
     match range {
-        None => check,
+        None => {}
         Some(bounds) => match check.left.split_first() {
             None => check.stray(),
             Some((mark, rest)) => match mark {
-                Mark::Ranged(at) => check.judged(
+                Mark::Ranged(at) => check.judge(
                     range_off(call, bounds, number_of(value), *at),
                     rest,
                 ),
@@ -70,32 +65,30 @@ fn compare_range<'m>(
     }
 }
 
-fn compare_entry<'m>(
+fn compare_entry(
     call: &Call<'_>,
     shape: &Shape,
     range: Option<Bounds>,
     value: &Value,
-    check: Check<'m>,
-) -> Check<'m>
-    ensures { check_of result ≡ spec.compare_range (types_in call.now) (call_of call.now) range (val value.now) (spec.compare (types_in call.now) (call_of call.now) enough 256 no_val None None (form shape.now) (val value.now) (check_of check.entry)) }
+    check: &mut Check<'_>,
+)
+    ensures { check_of check.new ≡ spec.compare_range (types_in call.now) (call_of call.now) range (val value.now) (spec.compare (types_in call.now) (call_of call.now) enough 256 no_val None None (form shape.now) (val value.now) (check_of check.old)) }
 {
-    let compared = compare_value(ENOUGH, call, 256, &[], None, None, shape, value, check);
-    compare_range(call, range, value, compared)
+    compare_value(ENOUGH, call, 256, &[], None, None, shape, value, check);
+    compare_range(call, range, value, check);
 }
 
 // No value is left.
-fn ended<'m>(call: &Call<'_>, rest: &[Value], check: Check<'m>) -> Check<'m>
-    ensures { check_of result ≡ spec.compare_entries (types_in call.now) (call_of call.now) enough [] (vals rest.now) (check_of check.entry) }
+fn ended(call: &Call<'_>, rest: &[Value], check: &mut Check<'_>)
+    ensures { check_of check.new ≡ spec.compare_entries (types_in call.now) (call_of call.now) enough [] (vals rest.now) (check_of check.old) }
 {
-    if rest.is_empty() {
-        check
-    } else {
-        check.stray()
+    if !rest.is_empty() {
+        check.stray();
     }
 }
 
-fn compare_result<'m>(call: &Call<'_>, rest: &[Value], check: Check<'m>) -> Check<'m>
-    ensures { check_of result ≡ spec.compare_entries (types_in call.now) (call_of call.now) enough (stub.last_entry call.now.way (result_form call.now.op.now.result)) (vals rest.now) (check_of check.entry) }
+fn compare_result(call: &Call<'_>, rest: &[Value], check: &mut Check<'_>)
+    ensures { check_of check.new ≡ spec.compare_entries (types_in call.now) (call_of call.now) enough (stub.last_entry call.now.way (result_form call.now.op.now.result)) (vals rest.now) (check_of check.old) }
 {
     match call.way {
         Way::Request => ended(call, rest, check),
@@ -103,38 +96,31 @@ fn compare_result<'m>(call: &Call<'_>, rest: &[Value], check: Check<'m>) -> Chec
             None => ended(call, rest, check),
             Some(shape) => match rest.split_first() {
                 None => check.stray(),
-                Some((value, others)) => ended(
-                    call,
-                    others,
-                    compare_entry(call, shape, None, value, check),
-                ),
+                Some((value, others)) => {
+                    compare_entry(call, shape, None, value, check);
+                    ended(call, others, check)
+                }
             },
         },
     }
 }
 
-fn compare_params<'m>(
-    call: &Call<'_>,
-    params: &[Param],
-    values: &[Value],
-    check: Check<'m>,
-) -> Check<'m>
-    ensures { check_of result ≡ spec.compare_entries (types_in call.now) (call_of call.now) enough (stub.entries_of call.now.way (map param_form params.now) (result_form call.now.op.now.result)) (vals values.now) (check_of check.entry) }
+fn compare_params(call: &Call<'_>, params: &[Param], values: &[Value], check: &mut Check<'_>)
+    ensures { check_of check.new ≡ spec.compare_entries (types_in call.now) (call_of call.now) enough (stub.entries_of call.now.way (map param_form params.now) (result_form call.now.op.now.result)) (vals values.now) (check_of check.old) }
 {
     let mut rest = values;
-    let mut state = check;
     for param in params {
         if goes(call.way, param) {
             match rest.split_first() {
-                None => return state.stray(),
+                None => return check.stray(),
                 Some((value, others)) => {
-                    state = compare_entry(call, own_shape(&param.shape), param.range, value, state);
+                    compare_entry(call, own_shape(&param.shape), param.range, value, check);
                     rest = others;
                 }
             }
         }
     }
-    compare_result(call, rest, state)
+    compare_result(call, rest, check)
 }
 
 /// The first count, switch value or number with a range that disagrees with what names it, in the order
@@ -142,15 +128,15 @@ fn compare_params<'m>(
 pub fn first_off(call: &Call<'_>, marks: &[Mark]) -> Option<Departure>
     ensures { result ≡ (spec.compare_entries (types_in call.now) (call_of call.now) enough (stub.entries call.now.way (op_form call.now.op.now)) (vals call.now.said.now.values.items) (record { off = None; left = marks.now })).off }
 {
-    let check = Check {
+    let mut check = Check {
         off: None,
         left: marks,
     };
-    let found = compare_params(
+    compare_params(
         call,
         call.op.params.as_slice(),
         call.said.values.as_slice(),
-        check,
+        &mut check,
     );
-    found.off
+    check.off
 }

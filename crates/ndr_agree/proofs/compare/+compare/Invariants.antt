@@ -11,6 +11,9 @@ decreases-compare_value l = 8 * l.fuel
 abbrev pub decreases-compare_each : goal.decreases-compare_each
 decreases-compare_each l = 8 * l.fuel + 1
 
+abbrev pub decreases-compare_named : goal.decreases-compare_named
+decreases-compare_named l = 8 * l.fuel + 1
+
 abbrev pub decreases-compare_arm : goal.decreases-compare_arm
 decreases-compare_arm l = 8 * l.fuel + 1
 
@@ -51,14 +54,14 @@ decreases-compare_one l = 8 * l.fuel + 5
 abbrev pub invariant-compare_each-loop-value : goal.invariant-compare_each-loop-value
 invariant-compare_each-loop-value l =
     let go = spec.compare (types_in l.call) (call_of l.call) l.fuel l.room in
-    spec.compare_each go (vals l.values) l.own (forms l.rest) (vals (drop l.value-index l.values)) (check_of l.state) ≡ spec.compare_each go (vals l.values) l.own (forms l.members) (vals l.values) (check_of l.check)
+    spec.compare_each go (vals l.values) l.own (forms l.rest) (vals (drop l.value-index l.values)) (check_of l.check) ≡ spec.compare_each go (vals l.values) l.own (forms l.members) (vals l.values) (check_of l.initial.check)
 
 abbrev pub invariant-compare_elements-loop-value : goal.invariant-compare_elements-loop-value
 invariant-compare_elements-loop-value l =
     let go = spec.compare (types_in l.call) (call_of l.call) l.fuel l.room in
-    spec.compare_all go (vals l.body) (form l.inner) (vals (drop l.value-index l.values)) (check_of l.state) ≡ spec.compare_all go (vals l.body) (form l.inner) (vals l.values) (check_of l.check)
+    spec.compare_all go (vals l.body) (form l.inner) (vals (drop l.value-index l.values)) (check_of l.check) ≡ spec.compare_all go (vals l.body) (form l.inner) (vals l.values) (check_of l.initial.check)
 
 abbrev pub invariant-compare_octets-loop-octet : goal.invariant-compare_octets-loop-octet
 invariant-compare_octets-loop-octet l =
     let go = spec.compare (types_in l.call) (call_of l.call) l.fuel l.room in
-    spec.compare_all go (vals l.body) (form l.inner) (bytes (drop l.octet-index l.octets)) (check_of l.state) ≡ spec.compare_all go (vals l.body) (form l.inner) (bytes l.octets) (check_of l.check)
+    spec.compare_all go (vals l.body) (form l.inner) (bytes (drop l.octet-index l.octets)) (check_of l.check) ≡ spec.compare_all go (vals l.body) (form l.inner) (bytes l.octets) (check_of l.initial.check)

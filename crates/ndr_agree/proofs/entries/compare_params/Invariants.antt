@@ -9,5 +9,5 @@ use Rattle.ndr_agree.proofs.entries.compare_params.Given as goal
 
 abbrev pub invariant-loop-param : goal.invariant-loop-param
 invariant-loop-param l =
-    spec.compare_entries (types_in l.call) (call_of l.call) enough (stub.entries_of l.call.way (map param_form (drop l.param-index l.params)) (result_form l.call.op.now.result)) (vals l.rest) (check_of l.state)
-    ≡ spec.compare_entries (types_in l.call) (call_of l.call) enough (stub.entries_of l.call.way (map param_form l.params) (result_form l.call.op.now.result)) (vals l.values) (check_of l.check)
+    spec.compare_entries (types_in l.call) (call_of l.call) enough (stub.entries_of l.call.way (map param_form (drop l.param-index l.params)) (result_form l.call.op.now.result)) (vals l.rest) (check_of l.check)
+    ≡ spec.compare_entries (types_in l.call) (call_of l.call) enough (stub.entries_of l.call.way (map param_form l.params) (result_form l.call.op.now.result)) (vals l.values) (check_of l.initial.check)

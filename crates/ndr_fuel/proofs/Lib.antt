@@ -1,0 +1,4 @@
+pub mod Same
+pub mod Settled
+pub mod Counted
+pub mod Tops
