@@ -3,14 +3,8 @@
 //! has cases that a program written apart from this one made, and `data/rows.txt` has cases by hand.
 #![tactic(auto)]
 
-mod blocks;
-mod case;
-#[cfg(test)]
-mod tests;
-mod text;
-
 use anyhow::{Context, Result};
-use blocks::Blocks;
+use ndr_lines::Blocks;
 use std::alloc::Global;
 use std::rt::Env;
 use std::{env, fs};

@@ -1,11 +1,9 @@
-//! Tests of the crates of NDR.
+//! Tests of numbers, counts, texts and pointers in stubs.
 #![tactic(auto)]
 
 #[cfg(test)]
 mod leaves;
 #[cfg(test)]
 mod pointers;
-#[cfg(test)]
-mod values;
 #[cfg(test)]
 mod written;

@@ -1,10 +1,8 @@
 //! The deepest message: types that nest by value as deep as a table's may, and behind each another, at
 //! 256 levels of pointers. And messages that aren't of an operation.
 
-use crate::blocks::table_of;
-use crate::case::{are_typed, decoded, is_fit};
-use crate::text::put_message;
 use ndr_codec::{Way, in_range};
+use ndr_lines::{are_typed, decoded, is_fit, put_message, table_of};
 use ndr_value::{Message, Value, Wires};
 use rpc_base::{NoMemory, Octets, Order, WireHandle};
 use rpc_words::put;
@@ -70,7 +68,7 @@ const NESTS: &[Nest] = &[
 const POINTERS: u32 = 256;
 
 /// What a thread that decodes is to be given: twice what the deepest message takes.
-const STACK: usize = 16 << 20;
+const STACK: usize = 4 << 20;
 
 fn put_times(text: &str, times: u16, into: &mut Vec<u8>) -> Result<(), NoMemory> {
     for _ in 0..times {

@@ -1,0 +1,5 @@
+//! Tests of shapes and values.
+#![tactic(auto)]
+
+#[cfg(test)]
+mod values;
