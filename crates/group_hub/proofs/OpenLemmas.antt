@@ -1,26 +1,31 @@
 -- Shards are looked at one after the other.
-use Rattle.std.proofs.Common.{◌≡◌, ◌≢◌, ℕ, suc, ◌+◌, ◌%◌, ◌<◌, ◌≤◌, Bool, true, false, Result, Ok, Err, IfOk, ◌++◌, length, refl, sym, ap, ◌∙◌, subst, inl, inr, arith, ⊎_elim}
+use Rattle.std.proofs.Common.{◌≡◌, ◌≢◌, ℕ, suc, ◌+◌, ◌%◌, ◌<◌, ◌≤◌, Bool, true, false, Result, Ok, Err, IfOk, [], ◌++◌, length, refl, sym, ap, ◌∙◌, subst, inl, inr, arith, ⊎_elim}
 use mathlib.Core.Logic.{dite}
 use native.Mathlib.Decide.{dec_lt, ℕ_discrete}
 use Rattle.hub_story.specs.Directories.{next_id, id_of, opened_ids}
 use Rattle.hub_story.specs.Histories.{marks_in}
 use Rattle.hub_story.specs.Passes.{Seen, Serves}
-use Rattle.shard_lock.proofs.OpenLemmas.{opened_serves}
+use Rattle.turn_lock.specs.Histories.{Within}
+use Rattle.hub_story.specs.Still.{StillHas}
+use Rattle.hub_story.proofs.StillLemmas.{still_has, still_self}
+use Rattle.shard_lock.proofs.OpenLemmas.{opened_serves, opened_still}
+use Rattle.group_hub.specs.declared.hub.Hub.{Hub}
+use Rattle.group_hub.proofs.ListLemmas.{some_item}
 use Rattle.hub_story.specs.Calls.{Enters}
 use Rattle.shard.specs.declared.answer.OpenRefusal.{OpenRefusal}
 use Rattle.shard.specs.declared.answer.OpenRefusal.TheVariants.{GroupsFull, Ids, Memory}
 use Rattle.group_hub.specs.declared.pass.Pass.{Pass}
 use Rattle.group_hub.specs.Shards.{shard_of}
-use Rattle.group_hub.specs.Passes.{at_shard, At}
+use Rattle.group_hub.specs.Passes.{at_shard, At, IsPassOf}
 use Rattle.group_hub.specs.Openings.{HadNoRoom, PassedBy, Quiet, OpensThere, Opens, NoneHadRoom, OneHadRoom, NoneEntered, Tries, looked_of, StandsSo}
 
 -- ONE SHARD
 
 no_room_full : (boot n : ℕ) (v w : Seen) → Tries boot n (Err GroupsFull) v w → HadNoRoom boot n true v w
-no_room_full boot n v w t = record { between = t.0; enters = subst (Enters boot n v w t.0) t.3.1 t.2; full_is = t.3.0; used_up = λ e. absurd cc }
+no_room_full boot n v w t = record { between = t.0; enters = subst (Enters boot n v w t.0) t.3.0.1 t.2; full_is = t.3.0.0; used_up = λ e. absurd cc }
 
 no_room_used : (boot n : ℕ) (v w : Seen) → Tries boot n (Err Ids) v w → HadNoRoom boot n false v w
-no_room_used boot n v w t = record { between = t.0; enters = subst (Enters boot n v w t.0) t.3.2 t.2; full_is = t.3.0; used_up = λ e. t.3.1 }
+no_room_used boot n v w t = record { between = t.0; enters = subst (Enters boot n v w t.0) t.3.0.2 t.2; full_is = t.3.0.0; used_up = λ e. t.3.0.1 }
 
 -- the shard of an id of the shard n
 shard_is : (n k : ℕ) → n < 16 → shard_of (id_of n k) ≡ n
@@ -95,7 +100,7 @@ module _ (boot a n : ℕ) (full : Bool) (p q r : Pass) (so : NoneHadRoom boot a 
   pub one_had_room : (b id : ℕ) → n < b → n < 16 → At n q r (Tries boot n (Ok id)) → OneHadRoom boot a b p id r
   one_had_room b id high low did =
       let here = did_here (Tries boot n (Ok id)) did in
-      let is : id ≡ next_id n (marks_in ((at_shard p n).log ++ here.0)) = here.3.2 in
+      let is : id ≡ next_id n (marks_in ((at_shard p n).log ++ here.0)) = here.3.0.2 in
       let shard : shard_of id ≡ n = ap shard_of is ∙ shard_is n (length (opened_ids (marks_in ((at_shard p n).log ++ here.0)))) low in
       record {
         low = omega (arith, shard, from);
@@ -111,7 +116,7 @@ module _ (boot a n : ℕ) (full : Bool) (p q r : Pass) (so : NoneHadRoom boot a 
       let here = did_here (Tries boot n (Err Memory)) did in
       record {
         quiet = λ t small. dite (ℕ_discrete t n)
-            (λ (e : t ≡ n). subst (λ (k : ℕ). Quiet boot k (at_shard p k) (at_shard r k)) (sym e) (inl (here.0, subst (Enters boot n (at_shard p n) (at_shard r n) here.0) here.3 here.2)))
+            (λ (e : t ≡ n). subst (λ (k : ℕ). Quiet boot k (at_shard p k) (at_shard r k)) (sym e) (inl (here.0, subst (Enters boot n (at_shard p n) (at_shard r n) here.0) here.3.0 here.2)))
             (λ apart. quieter boot t (at_shard p t) (at_shard r t) (passed (Tries boot n (Err Memory)) did t apart));
         below = stays_below (Tries boot n (Err Memory)) did;
         above = λ t up. stays_above (Tries boot n (Err Memory)) did t (omega arith);
@@ -176,6 +181,30 @@ module _ (boot first : ℕ) (p q r : Pass) where
 pub open_serves : (boot : ℕ) (p : Pass) (r : Result (ℕ × ℕ) OpenRefusal) (q : Pass) → Opens boot p r q → IfOk r (λ o. Serves (at_shard q (shard_of o.0)) o.0 o.1)
 open_serves boot p (Ok (id, c)) q o = subst (Serves (at_shard q (shard_of id)) id) (sym o.0) (opened_serves boot (shard_of id) (record {}) (at_shard p (shard_of id)) (at_shard q (shard_of id)) (Ok id) o.1)
 open_serves boot p (Err e) q o = tt
+
+-- and what it had to call with it still has, at each shard
+module _ (h : Hub) (p q : Pass) (of_hub : IsPassOf h p) (sixteen : length h.shards.items ≡ 16) where
+  within_at : (t : ℕ) → t < 16 → Within (at_shard p t).own (length (at_shard p t).log)
+  within_at t low = let l = some_item h.shards.items t (omega (arith, sixteen)) in (of_hub.each t l.0 low l.1).within
+
+  had_still : (t : ℕ) (full : Bool) → t < 16 → HadNoRoom h.boot t full (at_shard p t) (at_shard q t) → StillHas (at_shard p t) (at_shard q t) []
+  had_still t full low had = still_has h.boot t (at_shard p t) (at_shard q t) had.between [] had.enters (within_at t low)
+
+  passed_still : (t : ℕ) → t < 16 → PassedBy h.boot t (at_shard p t) (at_shard q t) → StillHas (at_shard p t) (at_shard q t) []
+  passed_still t low by = ⊎_elim (λ had. had_still t had.0 low had.1) (λ same. subst (λ u. StillHas (at_shard p t) u []) (sym same) (still_self (at_shard p t))) by
+
+  quiet_still : (t : ℕ) → t < 16 → Quiet h.boot t (at_shard p t) (at_shard q t) → StillHas (at_shard p t) (at_shard q t) []
+  quiet_still t low by =
+      ⊎_elim (λ e. still_has h.boot t (at_shard p t) (at_shard q t) e.0 [] e.1 (within_at t low)) (λ same. subst (λ u. StillHas (at_shard p t) u []) (sym same) (still_self (at_shard p t))) by
+
+  pub open_still : (r : Result (ℕ × ℕ) OpenRefusal) → Opens h.boot p r q → (t : ℕ) → t < 16 → StillHas (at_shard p t) (at_shard q t) []
+  open_still (Ok (id, c)) o t low = dite (ℕ_discrete t (shard_of id))
+      (λ (e : t ≡ shard_of id). subst (λ (k : ℕ). StillHas (at_shard p k) (at_shard q k) []) (sym e)
+      (opened_still h.boot (shard_of id) (record {}) (at_shard p (shard_of id)) (at_shard q (shard_of id)) (Ok id) (within_at (shard_of id) (subst (λ (k : ℕ). k < 16) e low)) o.1))
+      (λ apart. passed_still t low (o.2 t low apart))
+  open_still (Err GroupsFull) o t low = let had = o.0 t low in had_still t had.0 low had.1
+  open_still (Err Ids) o t low = had_still t false low (o t low)
+  open_still (Err Memory) o t low = quiet_still t low (o t low)
 
 -- ONE LOOK MORE
 

@@ -1,10 +1,10 @@
 -- What is answered where a group is opened, and what that changes.
-use Rattle.std.specs.Prelude.{◌≡◌, ◌≢◌, ◌⊎◌, ℕ, ◌+◌, ◌<◌, ◌≤◌, Bool, true, false, Result, Ok, Err, List, [], ◌++◌}
+use Rattle.std.specs.Prelude.{◌≡◌, ◌≢◌, ◌⊎◌, ℕ, ◌+◌, ◌<◌, ◌≤◌, Bool, true, false, Result, Ok, Err, IfOk, List, [], ◌++◌}
 use Rattle.hub_story.specs.declared.item.Item.{Item}
 use Rattle.hub_story.specs.Directories.{is_full, is_used_up}
-use Rattle.hub_story.specs.Histories.{marks_in}
+use Rattle.hub_story.specs.Histories.{marks_in, journal_in}
 use Rattle.hub_story.specs.Passes.{Seen}
-use Rattle.hub_story.specs.Calls.{Enters}
+use Rattle.hub_story.specs.Calls.{IsNewConn, Enters}
 use Rattle.shard.specs.declared.answer.OpenRefusal.{OpenRefusal}
 use Rattle.shard.specs.declared.answer.OpenRefusal.TheVariants.{GroupsFull, Ids, Memory}
 use Rattle.shard.specs.Openings.{gives_open}
@@ -29,13 +29,17 @@ PassedBy boot s v w = ((full : Bool) × HadNoRoom boot s full v w) ⊎ (w ≡ v)
 abbrev pub Quiet : ℕ → ℕ → Seen → Seen → Type 0
 Quiet boot s v w = ((between : List Item) × Enters boot s v w between []) ⊎ (w ≡ v)
 
--- The shard s had room, and the group of this id was opened there, with its first Join.
+-- The shard s had room, and the group of this id was opened there, with its first Join. Nothing stood of that connection before.
 abbrev pub OpensThere : ℕ → ℕ → ℕ → Seen → Seen → Type 0
-OpensThere boot s id v w = (between : List Item) × (more : List Item) × Enters boot s v w between more × gives_open (record {}) boot s (v.log ++ between) (Ok id) more
+OpensThere boot s id v w =
+    (between : List Item) × (more : List Item) × Enters boot s v w between more
+    × (gives_open (record {}) boot s (v.log ++ between) (Ok id) more × IsNewConn 1 (journal_in boot id (v.log ++ between)))
 
 -- One look at the shard s had that result.
 abbrev pub Tries : ℕ → ℕ → Result ℕ OpenRefusal → Seen → Seen → Type 0
-Tries boot s r v w = (between : List Item) × (more : List Item) × Enters boot s v w between more × gives_open (record {}) boot s (v.log ++ between) r more
+Tries boot s r v w =
+    (between : List Item) × (more : List Item) × Enters boot s v w between more
+    × (gives_open (record {}) boot s (v.log ++ between) r more × IfOk r (λ id. IsNewConn 1 (journal_in boot id (v.log ++ between))))
 
 -- The group of an id is opened at the id's shard, where the others that were looked at had no room; or no shard had room, and one had 64
 -- open groups, or none had.

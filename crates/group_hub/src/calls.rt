@@ -1,13 +1,17 @@
 //! Calls on a group.
-ghost use Rattle.std.specs.Prelude.{◌≡◌, ◌≤◌, ℕ, true, false, ◌&&◌, not, length};
+ghost use Rattle.std.specs.Prelude.{◌≡◌, ◌≤◌, ℕ, true, false, ◌&&◌, not, IfOk, [], ◌∷◌, length};
 ghost use Rattle.handle_model.specs.declared.entry.Entry.TheVariants as entry;
 ghost use Rattle.handle_model.specs.Journal.{runs};
 ghost use Rattle.group_core.specs.Calls.{Accepts, Takes, Cancels, Orphans};
+ghost use Rattle.group_core.specs.declared.answer.Stage.TheVariants.{Over};
 ghost use Rattle.group_core.specs.Stages.{stage_of, is_asked};
+ghost use Rattle.hub_story.specs.declared.item.Item.TheVariants.{Of};
 ghost use Rattle.hub_story.specs.Directories.{is_retired_id};
 ghost use Rattle.hub_story.specs.Histories.{marks_in, journal_in};
 ghost use Rattle.hub_story.specs.Folded.{kept};
 ghost use Rattle.hub_story.specs.Passes.{Serves, HasCall, Knows, Runs};
+ghost use Rattle.hub_story.specs.Calls.{IsNewCall};
+ghost use Rattle.hub_story.specs.Still.{StillHas, IsAccepted, IfTaken};
 ghost use Rattle.shard.specs.Answers.{SettlesWith};
 ghost use Rattle.group_hub.specs.Shards.{shard_of};
 ghost use Rattle.group_hub.specs.Passes.{IsPassOf, at_shard, CallsAt, LooksAt, HasItsShut};
@@ -20,7 +24,8 @@ use shard::HubRest;
 use std::sync::Wait;
 
 impl Hub {
-    /// Accepts a call of a connection that is this pass's, as `Group::accept`.
+    /// Accepts a call of a connection that is this pass's, as `Group::accept`. Nothing was entered of a call
+    /// of that number before.
     pub fn accept<R: Wait>(
         &self,
         rt: &R,
@@ -32,7 +37,9 @@ impl Hub {
         requires serves { Serves (at_shard pass.old (shard_of group)) group asked.conn }
         requires few { length asked.slots ≤ 4 }
         ensures pass { IsPassOf self.now pass.new }
-        ensures call { CallsAt self.now.boot group pass.old pass.new (λ j k. Accepts j asked result k) }
+        ensures call { CallsAt self.now.boot group pass.old pass.new (λ j k. Accepts j asked result k × IfOk result (λ call. IsNewCall call j)) }
+        ensures still { StillHas (at_shard pass.old (shard_of group)) (at_shard pass.new (shard_of group)) [] }
+        ensures accepted { IfOk result (λ call. IsAccepted (at_shard pass.new (shard_of group)) group asked.conn call asked.slots) }
     {
         let number = shard_of(group);
         self.shard(number)
@@ -45,6 +52,8 @@ impl Hub {
         requires serves { (conn : ℕ) × HasCall (at_shard pass.old (shard_of group)) group conn call }
         ensures pass { IsPassOf self.now pass.new }
         ensures call { CallsAt self.now.boot group pass.old pass.new (λ j k. Takes j call result k) }
+        ensures still { StillHas (at_shard pass.old (shard_of group)) (at_shard pass.new (shard_of group)) [] }
+        ensures taken { IfTaken (at_shard pass.new (shard_of group)) group call result }
     {
         let number = shard_of(group);
         self.shard(number)
@@ -57,6 +66,7 @@ impl Hub {
         requires serves { (conn : ℕ) × HasCall (at_shard pass.old (shard_of group)) group conn call }
         ensures pass { IsPassOf self.now pass.new }
         ensures call { CallsAt self.now.boot group pass.old pass.new (λ j k. Cancels j call result k) }
+        ensures still { StillHas (at_shard pass.old (shard_of group)) (at_shard pass.new (shard_of group)) [] }
     {
         let number = shard_of(group);
         self.shard(number)
@@ -69,6 +79,7 @@ impl Hub {
         requires serves { (conn : ℕ) × HasCall (at_shard pass.old (shard_of group)) group conn call }
         ensures pass { IsPassOf self.now pass.new }
         ensures call { CallsAt self.now.boot group pass.old pass.new (λ j k. Orphans j call result k) }
+        ensures still { StillHas (at_shard pass.old (shard_of group)) (at_shard pass.new (shard_of group)) [] }
     {
         let number = shard_of(group);
         self.shard(number)
@@ -89,6 +100,7 @@ impl Hub {
         requires runs { Runs (at_shard pass.old (shard_of group)) group call results }
         ensures pass { IsPassOf self.now pass.new }
         ensures call { CallsAt self.now.boot group pass.old pass.new (SettlesWith group (entry.End call results said) result) }
+        ensures still { StillHas (at_shard pass.old (shard_of group)) (at_shard pass.new (shard_of group)) (Of group (entry.End call results said) ∷ []) }
         ensures shut { HasItsShut pass.new result }
     {
         let number = shard_of(group);
@@ -102,6 +114,7 @@ impl Hub {
         requires serves { Serves (at_shard pass.old (shard_of group)) group conn }
         ensures pass { IsPassOf self.now pass.new }
         ensures call { CallsAt self.now.boot group pass.old pass.new (SettlesWith group (entry.Leave conn) result) }
+        ensures still { StillHas (at_shard pass.old (shard_of group)) (at_shard pass.new (shard_of group)) (Of group (entry.Leave conn) ∷ []) }
         ensures shut { HasItsShut pass.new result }
     {
         let number = shard_of(group);
@@ -109,12 +122,14 @@ impl Hub {
             .leave(rt, &mut pass.shards[number], group, conn)
     }
 
-    /// Where a call is. It enters nothing and takes no memory.
+    /// Where a call is; of a group that was retired each is over. It enters nothing and takes no memory.
     pub fn stage<R: Wait>(&self, rt: &R, pass: &mut Pass, group: u32, call: u32) -> Stage
         requires pass { IsPassOf self.now pass.old }
         requires known { Knows (at_shard pass.old (shard_of group)) group call }
         ensures pass { IsPassOf self.now pass.new }
         ensures call { LooksAt self.now.boot group pass.old pass.new (λ log. result ≡ stage_of (journal_in self.now.boot group log) call) }
+        ensures still { StillHas (at_shard pass.old (shard_of group)) (at_shard pass.new (shard_of group)) [] }
+        ensures over { is_retired_id (marks_in (at_shard pass.new (shard_of group)).log) group ≡ true → result ≡ Over }
     {
         let number = shard_of(group);
         self.shard(number)
@@ -129,6 +144,7 @@ impl Hub {
         requires known { Knows (at_shard pass.old (shard_of group)) group call }
         ensures pass { IsPassOf self.now pass.new }
         ensures call { LooksAt self.now.boot group pass.old pass.new (λ log. result ≡ (not (is_retired_id (marks_in log) group) && is_asked (kept (journal_in self.now.boot group log)) call)) }
+        ensures still { StillHas (at_shard pass.old (shard_of group)) (at_shard pass.new (shard_of group)) [] }
         ensures told { result ≡ true → is_asked (journal_in self.now.boot group (at_shard pass.new (shard_of group)).log) call ≡ true }
         ensures running { is_retired_id (marks_in (at_shard pass.new (shard_of group)).log) group ≡ false → runs (journal_in self.now.boot group (at_shard pass.new (shard_of group)).log) call ≡ true → result ≡ is_asked (journal_in self.now.boot group (at_shard pass.new (shard_of group)).log) call }
     {

@@ -1,6 +1,9 @@
 //! A connection joins the group of an id, and a group's journal is copied.
-ghost use Rattle.std.specs.Prelude.{◌≤◌, IfOk};
+ghost use Rattle.std.specs.Prelude.{◌≤◌, IfOk, []};
+ghost use Rattle.hub_story.specs.Histories.{journal_in};
 ghost use Rattle.hub_story.specs.Passes.{Serves};
+ghost use Rattle.hub_story.specs.Calls.{IsNewConn};
+ghost use Rattle.hub_story.specs.Still.{StillHas};
 ghost use Rattle.shard.specs.Finds.{gives_find};
 ghost use Rattle.shard.specs.Copies.{gives_copy};
 ghost use Rattle.group_hub.specs.Passes.{IsPassOf, at_shard, EntersAt};
@@ -15,6 +18,7 @@ use std::sync::Wait;
 
 impl Hub {
     /// A connection joins the group of an id, or the id is marked as missed, where the group isn't open.
+    /// Nothing was entered of a connection of that number before.
     ///
     /// # Errors
     ///
@@ -24,7 +28,8 @@ impl Hub {
         requires pass { IsPassOf self.now pass.old }
         requires id { 1 ≤ id }
         ensures pass { IsPassOf self.now pass.new }
-        ensures call { EntersAt self.now.boot id pass.old pass.new (λ log more. gives_find (record { id = id }) self.now.boot (shard_of id) log result more) }
+        ensures call { EntersAt self.now.boot id pass.old pass.new (λ log more. gives_find (record { id = id }) self.now.boot (shard_of id) log result more × IfOk result (λ conn. IsNewConn conn (journal_in self.now.boot id log))) }
+        ensures still { StillHas (at_shard pass.old (shard_of id)) (at_shard pass.new (shard_of id)) [] }
         ensures serves { IfOk result (λ conn. Serves (at_shard pass.new (shard_of id)) id conn) }
     {
         let number = shard_of(id);
@@ -48,6 +53,7 @@ impl Hub {
         requires id { 1 ≤ group }
         ensures pass { IsPassOf self.now pass.new }
         ensures call { EntersAt self.now.boot group pass.old pass.new (λ log more. gives_copy (record { id = group }) self.now.boot (shard_of group) log result more) }
+        ensures still { StillHas (at_shard pass.old (shard_of group)) (at_shard pass.new (shard_of group)) [] }
     {
         let number = shard_of(group);
         self.shard(number)

@@ -1,6 +1,7 @@
 //! A group is opened.
-ghost use Rattle.std.specs.Prelude.{◌≡◌, ◌<◌, ◌≤◌, IfOk};
+ghost use Rattle.std.specs.Prelude.{◌≡◌, ◌<◌, ◌≤◌, ℕ, IfOk, []};
 ghost use Rattle.hub_story.specs.Passes.{Serves};
+ghost use Rattle.hub_story.specs.Still.{StillHas};
 ghost use Rattle.group_hub.specs.Passes.{IsPassOf, At, at_shard};
 ghost use Rattle.group_hub.specs.Shards.{shard_of};
 ghost use Rattle.group_hub.specs.Openings.{Opens, LooksAmong, Tries, looked_of};
@@ -24,7 +25,7 @@ pub(crate) enum Looked {
 
 impl Hub {
     /// Opens a group, which connection 1 of this pass has joined, at the first shard with room that it comes
-    /// to. It looks at no shard twice. Where it looks first is free.
+    /// to. Where it looks first is free.
     ///
     /// # Errors
     ///
@@ -34,6 +35,7 @@ impl Hub {
         requires { IsPassOf self.now pass.old }
         ensures pass { IsPassOf self.now pass.new }
         ensures opens { Opens self.now.boot pass.old result pass.new }
+        ensures still { (s : ℕ) → s < 16 → StillHas (at_shard pass.old s) (at_shard pass.new s) [] }
         ensures serves { IfOk result (λ opened. Serves (at_shard pass.new (shard_of opened.0)) opened.0 opened.1) }
     {
         let first = (self.hint.fetch_add(1, Ordering::SeqCst) % 16) as usize;

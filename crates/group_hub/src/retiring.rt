@@ -3,6 +3,7 @@ ghost use Rattle.std.specs.Prelude.{◌≡◌, [], ◌∷◌};
 ghost use Rattle.hub_story.specs.declared.item.Mark.TheVariants as mark;
 ghost use Rattle.hub_story.specs.declared.item.Item.TheVariants.{Listed};
 ghost use Rattle.hub_story.specs.Passes.{HasShut};
+ghost use Rattle.hub_story.specs.Still.{StillHas};
 ghost use Rattle.group_hub.specs.Passes.{IsPassOf, at_shard, EntersAt};
 ghost use Rattle.group_hub.specs.Shards.{shard_of};
 
@@ -18,6 +19,7 @@ impl Hub {
         requires shut { HasShut (at_shard pass.old (shard_of key)) key }
         ensures pass { IsPassOf self.now pass.new }
         ensures call { EntersAt self.now.boot key pass.old pass.new (λ log more. more ≡ Listed (mark.Retired key) ∷ []) }
+        ensures still { StillHas (at_shard pass.old (shard_of key)) (at_shard pass.new (shard_of key)) (Listed (mark.Retired key) ∷ []) }
         ensures group { result.group ≡ key }
     {
         let number = shard_of(key.group());

@@ -6,7 +6,7 @@ use Rattle.handle_model.specs.declared.entry.Entry.{Entry}
 use Rattle.handle_model.specs.declared.base.Base.{Base}
 use Rattle.handle_model.specs.Bases.{empty_base}
 use Rattle.handle_model.specs.Folds.{base_of, advance}
-use Rattle.handle_model.specs.History.{History, IsSound, since}
+use Rattle.handle_model.specs.History.{History, since}
 use Rattle.handle_model.specs.Journal.{Legal, asked, is_shut, waits, runs, due}
 use Rattle.handle_model.proofs.Tests.{and_right}
 use Rattle.journal_folds.specs.Laws.{BaseBegun}
@@ -20,8 +20,8 @@ use Rattle.group_core.proofs.Pruning.{asked_stays}
 use Rattle.hub_story.specs.Folded.{kept_since, kept}
 use Rattle.hub_story.specs.Histories.{journal_in, home_of, past_in}
 use Rattle.hub_story.specs.declared.item.Item.{Item}
-use Rattle.hub_story.proofs.FoldLemmas.{IsFoldOf, Alike, alike, due_alike, kept_folds}
-use Rattle.hub_story.specs.Laws.{IsKeptOf}
+use Rattle.fold_laws.specs.FoldOf.{IsFoldOf}
+use Rattle.hub_story.proofs.FoldLemmas.{Alike, alike, kept_folds}
 
 asked_to : (home : Home) (base : Base) (newer older : List Entry) (k : ℕ) → BaseBegun base → Legal (since home base (newer ++ older)) → list_any is_shut older ≡ false → due (since home base older) ≡ false
     → is_asked_since (advance home base older) newer k ≡ (is_some (asked (since home (advance home base older) newer) k) && is_asked_since base (newer ++ older) k)
@@ -70,19 +70,3 @@ told_whole boot g log k l t = told_since (home_of boot g) (past_in g log) k l t
 
 pub told_running : (boot g : ℕ) (log : List Item) (k : ℕ) → Legal (journal_in boot g log) → runs (journal_in boot g log) k ≡ true → is_asked (kept (journal_in boot g log)) k ≡ is_asked (journal_in boot g log) k
 told_running boot g log k l r = running_since (home_of boot g) (past_in g log) k l r
-
--- what the group keeps is the whole journal
-pub kept_whole : (home : Home) (past : List Entry) → IsSound (since home empty_base past) → IsKeptOf (kept_since home past) (since home empty_base past)
-kept_whole home past s =
-    let j : History = since home empty_base past in
-    let f = kept_folds home past s.legal in
-    let a = alike (kept_since home past) j f (inr refl) s.legal in
-    record {
-      newer = f.newer;
-      older = f.older;
-      past_is = f.past_is;
-      kept_is = f.fold_is;
-      unshut = f.open_is;
-      sound = record { legal = a.legal; settled = due_alike (kept_since home past) j a s.legal ∙ s.settled };
-      size_is = a.sizes;
-    }

@@ -6,3 +6,5 @@ pub mod FoldLemmas
 pub mod WholeLemmas
 pub mod AskedLemmas
 pub mod HaveLemmas
+pub mod StillLemmas
+pub mod NewLemmas

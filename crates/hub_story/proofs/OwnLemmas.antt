@@ -62,11 +62,11 @@ an_end k (Cancel m) h = absurd cc
 an_end k (Orphan m) h = absurd cc
 an_end k (Shut items) h = absurd cc
 
-record AnAccepted (k : ℕ) (e : Entry) : Type 0 where
-  asked : Asked
-  entry_is : e ≡ Accept k asked
+pub record AnAccepted (k : ℕ) (e : Entry) : Type 0 where
+  pub asked : Asked
+  pub entry_is : e ≡ Accept k asked
 
-an_accepted : (k : ℕ) (e : Entry) → accepts k e ≡ true → AnAccepted k e
+pub an_accepted : (k : ℕ) (e : Entry) → accepts k e ≡ true → AnAccepted k e
 an_accepted k (Accept m a) h = let same : m ≡ k = grind (arith, nat_tests) in record { asked = a; entry_is = ap (λ n. Accept n a) same }
 an_accepted k (End m results said) h = absurd cc
 an_accepted k (Leave d) h = absurd cc
@@ -77,7 +77,7 @@ an_accepted k (Cancel m) h = absurd cc
 an_accepted k (Orphan m) h = absurd cc
 an_accepted k (Shut items) h = absurd cc
 
-a_retired : (g : ℕ) (m : Mark) → retires_id g m ≡ true → m ≡ Retired g
+pub a_retired : (g : ℕ) (m : Mark) → retires_id g m ≡ true → m ≡ Retired g
 a_retired g (Retired h) t = let same : h ≡ g = grind (arith, nat_tests) in ap Retired same
 a_retired g (Opened h) t = absurd cc
 a_retired g (Missed h) t = absurd cc

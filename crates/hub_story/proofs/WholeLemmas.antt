@@ -20,17 +20,15 @@ use Rattle.handle_model.proofs.Tests.{and_left, and_right}
 use Rattle.handle_model.proofs.Held.{open_not_due, runs_not_due}
 use Rattle.handle_model.proofs.Steps.{open_unshut, runs_unshut}
 use Rattle.call_table.specs.declared.row.Row.{Row}
-use Rattle.call_table.specs.Rows.{row_at, openings_of}
+use Rattle.call_table.specs.Rows.{openings_of}
 use Rattle.call_table.specs.Shown.{rows_of}
 use Rattle.call_table.proofs.Calls.{waits_idle}
 use Rattle.call_table.proofs.Counts.{count_shown, openings_shown}
 use Rattle.journal_laws.specs.Further.{with_entries}
-use Rattle.journal_tables.specs.Tables.{Tables, waits_in, runs_in}
+use Rattle.journal_tables.specs.Tables.{Tables}
 use Rattle.journal_tables.specs.Shown.{tables_of}
-use Rattle.journal_tables.proofs.Shown.{waits_row, runs_row}
 use Rattle.journal_folds.specs.Unplaced.{row_unplaced, unplaced}
 use Rattle.journal_folds.specs.Laws.{BaseBegun, SaysSame}
-use Rattle.journal_folds.proofs.Places.{row_waits, row_runs}
 use Rattle.group_core.specs.declared.answer.AcceptRefusal.TheVariants as refusal
 use Rattle.group_core.specs.declared.answer.JoinRefusal.TheVariants as join_refusal
 use Rattle.group_core.specs.declared.answer.AcceptRefusal.{AcceptRefusal}
@@ -49,7 +47,10 @@ use Rattle.group_core.specs.Calls.{Accepts, Takes, Cancels, Orphans, numbered, c
 use Rattle.group_core.specs.Stages.{stage_of}
 use Rattle.hub_story.specs.Folded.{kept_since, kept_with, kept}
 use Rattle.hub_story.specs.Answers.{JoinsWhole}
-use Rattle.hub_story.proofs.FoldLemmas.{IsFoldOf, Alike, alike, due_alike, says, fold_more, legal_more, sound_more, refold, shut_kept, kept_folds}
+use Rattle.fold_laws.specs.FoldOf.{IsFoldOf, StandsFor}
+use Rattle.fold_laws.proofs.Alike.{folds_stand, folds_on}
+use Rattle.fold_laws.proofs.Back.{folds_back}
+use Rattle.hub_story.proofs.FoldLemmas.{Alike, alike, says, sound_more, refold, shut_kept, kept_folds}
 
 -- the group, which kept the journal of these entries, keeps it with some more, and answers so by the whole one
 pub record Keeps (home : Home) (past : List Entry) (y : History) (Answers : History → History → Type 0) : Type 0 where
@@ -96,15 +97,14 @@ module _ (home : Home) (past : List Entry) where
   pub alike_kept : Legal whole → Alike mine whole
   alike_kept l = alike mine whole (kept_folds home past l) begun l
 
+  stands_kept : Legal whole → StandsFor mine whole
+  stands_kept l = folds_stand mine whole l begun (kept_folds home past l)
+
   pub waits_kept : Legal whole → (k : ℕ) → waits mine k ≡ waits whole k
-  waits_kept l k =
-      let a = alike_kept l in
-      sym (waits_row mine k) ∙ (sym (row_waits (rows_of mine) k) ∙ (ap (λ (t : Tables). waits_in (row_at t.rows k)) a.tables ∙ (row_waits (rows_of whole) k ∙ waits_row whole k)))
+  waits_kept l k = (stands_kept l).waits_same k
 
   pub runs_kept : Legal whole → (k : ℕ) → runs mine k ≡ runs whole k
-  runs_kept l k =
-      let a = alike_kept l in
-      sym (runs_row mine k a.legal) ∙ (sym (row_runs (rows_of mine) k) ∙ (ap (λ (t : Tables). runs_in (row_at t.rows k)) a.tables ∙ (row_runs (rows_of whole) k ∙ runs_row whole k l)))
+  runs_kept l k = (stands_kept l).runs_same k
 
   pub stage_kept : Legal whole → (k : ℕ) → stage_of mine k ≡ stage_of whole k
   stage_kept l k = rw (waits_kept l k, runs_kept l k) refl
@@ -211,23 +211,21 @@ module _ (home : Home) (past : List Entry) where
       (sym (waits_kept s.legal k) ∙ t.0, false_from_ne_true (is_orphanable whole k) (λ h. let f = sym (orphanable_mine k s u h) ∙ t.1 in absurd cc), refl)
 
   -- an End or a Leave, and the Shut behind it
-  alike_next : (e : Entry) → IsSound whole → Legal (with_entry mine e) → Alike (with_entry mine e) (with_entry whole e)
-  alike_next e s l =
-      let f = kept_folds home past s.legal in
-      alike (with_entry mine e) (with_entry whole e) (fold_more mine whole (e ∷ []) f) begun (legal_more mine whole (e ∷ []) f begun s.legal l)
-
   legal_next : (e : Entry) → IsSound whole → Legal (with_entry mine e) → Legal (with_entry whole e)
-  legal_next e s l = legal_more mine whole (e ∷ []) (kept_folds home past s.legal) begun s.legal l
+  legal_next e s l = folds_back mine whole (e ∷ []) s.legal begun (kept_folds home past s.legal) l
+
+  stands_next : (e : Entry) → IsSound whole → Legal (with_entry mine e) → StandsFor (with_entry mine e) (with_entry whole e)
+  stands_next e s l = folds_stand (with_entry mine e) (with_entry whole e) (legal_next e s l) begun (folds_on mine whole (e ∷ []) (kept_folds home past s.legal))
 
   pub settles_whole : (e : Entry) (r : Rest) (y : History) → kept_with e mine ≡ with_entry mine e → IsSound whole → Settles mine e r y → IsSound y → Keeps home past y (λ a b. Settles a e r b)
   settles_whole e rest.Stays y k s t ys =
       let l : Legal (with_entry mine e) = (subst IsSound t.1 ys).legal in
-      keeps y (e ∷ []) (λ a b. Settles a e rest.Stays b) s t.1 k ys (sym (due_alike (with_entry mine e) (with_entry whole e) (alike_next e s l) (legal_next e s l)) ∙ t.0, refl)
+      keeps y (e ∷ []) (λ a b. Settles a e rest.Stays b) s t.1 k ys (sym (stands_next e s l).due_same ∙ t.0, refl)
   settles_whole e (rest.Shut items) y k s t ys =
       let l : Legal (with_entry mine e) = ((subst IsSound t.2 ys).legal).1 in
-      let a = alike_next e s l in
+      let a = stands_next e s l in
       keeps y (Shut items ∷ e ∷ []) (λ a b. Settles a e (rest.Shut items) b) s t.2 (ap (λ z. with_entry z (Shut items)) k) ys
-      (sym (due_alike (with_entry mine e) (with_entry whole e) a (legal_next e s l)) ∙ t.0, t.1 ∙ ap (λ (z : Tables). z.items) a.tables, refl)
+      (sym a.due_same ∙ t.0, t.1 ∙ a.live_same, refl)
 
   -- LIMITS
 
@@ -247,11 +245,12 @@ module _ (home : Home) (past : List Entry) where
   accept_limit_kept ss s u =
       let q = says_kept s u in
       let a = alike_kept s.legal in
+      let l = (stands_kept s.legal).legal in
       let busy : length (waiting mine) + length (running mine) ≡ length (waiting whole) + length (running whole) =
-      sym (count_shown mine a.legal) ∙ (sym (rows_counted (rows_of mine)) ∙ (ap (λ (t : Tables). length t.rows) a.tables ∙ (rows_counted (rows_of whole) ∙ count_shown whole s.legal))) in
+      sym (count_shown mine l) ∙ (sym (rows_counted (rows_of mine)) ∙ (ap (λ (t : Tables). length t.rows) a.tables ∙ (rows_counted (rows_of whole) ∙ count_shown whole s.legal))) in
       let many : length (live mine) ≡ length (live whole) = sym (item_count mine (live mine)) ∙ (ap length q.live ∙ item_count whole (live whole)) in
       let more : openings mine (waiting mine) + openings mine (running mine) ≡ openings whole (waiting whole) + openings whole (running whole) =
-      sym (openings_shown mine a.legal) ∙ (sym (openings_unplaced (rows_of mine)) ∙ (ap (λ (t : Tables). openings_of t.rows) a.tables ∙ (openings_unplaced (rows_of whole) ∙ openings_shown whole s.legal))) in
+      sym (openings_shown mine l) ∙ (sym (openings_unplaced (rows_of mine)) ∙ (ap (λ (t : Tables). openings_of t.rows) a.tables ∙ (openings_unplaced (rows_of whole) ∙ openings_shown whole s.legal))) in
       let all : length (live mine) + openings mine (waiting mine) + openings mine (running mine) + length (filter opens ss) ≡ length (live whole) + openings whole (waiting whole) + openings whole (running whole) + length (filter opens ss) = omega (arith, many, more) in
       rw (all, busy, q.accepts, q.opens) refl
 
@@ -272,7 +271,7 @@ module _ (home : Home) (past : List Entry) where
   pub joins_whole : (r : Result ℕ JoinRefusal) (y : History) → IsSound whole → list_any is_shut past ≡ false → Joins mine r y → IsSound y → Keeps home past y (λ a b. JoinsWhole a r b)
   joins_whole (Ok c) y s u t ys =
       let q = says_kept s u in
-      let f = refold mine whole (floor mine - mine.base.count) (kept_folds home past s.legal) s (unshut_kept s.legal u) in
+      let f = refold mine whole (floor mine - mine.base.count) (kept_folds home past s.legal) begun s u in
       record {
         es = Join c ∷ [];
         kept_is = t.2;

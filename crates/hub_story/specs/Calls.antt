@@ -44,6 +44,13 @@ of_call k (Orphan m) = m == k
 of_call k (End m results said) = m == k
 of_call k _ = false
 
+-- the connection joined first now, the call was accepted first now: no entry before is of it
+abbrev pub IsNewConn : ℕ → History → Type 0
+IsNewConn c j = list_any (of_conn c) j.past ≡ false
+
+abbrev pub IsNewCall : ℕ → History → Type 0
+IsNewCall k j = list_any (of_call k) j.past ≡ false
+
 -- what others entered since, nothing of the pass's connections and nothing of their calls among it
 pub record Apart (v : Seen) (between : List Item) : Type 0 where
   pub conns : (h c : ℕ) → HasOwn v (Of h (Join c)) → list_any (of_conn c) (past_in h between) ≡ false

@@ -44,6 +44,11 @@ home_of boot g = record { boot = boot; group = g }
 abbrev pub journal_in : ℕ → ℕ → List Item → History
 journal_in boot g log = since (home_of boot g) empty_base (past_in g log)
 
+-- the boot word with which it begins
+abbrev pub boot_in : List Item → ℕ
+boot_in (Begun boot s ∷ log) = boot
+boot_in _ = 0
+
 -- the items that a group's entries are, the newest of them first
 abbrev pub items_of : ℕ → List Entry → List Item
 items_of g es = map (Of g) (reverse es)

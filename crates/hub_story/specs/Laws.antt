@@ -1,29 +1,27 @@
--- A group's journal as the group keeps it, and the whole one.
-use Rattle.std.specs.Prelude.{◌≡◌, ℕ, true, false, List, ◌++◌}
+-- Laws of groups' journals, as the groups keep them, and of what passes have.
+use Rattle.std.specs.Prelude.{◌≡◌, ℕ, true, false, Option, List, length}
 use Rattle.std.specs.List.{list_any}
 use Rattle.handle_model.specs.declared.entry.Home.{Home}
+use Rattle.turn_lock.specs.Histories.{Within}
+use Rattle.handle_model.specs.declared.entry.Outcome.{Outcome}
 use Rattle.handle_model.specs.declared.entry.Entry.{Entry}
+use Rattle.handle_model.specs.declared.entry.Entry.TheVariants.{Join, Take}
 use Rattle.handle_model.specs.Bases.{empty_base}
-use Rattle.handle_model.specs.Folds.{advance}
-use Rattle.handle_model.specs.History.{History, IsSound, since, size}
-use Rattle.handle_model.specs.Journal.{Legal, is_shut, runs}
+use Rattle.handle_model.specs.History.{since}
+use Rattle.handle_model.specs.Journal.{Legal, leaves, ends, suit, runs}
+use Rattle.fold_laws.specs.FoldOf.{IsFoldOf}
 use Rattle.group_core.specs.Stages.{is_asked}
 use Rattle.hub_story.specs.Folded.{kept_since}
-
--- x has the newer entries of j, and in its base what the older ones, of which none is a Shut, come to. It is legal, no Shut is due, and
--- it counts as many entries.
-pub record IsKeptOf (x j : History) : Type 0 where
-  pub newer : List Entry
-  pub older : List Entry
-  pub past_is : j.past ≡ newer ++ older
-  pub kept_is : x ≡ since j.home (advance j.home j.base older) newer
-  pub unshut : list_any is_shut older ≡ false
-  pub sound : IsSound x
-  pub size_is : size x ≡ size j
+use Rattle.hub_story.specs.declared.item.Item.{Item}
+use Rattle.hub_story.specs.declared.item.Item.TheVariants.{Of}
+use Rattle.hub_story.specs.Histories.{past_in}
+use Rattle.hub_story.specs.Passes.{Seen, HasOwn, Serves, Runs, slots_seen}
+use Rattle.hub_story.specs.Calls.{Enters}
+use Rattle.hub_story.specs.Still.{StillHas}
 
 -- what a group keeps is its whole journal, with the older entries in the base
 abbrev pub KeepsWhole : Type 0
-KeepsWhole = (home : Home) (past : List Entry) → IsSound (since home empty_base past) → IsKeptOf (kept_since home past) (since home empty_base past)
+KeepsWhole = (home : Home) (past : List Entry) → Legal (since home empty_base past) → IsFoldOf (kept_since home past) (since home empty_base past)
 
 -- what it says was asked to end was, by the whole journal
 abbrev pub AskedIsAsked : Type 0
@@ -36,3 +34,19 @@ abbrev pub RunsAsAsked : Type 0
 RunsAsAsked =
     (home : Home) (past : List Entry) (k : ℕ) → Legal (since home empty_base past) → runs (since home empty_base past) k ≡ true
     → is_asked (kept_since home past) k ≡ is_asked (since home empty_base past) k
+
+-- WHAT PASSES HAVE
+
+-- behind what a call entered
+abbrev pub StillHasAll : Type 0
+StillHasAll =
+    (boot s : ℕ) (v w : Seen) (between more : List Item) → Within v.own (length v.log) → Enters boot s v w between more → StillHas v w more
+
+-- A connection whose Join is own, and a call whose Take is own, are the pass's where no Leave and no End was seen.
+abbrev pub ServesByFront : Type 0
+ServesByFront = (v : Seen) (g c : ℕ) → HasOwn v (Of g (Join c)) → list_any (leaves c) (past_in g v.log) ≡ false → Serves v g c
+
+abbrev pub RunsByFront : Type 0
+RunsByFront =
+    (v : Seen) (g k : ℕ) (cookies : List (Option ℕ)) (results : List Outcome) → HasOwn v (Of g (Take k cookies))
+    → list_any (ends k) (past_in g v.log) ≡ false → suit (slots_seen v g k) results ≡ true → Runs v g k results

@@ -5,4 +5,5 @@ pub mod Passes
 pub mod Folded
 pub mod Answers
 pub mod Calls
+pub mod Still
 pub mod Laws

@@ -6,17 +6,17 @@ use lib.ListN.{get_elem?}
 use Rattle.atomic_table.specs.Seated.{TableId}
 use Rattle.turn_lock.specs.Histories.{times}
 use Rattle.handle_model.specs.declared.entry.Outcome.{Outcome}
+use Rattle.handle_model.specs.declared.entry.Slot.{Slot}
 use Rattle.handle_model.specs.declared.entry.Said.{Said}
 use Rattle.handle_model.specs.declared.entry.DueItem.{DueItem}
 use Rattle.handle_model.specs.declared.entry.Entry.{Entry}
 use Rattle.handle_model.specs.declared.entry.Entry.TheVariants.{Join, Accept, Take, End, Leave, Shut}
-use Rattle.handle_model.specs.Bases.{empty_base}
-use Rattle.handle_model.specs.Journal.{asked_since, slots_in, suit}
+use Rattle.handle_model.specs.Journal.{slots, suit}
 use Rattle.journal_laws.specs.Calls.{accepts}
 use Rattle.hub_story.specs.declared.item.Mark.TheVariants.{Retired}
 use Rattle.hub_story.specs.declared.item.Item.{Item}
 use Rattle.hub_story.specs.declared.item.Item.TheVariants.{Listed, Of}
-use Rattle.hub_story.specs.Histories.{past_in}
+use Rattle.hub_story.specs.Histories.{past_in, journal_in, boot_in}
 
 -- the lock, the history as far as it was seen, and the places of the own entries
 pub record Seen : Type 0 where
@@ -53,12 +53,16 @@ pub record HasCall (v : Seen) (g c k : ℕ) : Type 0 where
 abbrev pub Knows : Seen → ℕ → ℕ → Type 0
 Knows v g k = list_any (accepts k) (past_in g v.log) ≡ true
 
+-- the slots of what it asked, where its Accept was seen
+abbrev pub slots_seen : Seen → ℕ → ℕ → List Slot
+slots_seen v g k = slots (journal_in (boot_in v.log) g v.log) k
+
 -- the pass entered the call's Take, and not its End, and the results suit the slots of what it asked
 pub record Runs (v : Seen) (g k : ℕ) (results : List Outcome) : Type 0 where
   pub cookies : List (Option ℕ)
   pub taken : HasOwn v (Of g (Take k cookies))
   pub runs : (others : List Outcome) (said : Said) → HasOwn v (Of g (End k others said)) → ⊥
-  pub suits : suit (slots_in (asked_since empty_base (past_in g v.log) k)) results ≡ true
+  pub suits : suit (slots_seen v g k) results ≡ true
 
 -- the pass entered the group's Shut, and not its Retired
 pub record HasShut (v : Seen) (g : ℕ) : Type 0 where

@@ -1,7 +1,9 @@
-//! What a group keeps of its journal, each law the contract of a function that does nothing.
-ghost use Rattle.hub_story.specs.Laws.{AskedIsAsked, KeepsWhole, RunsAsAsked};
+//! What a group keeps of its journal, and what a pass has, each law the contract of a function that does
+//! nothing.
+ghost use Rattle.hub_story.specs.Laws.{AskedIsAsked, KeepsWhole, RunsAsAsked, RunsByFront, ServesByFront, StillHasAll};
 
-/// What a group keeps is its whole journal, with the older entries in the base.
+/// What a group keeps is its whole journal, with the older entries in the base: what the laws of folds say
+/// holds of both.
 pub fn keeps_whole()
     ensures { KeepsWhole }
 {}
@@ -14,4 +16,19 @@ pub fn asked_is_asked()
 /// Of a call that runs it says what the whole journal says.
 pub fn runs_as_asked()
     ensures { RunsAsAsked }
+{}
+
+/// What a pass had to call with it still has after a call, but for what the call's own entries end.
+pub fn still_has_all()
+    ensures { StillHasAll }
+{}
+
+/// A connection that a pass entered is its own as long as no Leave of it was seen.
+pub fn serves_by_front()
+    ensures { ServesByFront }
+{}
+
+/// A call that a pass took runs as long as no End of it was seen.
+pub fn runs_by_front()
+    ensures { RunsByFront }
 {}

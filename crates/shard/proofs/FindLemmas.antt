@@ -30,7 +30,8 @@ use Rattle.hub_story.specs.Histories.{marks_in, past_in, journal_in, home_of, it
 use Rattle.hub_story.specs.Folded.{kept_since, kept}
 use Rattle.hub_story.specs.Answers.{JoinsWhole}
 use Rattle.hub_story.proofs.ItemLemmas.{past-append, marks-append}
-use Rattle.hub_story.proofs.FoldLemmas.{alike, kept_folds}
+use Rattle.fold_laws.proofs.Alike.{folds_stand}
+use Rattle.hub_story.proofs.FoldLemmas.{kept_folds}
 use Rattle.hub_story.proofs.WholeLemmas.{Keeps, joins_whole}
 use Rattle.turn_lock.proofs.HistoryLemmas.{at_append, at_within}
 use Rattle.turn_lock.proofs.AddingLemmas.{at_behind}
@@ -153,7 +154,7 @@ shut_same home past l =
     ap (λ (z : History). list_any is_shut z.past) f.fold_is ∙ (sym (or_false (list_any is_shut f.newer)) ∙ sym whole)
 
 size_same : (home : Home) (past : List Entry) → Legal (since home empty_base past) → size (kept_since home past) ≡ length past
-size_same home past l = let a = (alike (kept_since home past) (since home empty_base past) (kept_folds home past l) (inr refl) l).sizes in omega (arith, a)
+size_same home past l = let a = (folds_stand (kept_since home past) (since home empty_base past) l (inr refl) (kept_folds home past l)).sizes in omega (arith, a)
 
 acted_map : (x y : ShardView) (log : List Item) (n : ℕ) (G H : List Item → Type 0) → ((more : List Item) → G more → H more) → Acted x y log n G → Acted x y log n H
 acted_map x y log n G H f a = record { more = a.more; count = a.count; newest = a.newest; told = a.told; gives = f a.more a.gives }

@@ -62,7 +62,7 @@ ran_none boot s v w Says r =
 
 -- WHAT AN ANSWER ADDS
 
-added : (home : Home) (past es ds : List Entry) → Adds (since home empty_base past) ds (since home empty_base (es ++ past)) → es ≡ ds
+pub added : (home : Home) (past es ds : List Entry) → Adds (since home empty_base past) ds (since home empty_base (es ++ past)) → es ≡ ds
 added home past es ds a = append_cancel_right es ds past (ap (λ (z : History). z.past) a)
 
 module _ (boot s : ℕ) (v : Seen) (log : List Item) (met : Met boot s v log) (g : ℕ) where

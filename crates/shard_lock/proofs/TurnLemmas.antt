@@ -25,8 +25,11 @@ use Rattle.hub_story.specs.Ties.{ties}
 use Rattle.hub_story.specs.Passes.{Seen, halved}
 use Rattle.hub_story.specs.Calls.{Met, TiesOwn, Apart, Enters}
 use Rattle.hub_story.proofs.ItemLemmas.{past-append, marks-append}
-use Rattle.hub_story.proofs.FoldLemmas.{IsFoldOf, Alike, alike, kept_folds}
+use Rattle.fold_laws.specs.FoldOf.{IsFoldOf, StandsFor}
+use Rattle.fold_laws.proofs.Alike.{folds_stand}
+use Rattle.hub_story.proofs.FoldLemmas.{kept_folds}
 use Rattle.hub_story.proofs.ApartLemmas.{others_apart}
+use Rattle.hub_story.proofs.StillLemmas.{still_has}
 use Rattle.shard.specs.Shards.{ShardView, group_of, Told, Acted}
 use Rattle.shard.proofs.TellLemmas.{opened_keeps}
 use Rattle.atomic_table.specs.Seated.{TableId}
@@ -99,8 +102,8 @@ same_entries : (home : Home) (p q j : List Entry) → Legal (since home empty_ba
 same_entries home p q j lp lq e n =
     let f = kept_folds home (p ++ j) lp in
     let h = kept_folds home (q ++ j) lq in
-    let a : size (kept_since home (p ++ j)) ≡ 0 + length (p ++ j) = (alike (kept_since home (p ++ j)) (since home empty_base (p ++ j)) f (inr refl) lp).sizes in
-    let b : size (kept_since home (q ++ j)) ≡ 0 + length (q ++ j) = (alike (kept_since home (q ++ j)) (since home empty_base (q ++ j)) h (inr refl) lq).sizes in
+    let a : size (kept_since home (p ++ j)) ≡ 0 + length (p ++ j) = (folds_stand (kept_since home (p ++ j)) (since home empty_base (p ++ j)) lp (inr refl) f).sizes in
+    let b : size (kept_since home (q ++ j)) ≡ 0 + length (q ++ j) = (folds_stand (kept_since home (q ++ j)) (since home empty_base (q ++ j)) lq (inr refl) h).sizes in
     let c : size (kept_since home (p ++ j)) ≡ size (kept_since home (q ++ j)) = ap size e in
     let lengths : length p ≡ length q = omega (arith, a, b, c, length-append p j, length-append q j) in
     let fp : (kept_since home (p ++ j)).past ≡ f.newer = ap (λ (z : History). z.past) f.fold_is in
@@ -199,7 +202,20 @@ merges lock boot s v o w x of_v same starts also own told within closed once =
       within = within;
       once = once;
       story = story;
-      apart = λ none. others_apart boot v starts.0 of_v.within
+      enters = λ none. entered_none story none;
+      still = λ none. still_has boot s v w starts.0 [] (entered_none story none) of_v.within;
+    }
+  where
+    -- it has entered nothing
+    entered_none : IsStory boot s w.log → o.own ≡ [] → Enters boot s v w starts.0 []
+    entered_none story none = record {
+      lock = same;
+      log = starts.1 ∙ sym (append-nil (v.log ++ starts.0));
+      own = own ∙ ap (λ l. v.own ++ l) none;
+      within = within;
+      once = once;
+      story = story;
+      apart = others_apart boot v starts.0 of_v.within
           (subst (λ (l : List Item). Closed ties l v.own) starts.1 (subst (Closed ties w.log) (own ∙ (ap (λ l. v.own ++ l) none ∙ append-nil v.own)) closed))
           (λ g. subst (λ l. Legal (journal_in boot g l)) starts.1 (story.sound g).legal);
     }

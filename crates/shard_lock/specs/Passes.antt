@@ -8,7 +8,8 @@ use Rattle.turn_lock.specs.Passes.{front, own}
 use Rattle.hub_story.specs.declared.item.Item.{Item}
 use Rattle.hub_story.specs.Histories.{IsStory}
 use Rattle.hub_story.specs.Passes.{Seen, HasShut}
-use Rattle.hub_story.specs.Calls.{Apart}
+use Rattle.hub_story.specs.Calls.{Enters}
+use Rattle.hub_story.specs.Still.{StillHas}
 use Rattle.shard.specs.declared.answer.HubRest.{HubRest}
 use Rattle.shard.specs.declared.answer.HubRest.TheVariants.{Stays, Shut}
 use Rattle.shard.specs.Shards.{ShardView}
@@ -43,8 +44,8 @@ pub record IsOf (lock : TableId) (boot s : ℕ) (v : Seen) : Type 0 where
   pub within : Within v.own (length v.log)
   pub once : AtMostOnce v.own
 
--- The pass v took in the pass o. It has then seen what both had seen, and has the entries of both. Where o had none, nothing of the
--- pass's connections nor of their calls is among what came.
+-- The pass v took in the pass o. It has then seen what both had seen, and has the entries of both. Where o had none, that is as if v had
+-- entered nothing behind what others entered, and it still has what it had to call with.
 pub record Merges (boot s : ℕ) (v o w : Seen) : Type 0 where
   pub between : List Item
   pub lock : w.lock ≡ v.lock
@@ -54,7 +55,8 @@ pub record Merges (boot s : ℕ) (v o w : Seen) : Type 0 where
   pub within : Within w.own (length w.log)
   pub once : AtMostOnce w.own
   pub story : IsStory boot s w.log
-  pub apart : o.own ≡ [] → Apart v between
+  pub enters : o.own ≡ [] → Enters boot s v w between []
+  pub still : o.own ≡ [] → StillHas v w []
 
 -- where the group has ended, the pass entered its Shut, and not its Retired
 abbrev pub HasItsShut : Seen → HubRest → Type 0

@@ -1,8 +1,10 @@
 //! A group is opened at one shard, and a group's journal is copied.
-ghost use Rattle.std.specs.Prelude.{◌≡◌, List, ◌++◌, IfOk};
+ghost use Rattle.std.specs.Prelude.{◌≡◌, List, [], ◌++◌, IfOk};
 ghost use Rattle.hub_story.specs.declared.item.Item.{Item};
+ghost use Rattle.hub_story.specs.Histories.{journal_in};
 ghost use Rattle.hub_story.specs.Passes.{Serves};
-ghost use Rattle.hub_story.specs.Calls.{Enters};
+ghost use Rattle.hub_story.specs.Calls.{IsNewConn, Enters};
+ghost use Rattle.hub_story.specs.Still.{StillHas};
 ghost use Rattle.shard.specs.Openings.{gives_open};
 ghost use Rattle.shard.specs.Copies.{gives_copy};
 ghost use Rattle.shard_lock.specs.Locks.{IsPassOf};
@@ -20,7 +22,9 @@ impl ShardLock {
         requires pass { IsPassOf self.now pass.old }
         ensures pass { IsPassOf self.now pass.new }
         ensures call { (between : List Item) × (more : List Item) × Enters self.now.boot self.now.number pass.old pass.new between more
-            × gives_open (record {}) self.now.boot self.now.number (pass.old.log ++ between) result more }
+            × (gives_open (record {}) self.now.boot self.now.number (pass.old.log ++ between) result more
+            × IfOk result (λ id. IsNewConn 1 (journal_in self.now.boot id (pass.old.log ++ between)))) }
+        ensures still { StillHas pass.old pass.new [] }
         ensures serves { IfOk result (λ id. Serves pass.new id 1) }
     {
         self.run::<OpenNext, R>(rt, pass, OpenNext)
@@ -37,6 +41,7 @@ impl ShardLock {
         ensures pass { IsPassOf self.now pass.new }
         ensures call { (between : List Item) × (more : List Item) × Enters self.now.boot self.now.number pass.old pass.new between more
             × gives_copy (record { id = id }) self.now.boot self.now.number (pass.old.log ++ between) result more }
+        ensures still { StillHas pass.old pass.new [] }
     {
         self.run::<Copied, R>(rt, pass, Copied { id })
     }

@@ -5,6 +5,7 @@ ghost use Rattle.hub_story.specs.declared.item.Item.{Item};
 ghost use Rattle.hub_story.specs.declared.item.Item.TheVariants.{Listed};
 ghost use Rattle.hub_story.specs.Passes.{HasShut};
 ghost use Rattle.hub_story.specs.Calls.{Enters};
+ghost use Rattle.hub_story.specs.Still.{StillHas};
 ghost use Rattle.shard_lock.specs.Locks.{IsPassOf};
 
 use crate::lock::ShardLock;
@@ -19,6 +20,7 @@ impl ShardLock {
         requires shut { HasShut pass.old key }
         ensures pass { IsPassOf self.now pass.new }
         ensures call { (between : List Item) × Enters self.now.boot self.now.number pass.old pass.new between (Listed (mark.Retired key) ∷ []) }
+        ensures still { StillHas pass.old pass.new (Listed (mark.Retired key) ∷ []) }
         ensures group { result.group ≡ key }
     {
         self.run::<Retire, R>(rt, pass, Retire { key })

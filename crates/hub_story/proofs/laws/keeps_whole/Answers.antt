@@ -1,5 +1,5 @@
-use Rattle.hub_story.proofs.AskedLemmas.{kept_whole}
+use Rattle.hub_story.proofs.FoldLemmas.{kept_folds}
 use Rattle.hub_story.proofs.laws.keeps_whole.Goals as goal
 
 pub returns : goal.returns
-returns g = kept_whole
+returns g = kept_folds

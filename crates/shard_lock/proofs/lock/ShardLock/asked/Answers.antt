@@ -1,9 +1,10 @@
-use Rattle.std.proofs.Common.{◌≡◌, ◌&&◌, not}
+use Rattle.std.proofs.Common.{[], ◌≡◌, ◌&&◌, not}
 use Rattle.group_core.specs.Stages.{is_asked}
 use Rattle.hub_story.specs.Directories.{is_retired_id}
 use Rattle.hub_story.specs.Folded.{kept}
 use Rattle.hub_story.specs.Histories.{marks_in, journal_in}
 use Rattle.hub_story.proofs.OwnLemmas.{known_opened}
+use Rattle.hub_story.proofs.StillLemmas.{still_has}
 use Rattle.shard_lock.proofs.CallLemmas.{nothing_may, ran_none, asked_told, asked_running}
 use Rattle.shard_lock.proofs.lock.ShardLock.asked.Goals as goal
 
@@ -21,3 +22,6 @@ returns-clause-told g c = asked_told c.args.self.now.boot c.args.self.now.number
 
 pub returns-clause-running : goal.returns-clause-running
 returns-clause-running g c = asked_running c.args.self.now.boot c.args.self.now.number c.args.group c.args.call c.args.pass.now c.run.new.pass c.run.result (returns-clause-call g c)
+
+pub returns-clause-still : goal.returns-clause-still
+returns-clause-still g c = let d = returns-clause-call g c in still_has c.args.self.now.boot c.args.self.now.number c.args.pass.now c.run.new.pass d.0 [] d.1 c.requires.pass.within

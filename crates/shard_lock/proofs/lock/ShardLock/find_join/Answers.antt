@@ -1,5 +1,5 @@
 use Rattle.shard.specs.declared.find.Find.{Find}
-use Rattle.shard_lock.proofs.FindLemmas.{find_may, ran_found, found_serves}
+use Rattle.shard_lock.proofs.FindLemmas.{find_may, ran_found, found_serves, found_still}
 use Rattle.shard_lock.proofs.lock.ShardLock.find_join.Goals as goal
 
 pub run-requires-clause-ties : goal.run-requires-clause-ties
@@ -10,3 +10,6 @@ returns-clause-call g c = ran_found c.args.self.now.boot c.args.self.now.number 
 
 pub returns-clause-serves : goal.returns-clause-serves
 returns-clause-serves g c = found_serves c.args.self.now.boot c.args.self.now.number (record { id = c.args.id }) c.args.pass.now c.run.new.pass c.run.result (returns-clause-call g c)
+
+pub returns-clause-still : goal.returns-clause-still
+returns-clause-still g c = found_still c.args.self.now.boot c.args.self.now.number (record { id = c.args.id }) c.args.pass.now c.run.new.pass c.run.result c.requires.pass.within (returns-clause-call g c)

@@ -2,6 +2,7 @@ use Rattle.handle_model.specs.declared.entry.Entry.TheVariants as entry
 use Rattle.shard.specs.Answers.{SettlesWith}
 use Rattle.hub_story.proofs.OwnLemmas.{own_opened, serves_open}
 use Rattle.shard_lock.proofs.CallLemmas.{leave_may, ran_calls, settled_shut}
+use Rattle.shard_lock.proofs.StillLemmas.{settle_still}
 use Rattle.shard_lock.proofs.lock.ShardLock.leave.Goals as goal
 
 pub run-requires-clause-asks : goal.run-requires-clause-asks
@@ -15,3 +16,6 @@ returns-clause-call g c = ran_calls c.args.self.now.boot c.args.self.now.number 
 
 pub returns-clause-shut : goal.returns-clause-shut
 returns-clause-shut g c = settled_shut c.args.self.now.boot c.args.self.now.number c.args.group c.args.pass.now c.run.new.pass (entry.Leave c.args.conn) c.run.result (returns-clause-call g c)
+
+pub returns-clause-still : goal.returns-clause-still
+returns-clause-still g c = settle_still c.args.self.now.boot c.args.self.now.number c.args.group c.args.pass.now c.run.new.pass c.requires.pass.within (entry.Leave c.args.conn) c.run.result (returns-clause-call g c)

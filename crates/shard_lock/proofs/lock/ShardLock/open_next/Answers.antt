@@ -1,4 +1,4 @@
-use Rattle.shard_lock.proofs.OpenLemmas.{open_may, ran_opened, opened_serves}
+use Rattle.shard_lock.proofs.OpenLemmas.{open_may, ran_opened, opened_serves, opened_still}
 use Rattle.shard_lock.proofs.lock.ShardLock.open_next.Goals as goal
 
 pub run-requires-clause-ties : goal.run-requires-clause-ties
@@ -9,3 +9,6 @@ returns-clause-call g c = ran_opened c.args.self.now.boot c.args.self.now.number
 
 pub returns-clause-serves : goal.returns-clause-serves
 returns-clause-serves g c = opened_serves c.args.self.now.boot c.args.self.now.number (record {}) c.args.pass.now c.run.new.pass c.run.result (returns-clause-call g c)
+
+pub returns-clause-still : goal.returns-clause-still
+returns-clause-still g c = opened_still c.args.self.now.boot c.args.self.now.number (record {}) c.args.pass.now c.run.new.pass c.run.result c.requires.pass.within (returns-clause-call g c)

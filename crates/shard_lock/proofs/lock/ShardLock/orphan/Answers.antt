@@ -1,5 +1,6 @@
 use Rattle.group_core.specs.Calls.{Orphans}
 use Rattle.shard_lock.proofs.CallLemmas.{asked_call, orphan_may, ran_calls}
+use Rattle.shard_lock.proofs.StillLemmas.{orphan_still}
 use Rattle.shard_lock.proofs.lock.ShardLock.orphan.Goals as goal
 
 pub run-requires-clause-asks : goal.run-requires-clause-asks
@@ -10,3 +11,6 @@ run-requires-clause-ties g c = λ log r more met d. orphan_may c.args.self.now.b
 
 pub returns-clause-call : goal.returns-clause-call
 returns-clause-call g c = ran_calls c.args.self.now.boot c.args.self.now.number c.args.group c.args.pass.now c.run.new.pass (λ j k. Orphans j c.args.call c.run.result k) c.run.ensures.call
+
+pub returns-clause-still : goal.returns-clause-still
+returns-clause-still g c = orphan_still c.args.self.now.boot c.args.self.now.number c.args.group c.args.pass.now c.run.new.pass c.requires.pass.within c.args.call c.run.result (returns-clause-call g c)

@@ -1,4 +1,7 @@
-use Rattle.std.proofs.Common.{ap}
+use Rattle.std.proofs.Common.{[], ◌∷◌, ap}
+use Rattle.hub_story.specs.declared.item.Mark.TheVariants as mark
+use Rattle.hub_story.specs.declared.item.Item.TheVariants.{Listed}
+use Rattle.hub_story.proofs.StillLemmas.{still_has}
 use Rattle.shard.specs.declared.answer.Retired.{Retired}
 use Rattle.shard_lock.proofs.RetireLemmas.{retire_asks, retire_may, ran_retired}
 use Rattle.shard_lock.proofs.lock.ShardLock.retire.Goals as goal
@@ -14,3 +17,6 @@ returns-clause-call g c = ran_retired c.args.self.now.boot c.args.self.now.numbe
 
 pub returns-clause-group : goal.returns-clause-group
 returns-clause-group g c = ap (λ (r : Retired). r.group) c.run.ensures.call.gives.0
+
+pub returns-clause-still : goal.returns-clause-still
+returns-clause-still g c = let d = returns-clause-call g c in still_has c.args.self.now.boot c.args.self.now.number c.args.pass.now c.run.new.pass d.0 (Listed (mark.Retired c.args.key) ∷ []) d.1 c.requires.pass.within

@@ -1,5 +1,6 @@
 use Rattle.group_core.specs.Calls.{Takes}
 use Rattle.shard_lock.proofs.CallLemmas.{asked_call, take_may, ran_calls}
+use Rattle.shard_lock.proofs.StillLemmas.{take_still, take_taken}
 use Rattle.shard_lock.proofs.lock.ShardLock.take.Goals as goal
 
 pub run-requires-clause-asks : goal.run-requires-clause-asks
@@ -10,3 +11,9 @@ run-requires-clause-ties g c = λ log r more met d. take_may c.args.self.now.boo
 
 pub returns-clause-call : goal.returns-clause-call
 returns-clause-call g c = ran_calls c.args.self.now.boot c.args.self.now.number c.args.group c.args.pass.now c.run.new.pass (λ j k. Takes j c.args.call c.run.result k) c.run.ensures.call
+
+pub returns-clause-still : goal.returns-clause-still
+returns-clause-still g c = take_still c.args.self.now.boot c.args.self.now.number c.args.group c.args.pass.now c.run.new.pass c.requires.pass.within c.args.call c.run.result (returns-clause-call g c)
+
+pub returns-clause-taken : goal.returns-clause-taken
+returns-clause-taken g c = take_taken c.args.self.now.boot c.args.self.now.number c.args.group c.args.call c.args.pass.now c.run.new.pass c.run.result (returns-clause-call g c)
