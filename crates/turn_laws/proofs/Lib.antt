@@ -4,3 +4,6 @@ pub mod Replying
 pub mod Staying
 pub mod Going
 pub mod Ending
+pub mod Moments
+pub mod Reasoning
+pub mod Keeping

@@ -13,7 +13,7 @@ use Rattle.conn_turns.specs.Entries.{deed_number, number_of, numbers_of}
 use Rattle.conn_turns.specs.Tales.{of_call, of_conn, is_about, tale, accepted_of, calls_of, DeedStands, Stands, StandAll}
 use Rattle.turn_laws.specs.Laws.{AreOfOthers}
 
-filter_none : (p : Entry → Bool) (xs : List Entry) → list_any p xs ≡ false → filter p xs ≡ []
+pub filter_none : (p : Entry → Bool) (xs : List Entry) → list_any p xs ≡ false → filter p xs ≡ []
 filter_none p [] h = refl
 filter_none p (x ∷ xs) h = by_test (p x) (λ r. filter_none p xs r) h
   where

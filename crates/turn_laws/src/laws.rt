@@ -1,6 +1,15 @@
 //! Laws of the definitions, each the contract of a function that does nothing.
 ghost use Rattle.turn_laws.specs.Laws.{TurnsAreReplied, TurnsHaveEnded, TurnsStay};
 ghost use Rattle.turn_laws.specs.Steps.{TurnsGoOn, TurnsAreLeft};
+ghost use Rattle.turn_laws.specs.Reasons.{TurnsHaveReasons, ReasonsStay};
+ghost use Rattle.turn_laws.specs.Lasting.{DuesStay, StoriesStay, FinishedStay};
+
+/// A server, of whose connections a law speaks. No value of it is made.
+pub trait Serving {
+    ghost use Rattle.conn_turns.specs.Stories.{Server};
+
+    ghost server: { Server };
+}
 
 /// Where a journal says of the calls of a connection just what its turns say, its reply to each is the turn's.
 pub fn turns_are_replied()
@@ -25,4 +34,32 @@ pub fn turns_go_on()
 /// They go on by the connection's Leave, at which a call that is open is one that it leaves.
 pub fn turns_are_left()
     ensures { TurnsAreLeft }
+{}
+
+/// Each call of a connection in a legal journal came to what its turn says by entries that fitted when they came: it
+/// was accepted; denied at the slot that was its first at fault, with none in its way; cancelled, orphaned or left while
+/// it waited; taken with none in its way; left while it ran; ended.
+pub fn turns_have_reasons()
+    ensures { TurnsHaveReasons }
+{}
+
+/// These reasons stay, whatever is entered afterwards.
+pub fn reasons_stay()
+    ensures { ReasonsStay }
+{}
+
+/// What each turn has for its reason by what the server offers and what its managers may answer stays, whatever is
+/// entered afterwards.
+pub fn dues_stay<S: Serving>()
+    ensures { DuesStay S.server }
+{}
+
+/// A connection's story stays behind what others enter, in a legal journal.
+pub fn stories_stay<S: Serving>()
+    ensures { StoriesStay S.server }
+{}
+
+/// So does the story of a connection that is over.
+pub fn finished_stay<S: Serving>()
+    ensures { FinishedStay S.server }
 {}

@@ -4,4 +4,7 @@
 
 mod laws;
 
-pub use laws::{turns_are_left, turns_are_replied, turns_go_on, turns_have_ended, turns_stay};
+pub use laws::{
+    Serving, dues_stay, finished_stay, reasons_stay, stories_stay, turns_are_left,
+    turns_are_replied, turns_go_on, turns_have_ended, turns_have_reasons, turns_stay,
+};
