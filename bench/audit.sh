@@ -1,6 +1,7 @@
 #!/usr/bin/env bash
 # Times the audit of a text of journals that is nearly all lines of one kind: 1 to 64 MiB of calls of a base, of
-# Joins, of Accepts, and of Accepts with a Take and an End after each, with the ratio of each time to the one before.
+# Joins, of Accepts, of Accepts with a Take and an End after each, and of groups, with the ratio of each time to the one
+# before.
 # Then that of journals that hold much open at once: calls that all run before the first of them ends; calls of one
 # handle, shared by all, or used by one after the other while the others wait; connections that leave with a call
 # waiting; and handles that are closed from the first on. Each time is the least of three.
@@ -17,6 +18,10 @@ journal() { # KIND OCTETS
     function put(line) { print line; n += length(line) + 1 }
     function accept(k) { put("accept " k " 1 1.0 little answer - -") }
     BEGIN {
+        if (kind == "groups") {
+            for (g = 1; n < octets; g++) { put("group " g " boot 0000000000000001"); put("join 1"); put("leave 1"); put("shut -") }
+            exit
+        }
         put("group 1 boot 0000000000000001")
         if (kind == "base-calls") {
             put("base 9 1 4294967295 4294967295 1 1:0:5")
@@ -67,7 +72,7 @@ held() { # KIND COUNT
     }'
 }
 
-for kind in base-calls joins accepts calls; do
+for kind in base-calls joins accepts calls groups; do
     before=
     for mib in 1 4 16 64; do
         journal "$kind" $((mib * 1048576)) >"$text"

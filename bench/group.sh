@@ -1,6 +1,8 @@
 #!/usr/bin/env bash
 # Times a group by `group_bench`: how the cost of a call (accepted, taken and ended) grows with the
-# entries of the journal, with the calls that wait and with the live handles. What it takes to make
+# entries of the journal, with the calls that wait and with the live handles, also where each call closes
+# the oldest handle; and what a connection costs that joins before the last one leaves, so that the
+# journal is folded, with as many folds and with more, and with more live handles. What it takes to make
 # the group is timed alone and taken off. Each time is the least of three.
 set -eu
 top=$(cd "$(dirname "$0")/.." && pwd)
@@ -8,17 +10,22 @@ source "$top/bench/timing.sh"
 (cd "$top/crates/group_bench" && rt run >/dev/null) # builds it where it is older than its sources
 program=$top/crates/group_bench/out/group_bench
 
-# The time of a call, in thousandths of a microsecond.
+# The time of one of so many, in thousandths of a microsecond: calls, closes or visits.
+each() { # COUNT LIVE WAITING ROUNDS CLOSES VISITS
+    local count=$1 bare whole
+    shift
+    bare=$(least 0 "$program" "$1" "$2" 0 0 0)
+    whole=$(least 0 "$program" "$@")
+    echo $(((whole - bare) * 1000 / count))
+}
+
 call() { # LIVE WAITING ROUNDS
-    local bare whole
-    bare=$(least 0 "$program" "$1" "$2" 0)
-    whole=$(least 0 "$program" "$1" "$2" "$3")
-    echo $(((whole - bare) * 1000 / $3))
+    each "$3" "$1" "$2" "$3" 0 0
 }
 
 show_call() { # WHAT TIME [TIME]
-    awk -v what="$1" -v now="$2" -v before="${3-}" 'BEGIN {
-        printf "%-24s %9.3f microseconds a call", what, now / 1000
+    awk -v what="$1" -v now="$2" -v before="${3-}" -v each="${each:-call}" 'BEGIN {
+        printf "%-24s %9.3f microseconds a %s", what, now / 1000, each
         if (before != "" && before > 0) printf ", %.2f times the one before", now / before
         printf "\n"
     }'
@@ -40,5 +47,24 @@ before=
 for live in 2 1000 8000 64000; do
     time=$(call "$live" 0 20000)
     show_call "$live handles are live" "$time" "$before"
+    before=$time
+done
+before=
+for live in 1000 4000 16000 64000; do
+    time=$(each 500 "$live" 0 0 500 0)
+    show_call "closes, $live live" "$time" "$before"
+    before=$time
+done
+each=connection
+before=
+for visits in 10000 20000 40000; do
+    time=$(each "$visits" 2 0 0 0 "$visits")
+    show_call "$visits folds" "$time" "$before"
+    before=$time
+done
+before=
+for live in 2 1000 8000 64000; do
+    time=$(each 500 "$live" 0 0 0 500)
+    show_call "folds, $live live" "$time" "$before"
     before=$time
 done

@@ -1,8 +1,9 @@
 //! Journals by hand, and what the plain rules say of them: of the whole, with one entry changed, and of
 //! their calls.
+use crate::bases::judged;
 use crate::words::{HOME, number, read_entry};
 use handle_model::{Base, Entry};
-use handle_rules::{Record, Verdict, audited, cookies_of, reply};
+use handle_rules::{Record, Verdict, cookies_of, reply};
 use std::alloc::Global;
 
 /// What is done with the lines of a journal, at which line, and the line that is put there.
@@ -44,10 +45,9 @@ fn read_entries(alloc: Global, journal: &str, edit: &str) -> Option<Vec<Entry>> 
     Some(entries)
 }
 
-/// The verdict on the entries.
-#[tactic(auto, using(handle_model::proofs::Steps::empty_base_sound))]
-fn judged(alloc: Global, entries: &[Entry]) -> Option<String> {
-    match audited(alloc, HOME, &Base::empty(alloc), entries).ok()? {
+/// The verdict on the entries, through each of their bases too.
+fn told(alloc: Global, entries: &[Entry]) -> Option<String> {
+    match judged(alloc, entries)? {
         Verdict::Legal(count) => format!(in alloc; "legal {count}").ok(),
         Verdict::Breach { index } => format!(in alloc; "breach {index}").ok(),
     }
@@ -76,7 +76,7 @@ fn said_of(alloc: Global, journal: &str, ask: &str) -> Option<String> {
             let cookies = cookies.as_slice();
             format!(in alloc; "{cookies:?}").ok()
         }
-        _ => judged(alloc, journal.entries),
+        _ => told(alloc, journal.entries),
     }
 }
 
@@ -205,6 +205,20 @@ reply 3 = Never(Status(469762061))
 reply 4 = Never(Status(469762074))
 reply 5 = Open
 cookies 5 = [Some(6)]
+join 1|join 2|join 3|accept 1 1 0.0 little answer opens:65537:1 -|take 1 none|end 1 issue:1:7 out:-|accept 2 1 0.0 little answer shares:65537:0000000001020304050607080000000100000001 -|accept 3 2 0.0 little answer shares:65537:0000000001020304050607080000000100000001 -|take 2 7|take 3 7|accept 4 3 0.0 little answer changes:65537:0000000001020304050607080000000100000001 -|end 2 none out:-|end 3 none out:-|take 4 7|end 4 close out:-|leave 1|leave 2|leave 3|shut -
+whole = legal 19
+join 1|join 2|join 3|accept 1 1 0.0 little answer opens:65536:1 -|take 1 none|end 1 issue:1:4 out:-|accept 2 1 0.0 little answer changes:65536:0000000001020304050607080000000100000001 -|take 2 4|accept 3 2 0.0 little answer changes:65536:0000000001020304050607080000000100000001 -|accept 4 3 0.0 little answer changes:65536:0000000001020304050607080000000100000001 -|end 2 keep:6 out:-|take 3 6|end 3 close out:-|deny 4 0|leave 1|leave 2|leave 3|shut -
+whole = legal 18
+join 1|accept 1 1 0.0 little answer opens:0:1 -|take 1 none|orphan 1|cancel 1|end 1 issue:1:5 out:-|accept 2 1 0.0 little answer changes:0:0000000001020304050607080000000100000001 -|take 2 5|end 2 close out:-|leave 1|shut -
+whole = legal 11
+join 1|accept 1 1 0.0 little answer - -|accept 2 1 0.0 little answer - -|cancel 1|orphan 2|leave 1|shut -
+whole = legal 7
+join 1|accept 1 1 0.0 little answer opens:0:1 -|take 1 none|end 1 issue:1:5 out:-|accept 2 1 0.0 little answer changes:0:0000000001020304050607080000000100000001 -|accept 3 1 0.0 little answer changes:0:0000000001020304050607080000000100000001 -|accept 4 1 0.0 little answer changes:0:0000000001020304050607080000000100000001 -|take 2 5|cancel 3|end 2 keep:6 out:-|take 4 6|end 4 close out:-|leave 1|shut -
+whole = legal 14
+join 1|join 2|accept 1 1 0.0 little answer opens:0:1 -|take 1 none|accept 2 1 0.0 little answer - -|leave 1|cancel 1|orphan 1|end 1 issue:1:5 out:-|accept 3 2 0.0 little answer changes:0:0000000001020304050607080000000100000001 -|take 3 5|leave 2|end 3 keep:6 out:-|shut 1:0:6
+whole = legal 14
+join 1|accept 1 1 0.0 little answer opens:0:1,shares:0:0000000000000000000000000000000000000000,opens:0:2 -|deny 1 1|accept 2 1 0.0 little answer opens:0:3 -|take 2 none|end 2 none out:-|accept 3 1 0.0 little answer shares:0:0000000001020304050607080000000100000003,opens:0:4 -|deny 3 0|accept 4 1 0.0 little answer opens:0:5,opens:1:6,opens:0:7,opens:1:8 -|take 4 none,none,none,none|end 4 issue:5:1,none,none,issue:8:2 out:-|leave 1|shut 5:0:1,8:1:2
+whole = legal 13
 ";
 
 #[test]

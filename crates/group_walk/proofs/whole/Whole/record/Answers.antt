@@ -3,7 +3,7 @@ use Rattle.handle_model.specs.declared.entry.Entry.{Entry}
 use Rattle.handle_model.specs.declared.base.Base.{Base}
 use Rattle.handle_model.specs.History.{history_of}
 use Rattle.handle_model.specs.Journal.{opened}
-use Rattle.journal_tests.proofs.whole.Whole.record.Goals as goal
+use Rattle.group_walk.proofs.whole.Whole.record.Goals as goal
 
 pub returns : goal.returns
 returns c =

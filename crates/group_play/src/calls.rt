@@ -4,7 +4,6 @@ ghost use Rattle.handle_model.specs.History.{IsSound};
 ghost use Rattle.handle_rules.specs.Told.{told};
 
 use crate::step::{Answer, Step};
-use crate::whole::number;
 use group_core::{AcceptRefusal, Group, Rest};
 use group_rounds::{Halt, issue};
 use handle_model::{Asked, DueItem, DueList, Entry, Outcomes, Rundown, Said};
@@ -12,7 +11,7 @@ use handle_rules::{Record, is_open, runs, slots, suit};
 use std::alloc::Global;
 
 /// The journal of a group.
-pub fn journal_of(group: &Group) -> Record<'_>
+fn journal_of(group: &Group) -> Record<'_>
     ensures past { told result ≡ group.now }
     ensures sound { IsSound group.now }
 {
@@ -44,7 +43,7 @@ impl Rundown for Lister {
 }
 
 /// The handles of a list, each run down; none for want of memory.
-pub fn run_down(alloc: Global, list: DueList) -> Option<Vec<DueItem>> {
+fn run_down(alloc: Global, list: DueList) -> Option<Vec<DueItem>> {
     let mut list = list;
     let mut lister = Lister {
         items: Vec::new(alloc),
@@ -141,7 +140,7 @@ fn visits(alloc: Global, group: &mut Group, count: u32) -> Answer {
             other => return other,
         }
     }
-    Answer::Number(number(u128::from(group.journal().base().count)))
+    Answer::Count(group.journal().base().count)
 }
 
 /// Makes the call of the entry where its condition holds.

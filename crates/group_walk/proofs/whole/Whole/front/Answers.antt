@@ -3,8 +3,8 @@ use Rattle.handle_model.specs.declared.entry.Entry.{Entry}
 use Rattle.handle_model.specs.declared.base.Base.{Base}
 use Rattle.handle_model.specs.History.{history_of}
 use Rattle.handle_model.specs.Journal.{opened}
-use Rattle.journal_tests.proofs.Fronts.{front_opened}
-use Rattle.journal_tests.proofs.whole.Whole.front.Goals as goal
+use Rattle.group_walk.proofs.Fronts.{front_opened}
+use Rattle.group_walk.proofs.whole.Whole.front.Goals as goal
 
 pub returns : goal.returns
 returns c =

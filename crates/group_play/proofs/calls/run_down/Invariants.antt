@@ -1,5 +1,5 @@
 use Rattle.std.proofs.Common.{length}
-use Rattle.journal_tests.proofs.calls.run_down.Given as goal
+use Rattle.group_play.proofs.calls.run_down.Given as goal
 
 abbrev pub decreases-loop-due : goal.decreases-loop-due
 decreases-loop-due l = length l.list

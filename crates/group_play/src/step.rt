@@ -19,6 +19,8 @@ pub enum Step {
 pub enum Answer {
     /// The number of a connection or a call.
     Number(u32),
+    /// How many entries stand in the base.
+    Count(u64),
     NoJoin(JoinRefusal),
     NoAccept(AcceptRefusal),
     Taking(Taking),
@@ -43,6 +45,7 @@ impl fmt::Display for Answer {
     fn fmt<W: fmt::Write>(&self, f: &mut fmt::Formatter<W>) -> fmt::Result {
         match self {
             Answer::Number(number) => write!(f, "{number}"),
+            Answer::Count(count) => write!(f, "{count}"),
             Answer::NoJoin(refusal) => write!(f, "{refusal:?}"),
             Answer::NoAccept(refusal) => write!(f, "{refusal:?}"),
             Answer::Taking(taking) => write!(f, "{taking:?}"),

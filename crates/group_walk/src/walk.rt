@@ -4,12 +4,11 @@ ghost use Rattle.std.specs.Prelude.{◌<◌, ◌^◌};
 ghost use Rattle.handle_rules.specs.Told.{told};
 ghost use Rattle.handle_model.specs.Journal as spec;
 
-use crate::calls::play;
 use crate::plain::{Came, expected, is_asked_since, stage};
 use crate::random::{Random, next_step};
-use crate::step::{Answer, Step};
 use crate::whole::{Whole, base_of, floor, number};
 use group_core::Group;
+use group_play::{Answer, Step, play};
 use handle_model::{Base, Entry, Home};
 use handle_rules::{Record, Verdict, accept_count, audited, is_due};
 use handle_text::journal_text;
@@ -18,7 +17,7 @@ use std::alloc::Global;
 
 /// Why a walk has ended.
 #[derive(Clone, Copy, Debug, PartialEq, Eq)]
-enum Trouble {
+pub enum Trouble {
     Memory,
     /// A call came to something else than was expected, where so many entries stood before.
     Differs(usize),
@@ -218,14 +217,9 @@ fn walked(alloc: Global, seed: u64, calls: u32) -> Result<(), Trouble> {
 }
 
 /// Eight walks, up to the first that has trouble.
-fn all_walked(alloc: Global) -> Result<(), Trouble> {
+pub fn all_walked(alloc: Global) -> Result<(), Trouble> {
     for seed in 1..9 {
         walked(alloc, seed, 600)?;
     }
     Ok(())
-}
-
-#[test]
-fn each_call_goes_by_the_plain_rules(rt: HostRuntime) {
-    assert_eq!(rt; all_walked(rt.alloc()), Ok(()));
 }

@@ -3,8 +3,8 @@ ghost use Rattle.std.specs.Prelude.{◌<◌, ◌^◌};
 ghost use Rattle.handle_rules.specs.Told.{told};
 ghost use Rattle.handle_model.specs.Journal as spec;
 
-use crate::step::Step;
 use crate::whole::number;
+use group_play::Step;
 use handle_model::{Asked, Entry, Home, Outcome, Outcomes, Said, Slot, Slots, handle_of};
 use handle_rules::{Record, accept_count, is_open, join_count, opened, runs, slots, waits};
 use rpc_base::{Items, NoMemory, Octets, Order, Status, WireHandle};

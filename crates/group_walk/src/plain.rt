@@ -3,9 +3,9 @@ ghost use Rattle.std.specs.Prelude.{◌<◌, ◌^◌};
 ghost use Rattle.handle_rules.specs.Told.{told};
 ghost use Rattle.handle_model.specs.Journal as spec;
 
-use crate::step::{Answer, Step};
 use crate::whole::{is_known, number};
 use group_core::{AcceptRefusal, Cancelled, JoinRefusal, Orphaned, Stage, Taking};
+use group_play::{Answer, Step};
 use handle_model::{
     AcceptLimit, Asked, CookieRow, Cookies, Entry, JoinLimit, Outcomes, Said, Slot, count_opens,
 };
