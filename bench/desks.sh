@@ -1,7 +1,7 @@
 #!/usr/bin/env bash
 # Times calls on the store, each from its stub: 10,000 appends of 1,600 octets to one file, which has 16 MB then, and
 # half and a quarter as many, with the ratio of the times; and reads of 4 KiB at random positions of a file of 16 MiB.
-# Each time is the least of three.
+# Each time is the least of three. Behind them come the times of lookups in a full endpoint map (`epm.sh`).
 set -eu
 top=$(cd "$(dirname "$0")/.." && pwd)
 program=$top/crates/desk_bench/out/desk_bench
@@ -25,3 +25,4 @@ for n in 2500 5000 10000; do
     before=${now#* }
 done
 run read 100000 | awk '{ printf "100,000 reads of 4 KiB %9.3f s, %6.2f us a call, %.1f MB/s\n", $2 / 1e6, $2 / 1e5, $1 / $2 }'
+"$top/bench/epm.sh"

@@ -1,19 +1,12 @@
-//! Tests of the desks: calls from their stubs, each with its answer, and the interfaces' texts.
+//! Tests of the desks beside their stories: the interfaces' texts, registrations, and management over each kind of
+//! numbers.
 #![tactic(auto)]
 
 #[cfg(test)]
 mod calls;
 #[cfg(test)]
-mod echoes;
-#[cfg(test)]
 mod management;
 #[cfg(test)]
-mod probes;
-#[cfg(test)]
-mod shown;
-#[cfg(test)]
-mod stores;
-#[cfg(test)]
-mod story;
+mod registrations;
 #[cfg(test)]
 mod texts;

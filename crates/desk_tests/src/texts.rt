@@ -1,5 +1,6 @@
 //! The interfaces' texts: read, checked and built, they give the tables that are written by hand.
 
+use epm_model::{EPM_IDL, epm_table};
 use idl_check::check;
 use idl_reader::read_idl;
 use marshal_table::{HandleUses, Op, Param, Table, build};
@@ -12,8 +13,8 @@ use std::process::Abort;
 use std::test::Fail;
 use store_model::{STORE_IDL, store_table};
 
-/// The table of a text.
-pub fn built(alloc: Global, text: &str) -> Result<Table, Fail> {
+// The table of a text.
+fn built(alloc: Global, text: &str) -> Result<Table, Fail> {
     let tree = read_idl(alloc, text.as_bytes())?;
     let checked = check(alloc, &tree)?;
     Ok(build(alloc, &checked)?)
@@ -92,6 +93,14 @@ fn the_store_has_the_table_of_its_text(rt: HostRuntime) -> Result<(), Fail> {
     let text = built(rt.alloc(), STORE_IDL)?;
     let hand = store_table(rt.alloc())?;
     compare(&rt, &text, &hand, 7);
+    Ok(())
+}
+
+#[test]
+fn the_map_has_the_table_of_its_text(rt: HostRuntime) -> Result<(), Fail> {
+    let text = built(rt.alloc(), EPM_IDL)?;
+    let hand = epm_table(rt.alloc())?;
+    compare(&rt, &text, &hand, 5);
     Ok(())
 }
 

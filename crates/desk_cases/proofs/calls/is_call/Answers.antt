@@ -1,0 +1,11 @@
+use Rattle.table_form.specs.Shown.{shown}
+use Rattle.desk_cases.proofs.calls.is_call.Goals as goal
+
+pub returns : goal.returns
+returns c = record {
+  table = shown c.args.table.now;
+  served = c.requires.served;
+  number = c.requires.number;
+  request = c.requires.request;
+  handles = c.requires.handles;
+}

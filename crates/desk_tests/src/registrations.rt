@@ -1,0 +1,49 @@
+//! Entries that are registered in the endpoint map.
+ghost use Rattle.std.specs.Prelude.{◌≡◌, true};
+ghost use Rattle.epm_model.specs.Entries.{is_note};
+
+use epm_desk::{EpmDesk, RegisterRefusal};
+use epm_model::MapEntry;
+use rpc_base::{Octets, SyntaxId};
+use std::alloc::Global;
+use std::test::Fail;
+use tower_codec::Tower;
+use uuid::Uuid;
+
+fn syntax(number: u16) -> SyntaxId {
+    SyntaxId {
+        id: Uuid::from_u128(u128::from(number)),
+        major: 1,
+        minor: 0,
+    }
+}
+
+// An interface of that number for every object.
+fn offered(alloc: Global, number: u16) -> MapEntry
+    ensures { is_note result.note ≡ true }
+{
+    MapEntry {
+        object: Uuid::nil(),
+        tower: Tower {
+            iface: syntax(number),
+            transfer: syntax(u16::MAX),
+            minor: 0,
+            port: 5000,
+            ip: [127, 0, 0, 1],
+        },
+        note: Octets::new(alloc),
+    }
+}
+
+#[test]
+fn at_most_4096_entries_are_registered(rt: HostRuntime) -> Result<(), Fail> {
+    let alloc = rt.alloc();
+    let mut desk = EpmDesk::new(alloc);
+    for number in 0..4096u16 {
+        desk.register(offered(alloc, number))?;
+    }
+    assert!(rt; desk.register(offered(alloc, 4096)) == Err(RegisterRefusal::Full));
+    assert!(rt; desk.register(offered(alloc, 0)) == Err(RegisterRefusal::Full));
+    assert_eq!(rt; desk.open_handles(), 0);
+    Ok(())
+}
