@@ -1,5 +1,5 @@
 -- What `clap`'s matches hold.
-use Rattle.std.proofs.Common.{◌≡◌, ◌∙◌, List, [], ◌∷◌, ap, map, Option, Some, None, option_map, string_bytes, codes, Box, String}
+use Rattle.std.proofs.Common.{◌≡◌, ◌∙◌, List, [], ◌∷◌, ap, map, Option, Some, None, option_map, string_bytes, Box, String}
 use Rattle.std.specs.Box.{box_value}
 use Rattle.std.specs.List.{AllByRecursion}
 use Rattle.std.specs.Str.{IsUtf8}
@@ -11,7 +11,6 @@ use Rattle.clap.proofs.WalkLemmas.{first_value-rows}
 use Rattle.clap.specs.declared.parser.matches.ArgMatches.{ArgMatches}
 use Rattle.clap.specs.declared.parser.matches.ArgMatches.TheViews.{out-ArgMatches, out-SubCommand}
 use Rattle.clap.specs.declared.parser.matches.SubCommand.{SubCommand}
-use Rattle.command_line.specs.declared.command.Command.{Command}
 
 name_in : {Z : Type 0} (s : Option (Box SubCommand Z)) (name : Text) (rows : List Row) → subcommand_rows s ≡ Some (name, rows) → option_map (λ b. (out-SubCommand (box_value b)).name.now) s ≡ Some name
 name_in None name rows e = absurd (cc)
@@ -26,17 +25,14 @@ pub all_utf8 : {Z : Type 0} (words : List (String Z)) → AllByRecursion IsUtf8 
 all_utf8 [] = tt
 all_utf8 (w ∷ ws) = (IsUtf8-string_bytes w, all_utf8 ws)
 
--- the file among the rows of a subcommand
-pub file_met : (m : ArgMatches) (rows : List Row) (file : Text) → Some (rows_of (found_of m)) ≡ Some rows → first_of (codes "FILE") rows ≡ Some file → first_value (found_of m) (codes "FILE") ≡ Some file
-file_met m rows file same row =
+-- a value among the rows of a subcommand
+pub value_met : (m : ArgMatches) (rows : List Row) (id : Text) → Some (rows_of (found_of m)) ≡ Some rows → first_value (found_of m) id ≡ first_of id rows
+value_met m rows id same =
     let rows_are : rows_of (found_of m) ≡ rows = cc in
-    first_value-rows (found_of m) (codes "FILE") ∙ ap (first_of (codes "FILE")) rows_are ∙ row
+    first_value-rows (found_of m) id ∙ ap (first_of id) rows_are
 
 pub same_text : (a b : Text) → Some a ≡ Some b → a ≡ b
 same_text a b e = cc
-
-pub same_command : (a b : Command) → Some a ≡ Some b → a ≡ b
-same_command a b e = cc
 
 pub none_met : (file : Text) → None ≡ Some file → ⊥
 none_met file e = absurd (cc)

@@ -1,5 +1,13 @@
 pub mod WordKinds
-pub mod Leaf
+pub mod LongKinds
+pub mod Arguments
+pub mod Wants
+pub mod Walks
+pub mod PlainCommand
+pub mod ReplayWalk
+pub mod ReplayFails
+pub mod ReplayCommand
+pub mod Lines
 pub mod Top
 pub mod Found
 pub mod Told

@@ -1,5 +1,5 @@
 -- What kinds of words there are.
-use Rattle.std.proofs.Common.{◌≡◌, ◌∙◌, ℕ, true, false, List, [], ◌∷◌, refl, sym, ap, arith, Option, Some, None, codes, inl, inr, ◌⊎◌, ◌==◌, IsUtf8, encode_utf8_all, eqb-true, subst}
+use Rattle.std.proofs.Common.{◌≡◌, ◌∙◌, ℕ, true, false, List, [], ◌∷◌, refl, sym, ap, arith, Some, None, codes, inl, inr, ◌⊎◌, ◌==◌, IsUtf8, encode_utf8_all, eqb-true, subst}
 use Rattle.std.specs.Prelude.{slice_get}
 use Rattle.std.specs.Str.{bytes_eq, chars}
 use Rattle.std.proofs.lemmas.Bool.{cases_Bool}
@@ -15,10 +15,11 @@ pub record HasFirst (flags : Text) : Type 0 where
 
 -- a word is `--`, or an option in the long or the short form, or neither
 pub record IsLong (word : Text) : Type 0 where
-  pub name : Text × Option Text
+  pub text : Text
+  pub is : word ≡ 45 ∷ 45 ∷ text
   pub dashes : bytes_eq word (codes "--") ≡ false
   pub option : is_option word ≡ true
-  pub long : long_of word ≡ Some name
+  pub long : long_of word ≡ Some (name_and_value text)
 
 pub record IsShort (word : Text) : Type 0 where
   pub head : ℕ
@@ -59,7 +60,7 @@ short_kind d rest u e =
 dashed_kind : (d : ℕ) (rest : Text) → d ≡ 45 → Kind (45 ∷ d ∷ rest)
 dashed_kind d [] e = inl (ap (λ x. 45 ∷ x ∷ []) e)
 dashed_kind d (x ∷ xs) e =
-    inr (inl (record { name = name_and_value (x ∷ xs); dashes = rw e refl; option = refl; long = rw e refl }))
+    inr (inl (record { text = x ∷ xs; is = ap (λ y. 45 ∷ y ∷ x ∷ xs) e; dashes = rw e refl; option = refl; long = rw e refl }))
 
 second_kind : (d : ℕ) (rest : Text) → IsUtf8 (45 ∷ d ∷ rest) → (d == 45 ≡ true) ⊎ (d == 45 ≡ false) → Kind (45 ∷ d ∷ rest)
 second_kind d rest u (inl e) = dashed_kind d rest (eqb-true d 45 e)

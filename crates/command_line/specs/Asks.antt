@@ -1,31 +1,87 @@
 -- What the words of the program ask.
-use Rattle.std.specs.Prelude.{◌≡◌, ◌==◌, ℕ, Bool, false, List, [], ◌∷◌, Option, Some, None, option_map, if◌then◌else◌, codes, bytes_eq}
-use Rattle.command_line.specs.declared.command.Command.{Command}
-use Rattle.command_line.specs.declared.command.Command.TheVariants.{Replay, Idl, Audit}
+use Rattle.std.specs.Prelude.{◌≡◌, ◌==◌, ℕ, Bool, false, List, [], ◌∷◌, ◌++◌, map, flat_map, Option, Some, None, option_map, option_to_list, unwrap_or, codes, IsPermutation, ⊤}
+use Rattle.std.specs.List.{AllByRecursion}
+use Rattle.command_line.specs.declared.command.Asked.{Asked}
+use Rattle.command_line.specs.declared.command.Asked.TheVariants.{Replay, Idl, Audit}
 
--- the first word of a command
-abbrev pub word_of : Command → List ℕ
-word_of Replay = codes "replay"
-word_of Idl = codes "idl"
-word_of Audit = codes "audit"
+abbrev pub Text : Type 0
+Text = List ℕ
 
--- the word is an option: it begins with `-` (45), and isn't that alone
-abbrev pub is_option : List ℕ → Bool
+-- the word is an option, or the `--` that ends them: it begins with `-` (45), and isn't that alone
+abbrev pub is_option : Text → Bool
 is_option [] = false
 is_option (c ∷ []) = false
 is_option (c ∷ d ∷ rest) = c == 45
 
--- The operands among the arguments of a command that has no options: the words in front of `--`, of which none may be an
--- option, and all words behind it.
-abbrev pub operands : List (List ℕ) → Option (List (List ℕ))
-operands [] = Some []
-operands (word ∷ rest) = if bytes_eq word (codes "--") then Some rest
-    else (if is_option word then None else option_map (λ later. word ∷ later) (operands rest))
+-- An argument in front of `--`: an operand, or an option by its name, with its value in the next word or behind `=`.
+pub data Argument : Type 0 where
+  operand : Text → Argument
+  valued : Text → Text → Argument
+  joined : Text → Text → Argument
 
--- the words are a command and its arguments, of which the file is the one operand
-abbrev pub AsksFor : List (List ℕ) → Command → List ℕ → Type 0
-AsksFor words command file = (arguments : List (List ℕ)) × (words ≡ word_of command ∷ arguments) × (operands arguments ≡ Some (file ∷ []))
+-- its words
+abbrev pub words_of : Argument → List Text
+words_of (operand word) = word ∷ []
+words_of (valued name value) = (codes "--" ++ name) ∷ value ∷ []
+words_of (joined name value) = (codes "--" ++ name ++ codes "=" ++ value) ∷ []
 
--- they are none
-abbrev pub AsksForNothing : List (List ℕ) → Type 0
-AsksForNothing words = (command : Command) (file : List ℕ) → AsksFor words command file → ⊥
+-- a word that is an option is neither an operand nor a value
+abbrev pub IsPlain : Argument → Type 0
+IsPlain (operand word) = is_option word ≡ false
+IsPlain (valued name value) = is_option value ≡ false
+IsPlain (joined name value) = ⊤
+
+-- its operand, and its option
+abbrev pub operand_in : Argument → List Text
+operand_in (operand word) = word ∷ []
+operand_in _ = []
+
+abbrev pub option_in : Argument → List (Text × Text)
+option_in (operand word) = []
+option_in (valued name value) = (name, value) ∷ []
+option_in (joined name value) = (name, value) ∷ []
+
+-- `--` and the operands behind it, where they are given
+abbrev pub behind : Option (List Text) → List Text
+behind None = []
+behind (Some words) = codes "--" ∷ words
+
+-- A command by its word, its operands, and each option that it takes with the value that is given.
+pub record Line : Type 0 where
+  pub word : Text
+  pub operands : List Text
+  pub options : List (Text × Option Text)
+
+-- the options that are given
+abbrev pub given : List (Text × Option Text) → List (Text × Text)
+given = flat_map (λ o. map (λ value. (o.0, value)) (option_to_list o.1))
+
+-- The words are the command's word and arguments, which have its operands in order and its options in any order, each once.
+pub record IsLine (words : List Text) (line : Line) : Type 0 where
+  pub arguments : List Argument
+  pub rest : Option (List Text)
+  pub written : words ≡ line.word ∷ flat_map words_of arguments ++ behind rest
+  pub plain : AllByRecursion IsPlain arguments
+  pub operands : flat_map operand_in arguments ++ unwrap_or rest [] ≡ line.operands
+  pub options : IsPermutation (flat_map option_in arguments) (given line.options)
+
+-- `replay FILE [--idl FILE]`, and a command with a file alone
+abbrev pub replay_line : Text → Option Text → Line
+replay_line file idl = record { word = codes "replay"; operands = file ∷ []; options = (codes "idl", idl) ∷ [] }
+
+abbrev pub file_line : Text → Text → Line
+file_line word file = record { word = word; operands = file ∷ []; options = [] }
+
+-- what the program can be asked
+abbrev pub line_of : Asked → Line
+line_of (Replay file idl) = replay_line file.now (option_map (λ text. text.now) idl)
+line_of (Idl file) = file_line (codes "idl") file.now
+line_of (Audit file) = file_line (codes "audit") file.now
+
+-- the words ask for it
+abbrev pub AsksFor : List Text → Asked → Type 0
+AsksFor words asked = IsLine words (line_of asked)
+
+-- they ask for nothing
+abbrev pub AsksForNothing : List Text → Type 0
+AsksForNothing words = (asked : Asked) → AsksFor words asked → ⊥

@@ -1,12 +1,23 @@
 //! The commands.
 
-/// What the program is asked to do with a file.
-#[derive(Clone, Copy, Debug, PartialEq, Eq)]
-pub enum Command {
-    /// Replay a script.
-    Replay,
+/// What the program is asked to do, and with which files.
+#[derive(Clone, Copy, Debug)]
+pub enum Asked<'a> {
+    /// Replay a script, where one is named beside the interface of an interface text.
+    Replay {
+        /// The script.
+        file: &'a str,
+        /// The interface text.
+        idl: Option<&'a str>,
+    },
     /// Print an interface text in its canonical form.
-    Idl,
+    Idl {
+        /// The interface text.
+        file: &'a str,
+    },
     /// Judge journals.
-    Audit,
+    Audit {
+        /// The journals.
+        file: &'a str,
+    },
 }

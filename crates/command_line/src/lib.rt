@@ -5,5 +5,5 @@ mod command;
 mod usage;
 mod words;
 
-pub use command::Command;
+pub use command::Asked;
 pub use words::asked;

@@ -15,6 +15,14 @@ fn of_file<'a>(alloc: Global, name: &'a str) -> Result<Command<'a>, AllocError>
     Command::new(alloc, name).arg(Arg::new(alloc, "FILE").required(true))
 }
 
+/// The command `replay`, which takes an interface text too.
+fn replay<'a>(alloc: Global) -> Result<Command<'a>, AllocError>
+    ensures shape { IfOk result (λ c. shape_of c ≡ spec.replay) }
+    ensures local { IfOk result (λ c. (out-Command c).has_globals ≡ false) }
+{
+    of_file(alloc, "replay")?.arg(Arg::new(alloc, "idl").long("idl"))
+}
+
 /// The program and its commands. No word asks for help or for a version.
 pub fn program<'a>(alloc: Global) -> Result<Command<'a>, AllocError>
     ensures app { IfOk result (λ c. app_of c ≡ spec.program) }
@@ -24,7 +32,7 @@ pub fn program<'a>(alloc: Global) -> Result<Command<'a>, AllocError>
         .disable_help_flag(true)
         .disable_help_subcommand(true)
         .subcommand_required(true)
-        .subcommand(of_file(alloc, "replay")?)?
+        .subcommand(replay(alloc)?)?
         .subcommand(of_file(alloc, "idl")?)?
         .subcommand(of_file(alloc, "audit")?)
 }

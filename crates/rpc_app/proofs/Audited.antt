@@ -10,7 +10,7 @@ use Rattle.journal_audit.specs.Files.{Journal, DepartsAt}
 use Rattle.journal_audit.specs.Told.{Audited, TellsAll}
 use Rattle.audit_laws.proofs.Journals.{one_reading, neither_both}
 use Rattle.audit_laws.proofs.Verdicts.{good_is_legal}
-use Rattle.command_line.specs.declared.command.Command.TheVariants.{Audit}
+use Rattle.rpc_app.specs.declared.command.Command.TheVariants.{Audit}
 use Rattle.rpc_app.specs.Audits.{is_legal, is_good, IsGood, AreGood, IsAudited, verdict_lines, journal_refusal}
 use Rattle.rpc_app.specs.Commands.{IsTextFor, Refuses}
 

@@ -1,3 +1,4 @@
+pub mod Carried
 pub mod Loads
 pub mod Growing
 pub mod Sets

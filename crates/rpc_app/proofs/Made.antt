@@ -14,8 +14,8 @@ use Rattle.idl_check.specs.declared.fault.CheckFault.{CheckFault}
 use Rattle.idl_check.specs.declared.fault.CheckFault.TheVariants.{Rule}
 use Rattle.idl_check.specs.Firsts.{IsCause as IsBreach}
 use Rattle.idl_print.specs.Canonical.{canonical_text}
-use Rattle.command_line.specs.declared.command.Command.{Command}
-use Rattle.command_line.specs.declared.command.Command.TheVariants.{Replay, Idl, Audit}
+use Rattle.rpc_app.specs.declared.command.Command.{Command}
+use Rattle.rpc_app.specs.declared.command.Command.TheVariants.{Replay, Idl, Audit}
 use Rattle.rpc_app.proofs.Audited.{good_text}
 use Rattle.rpc_app.specs.Commands.{Makes, IsTextFor, Refuses, Says, rule_refusal, IsPrinted}
 

@@ -2,8 +2,8 @@
 use Rattle.std.proofs.Common.{◌≡◌, ◌≢◌, ◌⊎◌, ℕ, ◌<◌, ◌≤◌, List, length, inl, inr, sym, subst, arith}
 use Rattle.rpc_base.specs.Causes.{Rose}
 use Rattle.rpc_base.specs.Shelves.{Tells}
-use Rattle.command_line.specs.declared.command.Command.{Command}
-use Rattle.command_line.specs.Asks.{AsksFor, AsksForNothing}
+use Rattle.rpc_app.specs.declared.command.Command.{Command}
+use Rattle.rpc_app.specs.Asks.{AsksFor, AsksForNothing}
 use Rattle.rpc_app.specs.Commands.{IsTextFor, limit}
 use Rattle.rpc_app.specs.Obeys.{Obeys, Shelf, Output, IsKept, Put, HasDone, HasRefused, WasCutShort, IsTaken, NoneFailed}
 use Rattle.rpc_app.specs.Runs.{Gains, GainsFront, words_refusal}

@@ -8,8 +8,8 @@ use Rattle.idl_reader.specs.declared.fault.IdlFault.TheVariants as faults
 use Rattle.idl_reader.specs.Causes.{IsCause}
 use Rattle.idl_rules.specs.Broken.{NoneBroken, IsLeastBreach}
 use Rattle.idl_print.specs.Canonical.{canonical_text}
-use Rattle.command_line.specs.declared.command.Command.{Command}
-use Rattle.command_line.specs.declared.command.Command.TheVariants.{Replay, Idl, Audit}
+use Rattle.rpc_app.specs.declared.command.Command.{Command}
+use Rattle.rpc_app.specs.declared.command.Command.TheVariants.{Replay, Idl, Audit}
 use Rattle.rpc_app.specs.Audits.{AreGood, IsAudited, HasBreach, DepartsAtJournalLine}
 use Rattle.replay.specs.Replays.{IsReplay, Replays}
 

@@ -1,3 +1,4 @@
+pub mod Asks
 pub mod Audits
 pub mod Commands
 pub mod Making

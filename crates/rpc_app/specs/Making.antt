@@ -1,6 +1,6 @@
 -- Why a command makes nothing of a file.
 use Rattle.std.specs.Prelude.{ℕ, List, ⊤}
-use Rattle.command_line.specs.declared.command.Command.{Command}
+use Rattle.rpc_app.specs.declared.command.Command.{Command}
 use Rattle.rpc_app.specs.declared.make.MakeFault.{MakeFault}
 use Rattle.rpc_app.specs.declared.make.MakeFault.TheVariants.{Refused, Memory}
 use Rattle.rpc_app.specs.Commands.{IsTextFor, Refuses}

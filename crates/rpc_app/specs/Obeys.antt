@@ -2,8 +2,8 @@
 use Rattle.std.specs.Prelude.{◌≡◌, ◌≢◌, ◌⊎◌, ℕ, ◌<◌, ◌≤◌, List, length, Option}
 use Rattle.rpc_base.specs.Causes.{Rose}
 use Rattle.rpc_base.specs.Shelves.{Files, Tells}
-use Rattle.command_line.specs.declared.command.Command.{Command}
-use Rattle.command_line.specs.Asks.{AsksFor, AsksForNothing}
+use Rattle.rpc_app.specs.declared.command.Command.{Command}
+use Rattle.rpc_app.specs.Asks.{AsksFor, AsksForNothing}
 use Rattle.rpc_app.specs.Commands.{IsTextFor, limit}
 use Rattle.rpc_app.specs.Runs.{words_refusal, Growth, Gains, GainsFront, IsDone, IsRefused, IsCutShort}
 

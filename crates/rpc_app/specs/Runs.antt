@@ -2,7 +2,7 @@
 use Rattle.std.specs.Prelude.{◌≡◌, ℕ, ◌<◌, ◌≤◌, ◌⊎◌, List, ◌∷◌, ◌++◌, [], length, take, Option, codes}
 use Rattle.std.specs.Io.KnownBytes.{append_known}
 use Rattle.rpc_base.specs.Shelves.{Files, HasFile}
-use Rattle.command_line.specs.declared.command.Command.{Command}
+use Rattle.rpc_app.specs.declared.command.Command.{Command}
 use Rattle.rpc_app.specs.Commands.{limit, Makes, Refuses}
 
 abbrev pub words_refusal : List ℕ

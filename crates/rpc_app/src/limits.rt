@@ -2,7 +2,7 @@
 ghost use Rattle.std.specs.Prelude.{◌≡◌};
 ghost use Rattle.rpc_app.specs.Commands as spec;
 
-use command_line::Command;
+use crate::command::Command;
 
 /// The longest file that a command takes, in octets: 64 MiB of a script or of journals, 1 MiB of an
 /// interface text.

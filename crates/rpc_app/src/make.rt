@@ -4,8 +4,8 @@ ghost use Rattle.idl_print.specs.Canonical.{canonical_text};
 ghost use Rattle.rpc_app.specs.Commands.{Makes, Says, line_refusal, place_refusal, rule_refusal};
 ghost use Rattle.rpc_app.specs.Making.{IsWhy};
 
+use crate::command::Command;
 use crate::verdicts::judge;
-use command_line::Command;
 use idl_check::{CheckFault, check};
 use idl_print::print_idl;
 use idl_reader::{IdlFault, read_idl};

@@ -6,11 +6,12 @@ ghost use Rattle.rpc_app.specs.Commands.{IsTextFor, limit};
 ghost use Rattle.rpc_app.specs.Obeys.{Obeys};
 ghost use Rattle.rpc_app.specs.Runs.{Gains, IsDone, IsRefused, IsCutShort};
 
+use crate::command::Command;
 use crate::limits::limit;
 use crate::load::{LoadFault, load_file};
 use crate::make::{MakeFault, make};
 use crate::say::{print, refuse};
-use command_line::{Command, asked};
+use crate::words::asked;
 use rpc_base::{NoMemory, Shelf, Sink};
 use std::alloc::Global;
 use std::sync::Wait;

@@ -5,8 +5,8 @@ ghost use Rattle.rpc_app.specs.Audits as spec;
 ghost use Rattle.rpc_app.specs.Commands.{Makes};
 ghost use Rattle.rpc_app.specs.Making.{IsWhy};
 
+use crate::command::Command;
 use crate::make::MakeFault;
-use command_line::Command;
 use handle_rules::Verdict;
 use journal_audit::{AuditFault, GroupVerdict, audit};
 use replay::Replayed;

@@ -8,6 +8,6 @@ returns c =
     (no_help_command c.disable_help_flag.result c.disable_help_subcommand.result _ c.disable_help_subcommand.ensures
     (no_help_flag c.no_binary_name.result c.disable_help_flag.result _ c.disable_help_flag.ensures
     (no_program c.new.result c.no_binary_name.result _ c.no_binary_name.ensures c.new.ensures.app))) in
-    let one = one_more c.subcommand_required.result c.in_ok-of_file.field-0 c.in_ok-subcommand.field-0 _ _ c.in_ok-subcommand.ensures c.in_ok-of_file.ensures.local bare c.in_ok-of_file.ensures.shape in
-    let two = one_more c.in_ok-subcommand.field-0 c.in_ok-of_file-2.field-0 c.in_ok-subcommand-2.field-0 _ _ c.in_ok-subcommand-2.ensures c.in_ok-of_file-2.ensures.local one c.in_ok-of_file-2.ensures.shape in
-    record { app = IfOk-weaker c.subcommand-3.result _ _ (λ d added. one_more c.in_ok-subcommand-2.field-0 c.in_ok-of_file-3.field-0 d _ _ added c.in_ok-of_file-3.ensures.local two c.in_ok-of_file-3.ensures.shape) c.subcommand-3.ensures }
+    let one = one_more c.subcommand_required.result c.in_ok-replay.field-0 c.in_ok-subcommand.field-0 _ _ c.in_ok-subcommand.ensures c.in_ok-replay.ensures.local bare c.in_ok-replay.ensures.shape in
+    let two = one_more c.in_ok-subcommand.field-0 c.in_ok-of_file.field-0 c.in_ok-subcommand-2.field-0 _ _ c.in_ok-subcommand-2.ensures c.in_ok-of_file.ensures.local one c.in_ok-of_file.ensures.shape in
+    record { app = IfOk-weaker c.subcommand-3.result _ _ (λ d added. one_more c.in_ok-subcommand-2.field-0 c.in_ok-of_file-2.field-0 d _ _ added c.in_ok-of_file-2.ensures.local two c.in_ok-of_file-2.ensures.shape) c.subcommand-3.ensures }

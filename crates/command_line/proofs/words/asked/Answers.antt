@@ -7,17 +7,17 @@ use Rattle.command_line.proofs.words.asked.Goals as goal
 pub returns-in-Ok-clause-asked : goal.returns-in-Ok-clause-asked
 returns-in-Ok-clause-asked c =
     (taken (map string_bytes c.args.words.now) (app_of c.in_ok-program.field-0) c.in-Ok.matches c.found.result (all_utf8 c.args.words.now)
-    c.in_ok-program.ensures.app c.in-Ok.ensures.matches c.in-Ok.ensures.kinds c.found.ensures.found).asked
+    c.in_ok-program.ensures.app c.in-Ok.ensures.matches c.in-Ok.ensures.kinds (record { replay = c.found.ensures.replay; idl = c.found.ensures.idl; audit = c.found.ensures.audit })).asked
 
 pub returns-in-Ok-clause-alone : goal.returns-in-Ok-clause-alone
 returns-in-Ok-clause-alone c =
     (taken (map string_bytes c.args.words.now) (app_of c.in_ok-program.field-0) c.in-Ok.matches c.found.result (all_utf8 c.args.words.now)
-    c.in_ok-program.ensures.app c.in-Ok.ensures.matches c.in-Ok.ensures.kinds c.found.ensures.found).alone
+    c.in_ok-program.ensures.app c.in-Ok.ensures.matches c.in-Ok.ensures.kinds (record { replay = c.found.ensures.replay; idl = c.found.ensures.idl; audit = c.found.ensures.audit })).alone
 
 pub returns-in-Ok-clause-nothing : goal.returns-in-Ok-clause-nothing
 returns-in-Ok-clause-nothing c =
     (taken (map string_bytes c.args.words.now) (app_of c.in_ok-program.field-0) c.in-Ok.matches c.found.result (all_utf8 c.args.words.now)
-    c.in_ok-program.ensures.app c.in-Ok.ensures.matches c.in-Ok.ensures.kinds c.found.ensures.found).nothing
+    c.in_ok-program.ensures.app c.in-Ok.ensures.matches c.in-Ok.ensures.kinds (record { replay = c.found.ensures.replay; idl = c.found.ensures.idl; audit = c.found.ensures.audit })).nothing
 
 pub returns : goal.returns
 returns c = record {

@@ -1,21 +1,31 @@
-use Rattle.std.proofs.Common.{◌∙◌, ap, option_map}
-use Rattle.command_line.specs.Asks.{word_of}
-use Rattle.command_line.proofs.Found.{file_met, name_met, none_met, same_command, same_text}
+use Rattle.std.proofs.Common.{◌∙◌, ap, ap₂, codes, option_map}
+use Rattle.command_line.specs.Asks.{file_line, replay_line}
+use Rattle.command_line.proofs.Found.{none_met, same_text, value_met}
 use Rattle.command_line.proofs.words.found.Goals as goal
 
-pub returns-in_err-get_str : goal.returns-in_err-get_str
-returns-in_err-get_str c = record {
-  found = λ command file rows met row.
-      let rows_are = c.in_ok-name.ensures.rows ∙ ap (option_map (λ p. p.1)) met in
-      absurd (none_met file (c.in_err-get_str.ensures ∙ file_met c.in_ok-name.arguments.now rows file rows_are row));
-}
+pub returns-in_err-file-clause-replay : goal.returns-in_err-file-clause-replay
+returns-in_err-file-clause-replay c = λ file rows met row.
+    absurd (none_met file (c.in_err-file.ensures ∙ value_met c.in_ok-name.arguments.now rows (codes "FILE") (c.in_ok-name.ensures.rows ∙ ap (option_map (λ p. p.1)) met) ∙ row))
 
-pub returns : goal.returns
-returns c = record {
-  found = λ command file rows met row.
-      let rows_are = c.in_ok-name.ensures.rows ∙ ap (option_map (λ p. p.1)) met in
-      let name = same_text c.in_ok-name.name.now (word_of command) (c.in_ok-name.ensures.name ∙ name_met c.args.matches.now (word_of command) rows met) in (
-        same_command c.in_ok-named_command.field-0 command (c.in_ok-named_command.ensures.named command name),
-        same_text c.in_ok-get_str.field-0.now file (c.in_ok-get_str.ensures ∙ file_met c.in_ok-name.arguments.now rows file rows_are row),
-      );
-}
+pub returns-in_err-file-clause-idl : goal.returns-in_err-file-clause-idl
+returns-in_err-file-clause-idl c = λ file rows met row.
+    absurd (none_met file (c.in_err-file.ensures ∙ value_met c.in_ok-name.arguments.now rows (codes "FILE") (c.in_ok-name.ensures.rows ∙ ap (option_map (λ p. p.1)) met) ∙ row))
+
+pub returns-in_err-file-clause-audit : goal.returns-in_err-file-clause-audit
+returns-in_err-file-clause-audit c = λ file rows met row.
+    absurd (none_met file (c.in_err-file.ensures ∙ value_met c.in_ok-name.arguments.now rows (codes "FILE") (c.in_ok-name.ensures.rows ∙ ap (option_map (λ p. p.1)) met) ∙ row))
+
+pub returns-in-replay-clause-replay : goal.returns-in-replay-clause-replay
+returns-in-replay-clause-replay c = λ file rows met row.
+    let rows_are = c.in_ok-name.ensures.rows ∙ ap (option_map (λ p. p.1)) met in
+    ap₂ replay_line
+    (same_text c.in_ok-file.file.now file (c.in_ok-file.ensures ∙ value_met c.in_ok-name.arguments.now rows (codes "FILE") rows_are ∙ row))
+    (c.get_str-idl.ensures ∙ value_met c.in_ok-name.arguments.now rows (codes "idl") rows_are)
+
+pub returns-in-idl-clause-idl : goal.returns-in-idl-clause-idl
+returns-in-idl-clause-idl c = λ file rows met row.
+    ap (file_line (codes "idl")) (same_text c.in_ok-file.file.now file (c.in_ok-file.ensures ∙ value_met c.in_ok-name.arguments.now rows (codes "FILE") (c.in_ok-name.ensures.rows ∙ ap (option_map (λ p. p.1)) met) ∙ row))
+
+pub returns-in-audit-clause-audit : goal.returns-in-audit-clause-audit
+returns-in-audit-clause-audit c = λ file rows met row.
+    ap (file_line (codes "audit")) (same_text c.in_ok-file.file.now file (c.in_ok-file.ensures ∙ value_met c.in_ok-name.arguments.now rows (codes "FILE") (c.in_ok-name.ensures.rows ∙ ap (option_map (λ p. p.1)) met) ∙ row))

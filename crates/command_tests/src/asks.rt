@@ -1,0 +1,140 @@
+//! What words ask, with a space between two of them.
+
+use command_line::{Asked, asked};
+use rpc_base::NoMemory;
+use rpc_words::put;
+use std::alloc::Global;
+use std::test::*;
+use test_rows::{Answers, wrong_row};
+
+/// Reads words.
+#[derive(Clone, Copy)]
+struct Words;
+
+impl Answers for Words {
+    fn answer(
+        &mut self,
+        alloc: Global,
+        _word: &[u8],
+        given: &[u8],
+        into: &mut Vec<u8>,
+    ) -> Result<(), NoMemory> {
+        let mut words = Vec::new(alloc);
+        for word in given.split(|octet| *octet == b' ') {
+            if let Ok(word) = str::from_utf8(word) {
+                words.push(String::from_str(alloc, word)?)?;
+            }
+        }
+        put_asked(asked(alloc, words.as_slice())?, into)
+    }
+}
+
+fn put_asked(asked: Option<Asked<'_>>, into: &mut Vec<u8>) -> Result<(), NoMemory> {
+    match asked {
+        Some(Asked::Replay { file, idl }) => {
+            put_file(b"replay", file, into)?;
+            match idl {
+                Some(idl) => put_file(b" idl", idl, into),
+                None => Ok(()),
+            }
+        }
+        Some(Asked::Idl { file }) => put_file(b"idl", file, into),
+        Some(Asked::Audit { file }) => put_file(b"audit", file, into),
+        None => put(b"nothing", into),
+    }
+}
+
+fn put_file(word: &[u8], file: &str, into: &mut Vec<u8>) -> Result<(), NoMemory> {
+    put(word, into)?;
+    put(b" [", into)?;
+    put(file.as_bytes(), into)?;
+    put(b"]", into)
+}
+
+/// Two spaces in a row have an empty word between them.
+const ROWS: &str = "
+asks||nothing
+asks|replay|nothing
+asks|replay f|replay [f]
+asks|idl f|idl [f]
+asks|audit f|audit [f]
+asks|replay |replay []
+asks|replay -|replay [-]
+asks|replay f f|nothing
+asks|repla f|nothing
+asks|Replay f|nothing
+asks|dcerpc replay f|nothing
+asks|replay -- f|replay [f]
+asks|replay f --|replay [f]
+asks|replay -- -x|replay [-x]
+asks|replay -- --|replay [--]
+asks|replay --|nothing
+asks|-- replay f|nothing
+asks|replay -x|nothing
+asks|replay --x f|nothing
+asks|replay f --idl i|replay [f] idl [i]
+asks|replay --idl i f|replay [f] idl [i]
+asks|replay f --idl=i|replay [f] idl [i]
+asks|replay --idl=i f|replay [f] idl [i]
+asks|replay --idl i -- f|replay [f] idl [i]
+asks|replay --idl=i -- f|replay [f] idl [i]
+asks|replay f --idl i --|replay [f] idl [i]
+asks|replay --idl i -- -f|replay [-f] idl [i]
+asks|replay f --idl i --idl i|nothing
+asks|replay --idl=i f --idl=j|nothing
+asks|replay --idl=i --idl j f|nothing
+asks|replay --idl i --idl=j f|nothing
+asks|replay f --idl i --idl j --|nothing
+asks|replay f --idl|nothing
+asks|replay --idl f|nothing
+asks|replay --idl|nothing
+asks|replay --idl=i|nothing
+asks|replay f --idl=|replay [f] idl []
+asks|replay f --idl |replay [f] idl []
+asks|replay  --idl i|replay [] idl [i]
+asks|replay -- --idl|replay [--idl]
+asks|replay -- --idl=i|replay [--idl=i]
+asks|replay -- --idl i|nothing
+asks|replay f -- --idl i|nothing
+asks|replay f -- --idl=i|nothing
+asks|replay f --idl --|nothing
+asks|replay f --idl -- i|nothing
+asks|replay --idl -- f|nothing
+asks|replay f --idl -i|nothing
+asks|replay f --idl --i|nothing
+asks|replay f --idl --idl|nothing
+asks|replay f --idl --idl=i|nothing
+asks|replay f --idl -|replay [f] idl [-]
+asks|replay - --idl i|replay [-] idl [i]
+asks|replay f --idl=-i|replay [f] idl [-i]
+asks|replay f --idl=--|replay [f] idl [--]
+asks|replay f --idl=a=b|replay [f] idl [a=b]
+asks|replay f --idl a=b|replay [f] idl [a=b]
+asks|replay f --id i|nothing
+asks|replay f --idls i|nothing
+asks|replay f --idls=i|nothing
+asks|replay f --IDL i|nothing
+asks|replay f -idl i|nothing
+asks|replay f --=i|nothing
+asks|replay f f --idl i|nothing
+asks|replay f --idl i f|nothing
+asks|--idl i replay f|nothing
+asks|idl f --idl i|nothing
+asks|idl idl|idl [idl]
+asks|audit f --idl=i|nothing
+asks|replay replay --idl replay|replay [replay] idl [replay]
+asks|help|nothing
+asks|--help|nothing
+asks|-h|nothing
+asks|--version|nothing
+asks|replay --help|nothing
+asks|replay f -h|nothing
+asks|replay help|replay [help]
+";
+
+#[test]
+fn words_ask_for_commands(rt: HostRuntime) -> Result<(), NoMemory> {
+    let wrong = wrong_row(rt.alloc(), &mut Words, ROWS)?;
+    assert_eq!(rt; wrong.as_slice(), b"".as_slice());
+    Ok(())
+}
