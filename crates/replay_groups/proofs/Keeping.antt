@@ -1,6 +1,7 @@
 -- Where one group changed, the groups keep the journals of a list in which one changed.
 use Rattle.std.proofs.Common.{◌≡◌, ℕ, zero, suc, ◌+◌, ◌-◌, ◌<◌, Bool, true, false, not, ◌||◌, if◌then◌else◌, Result, Ok, Err, List, [], ◌∷◌, ◌++◌, length, filter, get_or, slice_set, slice_index_or, refl, sym, ap, subst, ◌∙◌, arith}
 use Rattle.std.specs.List.{list_any}
+use Rattle.std.proofs.lemmas.List.Folds.{list_any-append}
 use Rattle.handle_model.specs.declared.entry.Home.{Home}
 use Rattle.handle_model.specs.declared.entry.Asked.{Asked}
 use Rattle.handle_model.specs.declared.entry.Outcome.{Outcome}
@@ -9,7 +10,8 @@ use Rattle.handle_model.specs.declared.entry.Entry.{Entry}
 use Rattle.handle_model.specs.declared.entry.Entry.TheVariants.{Join, Accept, Take, Deny, Cancel, Orphan, End, Leave}
 use Rattle.handle_model.specs.Bases.{empty_base}
 use Rattle.handle_model.specs.Entries.{is_shut}
-use Rattle.handle_model.specs.Journal.{cookies_for, slots}
+use Rattle.handle_model.specs.Journal.{cookies_for, slots, is_open, runs, suit}
+use Rattle.handle_model.proofs.Steps.{open_unshut, runs_unshut}
 use Rattle.handle_model.specs.History.{History, IsSound, since, with_entry}
 use Rattle.group_core.specs.declared.answer.Taking.{Taking}
 use Rattle.group_core.specs.declared.answer.Taking.TheVariants as taking
@@ -29,10 +31,11 @@ use Rattle.group_core.specs.Calls.{Accepts, Takes, Cancels, Orphans, numbered}
 use Rattle.hub_story.specs.Answers.{JoinsWhole}
 use Rattle.hub_story.specs.Folded.{kept_since, kept_with}
 use Rattle.hub_story.proofs.WholeLemmas as kept
-use Rattle.hub_story.proofs.WholeLemmas.{accepts_whole, takes_whole, cancels_whole, orphans_whole, settles_whole, joins_whole}
+use Rattle.hub_story.proofs.WholeLemmas.{accepts_whole, takes_whole, cancels_whole, orphans_whole, settles_whole, joins_whole, open_kept, runs_mine, suit_kept}
+use Rattle.hub_story.proofs.FoldLemmas.{kept_folds}
 use Rattle.replay_world.specs.Worlds.{goes_on}
 use Rattle.replay_world.specs.Replays.{journals_from}
-use Rattle.replay_groups.specs.Keeps.{GroupsView, home_in, whole_of, past_at, AllSound, Keeps, Has, no_journal, group_at, GoesOn, Answers, Touched, left_open}
+use Rattle.replay_groups.specs.Keeps.{GroupsView, home_in, whole_of, past_at, AllSound, Keeps, Has, no_journal, group_at, Known, GoesOn, Answers, Touched, left_open}
 
 -- ---- journals in a row
 
@@ -100,6 +103,64 @@ count_less (past ∷ more) (suc i) new low goes ends =
 is_low : (x : GroupsView) (g : ℕ) (pasts : List (List Entry)) → Has x g → Keeps x pasts → g - 1 < length pasts
 is_low x g pasts has k = let count : length x.groups ≡ length pasts = ap length k.journals ∙ length_from x.boot 1 pasts in omega (arith, count, has.1)
 
+or_none : (a b : Bool) → b ≡ false → (a || b) ≡ a
+or_none true b none = refl
+or_none false b none = none
+
+-- the journal as the group keeps it, and the whole one
+pub here_is : (x : GroupsView) (g : ℕ) (pasts : List (List Entry)) → Has x g → Keeps x pasts → group_at x g ≡ kept_since (home_in x.boot g) (past_at pasts g)
+here_is x g pasts has k =
+    let id : 1 + (g - 1) ≡ g = omega (arith, has.0) in
+    ap (λ (js : List History). slice_index_or js (g - 1) no_journal) k.journals ∙ at_from x.boot 1 pasts (g - 1) (is_low x g pasts has k)
+    ∙ ap (λ (m : ℕ). kept_since (home_in x.boot m) (past_at pasts g)) id
+
+pub sound_is : (x : GroupsView) (g : ℕ) (pasts : List (List Entry)) → Has x g → Keeps x pasts → IsSound (whole_of x.boot g (past_at pasts g))
+sound_is x g pasts has k =
+    let id : 1 + (g - 1) ≡ g = omega (arith, has.0) in
+    subst (λ (m : ℕ). IsSound (whole_of x.boot m (past_at pasts g))) id (sound_from x.boot 1 pasts (g - 1) (is_low x g pasts has k) k.sound)
+
+-- a Shut stands in both or in neither
+pub shut_same : (home : Home) (past : List Entry) → IsSound (since home empty_base past) → list_any is_shut (kept_since home past).past ≡ list_any is_shut past
+shut_same home past s =
+    let f = kept_folds home past s.legal in
+    ap (λ (z : History). list_any is_shut z.past) f.fold_is
+    ∙ sym (or_none (list_any is_shut f.newer) (list_any is_shut f.older) f.open_is)
+    ∙ sym (list_any-append is_shut f.newer f.older) ∙ sym (ap (list_any is_shut) f.past_is)
+
+-- the group goes on by all journals that it keeps, where it does by some
+pub goes_all : (x : GroupsView) (g : ℕ) → Has x g → GoesOn x g → (pasts : List (List Entry)) → Keeps x pasts → list_any is_shut (past_at pasts g) ≡ false
+goes_all x g has goes pasts k =
+    let home = home_in x.boot g in
+    sym (shut_same home (past_at pasts g) (sound_is x g pasts has k))
+    ∙ ap (λ (j : History). list_any is_shut j.past) (sym (here_is x g pasts has k) ∙ here_is x g goes.0 has goes.1)
+    ∙ shut_same home (past_at goes.0 g) (sound_is x g goes.0 has goes.1) ∙ goes.2
+
+pub unshut_at : (x : GroupsView) (g : ℕ) → Has x g → GoesOn x g → list_any is_shut (group_at x g).past ≡ false
+unshut_at x g has goes =
+    ap (λ (j : History). list_any is_shut j.past) (here_is x g goes.0 has goes.1)
+    ∙ shut_same (home_in x.boot g) (past_at goes.0 g) (sound_is x g goes.0 has goes.1) ∙ goes.2
+
+-- where a connection is open, or a call runs
+pub open_goes : (x : GroupsView) (g c : ℕ) → Has x g → Known x g (λ j. is_open j c ≡ true) → GoesOn x g
+open_goes x g c has o = (o.0, o.1, open_unshut (home_in x.boot g) empty_base (past_at o.0 g) c (sound_is x g o.0 has o.1).legal o.2)
+
+pub open_at : (x : GroupsView) (g c : ℕ) → Has x g → Known x g (λ j. is_open j c ≡ true) → is_open (group_at x g) c ≡ true
+open_at x g c has o =
+    ap (λ (j : History). is_open j c) (here_is x g o.0 has o.1) ∙ open_kept (home_in x.boot g) (past_at o.0 g) c (sound_is x g o.0 has o.1) o.2
+
+abbrev pub Ending : ℕ → List Outcome → History → Type 0
+Ending k results j = (runs j k ≡ true) × (suit (slots j k) results ≡ true)
+
+pub runs_goes : (x : GroupsView) (g k : ℕ) (results : List Outcome) → Has x g → Known x g (Ending k results) → GoesOn x g
+runs_goes x g k results has r = (r.0, r.1, runs_unshut (home_in x.boot g) empty_base (past_at r.0 g) k (sound_is x g r.0 has r.1).legal r.2.0)
+
+pub runs_at : (x : GroupsView) (g k : ℕ) (results : List Outcome) → Has x g → Known x g (Ending k results) → Ending k results (group_at x g)
+runs_at x g k results has r =
+    let home = home_in x.boot g in
+    let past = past_at r.0 g in
+    let s = sound_is x g r.0 has r.1 in
+    subst (Ending k results) (sym (here_is x g r.0 has r.1)) (runs_mine home past k s r.2.0, suit_kept home past k results s r.2.0 r.2.1)
+
 abbrev pub Goes : GroupsView → ℕ → (History → History → Type 0) → List (List Entry) → List Entry → Type 0
 Goes x g Says pasts es = Says (whole_of x.boot g (past_at pasts g)) (whole_of x.boot g (es ++ past_at pasts g))
 
@@ -113,13 +174,9 @@ kept_on : (x y : GroupsView) (g : ℕ) (j : History) (n : ℕ) (Says : History �
 kept_on x y g j n Says has goes touched each counts pasts k =
     let groups : y.groups ≡ slice_set x.groups (g - 1) j = ap (λ (z : GroupsView). z.groups) touched.0 in
     let boot : y.boot ≡ x.boot = ap (λ (z : GroupsView). z.boot) touched.0 in
-    let low = is_low x g pasts has k in
     let id : 1 + (g - 1) ≡ g = omega (arith, has.0) in
     let past = past_at pasts g in
-    let here : group_at x g ≡ kept_since (home_in x.boot g) past =
-    ap (λ (js : List History). slice_index_or js (g - 1) no_journal) k.journals ∙ at_from x.boot 1 pasts (g - 1) low ∙ ap (λ (m : ℕ). kept_since (home_in x.boot m) past) id in
-    let sound : IsSound (whole_of x.boot g past) = subst (λ (m : ℕ). IsSound (whole_of x.boot m past)) id (sound_from x.boot 1 pasts (g - 1) low k.sound) in
-    let w = each past sound (goes pasts k) here in
+    let w = each past (sound_is x g pasts has k) (goes_all x g has goes pasts k) (here_is x g pasts has k) in
     let new = w.es ++ past in
     let new_is : kept_since (home_in x.boot g) new ≡ kept_since (home_in x.boot (1 + (g - 1))) new = ap (λ (m : ℕ). kept_since (home_in x.boot m) new) (sym id) in (
       new,
@@ -149,7 +206,7 @@ same_count x g Says has quiet = λ pasts k es says.
 less_count : (x : GroupsView) (g : ℕ) (Says : History → History → Type 0) → Has x g → GoesOn x g
     → ((past es : List Entry) → Says (whole_of x.boot g past) (whole_of x.boot g (es ++ past)) → list_any is_shut (es ++ past) ≡ true) → Counts x g Says (x.open_groups - 1)
 less_count x g Says has goes loud = λ pasts k es says.
-    let less = count_less pasts (g - 1) (es ++ past_at pasts g) (is_low x g pasts has k) (ap not (goes pasts k)) (ap not (loud (past_at pasts g) es says)) in
+    let less = count_less pasts (g - 1) (es ++ past_at pasts g) (is_low x g pasts has k) (ap not (goes_all x g has goes pasts k)) (ap not (loud (past_at pasts g) es says)) in
     omega (arith, k.open_is, less)
 
 -- ---- what doesn't end a group

@@ -53,9 +53,20 @@ no_journal = whole_of 0 0 []
 abbrev pub group_at : GroupsView → ℕ → History
 group_at x g = slice_index_or x.groups (g - 1) no_journal
 
+-- P of the whole journal of the group, where the groups keep these journals
+abbrev pub At : List (List Entry) → GroupsView → ℕ → (History → Type 0) → Type 0
+At pasts x g P = P (whole_of x.boot g (past_at pasts g))
+
+-- what a caller knows of it by some journals that the groups keep, and what is so by any
+abbrev pub Known : GroupsView → ℕ → (History → Type 0) → Type 0
+Known x g P = (pasts : List (List Entry)) × Keeps x pasts × At pasts x g P
+
+abbrev pub Told : GroupsView → ℕ → (History → Type 0) → Type 0
+Told x g P = (pasts : List (List Entry)) → Keeps x pasts → At pasts x g P
+
 -- the group has not ended
 abbrev pub GoesOn : GroupsView → ℕ → Type 0
-GoesOn x g = (pasts : List (List Entry)) → Keeps x pasts → list_any is_shut (past_at pasts g) ≡ false
+GoesOn x g = Known x g (λ j. list_any is_shut j.past ≡ false)
 
 -- The group answers by its whole journal, which then goes on so; and no other group changes.
 abbrev pub Answers : GroupsView → ℕ → (History → History → Type 0) → GroupsView → Type 0

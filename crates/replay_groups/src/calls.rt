@@ -7,7 +7,7 @@ ghost use Rattle.handle_model.specs.declared.entry.Entry.TheVariants.{End, Leave
 ghost use Rattle.group_core.specs.Calls.{Accepts, Takes, Cancels, Orphans, Ends};
 ghost use Rattle.group_core.specs.Conns.{Joins, Leaves, Settles};
 ghost use Rattle.hub_story.specs.Answers.{JoinsWhole};
-ghost use Rattle.replay_groups.specs.Keeps.{Has, GoesOn, Answers, Touched, group_at, left_open};
+ghost use Rattle.replay_groups.specs.Keeps.{Has, Known, GoesOn, Answers, Touched, group_at, left_open};
 
 use crate::groups::Groups;
 use group_core::{AcceptRefusal, Cancelled, Group, JoinRefusal, Orphaned, Rest, Taking};
@@ -182,8 +182,7 @@ impl Groups {
     /// Accepts a call of a connection that is open in the group, or refuses it at a limit.
     pub fn accept(&mut self, id: u32, asked: Asked) -> Result<u32, (Asked, AcceptRefusal)>
         requires there { Has self.old id }
-        requires goes_on { GoesOn self.old id }
-        requires is_open { journal.is_open (group_at self.old id) asked.conn ≡ true }
+        requires is_open { Known self.old id (λ j. journal.is_open j asked.conn ≡ true) }
         requires few { length asked.slots ≤ 4 }
         ensures { Answers self.old id (λ j k. Accepts j asked result k) self.new }
     {
@@ -194,9 +193,7 @@ impl Groups {
     /// no memory.
     pub fn end(&mut self, id: u32, call: u32, results: Outcomes, said: Said) -> Rest
         requires there { Has self.old id }
-        requires goes_on { GoesOn self.old id }
-        requires runs { journal.runs (group_at self.old id) call ≡ true }
-        requires suit { journal.suit (journal.slots (group_at self.old id) call) results ≡ true }
+        requires runs { Known self.old id (λ j. (journal.runs j call ≡ true) × (journal.suit (journal.slots j call) results ≡ true)) }
         ensures { Answers self.old id (λ j k. Settles j (End call results said) result k) self.new }
     {
         self.end_at(id, call, results, said)
@@ -205,8 +202,7 @@ impl Groups {
     /// A connection leaves its group; and the group ends where that is then due. It takes no memory.
     pub fn leave(&mut self, id: u32, conn: u32) -> Rest
         requires there { Has self.old id }
-        requires goes_on { GoesOn self.old id }
-        requires is_open { journal.is_open (group_at self.old id) conn ≡ true }
+        requires is_open { Known self.old id (λ j. journal.is_open j conn ≡ true) }
         ensures { Answers self.old id (λ j k. Settles j (Leave conn) result k) self.new }
     {
         self.leave_at(id, conn)
@@ -224,7 +220,6 @@ impl Groups {
     pub fn join(&mut self, id: u32) -> Result<u32, JoinRefusal>
         requires there { Has self.old id }
         requires goes_on { GoesOn self.old id }
-        requires unshut { list_any journal.is_shut (group_at self.old id).past ≡ false }
         ensures { Answers self.old id (λ j k. JoinsWhole j result k) self.new }
     {
         self.join_at(id)

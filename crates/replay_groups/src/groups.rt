@@ -37,4 +37,18 @@ impl Groups {
             open_groups: 0,
         }
     }
+
+    /// The boot word of the server.
+    pub fn boot(&self) -> u64
+        ensures { result ≡ self.now.boot }
+    {
+        self.boot
+    }
+
+    /// The groups, that of the id 1 first.
+    pub fn as_slice(&self) -> &[Group]
+        ensures { result.now ≡ self.now.groups }
+    {
+        self.groups.as_slice()
+    }
 }

@@ -1,5 +1,8 @@
-use Rattle.replay_groups.proofs.Keeping.{joined_is}
+use Rattle.replay_groups.proofs.Keeping.{joined_is, unshut_at}
 use Rattle.replay_groups.proofs.groups.Groups.join.Goals as goal
+
+pub join_at-requires-clause-unshut : goal.join_at-requires-clause-unshut
+join_at-requires-clause-unshut c = unshut_at c.args.self.now c.args.id c.requires.there c.requires.goes_on
 
 pub returns : goal.returns
 returns c =

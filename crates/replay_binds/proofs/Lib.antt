@@ -1,0 +1,4 @@
+pub mod Asking
+pub mod Joining
+pub mod Newest
+pub mod Worlds
