@@ -2,4 +2,4 @@ use Rattle.replay_laws.proofs.Coming.{only_these}
 use Rattle.replay_laws.proofs.laws.only_these.Goals as goal
 
 pub returns : goal.returns
-returns g c = only_these g.D.Serves.service
+returns g c = λ echo. only_these (g.D.Serves.service echo)
