@@ -1,0 +1,3 @@
+pub mod Moving
+pub mod Binding
+pub mod Ending

@@ -1,0 +1,83 @@
+//! The value.
+ghost use Rattle.std.specs.Prelude.{◌≡◌, ◌++◌, IfOk, OnOk, Option};
+ghost use Rattle.table_form.specs.Tables.{TableForm};
+ghost use Rattle.service_desks.specs.Shows.{shown_by};
+ghost use Rattle.service_desks.specs.Start.{at_start};
+ghost use Rattle.service_desks.specs.State.{Services};
+ghost use Rattle.service_desks.specs.Views.{services};
+ghost use Rattle.served_tables.specs.Served.{tables_in};
+ghost use Rattle.replay_world.specs.Worlds.{World, booted};
+ghost use Rattle.replay_world.specs.Services.{RunsDown};
+ghost use Rattle.replay_world.specs.Replays.{log_text};
+ghost use Rattle.replay_service.specs.Service.{service_of};
+
+use group_core::Rest;
+use replay_binds::log;
+use replay_groups::Groups;
+use replay_service::run_down;
+use rpc_base::NoMemory;
+use served_tables::Served;
+use service_desks::ServiceDesks;
+use std::alloc::Global;
+use table_form::Table;
+
+/// The interfaces, groups and desks of a replay.
+#[derive(Drop)]
+pub struct Realm {
+    pub(crate) alloc: Global,
+    pub(crate) served: Served,
+    pub(crate) groups: Groups,
+    pub(crate) desks: ServiceDesks,
+}
+
+/// Runs down what is left where a group has ended.
+pub(crate) fn settle(desks: &mut ServiceDesks, rest: Rest)
+    ensures down { (echo : Option TableForm) → RunsDown (service_of echo) (services desks.old) rest (services desks.new) }
+    ensures echo { (services desks.new).echo ≡ (services desks.old).echo }
+{
+    match rest {
+        Rest::Stays => {}
+        Rest::Shut(items) => run_down(desks, items),
+    }
+}
+
+impl Realm {
+    ghost use Rattle.replay_realm.specs.Holding.{Holds};
+
+    /// Those of a server with that boot word, with an echo of that interface.
+    ///
+    /// # Errors
+    ///
+    /// `NoMemory` where there is no memory for the tables and the desks.
+    pub fn begin(alloc: Global, boot: u64, echo: Option<&Table>) -> Result<Realm, NoMemory>
+        ensures { IfOk result (λ realm. Holds (shown_by (λ t. t.now) echo.entry) realm (booted boot (at_start (shown_by (λ t. t.now) echo.entry)))) }
+    {
+        let desks = ServiceDesks::new(alloc, echo)?;
+        let served = desks.tables(alloc)?;
+        Ok(Realm {
+            alloc,
+            served,
+            groups: Groups::new(alloc, boot),
+            desks,
+        })
+    }
+
+    /// The interfaces.
+    pub fn served(&self) -> &Served
+        ensures { tables_in result.now ≡ tables_in self.now.served }
+    {
+        &self.served
+    }
+
+    /// Adds the text of all journals, by the groups' ids.
+    ///
+    /// # Errors
+    ///
+    /// `NoMemory` where there is no memory for it.
+    #[tactic(auto, unfolding(replay_world::specs::Replays::log_text))]
+    pub fn log(&self, into: &mut Vec<u8>) -> Result<(), NoMemory>
+        ensures { OnOk result ((echo : Option TableForm) (w : World Services) → Holds echo self.now w → into.new.items ≡ into.old.items ++ log_text w) }
+    {
+        log(self.alloc, &self.groups, into)
+    }
+}
