@@ -1,3 +1,4 @@
 pub mod Moving
 pub mod Binding
+pub mod Requesting
 pub mod Ending

@@ -7,5 +7,7 @@ mod calls;
 mod finish;
 mod leave;
 mod realm;
+mod request;
 
 pub use realm::Realm;
+pub use request::Requested;
