@@ -2,8 +2,8 @@
 # Times calls on a hub by `hub_bench`, each accepted, taken and ended: calls a second by 1, 2 and 4 threads in one group,
 # in groups of one shard and in groups of different shards, with the ratio to one thread; and how the cost of a call of
 # one thread grows with the calls before, with the open groups and with the live handles. A connection leaves after 250
-# calls and joins again, at which the group folds its journal, so the journal stays as long. What it takes to open the
-# groups and to issue the handles is timed alone and taken off. Each time is the least of three.
+# calls and joins again; the one that opened the group stays, so nothing is folded. What it takes to open the groups and
+# to issue the handles is timed alone and taken off. Each time is the least of three.
 set -eu
 top=$(cd "$(dirname "$0")/.." && pwd)
 . "$top/bench/timing.sh"
