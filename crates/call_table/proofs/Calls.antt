@@ -1,5 +1,5 @@
 -- What holds of the calls of a journal, by its base and its entries.
-use Rattle.std.proofs.Common.{◌≡◌, ℕ, ◌+◌, ◌≤◌, ◌<◌, suc, Bool, true, false, ◌&&◌, ◌||◌, not, ◌==◌, nat_lt, nat_le, Option, Some, None, is_some, List, [], ◌∷◌, ◌++◌, reverse, refl, sym, ◌∙◌, ap, subst, arith, inl, inr}
+use Rattle.std.proofs.Common.{◌≡◌, ℕ, ◌+◌, ◌≤◌, ◌<◌, Bool, true, false, ◌&&◌, ◌||◌, not, ◌==◌, nat_lt, nat_le, Option, Some, None, is_some, List, [], ◌∷◌, ◌++◌, reverse, refl, sym, ◌∙◌, ap, subst, arith, inl, inr}
 use Rattle.std.specs.List.{list_any, list_all, filter, find}
 use Rattle.std.proofs.lemmas.Grind.{common_steps}
 use Rattle.std.proofs.lemmas.Bool.{eq-eqb, cases_Bool, false_from_ne_true, ltb-true}
@@ -10,12 +10,12 @@ use Rattle.handle_model.specs.declared.entry.Entry.{Entry}
 use Rattle.handle_model.specs.declared.entry.Entry.TheVariants.{Accept, Take, Deny, Cancel, Orphan, End}
 use Rattle.handle_model.specs.declared.base.BaseCall.{BaseCall}
 use Rattle.handle_model.specs.declared.base.Base.{Base}
-use Rattle.handle_model.specs.Bases.{is_number, is_call, is_taken_call, is_cancelled_call, is_orphaned_call, asked_before, taken_before, numbers_of, taken_calls}
-use Rattle.handle_model.specs.Sound.{rise_above, rise, at_most, is_fresh, IsSoundBase}
-use Rattle.handle_model.specs.History.{History, since, with_entry}
+use Rattle.handle_model.specs.Bases.{is_number, is_call, is_taken_call, is_cancelled_call, is_orphaned_call, numbers_of, taken_calls}
+use Rattle.handle_model.specs.Sound.{rise_above, rise, at_most, is_fresh}
+use Rattle.handle_model.specs.History.{History, since}
 use Rattle.handle_model.specs.Journal.{Legal, ends, asked, accept_count, accepted, taken, has_left, is_taken, is_decided, is_cancelled, is_orphaned, waits, runs}
 use Rattle.handle_model.proofs.Tests.{and_left, and_right, or_right, or_cases}
-use Rattle.handle_model.proofs.Held.{FoundCall, found_call}
+use Rattle.handle_model.proofs.Held.{found_call}
 use Rattle.handle_model.proofs.Reversed.{reverse-cons, list_any-reverse}
 use Rattle.handle_model.proofs.BaseFacts.{asked_before_within, taken_before_within, taken_asked}
 

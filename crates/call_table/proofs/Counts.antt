@@ -11,7 +11,7 @@ use Rattle.handle_model.specs.declared.entry.Entry.TheVariants.{Accept, Take}
 use Rattle.handle_model.specs.declared.base.BaseCall.{BaseCall}
 use Rattle.handle_model.specs.declared.base.Base.{Base}
 use Rattle.handle_model.specs.Slots.{opens}
-use Rattle.handle_model.specs.Bases.{is_number, is_taken_call, numbers_of, taken_calls}
+use Rattle.handle_model.specs.Bases.{is_taken_call, numbers_of, taken_calls}
 use Rattle.handle_model.specs.Sound.{rise, rise_above}
 use Rattle.handle_model.specs.History.{History, since}
 use Rattle.handle_model.specs.Journal.{Legal, asked, accepted, accept_count, taken, is_taken, slots, waits, runs, waiting, running, is_empty}

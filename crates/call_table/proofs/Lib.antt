@@ -1,10 +1,14 @@
+pub mod Alone
 pub mod Calls
+pub mod Counted
 pub mod Counts
 pub mod Follows
 pub mod Found
 pub mod Marks
 pub mod Order
 pub mod Owed
+pub mod Search
 pub mod Started
 pub mod Steps
 pub mod Stored
+pub mod Tallied

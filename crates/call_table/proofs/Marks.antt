@@ -12,12 +12,12 @@ use Rattle.std.proofs.lemmas.List.Quantifiers.{position-Some}
 use Rattle.handle_model.specs.declared.entry.Slot.{Slot}
 use Rattle.handle_model.specs.Journal.{least, lesser}
 use Rattle.call_table.specs.declared.row.Row.{Row}
-use Rattle.call_table.specs.Rows.{is_call, is_below, is_waiting, waits_at, runs_at, row_at, slots_in, slots_at, over, calls, taken, at_call, with_start, no_cookies}
+use Rattle.call_table.specs.Rows.{is_call, is_other, is_below, is_waiting, waits_at, runs_at, row_at, slots_in, slots_at, over, calls, taken, at_call, with_start, no_cookies}
 use Rattle.call_table.specs.Kept.{Rises, AllFew, IsRow, IsKept, blank}
 
 -- PLACES
 
-no_row : Row
+pub no_row : Row
 no_row = record { call = 0; conn = 0; slots = []; place = 0; runs = false; cancelled = false; orphaned = false }
 
 pub is_place : (rows : List Row) (k i : ℕ) → position (is_call k) rows ≡ Some i → IsRow rows k i
@@ -72,23 +72,33 @@ first_least low p (x ∷ rows) r =
 
 -- MARKS
 
-head_call : (k : ℕ) (x y : Row) (rows : List Row) → IsRow (x ∷ rows) k 0 → is_call k x ≡ true
+pub head_call : (k : ℕ) (x y : Row) (rows : List Row) → IsRow (x ∷ rows) k 0 → is_call k x ≡ true
 head_call k x y rows w = eq-eqb x.call k (w.here y)
 
-tail_row : (k i : ℕ) (x : Row) (rows : List Row) → IsRow (x ∷ rows) k (suc i) → IsRow rows k i
+pub tail_row : (k i : ℕ) (x : Row) (rows : List Row) → IsRow (x ∷ rows) k (suc i) → IsRow rows k i
 tail_row k i x rows w = let lt = w.within in record { within = omega arith; here = w.here }
 
-rises_at : (low : ℕ) (rows : List Row) (j : ℕ) (d : Row) → Rises low rows → j < length rows → low ≤ (get_or rows j d).call
+pub rises_at : (low : ℕ) (rows : List Row) (j : ℕ) (d : Row) → Rises low rows → j < length rows → low ≤ (get_or rows j d).call
 rises_at low [] j d r lt = absurd (omega arith)
 rises_at low (i ∷ rows) zero d r lt = r.0
 rises_at low (i ∷ rows) (suc j) d r lt = let more = rises_at (i.call + 1) rows j d r.2 (omega arith) in let first = r.0 in omega arith
 
 -- the rows before it have other numbers
-earlier : (low k i : ℕ) (x : Row) (rows : List Row) → Rises low (x ∷ rows) → IsRow rows k i → is_call k x ≡ false
+pub earlier : (low k i : ℕ) (x : Row) (rows : List Row) → Rises low (x ∷ rows) → IsRow rows k i → is_call k x ≡ false
 earlier low k i x rows r w =
     let above = rises_at (x.call + 1) rows i no_row r.2 w.within in
     let here = w.here no_row in
     elim (eqb_tells x.call k) [ inl e ↦ let same = e.1 in absurd (omega arith) | inr e ↦ e.0 ]
+
+-- the rows of other calls stay
+pub others_kept : (low k : ℕ) (rows : List Row) → Rises low rows → k < low → filter (is_other k) rows ≡ rows
+others_kept low k [] r lt = refl
+others_kept low k (x ∷ rows) r lt =
+    let first = r.0 in
+    elim (cases_Bool (is_call k x)) [
+      | inl t ↦ let same = eqb-true x.call k t in absurd (omega arith)
+      | inr t ↦ rw (t, others_kept (x.call + 1) k rows r.2 (omega arith)) refl
+    ]
 
 pub above_kept : (low k : ℕ) (f : Row → Row) (rows : List Row) → Rises low rows → k < low → map (at_call k f) rows ≡ rows
 above_kept low k f [] r lt = refl
@@ -195,7 +205,7 @@ rises_filter p low (x ∷ rows) r =
       | inr t ↦ rw t (rises_less low (x.call + 1) (filter p rows) (omega arith) rest)
     ]
 
-few_filter : (p : Row → Bool) (rows : List Row) → AllFew rows → AllFew (filter p rows)
+pub few_filter : (p : Row → Bool) (rows : List Row) → AllFew rows → AllFew (filter p rows)
 few_filter p [] w = tt
 few_filter p (x ∷ rows) w = elim (cases_Bool (p x)) [ inl t ↦ rw t (w.0, few_filter p rows w.1) | inr t ↦ rw t (few_filter p rows w.1) ]
 

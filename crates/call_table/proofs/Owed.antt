@@ -1,6 +1,6 @@
 -- What is owed of the calls after an edit.
-use Rattle.std.proofs.Common.{◌≡◌, ℕ, ◌+◌, ◌<◌, ◌≤◌, ◌^◌, Bool, true, false, ◌&&◌, not, if◌then◌else◌, Option, Some, None, List, [], ◌∷◌, ◌++◌, length, map, refl, sym, ◌∙◌, ap, subst, arith, inl, inr}
-use Rattle.std.specs.List.{list_any, filter}
+use Rattle.std.proofs.Common.{◌≡◌, ℕ, ◌+◌, ◌≤◌, Bool, true, false, Option, Some, None, List, [], ◌∷◌, ◌++◌, map, refl, sym, ◌∙◌, ap, subst, arith, inl, inr}
+use Rattle.std.specs.List.{filter}
 use Rattle.std.proofs.lemmas.Grind.{common_steps}
 use Rattle.std.proofs.lemmas.Bool.{cases_Bool, eqb-true}
 use Rattle.handle_model.specs.declared.entry.Home.{Home}
@@ -12,12 +12,12 @@ use Rattle.handle_model.specs.History.{History, since, with_entry, size}
 use Rattle.handle_model.specs.Journal.{Legal, asked, waits, runs, is_decided, is_cancelled, is_orphaned}
 use Rattle.handle_model.proofs.Tests.{or_right}
 use Rattle.call_table.specs.declared.row.Row.{Row}
-use Rattle.call_table.specs.Rows.{is_call, is_other, row_at, at_call, taken, cancelled, orphaned, with_start, with_cancel, with_orphan, without, left, stays, owed_by, owed_of}
+use Rattle.call_table.specs.Rows.{is_call, is_other, row_at, at_call, taken, cancelled, orphaned, without, stays, owed_by, owed_of}
 use Rattle.call_table.specs.Kept.{Rises}
-use Rattle.call_table.specs.Shown.{call_row, row_as, row_in, rows_of}
+use Rattle.call_table.specs.Shown.{call_row, row_as, rows_of}
 use Rattle.call_table.specs.Laws.{left_by, speaks_of_running}
 use Rattle.call_table.proofs.Calls.{waits_idle, cancels_decided, orphans_decided, runs_asked}
-use Rattle.call_table.proofs.Marks.{Marks, above_kept, rises_marked, rises_filter, rises_push}
+use Rattle.call_table.proofs.Marks.{Marks, above_kept, others_kept, rises_marked, rises_filter, rises_push}
 use Rattle.call_table.proofs.Steps.{row_there}
 use Rattle.call_table.proofs.Found.{row_shown, over_shown}
 use Rattle.call_table.proofs.Follows.{follows}
@@ -62,16 +62,6 @@ said_by f (Some r) = f r
 pub owed_append : (rows : List Row) (r : Row) → owed_of (rows ++ r ∷ []) ≡ owed_of rows + owed_by r
 owed_append [] r = omega arith
 owed_append (x ∷ rows) r = let more = owed_append rows r in omega (arith, more)
-
--- the rows of other calls stay
-others_kept : (low k : ℕ) (rows : List Row) → Rises low rows → k < low → filter (is_other k) rows ≡ rows
-others_kept low k [] r lt = refl
-others_kept low k (x ∷ rows) r lt =
-    let first = r.0 in
-    elim (cases_Bool (is_call k x)) [
-      | inl t ↦ let same = eqb-true x.call k t in absurd (omega arith)
-      | inr t ↦ rw (t, others_kept (x.call + 1) k rows r.2 (omega arith)) refl
-    ]
 
 -- one call is marked
 pub owed_marked : (f : Row → Row) (low : ℕ) (rows : List Row) (k : ℕ) (r : Row) → Rises low rows → row_at rows k ≡ Some r → owed_of (map (at_call k f) rows) + owed_by r ≡ owed_of rows + owed_by (f r)

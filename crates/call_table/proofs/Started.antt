@@ -1,10 +1,10 @@
 -- The rows of a base.
-use Rattle.std.proofs.Common.{◌≡◌, ℕ, ◌+◌, ◌≤◌, ◌<◌, ◌^◌, Bool, true, false, ◌&&◌, ◌||◌, not, ◌==◌, nat_le, nat_lt, Option, Some, List, [], ◌∷◌, length, map, reverse, refl, sym, ◌∙◌, ap, arith, inl, inr}
+use Rattle.std.proofs.Common.{◌≡◌, ℕ, ◌+◌, ◌≤◌, ◌<◌, ◌^◌, Bool, true, false, ◌&&◌, ◌||◌, ◌==◌, nat_le, nat_lt, Some, List, [], ◌∷◌, length, map, refl, ◌∙◌, ap, arith, inl, inr}
 use Rattle.std.specs.List.{list_any, list_all, filter_map, find}
 use Rattle.std.specs.Option.{option_map}
 use Rattle.std.proofs.lemmas.Grind.{common_steps}
 use Rattle.std.proofs.lemmas.List.{reverse-reverse}
-use Rattle.std.proofs.lemmas.Bool.{cases_Bool, false_from_ne_true, ltb-true, lt-ltb, eqb-true}
+use Rattle.std.proofs.lemmas.Bool.{cases_Bool, false_from_ne_true, ltb-true, lt-ltb}
 use Rattle.std.proofs.lemmas.Bool.Decides.{eqb_tells}
 use Rattle.handle_model.specs.declared.entry.Home.{Home}
 use Rattle.handle_model.specs.declared.base.BaseCall.{BaseCall}
@@ -15,7 +15,6 @@ use Rattle.handle_model.specs.History.{History, since}
 use Rattle.handle_model.specs.Journal.{asked}
 use Rattle.handle_model.proofs.Tests.{and_left, and_right}
 use Rattle.handle_model.proofs.BaseFacts.{above_least, rise_later}
-use Rattle.call_table.specs.declared.row.Row.{Row}
 use Rattle.call_table.specs.Kept.{Rises, AllFew}
 use Rattle.call_table.specs.Shown.{row_as, row_in, rows_of, base_row, base_rows}
 use Rattle.call_table.proofs.Calls.{self}

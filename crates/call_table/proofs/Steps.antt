@@ -1,27 +1,25 @@
 -- What each entry does to the rows.
-use Rattle.std.proofs.Common.{◌≡◌, ℕ, ◌+◌, ◌≤◌, ◌<◌, Bool, true, false, ◌&&◌, ◌||◌, not, ◌==◌, Option, Some, None, if◌then◌else◌, List, [], ◌∷◌, ◌++◌, length, map, reverse, refl, sym, ◌∙◌, ap, subst, arith, inl, inr}
+use Rattle.std.proofs.Common.{◌≡◌, ℕ, ◌+◌, ◌<◌, Bool, true, false, ◌&&◌, ◌||◌, not, ◌==◌, Option, Some, None, if◌then◌else◌, List, [], ◌∷◌, ◌++◌, map, reverse, refl, sym, ◌∙◌, ap, subst, arith, inl, inr}
 use Rattle.std.specs.List.{list_any, filter, filter_map, cons_option}
 use Rattle.std.specs.Option.{option_map}
 use Rattle.std.proofs.lemmas.Grind.{common_steps}
 use Rattle.std.proofs.lemmas.Bool.{eq-eqb, cases_Bool, false_from_ne_true}
 use Rattle.std.proofs.lemmas.Bool.Decides.{eqb_tells}
-use Rattle.handle_model.specs.declared.entry.Home.{Home}
 use Rattle.handle_model.specs.declared.entry.Asked.{Asked}
 use Rattle.handle_model.specs.declared.entry.Outcome.{Outcome}
 use Rattle.handle_model.specs.declared.entry.Said.{Said}
 use Rattle.handle_model.specs.declared.entry.DueItem.{DueItem}
-use Rattle.handle_model.specs.declared.entry.Entry.{Entry}
 use Rattle.handle_model.specs.declared.entry.Entry.TheVariants.{Join, Accept, Take, Deny, Cancel, Orphan, End, Leave, Shut}
 use Rattle.handle_model.specs.History.{History, with_entry, size}
 use Rattle.handle_model.specs.Journal.{Legal, has_joined, leaves, ends, is_open, asked, accepted, accept_count, is_taken, is_decided, is_cancelled, is_orphaned, waits, runs}
 use Rattle.handle_model.specs.Bases.{is_number}
-use Rattle.handle_model.proofs.Tests.{and_left, and_right, or_right}
+use Rattle.handle_model.proofs.Tests.{and_right, or_right}
 use Rattle.handle_model.proofs.Reversed.{reverse-cons, list_any-reverse}
 use Rattle.std.proofs.lemmas.List.Elements.{filter_map-append}
 use Rattle.call_table.specs.declared.row.Row.{Row}
 use Rattle.call_table.specs.Rows.{is_other, stays, taken, cancelled, orphaned, at_call, with_start, with_cancel, with_orphan, without, left}
 use Rattle.call_table.specs.Shown.{place_of, call_row, row_as, row_in, rows_of}
-use Rattle.call_table.proofs.Calls.{self, turned, taken_decided, cancels_decided, orphans_decided, runs_taken, waits_idle, ended_taken, accepted_falls, falls_within, decided_within}
+use Rattle.call_table.proofs.Calls.{self, turned, taken_decided, cancels_decided, orphans_decided, waits_idle, ended_taken, accepted_falls, falls_within, decided_within}
 
 -- LISTS
 

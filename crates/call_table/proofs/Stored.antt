@@ -1,9 +1,8 @@
 -- What a call asked stands in the base, or at the place of its Accept.
-use Rattle.std.proofs.Common.{◌≡◌, ℕ, ◌+◌, ◌-◌, ◌≤◌, ◌<◌, suc, Bool, true, false, ◌||◌, ◌==◌, Option, Some, None, if◌then◌else◌, List, [], ◌∷◌, ◌++◌, length, reverse, get_or, refl, sym, ◌∙◌, ap, subst, arith, inl, inr}
+use Rattle.std.proofs.Common.{◌≡◌, ℕ, ◌+◌, ◌-◌, ◌≤◌, ◌<◌, ◌||◌, Option, Some, None, List, [], ◌∷◌, ◌++◌, length, reverse, refl, sym, ◌∙◌, ap, subst, arith, inl, inr}
 use Rattle.std.specs.Prelude.{slice_get}
 use Rattle.std.specs.List.{filter_map, cons_option}
-use Rattle.std.specs.Option.{option_or, option_map}
-use Rattle.std.proofs.lemmas.Grind.{common_steps}
+use Rattle.std.specs.Option.{option_or, option_and_then}
 use Rattle.std.proofs.lemmas.Bool.{cases_Bool}
 use Rattle.std.proofs.lemmas.Bool.Decides.{eqb_tells}
 use Rattle.std.proofs.lemmas.List.{length-append, length-reverse, reverse-reverse}
@@ -23,8 +22,10 @@ use Rattle.handle_model.specs.Journal.{Legal, asked, accepted, accept_count, wai
 use Rattle.handle_model.proofs.Reversed.{reverse-cons}
 use Rattle.handle_model.proofs.BaseFacts.{asked_before_within}
 use Rattle.call_table.specs.declared.row.Row.{Row}
-use Rattle.call_table.specs.Shown.{place_since, place_of, row_as, row_in, rows_of}
-use Rattle.call_table.specs.Based.{asked_in, call_with, stored, stored_call, stored_calls}
+use Rattle.call_table.specs.Shown.{place_since, row_as, row_in, rows_of}
+use Rattle.call_table.specs.Based.{asked_in, asked_at, stored, stored_call, stored_calls}
+use Rattle.call_table.specs.Laws.{open_asked}
+use Rattle.call_table.proofs.Found.{row_shown}
 
 -- ONE ENTRY MORE
 
@@ -117,3 +118,27 @@ pub calls_shown : (home : Home) (base : Base) (entries : List Entry) → Legal (
 calls_shown home base entries l =
     let j : History = history_of home base entries in
     subst (λ es. stored_calls base es (rows_of j) ≡ open_calls j) (reverse-reverse entries) (then_all base (reverse (reverse entries)) (row_in j) (call_in j) (reverse (accepted j)) (λ k. stored_one home base entries k (asked j k) l refl))
+
+-- ONE CALL
+
+asked_one : (home : Home) (base : Base) (entries : List Entry) (k : ℕ) (o : Option Asked) → Legal (history_of home base entries) → asked (history_of home base entries) k ≡ o → option_and_then (stored base (reverse (reverse entries))) (row_as (history_of home base entries) k o) ≡ open_asked (history_of home base entries) k
+asked_one home base entries k None l e =
+    let j : History = history_of home base entries in
+    elim (cases_Bool (waits j k || runs j k)) [
+      | inl c ↦ rw (c, e) refl
+      | inr c ↦ rw c refl
+    ]
+asked_one home base entries k (Some a) l e =
+    let j : History = history_of home base entries in
+    let f = found_since home base (reverse entries) k a l e in
+    elim (cases_Bool (waits j k || runs j k)) [
+      | inl c ↦ rw (c, f, e) refl
+      | inr c ↦ rw c refl
+    ]
+
+pub asked_shown : (home : Home) (base : Base) (entries : List Entry) (k : ℕ) → Legal (history_of home base entries) → asked_at base entries (rows_of (history_of home base entries)) k ≡ open_asked (history_of home base entries) k
+asked_shown home base entries k l =
+    let j : History = history_of home base entries in
+    let there : asked_at base (reverse (reverse entries)) (rows_of j) k ≡ open_asked j k =
+    ap (option_and_then (stored base (reverse (reverse entries)))) (row_shown j k) ∙ asked_one home base entries k (asked j k) l refl in
+    subst (λ es. asked_at base es (rows_of j) k ≡ open_asked j k) (reverse-reverse entries) there

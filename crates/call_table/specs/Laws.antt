@@ -1,19 +1,20 @@
 -- What the table of a legal journal shows: its calls are those of the journal that wait or run.
-use Rattle.std.specs.Prelude.{◌≡◌, ℕ, ◌+◌, ◌<◌, Bool, true, false, not, ◌||◌, if◌then◌else◌, List, [], ◌∷◌, ◌++◌, length}
+use Rattle.std.specs.Prelude.{◌≡◌, ℕ, ◌+◌, ◌<◌, Bool, true, false, not, ◌||◌, Option, None, if◌then◌else◌, List, [], ◌∷◌, ◌++◌, length}
 use Rattle.std.specs.List.{list_any}
 use Rattle.handle_model.specs.declared.entry.Home.{Home}
+use Rattle.handle_model.specs.declared.entry.Asked.{Asked}
 use Rattle.handle_model.specs.declared.entry.Entry.{Entry}
 use Rattle.handle_model.specs.declared.entry.Entry.TheVariants.{Join, Accept, Take, Deny, Cancel, Orphan, End, Leave, Shut}
 use Rattle.handle_model.specs.declared.base.Base.{Base}
 use Rattle.handle_model.specs.History.{History, since, with_entry, history_of, size}
-use Rattle.handle_model.specs.Journal.{Legal, accept_count, waits, runs, waiting, running, slots, blocker, is_empty}
+use Rattle.handle_model.specs.Journal.{Legal, asked, accept_count, waits, runs, waiting, running, slots, blocker, is_empty}
 use Rattle.handle_model.specs.Limits.{openings}
 use Rattle.handle_model.specs.Sound.{IsSoundBase}
 use Rattle.handle_model.specs.Folds.{open_calls}
 use Rattle.call_table.specs.declared.row.Row.{Row}
 use Rattle.call_table.specs.Rows.{row_at, waits_at, runs_at, slots_at, over, conflict_of, is_running, openings_of, with_start, with_cancel, with_orphan, without, left}
 use Rattle.call_table.specs.Shown.{row_in, rows_of, base_rows}
-use Rattle.call_table.specs.Based.{stored_calls}
+use Rattle.call_table.specs.Based.{asked_at, stored_calls}
 
 -- the rows of a base are those of its calls
 abbrev pub ShowsBase : Type 0
@@ -74,3 +75,12 @@ abbrev pub ShowsCalls : Type 0
 ShowsCalls =
     (home : Home) (base : Base) (entries : List Entry) → Legal (history_of home base entries)
     → stored_calls base entries (rows_of (history_of home base entries)) ≡ open_calls (history_of home base entries)
+
+-- and what a call asked that waits or runs is what its Accept says
+abbrev pub open_asked : History → ℕ → Option Asked
+open_asked j k = if waits j k || runs j k then asked j k else None
+
+abbrev pub ShowsAsked : Type 0
+ShowsAsked =
+    (home : Home) (base : Base) (entries : List Entry) (k : ℕ) → Legal (history_of home base entries)
+    → asked_at base entries (rows_of (history_of home base entries)) k ≡ open_asked (history_of home base entries) k

@@ -3,3 +3,5 @@ pub mod Kept
 pub mod Shown
 pub mod Based
 pub mod Laws
+pub mod Sought
+pub mod Tally

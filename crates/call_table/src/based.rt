@@ -39,7 +39,7 @@ pub fn stored_calls(
 }
 
 /// What the call of the row asked.
-fn stored<'a>(base: &'a Base, entries: &'a [Entry], row: &Row) -> Option<&'a Asked>
+pub fn stored<'a>(base: &'a Base, entries: &'a [Entry], row: &Row) -> Option<&'a Asked>
     ensures { option_copied result ≡ spec.stored base.now entries.now row.now }
 {
     match base_call(base.calls.as_slice(), row.call) {

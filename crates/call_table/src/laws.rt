@@ -1,5 +1,5 @@
 //! What the table of a legal journal shows, each law the contract of a function that does nothing.
-ghost use Rattle.call_table.specs.Laws.{ShowsBase, ShowsRow, ShowsStage, ShowsSlots, ShowsBlocker, ShowsCounts, FollowsEntries, NumbersRise, ShowsCalls};
+ghost use Rattle.call_table.specs.Laws.{ShowsBase, ShowsRow, ShowsStage, ShowsSlots, ShowsBlocker, ShowsCounts, FollowsEntries, NumbersRise, ShowsCalls, ShowsAsked};
 
 /// The rows of a base are those of its calls.
 pub fn shows_base()
@@ -44,4 +44,9 @@ pub fn numbers_rise()
 /// The calls, with what they asked, are those of the base that the journal gives.
 pub fn shows_calls()
     ensures { ShowsCalls }
+{}
+
+/// What a call asked that waits or runs is found by its row.
+pub fn shows_asked()
+    ensures { ShowsAsked }
 {}

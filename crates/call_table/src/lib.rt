@@ -9,12 +9,15 @@ mod laws;
 mod lists;
 mod row;
 mod rows;
+mod seek;
 mod table;
+mod tally;
+mod uses;
 
 pub use held::OpenRows;
 pub use laws::{
-    follows_entries, numbers_rise, shows_base, shows_blocker, shows_calls, shows_counts, shows_row,
-    shows_slots, shows_stage,
+    follows_entries, numbers_rise, shows_asked, shows_base, shows_blocker, shows_calls,
+    shows_counts, shows_row, shows_slots, shows_stage,
 };
 pub use row::{CallSlots, Row};
 pub use table::CallTable;

@@ -1,9 +1,9 @@
 //! The rows as a slice.
 ghost use Rattle.std.specs.Prelude.{◌≡◌, true, IfOk};
-ghost use Rattle.std.specs.List.{list_any, list_all, position};
+ghost use Rattle.std.specs.List.{list_all};
 ghost use Rattle.handle_model.specs.Sound.{is_within};
 ghost use Rattle.call_table.specs.Shown.{base_rows};
-ghost use Rattle.call_table.specs.Kept.{IsRow, Rises};
+ghost use Rattle.call_table.specs.Kept.{Rises};
 ghost use Rattle.call_table.specs.Rows as spec;
 
 use crate::row::{CallSlots, Row};
@@ -30,35 +30,6 @@ pub fn rows_of(alloc: Global, base: &Base) -> Result<Vec<Row>, NoMemory>
         })?;
     }
     Ok(rows)
-}
-
-/// The place of the call's row.
-pub fn place(rows: &[Row], call: u32) -> usize
-    requires { list_any (spec.is_call call) rows.now ≡ true }
-    ensures { IsRow rows.now call result }
-{
-    match position_of(rows, call) {
-        Some(at) => at,
-        None => unreachable!(),
-    }
-}
-
-fn position_of(rows: &[Row], call: u32) -> Option<usize>
-    ensures { result ≡ position (spec.is_call call) rows.now }
-{
-    rows.iter().position(|row| row.call == call)
-}
-
-/// How many handles the calls may issue.
-#[tactic(auto, using(handle_model::proofs::Rest::resting))]
-pub fn openings_of(rows: &[Row]) -> usize
-    ensures { result ≡ spec.openings_of rows.now }
-{
-    let mut total = 0;
-    for row in rows {
-        total += row.slots.openings();
-    }
-    total
 }
 
 /// How many entries may still come of the calls.

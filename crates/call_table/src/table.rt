@@ -5,16 +5,18 @@ ghost use Rattle.handle_model.specs.Bases.{numbers_of};
 ghost use Rattle.handle_model.specs.Sound.{rise, at_most, is_within};
 ghost use Rattle.handle_model.specs.Journal.{least};
 ghost use Rattle.call_table.specs.Shown.{base_rows};
-ghost use Rattle.call_table.specs.Based.{stored_calls};
+ghost use Rattle.call_table.specs.Based.{asked_at, stored_calls};
 ghost use Rattle.std.specs.Option.{option_copied};
 
-use crate::based::{least_place, stored_calls};
+use crate::based::{least_place, stored, stored_calls};
 use crate::blocks::blocker_of;
 use crate::held::OpenRows;
 use crate::lists::{cut, fill};
 use crate::row::{CallSlots, Row};
-use crate::rows::{all_below, openings_of, owed_of, place, rows_of};
-use handle_model::{Base, BaseCalls, Cookies, Entry, Slot, Slots};
+use crate::rows::{all_below, owed_of, rows_of};
+use crate::seek::{place, row_of, seek};
+use crate::tally::Tally;
+use handle_model::{Asked, Base, BaseCalls, Cookies, Entry, Slot, Slots};
 use rpc_base::{Items, NoMemory};
 use std::alloc::Global;
 use std::marker::Model;
@@ -25,18 +27,20 @@ pub struct CallTable {
     rows: Vec<Row>,
     lists: Vec<Cookies>,
     room: usize,
+    tally: Tally,
     alloc: Global,
 }
 
 impl Model for CallTable {
     ghost use Rattle.call_table.specs.Rows.{OpenCalls};
     ghost use Rattle.call_table.specs.Kept.{IsKept};
+    ghost use Rattle.call_table.specs.Tally.{IsTally};
 
     ghost Value = { OpenCalls };
 
     ghost view = { λ t. record { rows = t.rows.items; room = t.room } };
 
-    ghost invariant = { λ t. IsKept t.rows t.lists t.room };
+    ghost invariant = { λ t. IsKept t.rows t.lists t.room × IsTally t.rows.items t.tally };
 }
 
 impl OpenRows for CallTable {
@@ -70,6 +74,7 @@ impl CallTable {
             rows: Vec::new(alloc),
             lists: Vec::new(alloc),
             room: 0,
+            tally: Tally::new(),
             alloc,
         }
     }
@@ -85,10 +90,12 @@ impl CallTable {
         let rows = rows_of(alloc, base)?;
         let mut lists = Vec::new(alloc);
         fill(alloc, &mut lists, rows.len())?;
+        let tally = Tally::of(rows.as_slice());
         Ok(CallTable {
             rows,
             lists,
             room: 0,
+            tally,
             alloc,
         })
     }
@@ -116,7 +123,7 @@ impl CallTable {
     pub fn row(&self, call: u32) -> Option<&Row>
         ensures { option_copied result ≡ spec.row_at self.now.rows call }
     {
-        self.rows.iter().find(|row| row.call == call)
+        row_of(self.rows.as_slice(), call)
     }
 
     /// The call that stands in the way of a waiting call: the least running one that uses a handle
@@ -127,7 +134,11 @@ impl CallTable {
     {
         let at = place(self.rows.as_slice(), call);
         let row = &self.rows[at];
-        blocker_of(row.slots.as_slice(), call, self.rows.as_slice())
+        let slots = row.slots.as_slice();
+        if self.tally.is_alone(slots) {
+            return None;
+        }
+        blocker_of(slots, call, self.rows.as_slice())
     }
 
     /// How many calls wait or run.
@@ -148,7 +159,7 @@ impl CallTable {
     pub fn any_runs(&self) -> bool
         ensures { result ≡ list_any spec.is_running self.now.rows }
     {
-        self.rows.iter().any(|row| row.runs)
+        self.tally.running != 0
     }
 
     /// Whether their numbers are all below this one.
@@ -178,6 +189,16 @@ impl CallTable {
         stored_calls(alloc, base, entries, self.rows.as_slice())
     }
 
+    /// What a call asked: it stands in that base, or in its Accept among the entries since then.
+    pub fn asked<'a>(&self, base: &'a Base, entries: &'a [Entry], call: u32) -> Option<&'a Asked>
+        ensures { option_copied result ≡ asked_at base.now entries.now self.now.rows call }
+    {
+        match self.row(call) {
+            Some(row) => stored(base, entries, row),
+            None => None,
+        }
+    }
+
     /// How many entries may still come of the waiting and running calls.
     pub fn owed(&self) -> usize
         ensures { result ≡ spec.owed_of self.now.rows }
@@ -189,7 +210,7 @@ impl CallTable {
     pub fn openings(&self) -> usize
         ensures { result ≡ spec.openings_of self.now.rows }
     {
-        openings_of(self.rows.as_slice())
+        self.tally.openings
     }
 
     /// A call waits from now on. Its Accept stands at that place.
@@ -201,17 +222,17 @@ impl CallTable {
         ensures room { self.new.room + 1 ≡ self.old.room }
     {
         self.room -= 1;
-        self.rows
-            .push(Row {
-                call,
-                conn,
-                slots: CallSlots::of(slots.as_slice()),
-                place,
-                runs: false,
-                cancelled: false,
-                orphaned: false,
-            })
-            .unwrap();
+        let row = Row {
+            call,
+            conn,
+            slots: CallSlots::of(slots.as_slice()),
+            place,
+            runs: false,
+            cancelled: false,
+            orphaned: false,
+        };
+        self.tally.enter(&row);
+        self.rows.push(row).unwrap();
     }
 
     /// A waiting call runs from now on. The answer has a place for the cookie of each of its slots.
@@ -224,6 +245,7 @@ impl CallTable {
         let at = place(self.rows.as_slice(), call);
         let row = &mut self.rows[at];
         row.runs = true;
+        self.tally.running += 1;
         let count = row.slots.as_slice().len();
         cut(self.lists.pop().unwrap(), count)
     }
@@ -255,7 +277,13 @@ impl CallTable {
         ensures rows { self.new.rows ≡ spec.without call self.old.rows }
         ensures room { self.new.room ≡ self.old.room }
     {
-        self.rows.retain(|row| row.call != call);
+        match seek(self.rows.as_slice(), call) {
+            Some(at) => {
+                let row = self.rows.remove(at);
+                self.tally.leave(&row);
+            }
+            None => {}
+        }
     }
 
     /// The waiting calls of a connection wait no more. The answer is how many entries might have come
@@ -267,6 +295,7 @@ impl CallTable {
     {
         let before = owed_of(self.rows.as_slice());
         self.rows.retain(|row| row.stays(conn));
+        self.tally = Tally::of(self.rows.as_slice());
         before - owed_of(self.rows.as_slice())
     }
 }

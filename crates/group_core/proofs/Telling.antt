@@ -16,6 +16,9 @@ use Rattle.handle_table.proofs.Named.{fault_shown, cookies_shown}
 use Rattle.call_table.specs.declared.row.Row.{Row}
 use Rattle.call_table.specs.Rows.{OpenCalls, row_at, slots_in, slots_at, conflict_of, waits_at, runs_at, no_cookies}
 use Rattle.call_table.specs.Shown.{row_in, row_as, call_row}
+use Rattle.call_table.specs.Based.{asked_at}
+use Rattle.call_table.specs.Laws.{open_asked}
+use Rattle.call_table.proofs.Stored.{asked_shown}
 use Rattle.call_table.proofs.Found.{row_shown, slots_shown, waits_shown, runs_shown, conflict_shown}
 use Rattle.group_core.specs.declared.counts.Counts.{Counts}
 use Rattle.group_core.specs.declared.judge.Judged.{Judged}
@@ -170,3 +173,8 @@ few_there home log handles calls counts k kept =
     let j = logged home log in
     subst (λ (o : Option Row). length (slots_in o) ≤ 4) (sym (row_is home log handles calls counts k kept))
     (few_row j k (asked j k) refl (slots_few j.home j.base j.past k kept.sound.legal))
+
+-- what a call asked is found by its row
+pub asked_there : (home : Home) (log : Logged) (handles : Handles) (calls : OpenCalls) (counts : Counts) (k : ℕ) → IsKept home log handles calls counts → asked_at log.base log.entries calls.rows k ≡ open_asked (logged home log) k
+asked_there home log handles calls counts k kept =
+    ap (λ (rs : List Row). asked_at log.base log.entries rs k) kept.shows.rows_are ∙ asked_shown home log.base log.entries k kept.sound.legal

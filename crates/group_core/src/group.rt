@@ -1,9 +1,11 @@
 //! A group.
 ghost use Rattle.std.specs.Prelude.{◌≡◌, ◌||◌, [], true, false, reverse, IfOk};
 ghost use Rattle.std.specs.List.{list_any};
+ghost use Rattle.std.specs.Option.{option_copied};
 ghost use Rattle.handle_model.specs.Journal as journal;
 ghost use Rattle.handle_model.specs.Bases.{empty_base};
 ghost use Rattle.handle_model.specs.History.{IsSound, since};
+ghost use Rattle.call_table.specs.Laws.{open_asked};
 ghost use Rattle.journal_folds.specs.Laws.{BaseBegun};
 ghost use Rattle.group_core.specs.Stages as stages;
 
@@ -14,7 +16,7 @@ use crate::journal::Journal;
 use crate::judge::{Judged, entered, judge, judge_cancel, judge_orphan, stage_of};
 use crate::log::Log;
 use call_table::CallTable;
-use handle_model::{Base, Entry, Home, JoinLimit, Slot};
+use handle_model::{Asked, Base, Entry, Home, JoinLimit, Slot};
 use handle_table::HandleTable;
 use journal_tables::ConnTable;
 use rpc_base::NoMemory;
@@ -206,6 +208,15 @@ impl Group {
             Some(row) => row.slots.as_slice(),
             None => &[],
         }
+    }
+
+    /// What a call asked that waits or runs, and None where it is over. It takes no memory, and of the
+    /// entries it reads the Accept of the call alone.
+    pub fn asked_of(&self, call: u32) -> Option<&Asked>
+        ensures { option_copied result ≡ open_asked self.now call }
+    {
+        let journal = self.log.journal();
+        self.calls.asked(journal.base(), journal.as_slice(), call)
     }
 
     /// Whether a call was cancelled after it was taken. It takes no memory.

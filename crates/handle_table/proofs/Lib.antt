@@ -1,4 +1,5 @@
 pub mod Edits
+pub mod Found
 pub mod Items
 pub mod Live
 pub mod Named

@@ -3,4 +3,4 @@ pub mod Uses
 pub mod Ended
 pub mod Kept
 pub mod Laws
-pub mod Sought
+pub mod Cells

@@ -2,10 +2,10 @@
 //! takes memory in `of` and `reserve` alone.
 #![tactic(auto)]
 
+mod cells;
 mod ended;
 mod known;
 mod laws;
-mod seek;
 mod table;
 mod uses;
 

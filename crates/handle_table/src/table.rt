@@ -3,11 +3,11 @@ ghost use Rattle.std.specs.Prelude.{◌≡◌, ◌+◌, ◌<◌, ◌≤◌, ◌^
 ghost use Rattle.handle_model.specs.Bases.{serials_of};
 ghost use Rattle.handle_model.specs.Sound.{rise_above, at_most};
 
+use crate::cells::{Cell, are_living, cells_of, counted, item_at, item_of, put_living, seek};
 use crate::known::LiveHandles;
-use crate::seek::{item_at, item_of, seek};
 use crate::uses::{cookie, fault};
 use handle_model::{Base, DueItem, DueItems, Home, Slot};
-use rpc_base::{Items, NoMemory, WireHandle, same_items};
+use rpc_base::{Items, NoMemory, WireHandle};
 use std::alloc::Global;
 use std::marker::Model;
 use std::mem;
@@ -16,21 +16,23 @@ use std::mem;
 #[derive(Drop)]
 pub struct HandleTable {
     home: Home,
-    items: Vec<DueItem>,
-    copies: Vec<DueItem>,
+    cells: Vec<Cell>,
+    due: Vec<DueItem>,
+    given: Vec<DueItem>,
+    live: usize,
     room: usize,
     alloc: Global,
 }
 
 impl Model for HandleTable {
     ghost use Rattle.handle_table.specs.Handles.{Handles};
-    ghost use Rattle.handle_table.specs.Kept.{IsKept};
+    ghost use Rattle.handle_table.specs.Cells.{IsKept, living};
 
     ghost Value = { Handles };
 
-    ghost view = { λ t. record { home = t.home; items = t.items.items; room = t.room } };
+    ghost view = { λ t. record { home = t.home; items = living t.cells.items; room = t.room } };
 
-    ghost invariant = { λ t. IsKept t.items t.copies t.room };
+    ghost invariant = { λ t. IsKept t.cells t.due t.given t.live t.room };
 }
 
 impl LiveHandles for HandleTable {
@@ -45,7 +47,7 @@ impl LiveHandles for HandleTable {
         ensures { result ≡ item_named self.now.home self.now.items slot.now }
     {
         match slot.named() {
-            Some(wire) => item_of(self.home, self.items.as_slice(), &wire),
+            Some(wire) => item_of(self.home, self.cells.as_slice(), &wire),
             None => None,
         }
     }
@@ -61,27 +63,35 @@ impl HandleTable {
     {
         HandleTable {
             home: Home { boot, group },
-            items: Vec::new(alloc),
-            copies: Vec::new(alloc),
+            cells: Vec::new(alloc),
+            due: Vec::new(alloc),
+            given: Vec::new(alloc),
+            live: 0,
             room: 0,
             alloc,
         }
     }
 
     /// The handles of a base. For no further one there is room.
+    #[tactic(auto, using(crate::proofs::Found::beginning))]
     pub fn of(alloc: Global, home: Home, base: &Base) -> Result<HandleTable, NoMemory>
         requires rise { rise_above 0 (serials_of base.now.handles) ≡ true }
         requires counted { at_most base.now.opens (serials_of base.now.handles) ≡ true }
         requires small { base.now.opens < 2 ^ 32 }
         ensures { IfOk result (λ table. table ≡ record { home = home; items = base.now.handles; room = 0 }) }
     {
-        let items = Vec::from_slice(alloc, base.handles.as_slice())?;
-        let mut copies = Vec::new(alloc);
-        copies.reserve(items.len())?;
+        let cells = cells_of(alloc, base.handles.as_slice())?;
+        let live = cells.len();
+        let mut due = Vec::new(alloc);
+        due.reserve(live)?;
+        let mut given = Vec::new(alloc);
+        given.reserve(live)?;
         Ok(HandleTable {
             home,
-            items,
-            copies,
+            cells,
+            due,
+            given,
+            live,
             room: 0,
             alloc,
         })
@@ -97,11 +107,12 @@ impl HandleTable {
         if n <= self.room {
             return Ok(());
         }
-        let Some(all) = self.items.len().checked_add(n) else {
+        let Some(all) = self.live.checked_add(n) else {
             return Err(NoMemory);
         };
-        self.items.reserve(n)?;
-        self.copies.reserve(all)?;
+        self.cells.reserve(n)?;
+        self.due.reserve(all)?;
+        self.given.reserve(all)?;
         self.room = n;
         Ok(())
     }
@@ -110,7 +121,7 @@ impl HandleTable {
     pub fn find(&self, wire: &WireHandle) -> Option<u32>
         ensures { result ≡ spec.found self.now.home self.now.items wire.now }
     {
-        match item_of(self.home, self.items.as_slice(), wire) {
+        match item_of(self.home, self.cells.as_slice(), wire) {
             Some(item) => Some(item.serial),
             None => None,
         }
@@ -120,7 +131,7 @@ impl HandleTable {
     pub fn look(&self, serial: u32) -> Option<(u32, u64)>
         ensures { result ≡ spec.looked self.now.items serial }
     {
-        match item_at(self.items.as_slice(), serial) {
+        match item_at(self.cells.as_slice(), serial) {
             Some(item) => Some((item.kind, item.cookie)),
             None => None,
         }
@@ -137,21 +148,24 @@ impl HandleTable {
     pub fn lists(&self, items: &[DueItem]) -> bool
         ensures { IsTrue result ↔ (items.now ≡ self.now.items) }
     {
-        same_items(items, self.items.as_slice())
+        are_living(self.cells.as_slice(), items)
     }
 
     /// A list of the live handles, by rising serial.
     pub fn copy(&self, alloc: Global) -> Result<DueItems, NoMemory>
         ensures { IfOk result (λ items. items ≡ self.now.items) }
     {
-        Ok(Items::from_vec(Vec::from_slice(alloc, self.items.as_slice())?))
+        let mut items = Vec::new(alloc);
+        items.reserve(self.live)?;
+        put_living(self.cells.as_slice(), &mut items);
+        Ok(Items::from_vec(items))
     }
 
     /// How many handles are live.
     pub fn live(&self) -> usize
         ensures { result ≡ length self.now.items }
     {
-        self.items.len()
+        self.live
     }
 
     /// A handle is live from now on. The serials may come in any order.
@@ -170,36 +184,55 @@ impl HandleTable {
     }
 
     /// A handle is live no more.
-    #[tactic(auto, using(crate::proofs::Edits::editing))]
+    #[tactic(auto, using(crate::proofs::Found::closing))]
     pub fn close(&mut self, serial: u32)
         requires { spec.has self.old.items serial ≡ true }
         ensures items { self.new.items ≡ spec.without serial self.old.items }
         ensures room { self.new.room ≡ self.old.room }
         ensures home { self.new.home ≡ self.old.home }
     {
-        match seek(self.items.as_slice(), serial) {
+        match seek(self.cells.as_slice(), serial) {
             Ok(at) => {
-                self.items.remove(at);
+                let cell = self.cells[at];
+                self.live -= 1;
+                self.cells[at] = Cell {
+                    live: false,
+                    ..cell
+                };
+                self.shed();
             }
             Err(_) => {}
         }
     }
 
+    /// Lets go of the cells without a live handle, where they are more than the others.
+    #[tactic(auto, using(crate::proofs::Found::shedding))]
+    fn shed(&mut self)
+        ensures { self.new ≡ self.old }
+    {
+        if self.cells.len() / 2 > self.live {
+            self.cells.retain(|cell| cell.live);
+        }
+    }
+
     /// A live handle has another cookie.
-    #[tactic(auto, using(crate::proofs::Edits::editing))]
+    #[tactic(auto, using(crate::proofs::Found::setting))]
     pub fn set(&mut self, serial: u32, cookie: u64)
         requires { spec.has self.old.items serial ≡ true }
         ensures items { self.new.items ≡ spec.with_cookie serial cookie self.old.items }
         ensures room { self.new.room ≡ self.old.room }
         ensures home { self.new.home ≡ self.old.home }
     {
-        match seek(self.items.as_slice(), serial) {
+        match seek(self.cells.as_slice(), serial) {
             Ok(at) => {
-                let kind = self.items[at].kind;
-                self.items[at] = DueItem {
-                    serial,
-                    kind,
-                    cookie,
+                let cell = self.cells[at];
+                self.cells[at] = Cell {
+                    item: DueItem {
+                        serial,
+                        kind: cell.item.kind,
+                        cookie,
+                    },
+                    live: true,
                 };
             }
             Err(_) => {}
@@ -227,25 +260,36 @@ impl HandleTable {
         ensures lists { (result.0 ≡ self.old.items) × (result.1 ≡ self.old.items) }
         ensures table { self.new ≡ record { home = self.old.home; items = []; room = 0 } }
     {
-        let items = mem::replace(&mut self.items, Vec::new(self.alloc));
-        let mut copies = mem::replace(&mut self.copies, Vec::new(self.alloc));
+        let cells = mem::replace(&mut self.cells, Vec::new(self.alloc));
+        let mut due = mem::replace(&mut self.due, Vec::new(self.alloc));
+        let mut given = mem::replace(&mut self.given, Vec::new(self.alloc));
+        self.live = 0;
         self.room = 0;
-        copies.extend_from_slice(items.as_slice()).unwrap();
-        (Items::from_vec(items), Items::from_vec(copies))
+        put_living(cells.as_slice(), &mut due);
+        put_living(cells.as_slice(), &mut given);
+        (Items::from_vec(due), Items::from_vec(given))
     }
 
     /// Puts a handle in its place.
-    #[tactic(auto, using(crate::proofs::Edits::editing))]
+    #[tactic(auto, using(crate::proofs::Found::putting))]
     pub(crate) fn put(&mut self, item: DueItem)
         requires { 0 < self.old.room }
         ensures items { self.new.items ≡ spec.with_item item self.old.items }
         ensures room { self.new.room + 1 ≡ self.old.room }
         ensures home { self.new.home ≡ self.old.home }
     {
+        let cell = Cell { item, live: true };
         self.room -= 1;
-        match seek(self.items.as_slice(), item.serial) {
-            Ok(at) => self.items[at] = item,
-            Err(at) => self.items.insert(at, item).unwrap(),
+        match seek(self.cells.as_slice(), item.serial) {
+            Ok(at) => {
+                let old = self.cells[at];
+                self.live = self.live + 1 - counted(old);
+                self.cells[at] = cell;
+            }
+            Err(at) => {
+                self.live += 1;
+                self.cells.insert(at, cell).unwrap();
+            }
         }
     }
 }

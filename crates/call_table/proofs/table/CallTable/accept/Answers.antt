@@ -1,8 +1,13 @@
-use Rattle.std.proofs.Common.{◌≡◌, ◌+◌, ◌++◌, ◌∷◌, [], false, length, ◌∙◌, ap, arith, vec_len}
+use Rattle.std.proofs.Common.{◌≡◌, ◌+◌, ◌++◌, ◌∷◌, [], false, length, ◌∙◌, ap, sym, subst, arith, vec_len}
 use Rattle.std.proofs.lemmas.Grind.{common_steps}
 use Rattle.call_table.specs.Rows.{over}
+use Rattle.call_table.specs.Tally.{IsTally}
+use Rattle.call_table.proofs.Tallied.{tally_room, tally_push}
 use Rattle.call_table.proofs.Marks.{added}
 use Rattle.call_table.proofs.table.CallTable.accept.Goals as goal
+
+pub enter-requires : goal.enter-requires
+enter-requires c = tally_room _ _ c.self.invariant.0.rises c.self.invariant.0.few c.self.invariant.1
 
 pub invariant_of-self : goal.invariant_of-self
 invariant_of-self c =
@@ -10,4 +15,4 @@ invariant_of-self c =
     let longer : vec_len c.push.new.self ≡ vec_len c.self.inside.rows + 1 = grind (arith, common_steps) in
     let few : length c.of.result ≡ length c.args.slots.now = ap (λ ss. length ss) (c.of.ensures ∙ c.as_slice.ensures) in
     let room : c.self.inside.room ≡ c.args.self.now.room = ap (λ v. v.room) c.self.view_is in
-    added _ _ _ _ _ _ c.self.invariant (omega (arith, c.requires.room)) (ap (λ v. over c.args.call v.rows) c.self.view_is ∙ c.requires.last) c.ranges.call.fits (omega (arith, c.requires.few)) grown longer c.push.ensures.capacity
+    (added _ _ _ _ _ _ c.self.invariant.0 (omega (arith, c.requires.room)) (ap (λ v. over c.args.call v.rows) c.self.view_is ∙ c.requires.last) c.ranges.call.fits (omega (arith, c.requires.few)) grown longer c.push.ensures.capacity, subst (λ rows. IsTally rows c.enter.new.self) (sym grown) (tally_push _ _ _ _ c.self.invariant.1 c.enter.ensures))

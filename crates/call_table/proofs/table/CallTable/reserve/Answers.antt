@@ -1,14 +1,16 @@
-use Rattle.std.proofs.Common.{◌≡◌, ◌+◌, ◌≤◌, rules}
+use Rattle.std.proofs.Common.{rules}
 use Rattle.call_table.proofs.Order.{waits_few}
 use Rattle.call_table.proofs.table.CallTable.reserve.Goals as goal
 
 pub invariant_of-self-2 : goal.invariant_of-self-2
 invariant_of-self-2 c =
-    let wait = waits_few c.reserve.new.self.items in
-    record {
-      rises = search rules;
-      few = search rules;
-      places = search rules;
-      enough = search rules;
-      blanks = c.fill.ensures.blanks;
-    }
+    let wait = waits_few c.reserve.new.self.items in (
+      record {
+        rises = search rules;
+        few = search rules;
+        places = search rules;
+        enough = search rules;
+        blanks = c.fill.ensures.blanks;
+      },
+      search rules,
+    )

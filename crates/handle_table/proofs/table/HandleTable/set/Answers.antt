@@ -1,14 +1,29 @@
-use Rattle.std.proofs.Common.{sym, subst, refl}
-use Rattle.handle_table.specs.Kept.{Rises}
-use Rattle.handle_table.proofs.Edits.{set_cookie, rises_cookie}
+use Rattle.std.proofs.Common.{◌≡◌, ◌+◌, true, ◌∙◌, ap, sym, refl, arith}
+use Rattle.handle_table.specs.Handles.{has}
+use Rattle.handle_table.specs.Cells.{living}
+use Rattle.handle_table.proofs.Found.{climb_set, length_set, has_live, no_gap}
 use Rattle.handle_table.proofs.table.HandleTable.set.Goals as goal
 
 pub invariant_of-self : goal.invariant_of-self
 invariant_of-self c =
     let at = rw (c.in-Ok.is, c.as_slice.ensures.value) at c.seek.ensures in
+    let kept = c.self.invariant in
+    let there : has (living c.self.inside.cells.items) c.args.serial ≡ true = ap (λ v. has v.items c.args.serial) c.self.view_is ∙ c.requires in
+    let live = has_live _ _ _ c.index-cell.result.now kept.rises at c.index-cell.ensures there in
+    let count = rw live at (length_set _ _ c.index-cell.result.now (record { item = record { serial = c.args.serial; kind = c.index-cell.result.now.item.kind; cookie = c.args.cookie }; live = true }) at.within c.index-cell.ensures) in
+    let was = kept.counted in
     record {
-      rises = subst (Rises 0) (sym (set_cookie _ _ _ c.args.cookie c.index.result.now _ at c.index.ensures refl)) (rises_cookie _ c.args.cookie _ _ c.self.invariant.rises);
-      places = c.self.invariant.places;
-      copy_places = c.self.invariant.copy_places;
-      no_copy = c.self.invariant.no_copy;
+      rises = climb_set 0 _ c.args.serial _ (record { item = record { serial = c.args.serial; kind = c.index-cell.result.now.item.kind; cookie = c.args.cookie }; live = true }) kept.rises at refl;
+      counted = omega arith;
+      places = kept.places;
+      due_places = kept.due_places;
+      given_places = kept.given_places;
+      no_due = kept.no_due;
+      no_given = kept.no_given;
     }
+
+pub returns-in-Err-clause-items : goal.returns-in-Err-clause-items
+returns-in-Err-clause-items c =
+    let gap = rw (c.in-Err.is, c.as_slice.ensures.value) at c.seek.ensures in
+    let there : has (living c.self.inside.cells.items) c.args.serial ≡ true = ap (λ v. has v.items c.args.serial) c.self.view_is ∙ c.requires in
+    absurd (no_gap _ _ _ c.self.invariant.rises gap there)

@@ -1,7 +1,0 @@
-use Rattle.std.proofs.Common.{◌≡◌, ◌+◌, ◌≤◌, ◌*◌, drop}
-use Rattle.call_table.specs.Rows.{openings_of}
-use Rattle.call_table.proofs.rows.openings_of.Given as goal
-
--- what is counted, and what is left
-abbrev pub invariant-loop-row : goal.invariant-loop-row
-invariant-loop-row l = (l.total + openings_of (drop l.row-index l.rows) ≡ openings_of l.rows) × (l.total ≤ 4 * l.row-index)
