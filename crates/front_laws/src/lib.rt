@@ -1,0 +1,10 @@
+//! Laws of folded journals as passes of a hub see them, each the contract of a function that does nothing:
+//! what a front has of a group's journal, as the group keeps it, is a prefix of what each later front has.
+//!
+//! A group keeps a base and the entries since then, and each Join may move entries into the base, so one
+//! list is no beginning of the other. `specs/Prefixes` says what a prefix is then.
+#![tactic(auto)]
+
+mod laws;
+
+pub use laws::{calls_go_on, fronts_compare, fronts_go_on, kept_goes_on};
