@@ -2,8 +2,10 @@
 # Times calls on a hub by `hub_bench`, each accepted, taken and ended: calls a second by 1, 2 and 4 threads in one group,
 # in groups of one shard and in groups of different shards, with the ratio to one thread; and how the cost of a call of
 # one thread grows with the calls before, with the open groups and with the live handles. A connection leaves after 250
-# calls and joins again; the one that opened the group stays, so nothing is folded. What it takes to open the groups and
-# to issue the handles is timed alone and taken off. Each time is the least of three.
+# calls and joins again. Where it isn't said that journals fold, the connection that opened the group stays, so nothing is
+# folded; where it is said, each thread has a group of its own, in which a connection leaves as soon as the next one has
+# joined. What it takes to open the groups and to issue the handles is timed alone and taken off. Each time is the least
+# of three.
 set -eu
 top=$(cd "$(dirname "$0")/.." && pwd)
 . "$top/bench/timing.sh"
@@ -12,10 +14,10 @@ program=$top/crates/hub_bench/out/hub_bench
 calls=250
 
 # Of so many visits by each thread, in microseconds. No time or a run that failed ends the script.
-visited() { # THREADS STEP GROUPS HANDLES VISITS
+visited() { # THREADS STEP GROUPS HANDLES VISITS [ROLLS]
     local bare whole
-    bare=$(least 0 "$program" "$1" "$2" "$3" "$4" 0 "$calls") || return 1
-    whole=$(least 0 "$program" "$1" "$2" "$3" "$4" "$5" "$calls") || return 1
+    bare=$(least 0 "$program" "$1" "$2" "$3" "$4" 0 "$calls" "${6-0}") || return 1
+    whole=$(least 0 "$program" "$1" "$2" "$3" "$4" "$5" "$calls" "${6-0}") || return 1
     [ "$whole" -gt "$bare" ] || { echo "too few visits to time: $*" >&2; return 1; }
     echo $((whole - bare))
 }
@@ -38,25 +40,28 @@ show_cost() { # WHAT CALLS MICROSECONDS [BEFORE]: as `show`, by the call
 }
 
 visits=400
-for case in "0 one group" "16 groups of one shard" "1 groups of different shards"; do
+for case in "0 0 one group" "16 0 groups of one shard" "1 0 groups of different shards" "1 1 different shards, folding"; do
+    read -r step rolls what <<<"$case"
     one=
     for threads in 1 2 4; do
-        time=$(visited "$threads" "${case%% *}" 64 0 "$visits")
+        time=$(visited "$threads" "$step" $((64 - 64 * rolls)) 0 "$visits" "$rolls")
         made=$((threads * visits * calls))
-        show_rate "$threads threads, ${case#* }" "$made" "$time" "$one"
+        show_rate "$threads threads, $what" "$made" "$time" "$one"
         if [ -z "$one" ]; then one=$((made * 1000000 / time)); fi
     done
 done
 
-cost() { # WHAT GROUPS HANDLES VISITS: and keeps the cost in `before`
+cost() { # WHAT GROUPS HANDLES VISITS [ROLLS]: and keeps the cost in `before`
     local time
-    time=$(visited 1 1 "$2" "$3" "$4")
+    time=$(visited 1 1 "$2" "$3" "$4" "${5-0}")
     show_cost "$1" $(($4 * calls)) "$time" "$before"
     before=$(awk -v calls=$(($4 * calls)) -v time="$time" 'BEGIN { print time / calls }')
 }
 
 before=
 for visits in 200 400 800 1600; do cost "$((visits * calls)) calls" 1 0 "$visits"; done
+before=
+for visits in 200 400 800 1600; do cost "$((visits * calls)) calls, folding" 0 0 "$visits" 1; done
 before=
 for groups in 1 16 256 1024; do cost "$groups groups are open" "$groups" 0 400; done
 before=

@@ -1,19 +1,19 @@
-//! The program: `hub_bench THREADS STEP GROUPS HANDLES VISITS CALLS`. It opens so many groups at a hub.
-//! Then 1, 2 or 4 threads call, the first in group 1 and each other one in the group STEP after the one
+//! The program: `hub_bench THREADS STEP GROUPS HANDLES VISITS CALLS [ROLLS]`. It opens so many groups at a
+//! hub. Then 1, 2 or 4 threads call, the first in group 1 and each other one in the group STEP after the one
 //! before: STEP 0 is one group, 16 are groups of one shard, 1 are groups of different shards. A thread is
 //! issued so many handles, and then visits its group so often: it joins the group, makes so many calls,
-//! which use the last of its handles, and leaves. It prints how many calls were made that way, and ends
-//! with 1 where a visit wasn't whole. `bench/hub.sh` times it.
+//! which use the last of its handles, and leaves. Where ROLLS is 1, each thread opens a group of its own in
+//! place of that, and its connection is so often followed by another, each of which makes so many calls, so
+//! the group's journal is folded on and on. It prints how many calls were made that way, and ends with 1
+//! where a visit wasn't whole. `bench/hub.sh` times it.
 #![tactic(auto)]
 
 ghost use Rattle.std.specs.Prelude.{◌≤◌};
 ghost use Rattle.group_hub.specs.Passes.{IsPassOf};
 
-mod calls;
-
-use calls::{Halt, visit};
 use group_hub::{Hub, Pass};
 use handle_model::{Home, Slot};
+use hub_play::{Halt, leave, make_calls, open, retire, roll, visit};
 use std::alloc::Global;
 use std::process::ExitCode;
 use std::rt::Env;
@@ -30,10 +30,11 @@ struct Sizes {
     handles: u32,
     visits: u32,
     calls: u32,
+    rolls: bool,
 }
 
 /// Opens so many groups, in which the pass stays.
-fn open<R: Wait>(rt: &R, hub: &Hub, pass: &mut Pass, count: u32) -> bool
+fn open_all<R: Wait>(rt: &R, hub: &Hub, pass: &mut Pass, count: u32) -> bool
     requires { IsPassOf hub.now pass.old }
     ensures { IsPassOf hub.now pass.new }
 {
@@ -61,7 +62,8 @@ fn visits<R: Wait>(
 {
     let mut whole: u64 = 0;
     for _ in 0..sizes.visits {
-        if visit(rt, alloc, hub, pass, group, slot, sizes.calls).is_err() {
+        let made = visit(rt, alloc, hub, pass, group, slot, sizes.calls);
+        if made.is_err() {
             return whole;
         }
         whole = whole.saturating_add(1);
@@ -86,12 +88,38 @@ fn issued<R: Wait>(
         return Ok(None);
     }
     let slot = Slot::Opens { kind: 0, serial: 0 };
-    let serial = visit(rt, alloc, hub, pass, group, Some(slot), count)?;
     let home = Home { boot: BOOT, group };
-    Ok(Some(Slot::Changes {
-        kind: 0,
-        wire: home.wire(serial),
+    let made = visit(rt, alloc, hub, pass, group, Some(slot), count)?;
+    Ok(made.map(|last| {
+        Slot::Changes {
+            kind: 0,
+            wire: home.wire(last.serial),
+        }
     }))
+}
+
+/// In a group of its own a connection makes so many calls, and another follows it, so often; the last one
+/// leaves. How many were followed.
+fn rolled<R: Wait>(
+    rt: &R,
+    alloc: Global,
+    hub: &Hub,
+    pass: &mut Pass,
+    sizes: Sizes,
+) -> Result<u64, Halt>
+    requires pass { IsPassOf hub.now pass.old }
+    ensures { IsPassOf hub.now pass.new }
+{
+    let mut member = open(rt, hub, pass)?;
+    let mut whole: u64 = 0;
+    for _ in 0..sizes.visits {
+        make_calls(rt, alloc, hub, pass, member, None, sizes.calls)?;
+        member = roll(rt, hub, pass, member)?;
+        whole = whole.saturating_add(1);
+    }
+    let rest = leave(rt, hub, pass, member);
+    retire(rt, hub, pass, rest);
+    Ok(whole)
 }
 
 /// What the thread of a number does; the pass, and how many visits were whole.
@@ -107,6 +135,10 @@ fn one<R: Wait>(
     ensures { IsPassOf hub.now result.0 }
 {
     let mut pass = pass;
+    if sizes.rolls {
+        let whole = rolled(rt, alloc, hub, &mut pass, sizes).unwrap_or(0);
+        return (pass, whole);
+    }
     let group = number.saturating_mul(sizes.step).saturating_add(1);
     match issued(rt, alloc, hub, &mut pass, group, sizes.handles) {
         Ok(slot) => {
@@ -188,7 +220,7 @@ fn run<R: Threads + Wait + Sync>(
     let Ok((hub, mut pass)) = Hub::new(alloc, BOOT) else {
         return None;
     };
-    if !open(rt, &hub, &mut pass, groups) {
+    if !open_all(rt, &hub, &mut pass, groups) {
         return None;
     }
     let (_, whole) = match threads {
@@ -201,13 +233,13 @@ fn run<R: Threads + Wait + Sync>(
 }
 
 /// The numbers after the program's name, 0 where there is none.
-fn numbers(rt: &(impl Env + AllocGlobal)) -> [u32; 6] {
-    let mut numbers = [0; 6];
+fn numbers(rt: &(impl Env + AllocGlobal)) -> [u32; 7] {
+    let mut numbers = [0; 7];
     let Ok(all) = env::args(rt) else {
         return numbers;
     };
     for (at, word) in all.skip(1).enumerate() {
-        if at < 6 {
+        if at < 7 {
             numbers[at] = word.parse().unwrap_or(0);
         }
     }
@@ -215,12 +247,13 @@ fn numbers(rt: &(impl Env + AllocGlobal)) -> [u32; 6] {
 }
 
 fn main(rt: HostRuntime) -> ExitCode {
-    let [threads, step, groups, handles, visits, calls] = numbers(&rt);
+    let [threads, step, groups, handles, visits, calls, rolls] = numbers(&rt);
     let sizes = Sizes {
         step,
         handles,
         visits,
         calls,
+        rolls: rolls == 1,
     };
     let wanted = u64::from(threads).saturating_mul(u64::from(visits));
     match run(&rt, rt.alloc(), threads, groups, sizes) {

@@ -1,14 +1,12 @@
-//! Groups at a hub of sixteen shards: one thread, and eight.
+//! Groups at a hub of sixteen shards: one thread, two on one handle, and eight.
 #![tactic(auto)]
 
-#[cfg(test)]
-mod calls;
-#[cfg(test)]
-mod judge;
 #[cfg(test)]
 mod play;
 #[cfg(test)]
 mod rows;
+#[cfg(test)]
+mod shared;
 #[cfg(test)]
 mod threads;
 #[cfg(test)]

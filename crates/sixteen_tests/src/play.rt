@@ -2,36 +2,9 @@
 ghost use Rattle.std.specs.Prelude.{◌≤◌};
 ghost use Rattle.group_hub.specs.Passes.{IsPassOf, HasItsShut};
 
-use group_hub::{FindRefusal, Hub, HubRest, OpenRefusal, Pass};
-use handle_model::{DueItem, DueList, Rundown};
+use group_hub::{FindRefusal, Hub, HubRest, Pass};
+use hub_play::{Halt, leave, open, retire};
 use std::sync::Wait;
-
-/// Counts what is run down.
-#[derive(Drop)]
-struct Counter {
-    count: u64,
-}
-
-impl Rundown for Counter {
-    ghost use Rattle.handle_model.specs.declared.entry.DueItem.{DueItem};
-
-    ghost runs_down = { λ _ _ _. Unit {0} };
-
-    fn rundown(&mut self, _item: DueItem) {
-        self.count = self.count.saturating_add(1);
-    }
-}
-
-/// How many handles a list has, each run down.
-pub fn run_down(list: DueList) -> u64 {
-    let mut list = list;
-    let mut counter = Counter { count: 0 };
-    while let Some(due) = list.take_first() {
-        due.spend(&mut counter);
-    }
-    list.finish();
-    counter.count
-}
 
 /// Opens a group and leaves it, and retires it where it has then ended: its id, and how many handles were
 /// run down.
@@ -39,21 +12,13 @@ pub fn open_and_leave<R: Wait>(
     rt: &R,
     hub: &Hub,
     pass: &mut Pass,
-) -> Result<(u32, Option<u64>), OpenRefusal>
+) -> Result<(u32, Option<u64>), Halt>
     requires { IsPassOf hub.now pass.old }
     ensures { IsPassOf hub.now pass.new }
 {
-    match hub.open_group(rt, pass) {
-        Err(refusal) => Err(refusal),
-        Ok((group, conn)) => match hub.leave(rt, pass, group, conn) {
-            HubRest::Stays => Ok((group, None)),
-            HubRest::Shut(list, key) => {
-                let count = run_down(list);
-                let _ = hub.retire(rt, pass, key);
-                Ok((group, Some(count)))
-            }
-        },
-    }
+    let opener = open(rt, hub, pass)?;
+    let rest = leave(rt, hub, pass, opener);
+    Ok((opener.group, retire(rt, hub, pass, rest)))
 }
 
 /// Does that so often on a new hub; the first id, if any, that wasn't the next one.
@@ -114,8 +79,7 @@ fn leave_last<R: Wait>(
         HubRest::Shut(list, key) => {
             let group = key.group().max(1);
             let before = hub.find_join(rt, third, group);
-            let due = run_down(list);
-            let _ = hub.retire(rt, pass, key);
+            let due = retire(rt, hub, pass, HubRest::Shut(list, key))?;
             let after = hub.find_join(rt, third, group);
             Some((due, before, after))
         }

@@ -1,9 +1,9 @@
 //! A hub on passes of eight threads.
 ghost use Rattle.group_hub.specs.Passes.{IsPassOf};
 
-use crate::judge::{Judged, each_once, judge_all};
-use crate::visit::{CALLS, Made, retire, visit_all};
+use crate::visit::{Calls, each_once, visit_all};
 use group_hub::{Hub, Pass};
+use hub_play::{Judged, judge_all, leave, open, retire};
 use std::alloc::Global;
 use std::sync::Wait;
 use std::test::Fail;
@@ -11,7 +11,7 @@ use std::thread;
 use std::thread::Threads;
 
 /// What two made.
-fn both(one: Option<Made>, other: Option<Made>) -> Option<Made> {
+fn both(one: Option<Calls>, other: Option<Calls>) -> Option<Calls> {
     let mut all = one?;
     for call in other? {
         if all.push(call).is_err() {
@@ -27,7 +27,7 @@ fn in_two<R: Threads + Wait + Sync>(
     pass: Pass,
     alloc: Global,
     first: u32,
-) -> (Pass, Option<Made>)
+) -> (Pass, Option<Calls>)
     requires { IsPassOf hub.now pass }
     ensures { IsPassOf hub.now result.0 }
 {
@@ -36,11 +36,11 @@ fn in_two<R: Threads + Wait + Sync>(
     let other = hub.split(&mut pass);
     let ((mut pass, made), (other, others)) = thread::join(
         rt,
-        || -> (Pass, Option<Made>)
+        || -> (Pass, Option<Calls>)
             requires { IsPassOf hub.now pass }
             ensures { IsPassOf hub.entry.now result.0 }
         { visit_all(rt, hub, pass, alloc, first) },
-        || -> (Pass, Option<Made>)
+        || -> (Pass, Option<Calls>)
             requires { IsPassOf hub.now other }
             ensures { IsPassOf hub.entry.now result.0 }
         { visit_all(rt, hub, other, alloc, next) },
@@ -55,7 +55,7 @@ fn in_four<R: Threads + Wait + Sync>(
     pass: Pass,
     alloc: Global,
     first: u32,
-) -> (Pass, Option<Made>)
+) -> (Pass, Option<Calls>)
     requires { IsPassOf hub.now pass }
     ensures { IsPassOf hub.now result.0 }
 {
@@ -64,11 +64,11 @@ fn in_four<R: Threads + Wait + Sync>(
     let other = hub.split(&mut pass);
     let ((mut pass, made), (other, others)) = thread::join(
         rt,
-        || -> (Pass, Option<Made>)
+        || -> (Pass, Option<Calls>)
             requires { IsPassOf hub.now pass }
             ensures { IsPassOf hub.entry.now result.0 }
         { in_two(rt, hub, pass, alloc, first) },
-        || -> (Pass, Option<Made>)
+        || -> (Pass, Option<Calls>)
             requires { IsPassOf hub.now other }
             ensures { IsPassOf hub.entry.now result.0 }
         { in_two(rt, hub, other, alloc, next) },
@@ -82,7 +82,7 @@ fn in_eight<R: Threads + Wait + Sync>(
     hub: &Hub,
     pass: Pass,
     alloc: Global,
-) -> (Pass, Option<Made>)
+) -> (Pass, Option<Calls>)
     requires { IsPassOf hub.now pass }
     ensures { IsPassOf hub.now result.0 }
 {
@@ -90,11 +90,11 @@ fn in_eight<R: Threads + Wait + Sync>(
     let other = hub.split(&mut pass);
     let ((mut pass, made), (other, others)) = thread::join(
         rt,
-        || -> (Pass, Option<Made>)
+        || -> (Pass, Option<Calls>)
             requires { IsPassOf hub.now pass }
             ensures { IsPassOf hub.entry.now result.0 }
         { in_four(rt, hub, pass, alloc, 0) },
-        || -> (Pass, Option<Made>)
+        || -> (Pass, Option<Calls>)
             requires { IsPassOf hub.now other }
             ensures { IsPassOf hub.entry.now result.0 }
         { in_four(rt, hub, other, alloc, 8) },
@@ -105,14 +105,13 @@ fn in_eight<R: Threads + Wait + Sync>(
 
 /// Opens so many groups, in which eight threads then make their calls, and leaves each: what was made,
 /// where each group then ended.
-#[tactic(auto, using(crate::proofs::SeatLemmas::same_serves))]
 fn hold<R: Threads + Wait + Sync>(
     rt: &R,
     hub: &Hub,
     pass: &mut Pass,
     alloc: Global,
     count: u32,
-) -> Option<Made>
+) -> Option<Calls>
     requires { IsPassOf hub.now pass.old }
     ensures { IsPassOf hub.now pass.new }
 {
@@ -122,16 +121,23 @@ fn hold<R: Threads + Wait + Sync>(
         hub.join(pass, other);
         return made;
     }
-    let Ok((group, conn)) = hub.open_group(rt, pass) else {
+    let Ok(opener) = open(rt, hub, pass) else {
         return None;
     };
     let mut other = hub.split(pass);
     let made = hold(rt, hub, &mut other, alloc, count - 1);
-    let rest = hub.leave(rt, pass, group, conn);
+    let rest = leave(rt, hub, pass, opener);
     let ended = retire(rt, hub, pass, rest);
     hub.join(pass, other);
     if ended == Some(0) { made } else { None }
 }
+
+/// How many calls each connection makes, and how many entries its visit has: its Join and Leave, and those
+/// of a call that ends (3), of two that are cancelled or orphaned while they wait (2 each), of two while they
+/// run (4 each), of one that runs as its connection is lost (3) and one that waits then (1).
+const CALLS: u32 = 7;
+
+const ENTRIES: usize = 21;
 
 #[test]
 fn eight_threads_make_calls_in_sixteen_groups(rt: HostRuntime) -> Result<(), Fail> {
@@ -142,12 +148,13 @@ fn eight_threads_make_calls_in_sixteen_groups(rt: HostRuntime) -> Result<(), Fai
     };
     made.sort()?;
     assert!(rt; each_once(made.as_slice(), 16, 8 * CALLS));
-    let judged = judge_all(&rt, &hub, &mut pass, alloc, 16);
+    let judged = judge_all(&rt, alloc, &hub, &mut pass, 16);
     assert_eq!(rt;
         judged,
         Some(Judged {
-            entries: 16 * 139,
-            accepts: 16 * 48
+            entries: 16 * (8 * ENTRIES + 3),
+            folded: 0,
+            accepts: 16 * 56,
         })
     );
     Ok(())

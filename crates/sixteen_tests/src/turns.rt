@@ -1,10 +1,9 @@
 //! Calls by turns in groups of different shards, on passes of one thread.
 ghost use Rattle.group_hub.specs.Passes.{IsPassOf};
 
-use crate::calls::{Member, call_on, join};
 use crate::play::open_many;
-use crate::visit::retire;
 use group_hub::{Hub, Pass};
+use hub_play::{Course, Halt, join, leave, make_call, settle};
 use std::alloc::Global;
 use std::sync::Wait;
 use std::test::Fail;
@@ -17,30 +16,32 @@ fn by_turns<R: Wait>(
     alloc: Global,
     one: &mut Pass,
     other: &mut Pass,
-) -> Option<([u32; 2], [u32; 4])>
+) -> Result<([u32; 2], [u32; 4]), Halt>
     requires { IsPassOf hub.now one.old × IsPassOf hub.now other.old }
     ensures { IsPassOf hub.now one.new × IsPassOf hub.now other.new }
 {
-    let Ok(conn) = join(rt, hub, one, 1) else {
-        return None;
-    };
-    let first = Member { group: 1, conn };
-    let Ok(conn) = join(rt, hub, other, 2) else {
-        return None;
-    };
-    let second = Member { group: 2, conn };
-    let a = call_on(rt, hub, one, alloc, first, false)?;
-    let b = call_on(rt, hub, other, alloc, second, true)?;
-    let c = call_on(rt, hub, one, alloc, first, true)?;
-    let d = call_on(rt, hub, other, alloc, second, false)?;
-    let rest = hub.leave(rt, one, first.group, first.conn);
-    let ended = retire(rt, hub, one, rest);
-    let rest = hub.leave(rt, other, second.group, second.conn);
-    let others = retire(rt, hub, other, rest);
-    if ended.is_some() || others.is_some() {
-        return None;
-    }
-    Some(([first.conn, second.conn], [a, b, c, d]))
+    let first = join(rt, hub, one, 1)?;
+    let second = join(rt, hub, other, 2)?;
+    let a = make_call(rt, alloc, hub, one, first, None, Course::Ends)?;
+    let b = make_call(
+        rt,
+        alloc,
+        hub,
+        other,
+        second,
+        None,
+        Course::CancelledWaiting,
+    )?;
+    let c = make_call(rt, alloc, hub, one, first, None, Course::CancelledWaiting)?;
+    let d = make_call(rt, alloc, hub, other, second, None, Course::Ends)?;
+    let rest = leave(rt, hub, one, first);
+    settle(rt, hub, one, rest)?;
+    let rest = leave(rt, hub, other, second);
+    settle(rt, hub, other, rest)?;
+    Ok((
+        [first.conn, second.conn],
+        [a.number, b.number, c.number, d.number],
+    ))
 }
 
 #[test]
@@ -51,6 +52,6 @@ fn calls_are_numbered_in_each_group(rt: HostRuntime) -> Result<(), Fail> {
     let mut one = hub.split(&mut pass);
     let mut other = hub.split(&mut pass);
     let made = by_turns(&rt, &hub, alloc, &mut one, &mut other);
-    assert_eq!(rt; (skipped, made), (None, Some(([2, 2], [1, 1, 2, 2]))));
+    assert_eq!(rt; (skipped, made), (None, Ok(([2, 2], [1, 1, 2, 2]))));
     Ok(())
 }

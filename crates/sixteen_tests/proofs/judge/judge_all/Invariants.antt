@@ -1,5 +1,0 @@
-use Rattle.group_hub.specs.Passes.{IsPassOf}
-use Rattle.sixteen_tests.proofs.judge.judge_all.Given as goal
-
-abbrev pub invariant-loop-index : goal.invariant-loop-index
-invariant-loop-index g l = IsPassOf l.hub l.pass
