@@ -1,0 +1,12 @@
+//! What holds of every load.
+ghost use Rattle.std.specs.Prelude.{Option};
+ghost use Rattle.table_form.specs.Tables.{TableForm};
+ghost use Rattle.load_laws.specs.Loads.{OneLoad};
+
+use replay_laws::Serves;
+
+/// A load of a number in so many steps comes to one end, and to one line, where the desks' answers follow from what they keep
+/// and what they are asked.
+pub fn one_load<D: Serves>()
+    ensures { (echo : Option TableForm) → OneLoad (D.service echo) }
+{}
