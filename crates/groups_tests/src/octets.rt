@@ -1,0 +1,13 @@
+//! Octets, as the tables write them.
+
+use rpc_base::{NoMemory, Octets};
+use rpc_words::read_hex;
+use std::alloc::Global;
+
+/// The octets of hexadecimal digits.
+pub fn octets_of(alloc: Global, text: &str) -> Result<Octets, NoMemory> {
+    match read_hex(alloc, text.as_bytes())? {
+        Some(octets) => Ok(octets),
+        None => Ok(Octets::new(alloc)),
+    }
+}
