@@ -15,14 +15,12 @@ use Rattle.conn_turns.specs.Answers.{Answers}
 use Rattle.served_calls.specs.Requests.{ids_of}
 use Rattle.replay_script.specs.declared.line.Line.{Line}
 use Rattle.replay_script.specs.declared.line.Line.TheVariants.{Send}
-use Rattle.replay_script.specs.Lines.{FitLines}
 use Rattle.replay_world.specs.declared.peer.Member.{Member}
 use Rattle.replay_world.specs.declared.peer.Standing.TheVariants.{Closed}
 use Rattle.replay_world.specs.Services.{Service}
-use Rattle.replay_world.specs.Worlds.{Peer, World, peer_at, home_of, past_of, journal}
+use Rattle.replay_world.specs.Worlds.{Peer, World, home_of, past_of, journal}
 use Rattle.replay_world.specs.Printing.{answered_on}
 use Rattle.replay_world.specs.Groups.{most_groups, at_limit, no_group}
-use Rattle.replay_world.specs.Replays.{EndsAs}
 
 -- WHY A BIND MAY BE REFUSED, where the replay ends so
 
@@ -87,9 +85,3 @@ module _ (service : Service) where
     pub turns : List Turn
     pub answered : IsAnsweredIn end p asked turns p.member
     pub printed : answered_on p.name end.out ≡ put p.events
-
--- for every script and each of its connections
-abbrev pub EachIsServed : Service → Type 0
-EachIsServed service =
-    (lines : List Line) (end : World service.State) (c : ℕ) (p : Peer) → FitLines lines → EndsAs service lines end → peer_at end c ≡ Some p
-    → IsServed service lines end p
