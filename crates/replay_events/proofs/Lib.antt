@@ -1,0 +1,16 @@
+pub mod Sparing
+pub mod Spared
+pub mod Minding
+pub mod Tables
+pub mod Happening
+pub mod Living
+pub mod Marking
+pub mod Acting
+pub mod Offing
+pub mod Wording
+pub mod Walking
+pub mod Picking
+pub mod Staging
+pub mod Calling
+pub mod Ending
+pub mod Lost

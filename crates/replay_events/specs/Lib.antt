@@ -1,0 +1,4 @@
+pub mod Standing
+pub mod Hands
+pub mod Marked
+pub mod Lived
