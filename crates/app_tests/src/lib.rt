@@ -11,3 +11,5 @@ mod idl_texts;
 mod outcome;
 #[cfg(test)]
 mod scripts;
+#[cfg(test)]
+mod stories;

@@ -21,17 +21,21 @@ fn octets(alloc: Global, text: &[u8]) -> Result<Octets, NoMemory> {
     Ok(Octets::from_vec(text.to_vec(alloc)?))
 }
 
-/// The status, what is on out, and what is on log, behind the words `words`, where the file `f` has this text.
+/// The status, what is on out, and what is on log, behind the words `words`, where the files `f` and `i` have these texts.
 pub fn outcome(
     alloc: Global,
     words: &str,
-    file: &[u8],
+    texts: [&[u8]; 2],
     faults: FirstFaults,
 ) -> Result<Vec<u8>, NoMemory> {
     let mut files = ShelfFiles::new(alloc);
     files.push(ShelfFile {
         name: octets(alloc, b"f")?,
-        octets: octets(alloc, file)?,
+        octets: octets(alloc, texts[0])?,
+    })?;
+    files.push(ShelfFile {
+        name: octets(alloc, b"i")?,
+        octets: octets(alloc, texts[1])?,
     })?;
     let mut list = Vec::new(alloc);
     for word in words.split_whitespace() {
@@ -49,7 +53,15 @@ pub fn outcome(
     Ok(text)
 }
 
-/// Whether this is what comes of it.
+/// Whether this is what comes of two files.
+pub fn both_come_to(alloc: Global, words: &str, texts: [&[u8]; 2], wanted: &[u8]) -> bool {
+    match outcome(alloc, words, texts, NO_FAULTS) {
+        Ok(text) => text.as_slice() == wanted,
+        Err(_) => false,
+    }
+}
+
+/// Whether this is what comes of one.
 pub fn comes_to(
     alloc: Global,
     words: &str,
@@ -57,7 +69,7 @@ pub fn comes_to(
     faults: FirstFaults,
     wanted: &[u8],
 ) -> bool {
-    match outcome(alloc, words, file, faults) {
+    match outcome(alloc, words, [file, b""], faults) {
         Ok(text) => text.as_slice() == wanted,
         Err(_) => false,
     }

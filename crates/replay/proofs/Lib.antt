@@ -1,14 +1,3 @@
-pub mod Filters
-pub mod Plain
-pub mod Sizes
-pub mod Rounds
-pub mod Spelled
-pub mod Steps
-pub mod Sample
-pub mod Goes
-pub mod Reading
-pub mod Tried
-pub mod Calls
-pub mod Lists
-pub mod Sets
 pub mod Once
+pub mod Read
+pub mod Whole

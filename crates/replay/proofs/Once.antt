@@ -1,14 +1,19 @@
--- A text has one replay.
-use Rattle.std.proofs.Common.{◌≡◌, ℕ, List, [], ◌++◌, sym, ◌∙◌, ap, subst, append-nil}
+-- Lines lead to one world.
+use Rattle.std.proofs.Common.{◌≡◌, ℕ, List, [], ◌∷◌, ◌++◌, refl, sym, subst, ◌∙◌}
 use Rattle.replay_script.specs.declared.line.Line.{Line}
-use Rattle.replay_script.proofs.Fronts.{lines_unique}
-use Rattle.replay.specs.Played.{Played, at_start, Leads}
-use Rattle.replay.specs.Replays.{Replays, log_text}
-use Rattle.replay.proofs.Reading.{leads-rest}
+use Rattle.replay_world.specs.Services.{Service, IsDetermined}
+use Rattle.replay_world.specs.Worlds.{World}
+use Rattle.replay_world.specs.Plays.{Plays}
+use Rattle.replay_world.specs.Replays.{Leads}
+use Rattle.replay_laws.proofs.Lines.{one_line}
 
-pub replayed_once : (text out log out' log' : List ℕ) → Replays text out log → Replays text out' log' → (out ≡ out') × (log ≡ log')
-replayed_once text out log out' log' a b =
-    let lines = lines_unique a.lines b.lines a.fits b.fits (sym a.written ∙ b.written) in
-    let there : Leads at_start (a.lines ++ []) b.end = subst (λ (x : List Line). Leads at_start x b.end) (sym lines ∙ sym (append-nil a.lines)) b.ends.leads in
-    let one : b.end ≡ a.end = leads-rest at_start a.lines a.end [] b.end a.ends.leads there in
-    (a.printed ∙ (ap (λ (p : Played). p.out) (sym one) ∙ sym b.printed), a.logged ∙ (ap log_text (sym one) ∙ sym b.logged))
+module _ (service : Service) where
+  pub leads_more : (w : World service.State) (ls : List Line) (v : World service.State) (more : List Line) (u : World service.State) → Leads service w ls v → Leads service v more u → Leads service w (ls ++ more) u
+  leads_more w [] v more u l h = subst (λ (x : World service.State). Leads service x more u) l h
+  leads_more w (m ∷ ls) v more u l h = (l.0, l.1, leads_more l.0 ls v more u l.2 h)
+
+  -- what lines lead to is one world
+  pub leads_rest : IsDetermined service → (w : World service.State) (ls : List Line) (v : World service.State) (more : List Line) (u : World service.State) → Leads service w ls v → Leads service w (ls ++ more) u → Leads service v more u
+  leads_rest d w [] v more u l h = subst (λ (x : World service.State). Leads service x more u) (sym l) h
+  leads_rest d w (m ∷ ls) v more u l h =
+      leads_rest d l.0 ls v more u l.2 (subst (λ (x : World service.State). Leads service x (ls ++ more) u) (one_line service d w h.0 l.0 m h.1 l.1) h.2)

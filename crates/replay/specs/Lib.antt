@@ -1,8 +1,1 @@
-pub mod Binds
-pub mod Probe
-pub mod Answers
-pub mod Played
-pub mod Good
-pub mod Nexts
-pub mod Replays
-pub mod Laws
+pub mod Reading

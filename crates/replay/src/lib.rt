@@ -1,14 +1,8 @@
-//! Scripts are replayed: one connection, its group and the probe, each a plain list of what came.
+//! Scripts are replayed, from their texts to what they print and log.
 #![tactic(auto)]
 
-mod bind;
-mod laws;
-mod phase;
-mod play;
-mod print;
-mod probe;
+mod reading;
 mod replaying;
 
-pub use laws::one_replay;
-pub use phase::{Caller, Phase, ProbeCall};
-pub use replaying::{ReplayFault, Replayed, replay};
+pub use replay_world::ReplayFault;
+pub use replaying::{Replayed, replay};

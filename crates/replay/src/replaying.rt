@@ -1,84 +1,87 @@
 //! Scripts are replayed.
-ghost use Rattle.std.specs.Prelude.{◌≡◌, IfOk, IfErr, MatchOption};
-ghost use Rattle.replay_script.specs.Lines.{BeginsWithNoLine};
-ghost use Rattle.replay.specs.declared.replaying.ReplayFault.TheVariants.{Memory};
-ghost use Rattle.replay.specs.Replays.{Replays, IsCause};
-ghost use Rattle.replay.specs.Good.{IsGood};
-ghost use Rattle.replay.specs.Nexts.{Continues, Stops};
+ghost use Rattle.std.specs.Prelude.{◌≡◌, Option, IfOk, IfErr};
+ghost use Rattle.table_form.specs.Tables.{TableForm};
+ghost use Rattle.service_desks.specs.Shows.{shown_by};
+ghost use Rattle.service_desks.specs.Start.{at_start};
+ghost use Rattle.replay_world.specs.declared.fault.ReplayFault.TheVariants as faults;
+ghost use Rattle.replay_world.specs.Worlds.{booted};
+ghost use Rattle.replay_world.specs.Replays.{Replays, IsCause};
+ghost use Rattle.replay_service.specs.Service.{service_of, IsEcho};
+ghost use Rattle.replay_events.specs.Standing.{Stands};
+ghost use Rattle.replay_lines.specs.Lines.{HasWorld};
+ghost use Rattle.replay_lines.specs.Closing.{IsLeft};
 
-use crate::play::Playing;
-use replay_script::next_line;
+use crate::reading::{first_boot, play_rest};
+use replay_events::Player;
+use replay_lines::close;
+use replay_world::ReplayFault;
 use rpc_base::{NoMemory, Octets};
 use std::alloc::Global;
-use thiserror::Error;
+use table_form::Table;
 
 /// What a script puts on the two outputs.
 #[derive(Drop)]
 pub struct Replayed {
-    /// The octets answered, a line for each PDU.
+    /// The octets answered, a line for each PDU, and the calls that wait for another or for a line.
     pub out: Octets,
-    /// The journals.
+    /// The journals of the groups.
     pub log: Octets,
 }
 
-/// Why a text isn't replayed.
-#[derive(Clone, Copy, Debug, Error)]
-pub enum ReplayFault {
-    /// The first line that departs from the scripts, from 1.
-    #[error("script line {0}")]
-    Line(usize),
-    /// There is no memory.
-    #[error("out of memory")]
-    Memory,
-}
-
-impl From<NoMemory> for ReplayFault {
-    ghost from_gives = { λ _ e. e ≡ Memory };
-
-    fn from(_: NoMemory) -> Self {
-        ReplayFault::Memory
+/// A server that was booted, with an echo of that interface.
+fn begun(alloc: Global, boot: u64, echo: Option<&Table>) -> Result<Player, ReplayFault>
+    ensures stands { IfOk result (λ player. Stands (shown_by (λ t. t.now) echo.entry) player (booted boot (at_start (shown_by (λ t. t.now) echo.entry)))) }
+    ensures fault { IfErr result (λ e. e ≡ faults.Memory) }
+{
+    match Player::begin(alloc, boot, echo) {
+        Ok(player) => Ok(player),
+        Err(NoMemory) => Err(ReplayFault::Memory),
     }
 }
 
-/// Plays the first line of a text, as the line of this number, and gives what follows it. None where
-/// no line begins the text.
-fn play_next<'a>(
-    alloc: Global,
-    playing: &mut Playing,
-    text: &'a [u8],
-    number: usize,
-) -> Result<Option<&'a [u8]>, ReplayFault>
-    requires { IsGood playing.old }
-    ensures next { IfOk result (λ next. MatchOption next (BeginsWithNoLine text.now × (playing.new ≡ playing.old)) (λ rest. Continues playing.old text.now rest.now playing.new)) }
-    ensures fault { IfErr result (Stops playing.old text.now number) }
+/// Closes a replay behind its last line: what it leaves.
+fn left(alloc: Global, player: Player) -> Result<Replayed, ReplayFault>
+    requires { HasWorld player }
+    ensures left { IfOk result (λ r. IsLeft player r.out r.log) }
+    ensures fault { IfErr result (λ e. e ≡ faults.Memory) }
 {
-    let Some((line, rest)) = next_line(alloc, text)? else {
-        return Ok(None);
+    match close(alloc, player) {
+        Ok((out, log)) => Ok(Replayed {
+            out: Octets::from_vec(out),
+            log: Octets::from_vec(log),
+        }),
+        Err(NoMemory) => Err(ReplayFault::Memory),
+    }
+}
+
+/// The interface of a table is one of an echo.
+fn is_echo(echo: Option<&Table>)
+    ensures { IsEcho (shown_by (λ t. t.now) echo.entry) }
+{
+    if let Some(table) = echo {
+        table.is_whole();
+        table.is_shallow();
+    }
+}
+
+/// Replays the text of a script: its lines move connections, groups and the desks behind the interfaces, one after the
+/// other, and then all connections are lost and all calls ended. `echo` is an interface that is served beside the
+/// built-in ones, each of whose calls is answered with what came (C706, chapters "Remote Procedure Call Model" and
+/// "Connection-oriented RPC Protocol Machines").
+///
+/// # Errors
+///
+/// `Line` with the number of the first line that departs from the scripts, `Memory` where there is no memory.
+pub fn replay(alloc: Global, text: &[u8], echo: Option<&Table>) -> Result<Replayed, ReplayFault>
+    ensures replayed { IfOk result (λ r. Replays (service_of (shown_by (λ t. t.now) echo.entry)) text.now r.out r.log) }
+    ensures fault { IfErr result (IsCause (service_of (shown_by (λ t. t.now) echo.entry)) text.now) }
+{
+    is_echo(echo);
+    let Some((boot, rest)) = first_boot(alloc, text)? else {
+        return Err(ReplayFault::Line(1));
     };
-    if playing.play_line(alloc, &line)? {
-        Ok(Some(rest))
-    } else {
-        Err(ReplayFault::Line(number))
-    }
-}
-
-/// Replays the text of a script: one connection, which is opened, bound to the probe and lost, and
-/// between these rounds of a request, its run, and its finish where the run took it.
-pub fn replay(alloc: Global, text: &[u8]) -> Result<Replayed, ReplayFault>
-    ensures replayed { IfOk result (λ r. Replays text.now r.out r.log) }
-    ensures fault { IfErr result (IsCause text.now) }
-{
-    let mut playing = Playing::new(alloc);
-    let mut rest = text;
-    let mut count = 0;
-    while let Some(after) = play_next(alloc, &mut playing, rest, count + 1)? {
-        rest = after;
-        count += 1;
-    }
-    if playing.is_over() && rest.is_empty() {
-        let replayed = playing.close(alloc)?;
-        Ok(replayed)
-    } else {
-        Err(ReplayFault::Line(count + 1))
-    }
+    let mut player = begun(alloc, boot, echo)?;
+    play_rest(alloc, &mut player, rest)?;
+    let replayed = left(alloc, player)?;
+    Ok(replayed)
 }

@@ -10,9 +10,8 @@ use Rattle.journal_audit.specs.Files.{Journal, DepartsAt}
 use Rattle.journal_audit.specs.Told.{Audited, TellsAll}
 use Rattle.audit_laws.proofs.Journals.{one_reading, neither_both}
 use Rattle.audit_laws.proofs.Verdicts.{good_is_legal}
-use Rattle.rpc_app.specs.declared.command.Command.TheVariants.{Audit}
-use Rattle.rpc_app.specs.Audits.{is_legal, is_good, IsGood, AreGood, IsAudited, verdict_lines, journal_refusal}
-use Rattle.rpc_app.specs.Commands.{IsTextFor, Refuses}
+use Rattle.rpc_app.specs.Audits.{is_legal, is_good, IsGood, AreGood, IsAudited, HasBreach, DepartsAtJournalLine, verdict_lines, journal_refusal}
+use Rattle.rpc_app.specs.Commands.{RefusesJournals}
 
 -- a journal with a good verdict is legal and settled
 good_by : (g : Journal) (v : Verdict) → Tells g.home g.base g.entries v → is_legal v ≡ true → IsGood g
@@ -40,20 +39,24 @@ all_told (g ∷ gs) (v ∷ vs) t f =
     let later = all_told gs vs t.1 f.1 in
     rw (here, later) refl
 
+-- no text of good journals departs, or has a breach
+pub no_journals : (text said : List ℕ) → DepartsAtJournalLine text said → AreGood text → ⊥
+no_journals text said d good = neither_both text d.line good.journals d.departs good.written
+
+pub no_breach : (text said : List ℕ) → HasBreach text said → AreGood text → ⊥
+no_breach text said b good =
+    let one = one_reading text b.told.0 good.journals b.told.1 good.written in
+    let all : list_all is_good b.verdicts ≡ true = all_told good.journals b.verdicts (subst (λ js. TellsAll js b.verdicts) one b.told.2) good.good in
+    let bad = b.breach in
+    absurd (cc (all, bad))
+
 -- the fault of a text, as it is said
-pub departs_line : (text said : List ℕ) (line : ℕ) → DepartsAt text line → said ≡ journal_refusal line → Refuses Audit text said × (IsTextFor Audit text → ⊥)
-departs_line text said line d e =
-    (inl (record { line = line; departs = d; said_is = e }), λ good. neither_both text line good.journals d good.written)
+pub departs_line : (text said : List ℕ) (line : ℕ) → DepartsAt text line → said ≡ journal_refusal line → RefusesJournals text said
+departs_line text said line d e = inl (record { line = line; departs = d; said_is = e })
 
 -- the verdicts where one is a breach
-pub breaches : (text said : List ℕ) (vs : List GroupVerdict) → Audited text vs → list_all is_good vs ≡ false → said ≡ verdict_lines vs → Refuses Audit text said × (IsTextFor Audit text → ⊥)
-breaches text said vs told bad e = (
-  inr (record { verdicts = vs; told = told; breach = bad; said_is = e }),
-  λ good.
-      let one = one_reading text told.0 good.journals told.1 good.written in
-      let all : list_all is_good vs ≡ true = all_told good.journals vs (subst (λ js. TellsAll js vs) one told.2) good.good in
-      absurd (cc),
-)
+pub breaches : (text said : List ℕ) (vs : List GroupVerdict) → Audited text vs → list_all is_good vs ≡ false → said ≡ verdict_lines vs → RefusesJournals text said
+breaches text said vs told bad e = inr (record { verdicts = vs; told = told; breach = bad; said_is = e })
 
 -- the verdicts where none is
 pub audited : (text said : List ℕ) (vs : List GroupVerdict) → Audited text vs → list_all is_good vs ≡ true → said ≡ verdict_lines vs → IsAudited text said

@@ -4,4 +4,5 @@ pub mod Growing
 pub mod Sets
 pub mod Audited
 pub mod Made
+pub mod Told
 pub mod Obeyed

@@ -1,12 +1,12 @@
 -- What the program does for its words, by what it does to a file.
-use Rattle.std.proofs.Common.{◌≡◌, ◌≢◌, ◌⊎◌, ℕ, ◌<◌, ◌≤◌, List, length, inl, inr, sym, subst, arith}
+use Rattle.std.proofs.Common.{◌≡◌, ◌≢◌, ◌⊎◌, ℕ, ◌<◌, Option, List, inl, inr, sym, subst, arith}
 use Rattle.rpc_base.specs.Causes.{Rose}
 use Rattle.rpc_base.specs.Shelves.{Tells}
-use Rattle.rpc_app.specs.declared.command.Command.{Command}
-use Rattle.rpc_app.specs.Asks.{AsksFor, AsksForNothing}
-use Rattle.rpc_app.specs.Commands.{IsTextFor, limit}
-use Rattle.rpc_app.specs.Obeys.{Obeys, Shelf, Output, IsKept, Put, HasDone, HasRefused, WasCutShort, IsTaken, NoneFailed}
+use Rattle.table_form.specs.Tables.{TableForm}
+use Rattle.rpc_app.specs.Asks.{Task, AsksFor, AsksForNothing}
+use Rattle.rpc_app.specs.Obeys.{Obeys, Shelf, Output, IsKept, Put, HasDone, HasRefused, WasCutShort, IsTaken, TellsText, NoneFailed}
 use Rattle.rpc_app.specs.Runs.{Gains, GainsFront, words_refusal}
+use Rattle.rpc_app.proofs.Told.{task_refused, task_done, task_short, task_text}
 
 abbrev pub IsKnown : ℕ → Type 0
 IsKnown status = (status ≡ 0) ⊎ (status ≡ 2) ⊎ (status ≡ 3) ⊎ (status ≡ 4) ⊎ (status ≡ 5)
@@ -33,37 +33,35 @@ left_over status store out log (inr (inr (inl e))) two shelf sinks none = absurd
 left_over status store out log (inr (inr (inr (inl e)))) two shelf sinks none = elim (sinks e) [ inl o ↦ absurd (none.1 o) | inr l ↦ absurd (none.2 l) ]
 left_over status store out log (inr (inr (inr (inr e)))) two shelf sinks none = inr e
 
--- the words ask for a command and a file, and it does to the file what it does
-pub obeyed : (given : List (List ℕ)) (store : Shelf) (out log : Output) (status : ℕ) (command : Command) (name : List ℕ) → AsksFor given command name
-    → ((other : Command) (file : List ℕ) → AsksFor given other file → (other ≡ command) × (file ≡ name))
-    → IsKnown status → (status ≡ 0 → HasDone command name store out log) → (status ≡ 2 → HasRefused command name store out log) → (status ≡ 3 → Rose store.before store.after)
-    → (status ≡ 4 → Rose out.before out.after ⊎ Rose log.before log.after) → (status ≡ 4 → WasCutShort command name store out log)
-    → ((status ≡ 3) ⊎ (status ≡ 5) → IsKept out) → ((status ≡ 3) ⊎ (status ≡ 5) → IsKept log)
-    → ((octets : List ℕ) → Tells store.files name octets → length octets ≤ limit command → IsTextFor command octets → status ≢ 2)
-    → ((octets : List ℕ) → Tells store.files name octets → (IsTextFor command octets → ⊥) → status ≢ 0)
-    → ((octets : List ℕ) → Tells store.files name octets → limit command < length octets → status ≢ 0)
-    → Obeys given store out log status
-obeyed given store out log status command name asks alone known done refused shelf sinks fronts silent quiet taken not_taken too_long =
-    let told = λ (file octets : List ℕ) (e : file ≡ name) (t : Tells store.files file octets). subst (λ n. Tells store.files n octets) e t in
-    let takes = λ (other : Command) (file octets : List ℕ) (a : AsksFor given other file) (t : Tells store.files file octets) (k : IsTaken other octets).
-    taken octets (told file octets (alone other file a).1 t) (subst (λ c. length octets ≤ limit c) (alone other file a).0 k.0) (subst (λ c. IsTextFor c octets) (alone other file a).0 k.1) in
+-- the words ask for a task, and it is done or not
+pub obeyed : (given : List (List ℕ)) (store : Shelf) (out log : Output) (status : ℕ) (task : Task) → AsksFor given task → ((other : Task) → AsksFor given other → other ≡ task)
+    → IsKnown status → (status ≡ 0 → HasDone task store out log) → (status ≡ 2 → HasRefused task store out log) → (status ≡ 3 → Rose store.before store.after)
+    → (status ≡ 4 → Rose out.before out.after ⊎ Rose log.before log.after) → (status ≡ 4 → WasCutShort task store out log)
+    → ((status ≡ 3) ⊎ (status ≡ 5) → IsKept out) → ((status ≡ 3) ⊎ (status ≡ 5) → IsKept log) → Obeys given store out log status
+obeyed given store out log status task asks alone known done refused shelf sinks fronts silent quiet =
+    let takes = λ (other : Task) (echo : Option TableForm) (octets : List ℕ) (a : AsksFor given other) (x : TellsText store.files other.idl echo) (t : Tells store.files other.file octets)
+    (k : IsTaken echo other.command octets) (e : status ≡ 2).
+    let r = subst (λ (z : Task). HasRefused z store out log) (sym (alone other a)) (refused e) in
+    task_refused store.files other echo octets r.refusal r.refuses x t k in
+    let does = λ (other : Task) (a : AsksFor given other) (e : status ≡ 0). subst (λ (z : Task). HasDone z store out log) (sym (alone other a)) (done e) in
     record {
       known = below_six status known;
-      done = λ e. (command, name, asks, done e);
+      done = λ e. (task, asks, done e);
       words = λ e. absurd (not_one status known e);
-      outside = λ e. (command, name, asks, refused e);
-      shelf = λ e. (shelf e, (command, name, asks, tt));
+      outside = λ e. (task, asks, refused e);
+      shelf = λ e. (shelf e, (task, asks, tt));
       sinks = sinks;
-      fronts = λ e. inr (command, name, asks, fronts e);
+      fronts = λ e. inr (task, asks, fronts e);
       silent = silent;
       quiet = quiet;
-      unknown = λ none. absurd (none command name asks);
-      taken = λ other file octets a t k. (not_one status known, takes other file octets a t k);
-      refused = λ other file octets a t no.
-          not_taken octets (told file octets (alone other file a).1 t) (λ x. no (subst (λ c. IsTextFor c octets) (sym (alone other file a).0) x));
-      too_long = λ other file octets a t long.
-          (too_long octets (told file octets (alone other file a).1 t) (subst (λ c. limit c < length octets) (alone other file a).0 long), not_one status known);
-      complete = λ other file octets a t k none. left_over status store out log known (takes other file octets a t k) shelf sinks none;
+      unknown = λ none. absurd (none task asks);
+      taken = λ other echo octets a x t k. (not_one status known, takes other echo octets a x t k);
+      refused = λ other echo octets a x t no e.
+          let d = does other a e in
+          no (task_done store.files other echo octets d.printed d.logged d.does x t);
+      too_long = λ other octets a t long. (λ e. let d = does other a e in task_short store.files other octets d.printed d.logged d.does t long, not_one status known);
+      text_refused = λ other name octets a i t no. (λ e. let d = does other a e in no (task_text store.files other name octets d.printed d.logged d.does i t), not_one status known);
+      complete = λ other echo octets a x t k none. left_over status store out log known (takes other echo octets a x t k) shelf sinks none;
     }
 
 one_or_four : (status : ℕ) → (status ≡ 1) ⊎ (status ≡ 4) → (status < 6) × (status ≢ 0) × (status ≢ 2) × (status ≢ 3) × (status ≢ 5)
@@ -94,8 +92,9 @@ unasked given store out log status nothing known said failed front kept =
       silent = λ e. absurd (neither status no.3 no.4 e);
       quiet = λ e. kept;
       unknown = λ e. refused_so status known;
-      taken = λ other file octets a t k. absurd (nothing other file a);
-      refused = λ other file octets a t k. absurd (nothing other file a);
-      too_long = λ other file octets a t k. absurd (nothing other file a);
-      complete = λ other file octets a t k none. absurd (nothing other file a);
+      taken = λ other echo octets a x t k. absurd (nothing other a);
+      refused = λ other echo octets a x t k. absurd (nothing other a);
+      too_long = λ other octets a t k. absurd (nothing other a);
+      text_refused = λ other name octets a i t k. absurd (nothing other a);
+      complete = λ other echo octets a x t k none. absurd (nothing other a);
     }

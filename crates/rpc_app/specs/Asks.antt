@@ -1,22 +1,26 @@
--- Which of what the words ask is carried out.
-use Rattle.std.specs.Prelude.{◌≡◌, ℕ, List, Option, Some, None}
+-- What the words ask to be done.
+use Rattle.std.specs.Prelude.{◌≡◌, ℕ, List, Option, None, option_map}
 use Rattle.command_line.specs.declared.command.Asked.{Asked}
 use Rattle.command_line.specs.declared.command.Asked.TheVariants as asks
 use Rattle.command_line.specs.Asks as line
 use Rattle.rpc_app.specs.declared.command.Command.{Command}
 use Rattle.rpc_app.specs.declared.command.Command.TheVariants.{Replay, Idl, Audit}
 
--- each command with its file; a replay with an interface text isn't carried out
-abbrev pub carried_out : Asked → Option (Command × List ℕ)
-carried_out (asks.Replay file None) = Some (Replay, file.now)
-carried_out (asks.Replay file (Some idl)) = None
-carried_out (asks.Idl file) = Some (Idl, file.now)
-carried_out (asks.Audit file) = Some (Audit, file.now)
+-- A command with its file, and the interface text whose interface is served in a replay beside the built-in ones.
+pub record Task : Type 0 where
+  pub command : Command
+  pub file : List ℕ
+  pub idl : Option (List ℕ)
 
--- the words ask for a command with this file
-abbrev pub AsksFor : List (List ℕ) → Command → List ℕ → Type 0
-AsksFor words command file = (asked : Asked) × line.AsksFor words asked × (carried_out asked ≡ Some (command, file))
+abbrev pub task_of : Asked → Task
+task_of (asks.Replay file idl) = record { command = Replay; file = file.now; idl = option_map (λ text. text.now) idl }
+task_of (asks.Idl file) = record { command = Idl; file = file.now; idl = None }
+task_of (asks.Audit file) = record { command = Audit; file = file.now; idl = None }
+
+-- the words ask for this task
+abbrev pub AsksFor : List (List ℕ) → Task → Type 0
+AsksFor words task = (asked : Asked) × line.AsksFor words asked × (task_of asked ≡ task)
 
 -- they ask for none
 abbrev pub AsksForNothing : List (List ℕ) → Type 0
-AsksForNothing words = (command : Command) (file : List ℕ) → AsksFor words command file → ⊥
+AsksForNothing words = (task : Task) → AsksFor words task → ⊥

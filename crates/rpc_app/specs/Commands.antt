@@ -1,5 +1,5 @@
 -- What the program makes of a file.
-use Rattle.std.specs.Prelude.{◌≡◌, ◌⊎◌, ℕ, ◌++◌, List, [], codes, decimal}
+use Rattle.std.specs.Prelude.{◌≡◌, ◌⊎◌, ℕ, ◌++◌, List, [], Option, codes, decimal}
 use Rattle.replay_script.specs.Scripts.{IsScript, DepartsAt}
 use Rattle.idl_tree.specs.Idl.{IsIdl}
 use Rattle.idl_tree.specs.declared.declaration.Ast.{Ast}
@@ -8,10 +8,13 @@ use Rattle.idl_reader.specs.declared.fault.IdlFault.TheVariants as faults
 use Rattle.idl_reader.specs.Causes.{IsCause}
 use Rattle.idl_rules.specs.Broken.{NoneBroken, IsLeastBreach}
 use Rattle.idl_print.specs.Canonical.{canonical_text}
+use Rattle.table_form.specs.Tables.{TableForm}
+use Rattle.marshal_table.specs.Interfaces.{tabled}
 use Rattle.rpc_app.specs.declared.command.Command.{Command}
 use Rattle.rpc_app.specs.declared.command.Command.TheVariants.{Replay, Idl, Audit}
 use Rattle.rpc_app.specs.Audits.{AreGood, IsAudited, HasBreach, DepartsAtJournalLine}
-use Rattle.replay.specs.Replays.{IsReplay, Replays}
+use Rattle.replay_world.specs.Replays.{IsReplay, Replays}
+use Rattle.replay_service.specs.Service.{service_of}
 
 -- the longest file that it takes: 64 MiB of a script or of journals, 1 MiB of an interface text
 abbrev pub limit : Command → ℕ
@@ -26,18 +29,25 @@ pub record IsPrinted (text printed : List ℕ) : Type 0 where
   pub checked : NoneBroken tree
   pub printed_is : printed ≡ canonical_text tree
 
--- what a command makes of a file: a script is replayed; of an interface text the canonical text is put on out, of journals
--- that are legal and settled the verdicts
-abbrev pub Makes : Command → List ℕ → List ℕ → List ℕ → Type 0
-Makes Replay text out log = Replays text out log
-Makes Idl text out log = IsPrinted text out × (log ≡ [])
-Makes Audit text out log = IsAudited text out × (log ≡ [])
+-- The text has a tree that breaks no rule, and this is the table of its interface.
+pub record IsInterface (text : List ℕ) (table : TableForm) : Type 0 where
+  pub tree : Ast
+  pub idl : IsIdl text tree
+  pub checked : NoneBroken tree
+  pub table_is : table ≡ tabled tree
+
+-- what a command makes of a file: a script is replayed, with the built-in interfaces and that of an echo, if there is one; of an
+-- interface text the canonical text is put on out, of journals that are legal and settled the verdicts
+abbrev pub Makes : Option TableForm → Command → List ℕ → List ℕ → List ℕ → Type 0
+Makes echo Replay text out log = Replays (service_of echo) text out log
+Makes echo Idl text out log = IsPrinted text out × (log ≡ [])
+Makes echo Audit text out log = IsAudited text out × (log ≡ [])
 
 -- the files of which it makes something
-abbrev pub IsTextFor : Command → List ℕ → Type 0
-IsTextFor Replay text = IsScript IsReplay text
-IsTextFor Idl text = (tree : Ast) × IsIdl text tree × NoneBroken tree
-IsTextFor Audit text = AreGood text
+abbrev pub IsTextFor : Option TableForm → Command → List ℕ → Type 0
+IsTextFor echo Replay text = IsScript (IsReplay (service_of echo)) text
+IsTextFor echo Idl text = (tree : Ast) × IsIdl text tree × NoneBroken tree
+IsTextFor echo Audit text = AreGood text
 
 unfoldable pub line_refusal : ℕ → List ℕ
 line_refusal n = codes "refused: script line " ++ decimal n ++ codes "\n"
@@ -57,9 +67,9 @@ Says (faults.TooDeep at) said = said ≡ place_refusal 4 at
 Says faults.Memory said = ⊥
 
 -- The script departs at a line, the first that does.
-pub record DepartsAtLine (text said : List ℕ) : Type 0 where
+pub record DepartsAtLine (echo : Option TableForm) (text said : List ℕ) : Type 0 where
   pub line : ℕ
-  pub departs : DepartsAt IsReplay line text
+  pub departs : DepartsAt (IsReplay (service_of echo)) line text
   pub said_is : said ≡ line_refusal line
 
 -- The interface text departs from the grammar, and has no tree.
@@ -78,8 +88,15 @@ pub record BreaksRule (text said : List ℕ) : Type 0 where
   pub least : IsLeastBreach tree number at
   pub said_is : said ≡ rule_refusal number at
 
+-- why an interface text is refused, and why journals are; and how that is said
+abbrev pub RefusesInterface : List ℕ → List ℕ → Type 0
+RefusesInterface text said = DepartsAtPlace text said ⊎ BreaksRule text said
+
+abbrev pub RefusesJournals : List ℕ → List ℕ → Type 0
+RefusesJournals text said = DepartsAtJournalLine text said ⊎ HasBreach text said
+
 -- why a command refuses a file, and how that is said
-abbrev pub Refuses : Command → List ℕ → List ℕ → Type 0
-Refuses Replay text said = DepartsAtLine text said
-Refuses Idl text said = DepartsAtPlace text said ⊎ BreaksRule text said
-Refuses Audit text said = DepartsAtJournalLine text said ⊎ HasBreach text said
+abbrev pub Refuses : Option TableForm → Command → List ℕ → List ℕ → Type 0
+Refuses echo Replay text said = DepartsAtLine echo text said
+Refuses echo Idl text said = RefusesInterface text said
+Refuses echo Audit text said = RefusesJournals text said

@@ -1,9 +1,12 @@
 -- What the program does for its words and files.
-use Rattle.std.specs.Prelude.{◌≡◌, ℕ, ◌<◌, ◌≤◌, ◌⊎◌, List, ◌∷◌, ◌++◌, [], length, take, Option, codes}
+use Rattle.std.specs.Prelude.{◌≡◌, ℕ, ◌<◌, ◌≤◌, ◌⊎◌, List, ◌∷◌, ◌++◌, [], length, take, Option, Some, None, codes}
 use Rattle.std.specs.Io.KnownBytes.{append_known}
 use Rattle.rpc_base.specs.Shelves.{Files, HasFile}
+use Rattle.table_form.specs.Tables.{TableForm}
 use Rattle.rpc_app.specs.declared.command.Command.{Command}
-use Rattle.rpc_app.specs.Commands.{limit, Makes, Refuses}
+use Rattle.rpc_app.specs.declared.command.Command.TheVariants.{Idl}
+use Rattle.rpc_app.specs.Asks.{Task}
+use Rattle.rpc_app.specs.Commands.{limit, IsInterface, Makes, Refuses}
 
 abbrev pub words_refusal : List ℕ
 words_refusal = codes "refused: words" ++ 10 ∷ []
@@ -23,39 +26,76 @@ Gains before now text = now ≡ append_known before text
 abbrev pub GainsFront : Growth
 GainsFront before now text = (k : ℕ) × Gains before now (take k text)
 
+-- ---- files
+
 -- These octets were loaded, no more than the limit: where the files are told, they are the file of that name.
 pub record IsLoaded (most : ℕ) (files : Option Files) (name octets : List ℕ) : Type 0 where
   pub short : length octets ≤ most
   pub file : HasFile files name (λ file. file ≡ octets)
 
--- The command made something of the file, and put it on both outputs.
-pub record IsDone (grows : Growth) (command : Command) (files : Option Files) (name : List ℕ) (out out' log log' : Option (List ℕ)) : Type 0 where
+-- The command makes this of the file.
+pub record MakesOf (files : Option Files) (echo : Option TableForm) (command : Command) (name printed logged : List ℕ) : Type 0 where
   pub octets : List ℕ
   pub loaded : IsLoaded (limit command) files name octets
+  pub makes : Makes echo command octets printed logged
+
+-- The file is too long, and that is said.
+pub record IsTooLong (files : Option Files) (command : Command) (name said : List ℕ) : Type 0 where
+  pub file : HasFile files name (λ file. limit command < length file)
+  pub said_is : said ≡ long_refusal
+
+-- The file departs from what the command takes, and where it does is said.
+pub record IsOutside (files : Option Files) (echo : Option TableForm) (command : Command) (name said : List ℕ) : Type 0 where
+  pub octets : List ℕ
+  pub loaded : IsLoaded (limit command) files name octets
+  pub refuses : Refuses echo command octets said
+
+-- The command refuses the file, and this is said of it.
+abbrev pub RefusesFile : Option Files → Option TableForm → Command → List ℕ → List ℕ → Type 0
+RefusesFile files echo command name said = IsTooLong files command name said ⊎ IsOutside files echo command name said
+
+-- ---- tasks
+
+-- the interface of the interface text that was loaded
+abbrev pub ServesText : Option Files → List ℕ → Option TableForm → Type 0
+ServesText files name echo = (octets : List ℕ) × IsLoaded (limit Idl) files name octets × ((table : TableForm) × IsInterface octets table × (echo ≡ Some table))
+
+-- the interface of the task's interface text, where it names one
+abbrev pub Serves : Option Files → Option (List ℕ) → Option TableForm → Type 0
+Serves files None echo = echo ≡ None
+Serves files (Some name) echo = ServesText files name echo
+
+-- The command makes this of the task's file, with the interface of its interface text.
+abbrev pub DoesTask : Option Files → Task → List ℕ → List ℕ → Type 0
+DoesTask files task printed logged = (echo : Option TableForm) × Serves files task.idl echo × MakesOf files echo task.command task.file printed logged
+
+-- the interface text is refused, where the task names one, as the command `idl` refuses it
+abbrev pub RefusesText : Option Files → Option (List ℕ) → List ℕ → Type 0
+RefusesText files None said = ⊥
+RefusesText files (Some name) said = RefusesFile files None Idl name said
+
+-- that is, or else the command refuses the task's file
+abbrev pub RefusesTask : Option Files → Task → List ℕ → Type 0
+RefusesTask files task said =
+    RefusesText files task.idl said ⊎ ((echo : Option TableForm) × Serves files task.idl echo × RefusesFile files echo task.command task.file said)
+
+-- ---- outputs
+
+-- The task was done, and what it makes is on both outputs.
+pub record IsDone (grows : Growth) (task : Task) (files : Option Files) (out out' log log' : Option (List ℕ)) : Type 0 where
   pub printed : List ℕ
   pub logged : List ℕ
-  pub makes : Makes command octets printed logged
+  pub does : DoesTask files task printed logged
   pub on_out : grows out out' printed
   pub on_log : grows log log' logged
 
--- The file is too long, and that is said.
-pub record IsTooLong (grows : Growth) (command : Command) (files : Option Files) (name : List ℕ) (out out' : Option (List ℕ)) : Type 0 where
-  pub file : HasFile files name (λ file. limit command < length file)
-  pub said : grows out out' long_refusal
-
--- The file departs from what the command takes, and where it does is said.
-pub record IsOutside (grows : Growth) (command : Command) (files : Option Files) (name : List ℕ) (out out' : Option (List ℕ)) : Type 0 where
-  pub octets : List ℕ
-  pub loaded : IsLoaded (limit command) files name octets
+-- It was refused, that is said on out, and nothing else is said.
+pub record IsRefused (grows : Growth) (task : Task) (files : Option Files) (out out' log log' : Option (List ℕ)) : Type 0 where
   pub refusal : List ℕ
-  pub refuses : Refuses command octets refusal
+  pub refuses : RefusesTask files task refusal
   pub said : grows out out' refusal
-
--- The file is refused, and nothing else is said.
-pub record IsRefused (grows : Growth) (command : Command) (files : Option Files) (name : List ℕ) (out out' log log' : Option (List ℕ)) : Type 0 where
-  pub why : IsTooLong grows command files name out out' ⊎ IsOutside grows command files name out out'
   pub quiet : log' ≡ log
 
--- An output failed: each has gained a front of what was to be said of the file.
-abbrev pub IsCutShort : Command → Option Files → List ℕ → Option (List ℕ) → Option (List ℕ) → Option (List ℕ) → Option (List ℕ) → Type 0
-IsCutShort command files name out out' log log' = IsDone GainsFront command files name out out' log log' ⊎ IsRefused GainsFront command files name out out' log log'
+-- An output failed: each has gained a front of what was to be said of the task.
+abbrev pub IsCutShort : Task → Option Files → Option (List ℕ) → Option (List ℕ) → Option (List ℕ) → Option (List ℕ) → Type 0
+IsCutShort task files out out' log log' = IsDone GainsFront task files out out' log log' ⊎ IsRefused GainsFront task files out out' log log'

@@ -1,5 +1,5 @@
 //! Files are loaded up to a limit.
-ghost use Rattle.std.specs.Prelude.{◌≡◌, ◌+◌, ◌<◌, ◌^◌, length, Err, IfOk};
+ghost use Rattle.std.specs.Prelude.{◌≡◌, ◌+◌, ◌<◌, ◌≤◌, ◌^◌, length, Err, IfOk};
 ghost use Rattle.rpc_base.specs.Causes.{Rose};
 ghost use Rattle.rpc_base.specs.Shelves.{HasFile};
 ghost use Rattle.rpc_app.specs.Runs.{IsLoaded};
@@ -28,6 +28,8 @@ pub fn load_file<F: Shelf>(
     requires { most + 1 < 2 ^ 64 }
     ensures loaded { IfOk result (λ octets. IsLoaded most (F.files shelf.old) name.now octets.items) }
     ensures long { result ≡ Err LoadFault.TooLong → HasFile (F.files shelf.old) name.now (λ file. most < length file) }
+    ensures same { F.files shelf.new ≡ F.files shelf.old }
+    ensures later { F.faults shelf.old ≤ F.faults shelf.new }
     ensures failed { result ≡ Err LoadFault.Failed → Rose (F.faults shelf.old) (F.faults shelf.new) }
 {
     match shelf.load(alloc, name, most + 1) {

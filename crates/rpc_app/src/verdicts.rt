@@ -1,11 +1,11 @@
 //! What is said of the journals of a file.
-ghost use Rattle.std.specs.Prelude.{◌≡◌, ◌++◌, IfOk, IfErr, OnOk};
+ghost use Rattle.std.specs.Prelude.{◌≡◌, ◌++◌, [], IfOk, IfErr, OnOk};
 ghost use Rattle.std.specs.List.{list_all};
 ghost use Rattle.rpc_app.specs.Audits as spec;
-ghost use Rattle.rpc_app.specs.Commands.{Makes};
-ghost use Rattle.rpc_app.specs.Making.{IsWhy};
+ghost use Rattle.rpc_app.specs.Audits.{IsAudited};
+ghost use Rattle.rpc_app.specs.Commands.{RefusesJournals};
+ghost use Rattle.rpc_app.specs.Making.{Says};
 
-use crate::command::Command;
 use crate::make::MakeFault;
 use handle_rules::Verdict;
 use journal_audit::{AuditFault, GroupVerdict, audit};
@@ -80,8 +80,9 @@ fn journal_refusal(alloc: Global, line: usize) -> Result<Vec<u8>, NoMemory>
 
 /// Judges journals.
 pub fn judge(alloc: Global, text: &[u8]) -> Result<Replayed, MakeFault>
-    ensures made { IfOk result (λ r. Makes Command.Audit text.now r.out r.log) }
-    ensures fault { IfErr result (IsWhy Command.Audit text.now) }
+    ensures out { IfOk result (λ r. IsAudited text.now r.out) }
+    ensures log { IfOk result (λ r. r.log ≡ []) }
+    ensures fault { IfErr result (Says (RefusesJournals text.now)) }
 {
     let verdicts = match audit(alloc, text) {
         Ok(verdicts) => verdicts,

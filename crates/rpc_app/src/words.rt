@@ -1,34 +1,52 @@
-//! Which of what the words ask is carried out.
-ghost use Rattle.std.specs.Prelude.{◌≡◌, ℕ, List, map, option_map, string_bytes, IfOk, IfSome, IfNone};
-ghost use Rattle.rpc_app.specs.Asks.{AsksFor, AsksForNothing, carried_out};
+//! What the words ask to be done.
+ghost use Rattle.std.specs.Prelude.{◌≡◌, List, map, option_map, string_bytes, IfOk, IfSome, IfNone};
+ghost use Rattle.rpc_app.specs.Asks.{Task as ATask, AsksFor, AsksForNothing, task_of};
+ghost use Rattle.rpc_app.specs.Words.{told_task};
 
 use crate::command::Command;
 use command_line::Asked;
 use rpc_base::NoMemory;
 use std::alloc::Global;
 
-/// The command that is carried out, and the name of its file.
-fn carried_out<'a>(asked: Asked<'a>) -> Option<(Command, &'a str)>
-    ensures { option_map (λ p. (p.0, p.1.now)) result ≡ carried_out asked.entry }
+/// A command, the name of its file, and that of the interface text beside it.
+#[derive(Clone, Copy, Debug)]
+pub struct Task<'a> {
+    pub command: Command,
+    pub file: &'a str,
+    pub idl: Option<&'a str>,
+}
+
+/// The task that is asked for.
+fn task_in(asked: Asked<'_>) -> Task<'_>
+    ensures { told_task result ≡ task_of asked.entry }
 {
     match asked {
-        Asked::Replay { file, idl: None } => Some((Command::Replay, file)),
-        Asked::Replay { .. } => None,
-        Asked::Idl { file } => Some((Command::Idl, file)),
-        Asked::Audit { file } => Some((Command::Audit, file)),
+        Asked::Replay { file, idl } => Task {
+            command: Command::Replay,
+            file,
+            idl,
+        },
+        Asked::Idl { file } => Task {
+            command: Command::Idl,
+            file,
+            idl: None,
+        },
+        Asked::Audit { file } => Task {
+            command: Command::Audit,
+            file,
+            idl: None,
+        },
     }
 }
 
-/// The command that the words ask for and the name of its file, or `None` where they ask for none
-/// that is carried out; `NoMemory` where memory ends while they are read.
-pub fn asked(alloc: Global, words: &[String]) -> Result<Option<(Command, &str)>, NoMemory>
-    ensures asked { IfOk result (λ o. IfSome o (λ p. AsksFor (map string_bytes words.now) p.0 p.1.now)) }
-    ensures alone { IfOk result (λ o. IfSome o (λ p. (command : Command) (file : List ℕ)
-        → AsksFor (map string_bytes words.now) command file → (command ≡ p.0) × (file ≡ p.1.now))) }
+/// The task that the words ask for, or `None` where they ask for none; `NoMemory` where memory ends while they are read.
+pub fn asked(alloc: Global, words: &[String]) -> Result<Option<Task<'_>>, NoMemory>
+    ensures asked { IfOk result (λ o. IfSome o (λ t. AsksFor (map string_bytes words.now) (told_task t))) }
+    ensures alone { IfOk result (λ o. IfSome o (λ t. (other : ATask) → AsksFor (map string_bytes words.now) other → other ≡ told_task t)) }
     ensures nothing { IfOk result (λ o. IfNone o (AsksForNothing (map string_bytes words.now))) }
 {
     match command_line::asked(alloc, words)? {
-        Some(asked) => Ok(carried_out(asked)),
+        Some(asked) => Ok(Some(task_in(asked))),
         None => Ok(None),
     }
 }

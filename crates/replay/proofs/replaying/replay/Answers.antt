@@ -1,32 +1,35 @@
-use Rattle.std.proofs.Common.{subst, sym, ap, ◌∙◌, rules}
-use Rattle.replay.specs.Played.{Played}
-use Rattle.std.proofs.lemmas.Bool.{false≢true}
-use Rattle.replay.proofs.Lists.{not_empty}
-use Rattle.replay.proofs.Reading.{IsRead, nothing_read, continued, continued_shorter, stopped, stuck_departs}
+use Rattle.std.proofs.Common.{rules, Option}
+use Rattle.table_form.specs.Tables.{TableForm}
+use Rattle.service_desks.specs.Shows.{shown_by}
+use Rattle.service_desks.specs.Start.{at_start}
+use Rattle.replay_world.specs.Worlds.{booted}
+use Rattle.replay_service.specs.Service.{service_of}
+use Rattle.replay.proofs.Read.{departs_first, departs_there, still_played}
+use Rattle.replay.proofs.Whole.{replayed}
 use Rattle.replay.proofs.replaying.replay.Goals as goal
-use Rattle.replay.proofs.replaying.replay.Goals.{else-is_over-via-then-is_over+else-is_empty, else-is_over-via-else-is_over}
 
-pub loop-playing-init : goal.loop-playing-init
-loop-playing-init c = subst (λ (p : Played). IsRead c.args.text.now c.args.text.now p 0) (sym c.new-playing.ensures) (nothing_read c.args.text.now)
+pub play_rest-requires : goal.play_rest-requires
+play_rest-requires c =
+    let echo : Option TableForm = shown_by (λ t. t.now) c.args.echo in
+    (echo, booted c.in-Some.boot (at_start echo), c.in_ok-player.ensures.stands)
 
-pub loop-playing-preserved : goal.loop-playing-preserved
-loop-playing-preserved c =
-    continued c.args.text.now c.loop-playing.rest.now c.in-Some.after.now c.loop-playing.playing c.play_next.new.playing c.loop-playing.count
-    c.loop-playing.invariant (rw c.in-Some.is at c.in_ok-after.ensures.next)
+pub left-requires : goal.left-requires
+left-requires c =
+    let echo : Option TableForm = shown_by (λ t. t.now) c.args.echo in
+    still_played c.in_ok-player.player c.play_rest.new.player c.in-Some.rest.now (echo, booted c.in-Some.boot (at_start echo), c.in_ok-player.ensures.stands) c.in_ok-play_rest.ensures.played
 
-pub loop-playing-smaller : goal.loop-playing-smaller
-loop-playing-smaller c = continued_shorter c.loop-playing.playing c.play_next.new.playing c.loop-playing.rest.now c.in-Some.after.now (rw c.in-Some.is at c.in_ok-after.ensures.next)
+pub returns-in_default-clause-fault : goal.returns-in_default-clause-fault
+returns-in_default-clause-fault c = departs_first (service_of (shown_by (λ t. t.now) c.args.echo)) c.args.text.now (rw c.in_default.is at c.in_ok-boot.ensures.boot)
 
-pub returns-in_err-after-clause-fault : goal.returns-in_err-after-clause-fault
-returns-in_err-after-clause-fault c =
-    let cause = stopped c.args.text.now c.loop-playing.rest.now c.loop-playing.playing c.loop-playing.count c.in_err-after.field-0.0 c.loop-playing.invariant c.in_err-after.ensures.fault in
+pub returns-in_err-play_rest-clause-fault : goal.returns-in_err-play_rest-clause-fault
+returns-in_err-play_rest-clause-fault c =
+    let echo : Option TableForm = shown_by (λ t. t.now) c.args.echo in
+    let cause =
+    departs_there echo c.is_echo.ensures c.in-Some.boot c.args.text.now c.in-Some.rest.now (rw c.in-Some.is at c.in_ok-boot.ensures.boot) c.in_ok-player.player c.in_ok-player.ensures.stands c.in_err-play_rest.field-0.0 c.in_err-play_rest.ensures.fault in
     search rules
 
-pub returns-else-is_over-clause-fault : goal.returns-else-is_over-clause-fault
-returns-else-is_over-clause-fault c =
-    let none = rw c.in_default.is at c.in_ok-after.ensures.next in
-    stuck_departs c.args.text.now c.loop-playing.rest.now c.loop-playing.playing c.loop-playing.count c.loop-playing.invariant none.0
-    (λ over empty. elim c.else-is_over.branch [
-      | else-is_over-via-then-is_over+else-is_empty w ↦ not_empty c.loop-playing.rest.now (sym w.if-is_empty.false ∙ w.is_empty.ensures) empty
-      | else-is_over-via-else-is_over w ↦ false≢true (sym w.if-is_over.false ∙ c.is_over.ensures.1 (ap (λ (p : Played). p.phase) none.1 ∙ over))
-    ])
+pub returns-clause-replayed : goal.returns-clause-replayed
+returns-clause-replayed c =
+    let echo : Option TableForm = shown_by (λ t. t.now) c.args.echo in
+    replayed echo c.in-Some.boot c.args.text.now c.in-Some.rest.now c.in_ok-player.player c.play_rest.new.player c.in_ok-replayed.replayed.out c.in_ok-replayed.replayed.log
+    (rw c.in-Some.is at c.in_ok-boot.ensures.boot) c.in_ok-player.ensures.stands c.in_ok-play_rest.ensures.played c.in_ok-replayed.ensures.left

@@ -1,12 +1,13 @@
 use Rattle.std.proofs.Common.{refl}
+use Rattle.rpc_app.specs.Words.{told_task}
 use Rattle.rpc_app.proofs.Obeyed.{obeyed, unasked}
 use Rattle.rpc_app.proofs.top.obey.Goals as goal
 
 pub returns-in-Some : goal.returns-in-Some
 returns-in-Some g c =
     let e = c.carry_out.ensures in
-    obeyed _ _ _ _ _ c.in-Some.command c.in-Some.name.now (rw c.in-Some.is at c.in-Ok.ensures.asked) (rw c.in-Some.is at c.in-Ok.ensures.alone)
-    e.known e.done e.refused e.shelf e.sinks e.fronts e.silent e.quiet e.taken e.not_taken e.too_long
+    obeyed _ _ _ _ _ (told_task c.in-Some.task) (rw c.in-Some.is at c.in-Ok.ensures.asked) (rw c.in-Some.is at c.in-Ok.ensures.alone)
+    e.known e.done e.refused e.shelf e.sinks e.fronts e.silent e.quiet
 
 pub returns-in-None : goal.returns-in-None
 returns-in-None g c =

@@ -14,9 +14,9 @@ returns-clause-fault c =
     let said : c.in_ok-said.said.items ≡ verdict_lines c.in-Ok.verdicts = c.in_ok-said.ensures ∙ ap verdict_lines c.as_slice.ensures in
     breaches c.args.text.now c.in_ok-said.said.items c.in-Ok.verdicts c.in-Ok.ensures bad said
 
-pub returns-then-are_good-clause-made : goal.returns-then-are_good-clause-made
-returns-then-are_good-clause-made c =
+pub returns-then-are_good-clause-out : goal.returns-then-are_good-clause-out
+returns-then-are_good-clause-out c =
     let good : list_all is_good c.in-Ok.verdicts ≡ true = cc in
     let said : c.from_vec.result ≡ verdict_lines c.in-Ok.verdicts =
     c.from_vec.ensures ∙ (c.in_ok-said.ensures ∙ ap verdict_lines c.as_slice.ensures) in
-    (audited c.args.text.now c.from_vec.result c.in-Ok.verdicts c.in-Ok.ensures good said, c.new.ensures)
+    audited c.args.text.now c.from_vec.result c.in-Ok.verdicts c.in-Ok.ensures good said

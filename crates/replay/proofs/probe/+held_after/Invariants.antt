@@ -1,5 +1,0 @@
-use Rattle.std.proofs.Common.{length}
-use Rattle.replay.proofs.probe.+held_after.Given as goal
-
-abbrev pub decreases-held_after : goal.decreases-held_after
-decreases-held_after l = length l.results.now
