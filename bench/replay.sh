@@ -1,5 +1,5 @@
 #!/usr/bin/env bash
-# Times `dcerpc replay`: scripts of 250 to 2,000 rounds that open a handle each, with the ratio of
+# Times `dcerpc replay`: scripts of 2,000 to 16,000 rounds that open a handle each, with the ratio of
 # each time to the one before, and a file of 64 MiB that is refused at its last line.
 set -eu
 top=$(cd "$(dirname "$0")/.." && pwd)
@@ -24,7 +24,7 @@ script() { # ROUNDS
 build_dcerpc
 program=$top/crates/dcerpc/out/dcerpc
 before=
-for rounds in 250 500 1000 2000; do
+for rounds in 2000 4000 8000 16000; do
     script "$rounds" >"$work/script"
     time=$(least 0 "$program" replay "$work/script")
     show "$rounds rounds" "$time" "$before"
