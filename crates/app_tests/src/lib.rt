@@ -8,6 +8,8 @@ mod departures;
 #[cfg(test)]
 mod idl_texts;
 #[cfg(test)]
+mod loads;
+#[cfg(test)]
 mod outcome;
 #[cfg(test)]
 mod scripts;

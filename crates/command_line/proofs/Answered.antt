@@ -1,5 +1,5 @@
 -- What is answered, by what `clap` made of the words.
-use Rattle.std.proofs.Common.{◌≡◌, ◌∙◌, true, List, [], ◌∷◌, refl, sym, subst, Option, Some, None, codes, inl, inr, IfSome, IfNone, IsSomeAnd}
+use Rattle.std.proofs.Common.{◌≡◌, ◌∙◌, true, List, [], ◌∷◌, refl, sym, subst, Option, Some, None, codes, inl, inr, IfSome, IfNone}
 use Rattle.std.specs.List.{AllByRecursion}
 use Rattle.std.specs.Str.{IsUtf8}
 use Rattle.clap.specs.Faults.{fault_of, is_simple_and_free}
@@ -12,9 +12,11 @@ use Rattle.clap.specs.declared.error.kind.ErrorKind.{ErrorKind}
 use Rattle.clap.specs.declared.error.kind.ErrorKind.TheVariants.{OutOfMemory}
 use Rattle.clap.specs.declared.parser.matches.ArgMatches.{ArgMatches}
 use Rattle.command_line.specs.declared.command.Asked.{Asked}
-use Rattle.command_line.specs.Asks.{AsksFor, AsksForNothing, IsLine, Line, line_of}
+use Rattle.command_line.specs.Asks.{AsksFor, AsksForNothing, IsLine, Line, ReadsLine, file_line, line_of, load_line, replay_line}
 use Rattle.command_line.specs.Usage.{program}
-use Rattle.command_line.proofs.Top.{IsAsked, IsFound, Outcome, file_rows, outcome, replay_rows}
+use Rattle.command_line.proofs.Forms as forms
+use Rattle.command_line.proofs.Forms.{Form, Holds, form_of, said, said_is}
+use Rattle.command_line.proofs.Top.{IsAsked, Outcome, outcome}
 
 -- `clap`'s clauses speak of the program as of a simple command
 simple : is_simple program ≡ true
@@ -29,36 +31,40 @@ pub record Answers (words : List Text) (o : Option Asked) : Type 0 where
   pub alone : IfSome o (λ a. (other : Asked) → AsksFor words other → line_of other ≡ line_of a)
   pub nothing : IfNone o (AsksForNothing words)
 
-answers : (words : List Text) (o : Option Asked) (t : IsAsked words) → IsSomeAnd o (λ a. line_of a ≡ t.line) → Answers words o
-answers words None t h = absurd h
+only_line : (words : List Text) (t : IsAsked words) (other : Asked) → AsksFor words other → line_of other ≡ said t.form
+only_line words t other asks = sym (said_is other) ∙ t.only (form_of other) (subst (IsLine words) (sym (said_is other)) asks.0)
+
+answers : (words : List Text) (o : Option Asked) (t : IsAsked words) → ReadsLine (said t.form) o → Answers words o
+answers words None t h = record { asked = tt; alone = tt; nothing = λ other asks. h other asks.1 (only_line words t other asks) }
 answers words (Some a) t h = record {
-  asked = subst (IsLine words) (sym h) t.asks;
-  alone = λ other asks. t.only other asks ∙ sym h;
+  asked = (subst (IsLine words) (sym h.0) t.asks, h.1);
+  alone = λ other asks. only_line words t other asks ∙ sym h.0;
   nothing = tt;
 }
 
--- what the matches of a command of this name say
-abbrev pub Reads : ArgMatches → Option Asked → Text → (Text → List Row → Line) → Type 0
-Reads m o name said = (file : Text) (rows : List Row) → subcommand_rows_of m ≡ Some (name, rows) → first_of (codes "FILE") rows ≡ Some file → IsSomeAnd o (λ a. line_of a ≡ said file rows)
+-- what the matches say of a form
+abbrev pub ReadsForm : ArgMatches → Option Asked → Form → Type 0
+ReadsForm m o form = (rows : List Row) → subcommand_rows_of m ≡ Some ((said form).word, rows) → Holds form rows → ReadsLine (said form) o
 
-pub record ReadsAll (m : ArgMatches) (o : Option Asked) : Type 0 where
-  pub replay : Reads m o (codes "replay") replay_rows
-  pub idl : Reads m o (codes "idl") (file_rows (codes "idl"))
-  pub audit : Reads m o (codes "audit") (file_rows (codes "audit"))
+abbrev pub ReadsAll : ArgMatches → Option Asked → Type 0
+ReadsAll m o = (form : Form) → ReadsForm m o form
 
-some_as : (o : Option Asked) (line other : Line) → line ≡ other → IsSomeAnd o (λ a. line_of a ≡ other) → IsSomeAnd o (λ a. line_of a ≡ line)
-some_as o line other e h = subst (λ l. IsSomeAnd o (λ a. line_of a ≡ l)) (sym e) h
+-- the clauses of the reader, form by form
+abbrev pub ReadsFile : ArgMatches → Option Asked → Text → (Text → List Row → Line) → Type 0
+ReadsFile m o name line = (file : Text) (rows : List Row) → subcommand_rows_of m ≡ Some (name, rows) → first_of (codes "FILE") rows ≡ Some file → ReadsLine (line file rows) o
 
-one_reads : (words : List Text) (m : ArgMatches) (o : Option Asked) (line : Line) (name : Text) (said : Text → List Row → Line) → subcommand_rows_of m ≡ subcommand_of program words
-    → Reads m o name said → IsFound name said words line → IsSomeAnd o (λ a. line_of a ≡ line)
-one_reads words m o line name said rows reads f = some_as o line (said f.0 f.1) f.4 (reads f.0 f.1 (rows ∙ f.2) f.3)
+abbrev pub ReadsNumbers : ArgMatches → Option Asked → Type 0
+ReadsNumbers m o = (number steps : Text) (rows : List Row) → subcommand_rows_of m ≡ Some (codes "load", rows) → first_of (codes "NUMBER") rows ≡ Some number → first_of (codes "N") rows ≡ Some steps → ReadsLine (load_line number steps) o
+
+pub reads_all : (m : ArgMatches) (o : Option Asked) → ReadsFile m o (codes "replay") (λ file rows. replay_line file (first_of (codes "idl") rows)) → ReadsFile m o (codes "idl") (λ file rows. file_line (codes "idl") file)
+    → ReadsFile m o (codes "audit") (λ file rows. file_line (codes "audit") file) → ReadsNumbers m o → ReadsAll m o
+reads_all m o replays idls audits loads (forms.replay f i) rows met h = subst (λ x. ReadsLine (replay_line f x) o) h.1 (replays f rows met h.0)
+reads_all m o replays idls audits loads (forms.idl f) rows met h = idls f rows met h
+reads_all m o replays idls audits loads (forms.audit f) rows met h = audits f rows met h
+reads_all m o replays idls audits loads (forms.load a b) rows met h = loads a b rows met h.0 h.1
 
 by_found : (words : List Text) (m : ArgMatches) (o : Option Asked) (t : IsAsked words) → subcommand_rows_of m ≡ subcommand_of program words → ReadsAll m o → Answers words o
-by_found words m o t rows all = answers words o t (elim t.found [
-  | inl f ↦ one_reads words m o t.line (codes "replay") replay_rows rows all.replay f
-  | inr (inl f) ↦ one_reads words m o t.line (codes "idl") (file_rows (codes "idl")) rows all.idl f
-  | inr (inr f) ↦ one_reads words m o t.line (codes "audit") (file_rows (codes "audit")) rows all.audit f
-])
+by_found words m o t rows all = answers words o t (all t.form t.rows (rows ∙ t.found) t.holds)
 
 no_fault : (k : ErrorKind) (ks : Kinds) → [] ≡ k ∷ ks → ⊥
 no_fault k ks e = absurd (cc)
@@ -76,7 +82,7 @@ taken words app m o u is matches passes all =
     by_matches words m o (outcome words u) own.1 none all
 
 by_kind : (words : List Text) (e : Error) → Outcome words → HasKind (fault_of program words) e → (kind_of e ≡ OutOfMemory → ⊥) → AsksForNothing words
-by_kind words e (inr n) k memory = n.nothing
+by_kind words e (inr n) k memory = λ asked asks. n.nothing (form_of asked) (subst (IsLine words) (sym (said_is asked)) asks.0)
 by_kind words e (inl t) (inl m) memory = absurd (memory m)
 by_kind words e (inl t) (inr among) memory = absurd (subst (IsAmong (kind_of e)) t.passes among)
 

@@ -3,11 +3,15 @@ pub mod LongKinds
 pub mod Arguments
 pub mod Wants
 pub mod Walks
-pub mod PlainCommand
+pub mod Gives
+pub mod Operands
+pub mod FileCommand
+pub mod LoadCommand
 pub mod ReplayWalk
 pub mod ReplayFails
 pub mod ReplayCommand
 pub mod Lines
+pub mod Forms
 pub mod Top
 pub mod Found
 pub mod Told

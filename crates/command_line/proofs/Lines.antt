@@ -2,7 +2,8 @@
 use Rattle.std.proofs.Common.{◌≡◌, ◌∙◌, ℕ, zero, suc, List, [], ◌∷◌, refl, sym, subst, ap, arith, length, Option, Some, None, codes}
 use Rattle.std.specs.Prelude.{IsPermutation, Contains, flat_map}
 use Rattle.std.proofs.lemmas.List.Sorted.{IsPermutation-refl, Contains-permutation, length_permutation}
-use Rattle.command_line.specs.Asks.{IsLine, Line, Text, file_line, given, option_in, replay_line}
+use Rattle.command_line.specs.Asks.{IsLine, Line, Text, given, option_in, replay_line}
+use Rattle.command_line.proofs.Gives.{Gives}
 use Rattle.command_line.proofs.Wants.{Wants, named}
 
 -- ---- lists of at most one in any order
@@ -71,20 +72,22 @@ said_replay word rest file idl l = record {
   options = refl;
 }
 
-pub file_said : (word : Text) (rest : List Text) (file : Text) → Wants None None rest file None → IsLine (word ∷ rest) (file_line word file)
-file_said word rest file w = record {
-  arguments = w.reads.arguments;
-  rest = w.reads.rest;
-  written = ap (λ ws. word ∷ ws) w.reads.written;
-  plain = w.reads.plain;
-  operands = w.reads.operands ∙ w.operands;
-  options = same_order _ _ (w.reads.options ∙ w.options);
+abbrev pub operand_line : Text → List Text → Line
+operand_line word ops = record { word = word; operands = ops; options = [] }
+
+pub given_said : (word : Text) (rest ops : List Text) → Gives [] rest ops → IsLine (word ∷ rest) (operand_line word ops)
+given_said word rest ops g = record {
+  arguments = g.reads.arguments;
+  rest = g.reads.rest;
+  written = ap (λ ws. word ∷ ws) g.reads.written;
+  plain = g.reads.plain;
+  operands = g.reads.operands ∙ g.all;
+  options = same_order _ _ g.reads.options;
 }
 
-pub said_file : (word name : Text) (rest : List Text) (file : Text) → IsLine (word ∷ rest) (file_line name file) → Wants None None rest file None
-said_file word name rest file l = record {
-  ops = file ∷ [];
-  opts = [];
+pub said_given : (word name : Text) (rest ops : List Text) → IsLine (word ∷ rest) (operand_line name ops) → Gives [] rest ops
+said_given word name rest ops l = record {
+  later = ops;
   reads = record {
     arguments = l.arguments;
     rest = l.rest;
@@ -93,8 +96,7 @@ said_file word name rest file l = record {
     operands = l.operands;
     options = none_moved (flat_map option_in l.arguments) l.options;
   };
-  operands = refl;
-  options = refl;
+  all = refl;
 }
 
 pub head_is : (word : Text) (rest : List Text) (line : Line) → IsLine (word ∷ rest) line → word ≡ line.word

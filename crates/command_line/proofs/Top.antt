@@ -1,5 +1,5 @@
 -- What `clap` makes of the words of the program.
-use Rattle.std.proofs.Common.{◌≡◌, ◌∙◌, ◌==◌, ℕ, true, false, List, [], ◌∷◌, refl, sym, subst, ap, ap₂, Option, Some, None, option_map, codes, inl, inr, ◌⊎◌, true≢false, is_some}
+use Rattle.std.proofs.Common.{◌≡◌, ◌∙◌, ◌==◌, ℕ, arith, length, true, false, List, [], ◌∷◌, refl, sym, subst, ap, ap₂, Option, Some, None, codes, inl, inr, ◌⊎◌, true≢false, is_some}
 use Rattle.std.specs.List.{AllByRecursion}
 use Rattle.std.specs.Str.{IsUtf8, bytes_eq}
 use Rattle.std.proofs.lemmas.Bool.{cases_Bool, eqb-false}
@@ -7,22 +7,26 @@ use Rattle.std.proofs.lemmas.Slice.Eq.{bytes_eq-Decides}
 use Rattle.clap.specs.Kinds.{Kinds, or_else}
 use Rattle.clap.specs.Faults.{check_fault, defaults_fault, entered_fault, fault_of, flags_fault, level_fault, settle_fault, turn_fault, walk_fault}
 use Rattle.clap.specs.Simple.{App, Shape, built, entered, names_of, subcommand_of}
-use Rattle.clap.specs.Walk.{Names, Row, Text, Walk, finished, first_of, nothing_held, rows_after, settled, walk, walk_from, walked}
+use Rattle.clap.specs.Walk.{Names, Row, Text, Walk, finished, nothing_held, rows_after, settled, walk, walk_from, walked}
 use Rattle.clap.specs.declared.error.kind.ErrorKind.{ErrorKind}
 use Rattle.clap.specs.declared.error.kind.ErrorKind.TheVariants.{UnknownArgument, InvalidSubcommand, MissingSubcommand}
 use Rattle.clap.proofs.WalkLemmas.{walk_stopped}
 use Rattle.clap.proofs.FaultLemmas.{stopped_fault}
-use Rattle.command_line.specs.declared.command.Asked.{Asked}
-use Rattle.command_line.specs.declared.command.Asked.TheVariants.{Replay, Idl, Audit}
-use Rattle.command_line.specs.Asks.{AsksFor, AsksForNothing, IsLine, Line, file_line, line_of, replay_line}
+use Rattle.command_line.specs.Asks.{IsLine, Line, file_line, load_line, replay_line}
 use Rattle.command_line.specs.Usage.{program}
 use Rattle.command_line.proofs.WordKinds.{IsLong, IsShort, IsOperand, Kind, kind_of_word}
-use Rattle.command_line.proofs.Walks.{Reading}
+use Rattle.command_line.proofs.Walks.{Reading, faults, rows}
 use Rattle.command_line.proofs.Wants.{Wants}
-use Rattle.command_line.proofs.PlainCommand as plain
+use Rattle.command_line.proofs.Gives.{Gives}
+use Rattle.command_line.proofs.Operands as operands
+use Rattle.command_line.proofs.Operands.{AreFound, stands, wish}
+use Rattle.command_line.proofs.FileCommand as file
+use Rattle.command_line.proofs.LoadCommand as load
 use Rattle.command_line.proofs.ReplayCommand as replay
 use Rattle.command_line.proofs.ReplayWalk as replay_walk
-use Rattle.command_line.proofs.Lines.{file_said, head_is, no_line, replay_said, said_file, said_replay}
+use Rattle.command_line.proofs.Forms as forms
+use Rattle.command_line.proofs.Forms.{Form, Holds, said}
+use Rattle.command_line.proofs.Lines.{given_said, head_is, no_line, operand_line, replay_said, said_given, said_replay}
 
 -- the program as it is built, and the names of its commands
 abbrev whole : App
@@ -31,27 +35,19 @@ whole = built program
 abbrev names : Names
 names = names_of whole
 
--- `clap` enters the command of this name, whose rows have the file and say the line
-abbrev pub IsFound : Text → (Text → List Row → Line) → List Text → Line → Type 0
-IsFound name said words line = (file : Text) × (rows : List Row) × (subcommand_of program words ≡ Some (name, rows)) × (first_of (codes "FILE") rows ≡ Some file) × (line ≡ said file rows)
-
-abbrev pub replay_rows : Text → List Row → Line
-replay_rows file rows = replay_line file (first_of (codes "idl") rows)
-
-abbrev pub file_rows : Text → Text → List Row → Line
-file_rows name file rows = file_line name file
-
--- The words ask for one thing, and `clap` finds it.
+-- The words are of one form, and `clap` finds it.
 pub record IsAsked (words : List Text) : Type 0 where
-  pub line : Line
-  pub asks : IsLine words line
-  pub only : (asked : Asked) → AsksFor words asked → line_of asked ≡ line
+  pub form : Form
+  pub asks : IsLine words (said form)
+  pub only : (other : Form) → IsLine words (said other) → said other ≡ said form
   pub passes : fault_of program words ≡ []
-  pub found : IsFound (codes "replay") replay_rows words line ⊎ IsFound (codes "idl") (file_rows (codes "idl")) words line ⊎ IsFound (codes "audit") (file_rows (codes "audit")) words line
+  pub rows : List Row
+  pub found : subcommand_of program words ≡ Some ((said form).word, rows)
+  pub holds : Holds form rows
 
--- They ask for nothing, and `clap` refuses them.
+-- They are of none, and `clap` refuses them.
 pub record IsNoCommand (words : List Text) : Type 0 where
-  pub nothing : AsksForNothing words
+  pub nothing : (form : Form) → IsLine words (said form) → ⊥
   pub kind : ErrorKind
   pub kinds : Kinds
   pub fails : fault_of program words ≡ kind ∷ kinds
@@ -89,7 +85,7 @@ replay_command = record {
   enters = λ rest. refl;
 }
 
-idl_command : IsCommand (codes "idl") (plain.leaf (codes "idl"))
+idl_command : IsCommand (codes "idl") (file.leaf (codes "idl"))
 unfolding walked walk_fault defaults_fault
 idl_command = record {
   left = λ rest. sym (walk_stopped whole.top.rules names (walk_from nothing_held) (codes "idl") [] rest);
@@ -98,11 +94,20 @@ idl_command = record {
   enters = λ rest. refl;
 }
 
-audit_command : IsCommand (codes "audit") (plain.leaf (codes "audit"))
+audit_command : IsCommand (codes "audit") (file.leaf (codes "audit"))
 unfolding walked walk_fault defaults_fault
 audit_command = record {
   left = λ rest. sym (walk_stopped whole.top.rules names (walk_from nothing_held) (codes "audit") [] rest);
   above = λ rest. stopped_fault whole.top names (walk_from nothing_held) (codes "audit", []) rest;
+  below = λ rest f e. ap (λ x. or_else x []) e;
+  enters = λ rest. refl;
+}
+
+load_command : IsCommand (codes "load") load.leaf
+unfolding walked walk_fault defaults_fault
+load_command = record {
+  left = λ rest. sym (walk_stopped whole.top.rules names (walk_from nothing_held) (codes "load") [] rest);
+  above = λ rest. stopped_fault whole.top names (walk_from nothing_held) (codes "load", []) rest;
   below = λ rest f e. ap (λ x. or_else x []) e;
   enters = λ rest. refl;
 }
@@ -123,25 +128,31 @@ differs a b d e = absurd (eqb-false (first_octet a) (first_octet b) d (ap first_
 
 -- ---- `replay`
 
-replay_only : (rest : List Text) (file : Text) (idl : Option Text) → ((f : Text) (i : Option Text) → Wants None None rest f i → (f ≡ file) × (i ≡ idl)) → (asked : Asked) → AsksFor (codes "replay" ∷ rest) asked → line_of asked ≡ replay_line file idl
-replay_only rest file idl only (Replay f i) asks =
-    let same = only f.now (option_map (λ text. text.now) i) (said_replay (codes "replay") rest f.now (option_map (λ text. text.now) i) asks) in
-    ap₂ replay_line same.0 same.1
-replay_only rest file idl only (Idl f) asks = absurd (differs (codes "replay") (codes "idl") refl (head_is (codes "replay") rest (file_line (codes "idl") f.now) asks))
-replay_only rest file idl only (Audit f) asks = absurd (differs (codes "replay") (codes "audit") refl (head_is (codes "replay") rest (file_line (codes "audit") f.now) asks))
+-- the words behind that of a command are of no other's form
+other_form : (name : Text) (rest : List Text) (form : Form) → (first_octet name == first_octet (said form).word) ≡ false → IsLine (name ∷ rest) (said form) → ⊥
+other_form name rest form d l = differs name (said form).word d (head_is name rest (said form) l)
 
-replay_nothing : (rest : List Text) → ((f : Text) (i : Option Text) → Wants None None rest f i → ⊥) → AsksForNothing (codes "replay" ∷ rest)
-replay_nothing rest never (Replay f i) asks = never f.now (option_map (λ text. text.now) i) (said_replay (codes "replay") rest f.now (option_map (λ text. text.now) i) asks)
-replay_nothing rest never (Idl f) asks = differs (codes "replay") (codes "idl") refl (head_is (codes "replay") rest (file_line (codes "idl") f.now) asks)
-replay_nothing rest never (Audit f) asks = differs (codes "replay") (codes "audit") refl (head_is (codes "replay") rest (file_line (codes "audit") f.now) asks)
+replay_only : (rest : List Text) (file : Text) (idl : Option Text) → ((f : Text) (i : Option Text) → Wants None None rest f i → (f ≡ file) × (i ≡ idl)) → (form : Form) → IsLine (codes "replay" ∷ rest) (said form) → said form ≡ replay_line file idl
+replay_only rest file idl only (forms.replay f i) l = let same = only f i (said_replay (codes "replay") rest f i l) in ap₂ replay_line same.0 same.1
+replay_only rest file idl only (forms.idl f) l = absurd (other_form (codes "replay") rest (forms.idl f) refl l)
+replay_only rest file idl only (forms.audit f) l = absurd (other_form (codes "replay") rest (forms.audit f) refl l)
+replay_only rest file idl only (forms.load n m) l = absurd (other_form (codes "replay") rest (forms.load n m) refl l)
+
+replay_nothing : (rest : List Text) → ((f : Text) (i : Option Text) → Wants None None rest f i → ⊥) → (form : Form) → IsLine (codes "replay" ∷ rest) (said form) → ⊥
+replay_nothing rest never (forms.replay f i) l = never f i (said_replay (codes "replay") rest f i l)
+replay_nothing rest never (forms.idl f) l = other_form (codes "replay") rest (forms.idl f) refl l
+replay_nothing rest never (forms.audit f) l = other_form (codes "replay") rest (forms.audit f) refl l
+replay_nothing rest never (forms.load n m) l = other_form (codes "replay") rest (forms.load n m) refl l
 
 replay_read : (rest : List Text) → Reading replay_walk.leaf (replay_walk.stands replay_walk.start false) rest (replay.wish replay_walk.start rest) → Outcome (codes "replay" ∷ rest)
 replay_read rest (inl t) = inl (record {
-  line = replay_line t.file t.idl;
+  form = forms.replay t.file t.idl;
   asks = replay_said rest t.file t.idl t.asks;
   only = replay_only rest t.file t.idl t.only;
   passes = fault_is (codes "replay") replay_walk.leaf rest [] replay_command t.passes;
-  found = inl (t.file, rows_after replay_walk.leaf.rules [] rest, entered_is (codes "replay") replay_walk.leaf rest replay_command, t.file_row, ap (replay_line t.file) (sym t.idl_row));
+  rows = rows_after replay_walk.leaf.rules [] rest;
+  found = entered_is (codes "replay") replay_walk.leaf rest replay_command;
+  holds = (t.file_row, t.idl_row);
 })
 replay_read rest (inr r) = inr (record {
   nothing = replay_nothing rest r.never;
@@ -150,62 +161,121 @@ replay_read rest (inr r) = inr (record {
   fails = fault_is (codes "replay") replay_walk.leaf rest (r.kind ∷ r.kinds) replay_command r.fails;
 })
 
--- ---- a command with a file alone
+-- ---- a command with operands alone
 
-abbrev Plain : Text → List Text → Type 0
-Plain name rest = Reading (plain.leaf name) (plain.stands None false) rest (plain.wish None rest)
+abbrev Given : ℕ → List Text → List Text → Type 0
+Given count rest ops = Gives [] rest ops × (length ops ≡ count)
 
-abbrev OnlyFile : List Text → Text → Type 0
-OnlyFile rest file = (f : Text) → Wants None None rest f None → f ≡ file
+abbrev OnlyGiven : ℕ → List Text → List Text → Type 0
+OnlyGiven count rest ops = (other : List Text) → Given count rest other → other ≡ ops
 
-idl_only : (rest : List Text) (file : Text) → OnlyFile rest file → (asked : Asked) → AsksFor (codes "idl" ∷ rest) asked → line_of asked ≡ file_line (codes "idl") file
-idl_only rest file only (Replay f i) asks = absurd (differs (codes "idl") (codes "replay") refl (head_is (codes "idl") rest (replay_line f.now (option_map (λ text. text.now) i)) asks))
-idl_only rest file only (Idl f) asks = ap (file_line (codes "idl")) (only f.now (said_file (codes "idl") (codes "idl") rest f.now asks))
-idl_only rest file only (Audit f) asks = absurd (differs (codes "idl") (codes "audit") refl (head_is (codes "idl") rest (file_line (codes "audit") f.now) asks))
+abbrev NoneGiven : ℕ → List Text → Type 0
+NoneGiven count rest = (ops : List Text) → Given count rest ops → ⊥
 
-audit_only : (rest : List Text) (file : Text) → OnlyFile rest file → (asked : Asked) → AsksFor (codes "audit" ∷ rest) asked → line_of asked ≡ file_line (codes "audit") file
-audit_only rest file only (Replay f i) asks = absurd (differs (codes "audit") (codes "replay") refl (head_is (codes "audit") rest (replay_line f.now (option_map (λ text. text.now) i)) asks))
-audit_only rest file only (Idl f) asks = absurd (differs (codes "audit") (codes "idl") refl (head_is (codes "audit") rest (file_line (codes "idl") f.now) asks))
-audit_only rest file only (Audit f) asks = ap (file_line (codes "audit")) (only f.now (said_file (codes "audit") (codes "audit") rest f.now asks))
+idl_only : (rest : List Text) (file : Text) → OnlyGiven 1 rest (file ∷ []) → (form : Form) → IsLine (codes "idl" ∷ rest) (said form) → said form ≡ file_line (codes "idl") file
+idl_only rest file only (forms.replay f i) l = absurd (other_form (codes "idl") rest (forms.replay f i) refl l)
+idl_only rest file only (forms.idl f) l = ap (operand_line (codes "idl")) (only (f ∷ []) (said_given (codes "idl") (codes "idl") rest (f ∷ []) l, refl))
+idl_only rest file only (forms.audit f) l = absurd (other_form (codes "idl") rest (forms.audit f) refl l)
+idl_only rest file only (forms.load n m) l = absurd (other_form (codes "idl") rest (forms.load n m) refl l)
 
-idl_nothing : (rest : List Text) → ((f : Text) → Wants None None rest f None → ⊥) → AsksForNothing (codes "idl" ∷ rest)
-idl_nothing rest never (Replay f i) asks = differs (codes "idl") (codes "replay") refl (head_is (codes "idl") rest (replay_line f.now (option_map (λ text. text.now) i)) asks)
-idl_nothing rest never (Idl f) asks = never f.now (said_file (codes "idl") (codes "idl") rest f.now asks)
-idl_nothing rest never (Audit f) asks = differs (codes "idl") (codes "audit") refl (head_is (codes "idl") rest (file_line (codes "audit") f.now) asks)
+idl_nothing : (rest : List Text) → NoneGiven 1 rest → (form : Form) → IsLine (codes "idl" ∷ rest) (said form) → ⊥
+idl_nothing rest never (forms.replay f i) l = other_form (codes "idl") rest (forms.replay f i) refl l
+idl_nothing rest never (forms.idl f) l = never (f ∷ []) (said_given (codes "idl") (codes "idl") rest (f ∷ []) l, refl)
+idl_nothing rest never (forms.audit f) l = other_form (codes "idl") rest (forms.audit f) refl l
+idl_nothing rest never (forms.load n m) l = other_form (codes "idl") rest (forms.load n m) refl l
 
-audit_nothing : (rest : List Text) → ((f : Text) → Wants None None rest f None → ⊥) → AsksForNothing (codes "audit" ∷ rest)
-audit_nothing rest never (Replay f i) asks = differs (codes "audit") (codes "replay") refl (head_is (codes "audit") rest (replay_line f.now (option_map (λ text. text.now) i)) asks)
-audit_nothing rest never (Idl f) asks = differs (codes "audit") (codes "idl") refl (head_is (codes "audit") rest (file_line (codes "idl") f.now) asks)
-audit_nothing rest never (Audit f) asks = never f.now (said_file (codes "audit") (codes "audit") rest f.now asks)
-
-idl_read : (rest : List Text) → Plain (codes "idl") rest → Outcome (codes "idl" ∷ rest)
-idl_read rest (inl t) = inl (record {
-  line = file_line (codes "idl") t.file;
-  asks = file_said (codes "idl") rest t.file t.asks.0;
-  only = idl_only rest t.file (λ f w. (t.only f None (w, refl)).0);
-  passes = fault_is (codes "idl") (plain.leaf (codes "idl")) rest [] idl_command t.passes;
-  found = inr (inl (t.file, rows_after (plain.leaf (codes "idl")).rules [] rest, entered_is (codes "idl") (plain.leaf (codes "idl")) rest idl_command, t.file_row, refl));
+idl_taken : (rest ops : List Text) → Given 1 rest ops → OnlyGiven 1 rest ops → faults (file.leaf (codes "idl")) (stands file.held [] false) rest ≡ []
+    → AreFound file.ids ops (rows (file.leaf (codes "idl")) (stands file.held [] false) rest) → Outcome (codes "idl" ∷ rest)
+idl_taken rest [] given only passes found = absurd (omega (arith, given.1))
+idl_taken rest (f ∷ []) given only passes found = inl (record {
+  form = forms.idl f;
+  asks = given_said (codes "idl") rest (f ∷ []) given.0;
+  only = idl_only rest f only;
+  passes = fault_is (codes "idl") (file.leaf (codes "idl")) rest [] idl_command passes;
+  rows = rows_after (file.leaf (codes "idl")).rules [] rest;
+  found = entered_is (codes "idl") (file.leaf (codes "idl")) rest idl_command;
+  holds = found.0;
 })
+idl_taken rest (f ∷ g ∷ more) given only passes found = absurd (omega (arith, given.1))
+
+idl_read : (rest : List Text) → operands.Reading (file.leaf (codes "idl")) file.ids (stands file.held [] false) rest (wish (file.leaf (codes "idl")) file.ids file.held (file.takes_file (codes "idl")) [] rest) → Outcome (codes "idl" ∷ rest)
+idl_read rest (inl t) = idl_taken rest t.ops t.asks t.only t.passes t.found
 idl_read rest (inr r) = inr (record {
-  nothing = idl_nothing rest (λ f w. r.never f None (w, refl));
+  nothing = idl_nothing rest r.never;
   kind = r.kind;
   kinds = r.kinds;
-  fails = fault_is (codes "idl") (plain.leaf (codes "idl")) rest (r.kind ∷ r.kinds) idl_command r.fails;
+  fails = fault_is (codes "idl") (file.leaf (codes "idl")) rest (r.kind ∷ r.kinds) idl_command r.fails;
 })
 
-audit_read : (rest : List Text) → Plain (codes "audit") rest → Outcome (codes "audit" ∷ rest)
-audit_read rest (inl t) = inl (record {
-  line = file_line (codes "audit") t.file;
-  asks = file_said (codes "audit") rest t.file t.asks.0;
-  only = audit_only rest t.file (λ f w. (t.only f None (w, refl)).0);
-  passes = fault_is (codes "audit") (plain.leaf (codes "audit")) rest [] audit_command t.passes;
-  found = inr (inr (t.file, rows_after (plain.leaf (codes "audit")).rules [] rest, entered_is (codes "audit") (plain.leaf (codes "audit")) rest audit_command, t.file_row, refl));
+audit_only : (rest : List Text) (file : Text) → OnlyGiven 1 rest (file ∷ []) → (form : Form) → IsLine (codes "audit" ∷ rest) (said form) → said form ≡ file_line (codes "audit") file
+audit_only rest file only (forms.replay f i) l = absurd (other_form (codes "audit") rest (forms.replay f i) refl l)
+audit_only rest file only (forms.idl f) l = absurd (other_form (codes "audit") rest (forms.idl f) refl l)
+audit_only rest file only (forms.audit f) l = ap (operand_line (codes "audit")) (only (f ∷ []) (said_given (codes "audit") (codes "audit") rest (f ∷ []) l, refl))
+audit_only rest file only (forms.load n m) l = absurd (other_form (codes "audit") rest (forms.load n m) refl l)
+
+audit_nothing : (rest : List Text) → NoneGiven 1 rest → (form : Form) → IsLine (codes "audit" ∷ rest) (said form) → ⊥
+audit_nothing rest never (forms.replay f i) l = other_form (codes "audit") rest (forms.replay f i) refl l
+audit_nothing rest never (forms.idl f) l = other_form (codes "audit") rest (forms.idl f) refl l
+audit_nothing rest never (forms.audit f) l = never (f ∷ []) (said_given (codes "audit") (codes "audit") rest (f ∷ []) l, refl)
+audit_nothing rest never (forms.load n m) l = other_form (codes "audit") rest (forms.load n m) refl l
+
+audit_taken : (rest ops : List Text) → Given 1 rest ops → OnlyGiven 1 rest ops → faults (file.leaf (codes "audit")) (stands file.held [] false) rest ≡ []
+    → AreFound file.ids ops (rows (file.leaf (codes "audit")) (stands file.held [] false) rest) → Outcome (codes "audit" ∷ rest)
+audit_taken rest [] given only passes found = absurd (omega (arith, given.1))
+audit_taken rest (f ∷ []) given only passes found = inl (record {
+  form = forms.audit f;
+  asks = given_said (codes "audit") rest (f ∷ []) given.0;
+  only = audit_only rest f only;
+  passes = fault_is (codes "audit") (file.leaf (codes "audit")) rest [] audit_command passes;
+  rows = rows_after (file.leaf (codes "audit")).rules [] rest;
+  found = entered_is (codes "audit") (file.leaf (codes "audit")) rest audit_command;
+  holds = found.0;
 })
+audit_taken rest (f ∷ g ∷ more) given only passes found = absurd (omega (arith, given.1))
+
+audit_read : (rest : List Text) → operands.Reading (file.leaf (codes "audit")) file.ids (stands file.held [] false) rest (wish (file.leaf (codes "audit")) file.ids file.held (file.takes_file (codes "audit")) [] rest) → Outcome (codes "audit" ∷ rest)
+audit_read rest (inl t) = audit_taken rest t.ops t.asks t.only t.passes t.found
 audit_read rest (inr r) = inr (record {
-  nothing = audit_nothing rest (λ f w. r.never f None (w, refl));
+  nothing = audit_nothing rest r.never;
   kind = r.kind;
   kinds = r.kinds;
-  fails = fault_is (codes "audit") (plain.leaf (codes "audit")) rest (r.kind ∷ r.kinds) audit_command r.fails;
+  fails = fault_is (codes "audit") (file.leaf (codes "audit")) rest (r.kind ∷ r.kinds) audit_command r.fails;
+})
+
+load_only : (rest : List Text) (number steps : Text) → OnlyGiven 2 rest (number ∷ steps ∷ []) → (form : Form) → IsLine (codes "load" ∷ rest) (said form) → said form ≡ load_line number steps
+load_only rest number steps only (forms.replay f i) l = absurd (other_form (codes "load") rest (forms.replay f i) refl l)
+load_only rest number steps only (forms.idl f) l = absurd (other_form (codes "load") rest (forms.idl f) refl l)
+load_only rest number steps only (forms.audit f) l = absurd (other_form (codes "load") rest (forms.audit f) refl l)
+load_only rest number steps only (forms.load n m) l = ap (operand_line (codes "load")) (only (n ∷ m ∷ []) (said_given (codes "load") (codes "load") rest (n ∷ m ∷ []) l, refl))
+
+load_nothing : (rest : List Text) → NoneGiven 2 rest → (form : Form) → IsLine (codes "load" ∷ rest) (said form) → ⊥
+load_nothing rest never (forms.replay f i) l = other_form (codes "load") rest (forms.replay f i) refl l
+load_nothing rest never (forms.idl f) l = other_form (codes "load") rest (forms.idl f) refl l
+load_nothing rest never (forms.audit f) l = other_form (codes "load") rest (forms.audit f) refl l
+load_nothing rest never (forms.load n m) l = never (n ∷ m ∷ []) (said_given (codes "load") (codes "load") rest (n ∷ m ∷ []) l, refl)
+
+load_taken : (rest ops : List Text) → Given 2 rest ops → OnlyGiven 2 rest ops → faults load.leaf (stands load.held [] false) rest ≡ [] → AreFound load.ids ops (rows load.leaf (stands load.held [] false) rest)
+    → Outcome (codes "load" ∷ rest)
+load_taken rest [] given only passes found = absurd (omega (arith, given.1))
+load_taken rest (n ∷ []) given only passes found = absurd (omega (arith, given.1))
+load_taken rest (n ∷ m ∷ []) given only passes found = inl (record {
+  form = forms.load n m;
+  asks = given_said (codes "load") rest (n ∷ m ∷ []) given.0;
+  only = load_only rest n m only;
+  passes = fault_is (codes "load") load.leaf rest [] load_command passes;
+  rows = rows_after load.leaf.rules [] rest;
+  found = entered_is (codes "load") load.leaf rest load_command;
+  holds = (found.0, found.1.0);
+})
+load_taken rest (n ∷ m ∷ x ∷ more) given only passes found = absurd (omega (arith, given.1))
+
+load_read : (rest : List Text) → operands.Reading load.leaf load.ids (stands load.held [] false) rest (wish load.leaf load.ids load.held load.takes_numbers [] rest) → Outcome (codes "load" ∷ rest)
+load_read rest (inl t) = load_taken rest t.ops t.asks t.only t.passes t.found
+load_read rest (inr r) = inr (record {
+  nothing = load_nothing rest r.never;
+  kind = r.kind;
+  kinds = r.kinds;
+  fails = fault_is (codes "load") load.leaf rest (r.kind ∷ r.kinds) load_command r.fails;
 })
 
 -- ---- a first word that is no command
@@ -214,14 +284,16 @@ record IsOther (word : Text) : Type 0 where
   replay : bytes_eq (codes "replay") word ≡ false
   idl : bytes_eq (codes "idl") word ≡ false
   audit : bytes_eq (codes "audit") word ≡ false
+  load : bytes_eq (codes "load") word ≡ false
 
 not_word : (name word : Text) (rest : List Text) (line : Line) → line.word ≡ name → bytes_eq name word ≡ false → IsLine (word ∷ rest) line → ⊥
 not_word name word rest line e n l = true≢false (sym ((bytes_eq-Decides name word).1 (sym (head_is word rest line l ∙ e))) ∙ n)
 
-asks_nothing : (word : Text) (rest : List Text) → IsOther word → AsksForNothing (word ∷ rest)
-asks_nothing word rest n (Replay f i) asks = not_word (codes "replay") word rest (replay_line f.now (option_map (λ text. text.now) i)) refl n.replay asks
-asks_nothing word rest n (Idl f) asks = not_word (codes "idl") word rest (file_line (codes "idl") f.now) refl n.idl asks
-asks_nothing word rest n (Audit f) asks = not_word (codes "audit") word rest (file_line (codes "audit") f.now) refl n.audit asks
+asks_nothing : (word : Text) (rest : List Text) → IsOther word → (form : Form) → IsLine (word ∷ rest) (said form) → ⊥
+asks_nothing word rest n (forms.replay f i) l = not_word (codes "replay") word rest (replay_line f i) refl n.replay l
+asks_nothing word rest n (forms.idl f) l = not_word (codes "idl") word rest (file_line (codes "idl") f) refl n.idl l
+asks_nothing word rest n (forms.audit f) l = not_word (codes "audit") word rest (file_line (codes "audit") f) refl n.audit l
+asks_nothing word rest n (forms.load a b) l = not_word (codes "load") word rest (load_line a b) refl n.load l
 
 stops : (word : Text) (rest : List Text) (k : ErrorKind) (ks : Kinds) → turn_fault whole.top names (walk_from nothing_held) word ≡ k ∷ ks → fault_of program (word ∷ rest) ≡ k ∷ ks
 unfolding walk_fault
@@ -231,14 +303,14 @@ other_read : (word : Text) (rest : List Text) (ks : Kinds) → IsOther word → 
 other_read word rest ks n e = inr (record { nothing = asks_nothing word rest n; kind = UnknownArgument; kinds = ks; fails = stops word rest UnknownArgument ks e })
 
 long_turn : (word : Text) → IsOther word → IsLong word → turn_fault whole.top names (walk_from nothing_held) word ≡ UnknownArgument ∷ []
-long_turn word n o = rw (n.replay, n.idl, n.audit, o.dashes, o.long) refl
+long_turn word n o = rw (n.replay, n.idl, n.audit, n.load, o.dashes, o.long) refl
 
 short_turn : (word : Text) → IsOther word → IsShort word → turn_fault whole.top names (walk_from nothing_held) word ≡ UnknownArgument ∷ []
 unfolding flags_fault
-short_turn word n o = rw (n.replay, n.idl, n.audit, o.dashes, o.long, o.short, o.is_first) refl
+short_turn word n o = rw (n.replay, n.idl, n.audit, n.load, o.dashes, o.long, o.short, o.is_first) refl
 
 operand_turn : (word : Text) → IsOther word → IsOperand word → turn_fault whole.top names (walk_from nothing_held) word ≡ UnknownArgument ∷ InvalidSubcommand ∷ []
-operand_turn word n o = rw (n.replay, n.idl, n.audit, o.dashes, o.long, o.short) refl
+operand_turn word n o = rw (n.replay, n.idl, n.audit, n.load, o.dashes, o.long, o.short) refl
 
 dashes_read : (rest : List Text) → IsOther (codes "--") → Outcome (codes "--" ∷ rest)
 unfolding walked walk_fault defaults_fault
@@ -246,7 +318,7 @@ dashes_read [] n = inr (record { nothing = asks_nothing (codes "--") [] n; kind 
 dashes_read (x ∷ xs) n = inr (record { nothing = asks_nothing (codes "--") (x ∷ xs) n; kind = UnknownArgument; kinds = InvalidSubcommand ∷ []; fails = refl })
 
 kind_read : (word : Text) (rest : List Text) → IsOther word → Kind word → Outcome (word ∷ rest)
-kind_read word rest n (inl d) = subst (λ x. Outcome (x ∷ rest)) (sym d) (dashes_read rest (record { replay = refl; idl = refl; audit = refl }))
+kind_read word rest n (inl d) = subst (λ x. Outcome (x ∷ rest)) (sym d) (dashes_read rest (record { replay = refl; idl = refl; audit = refl; load = refl }))
 kind_read word rest n (inr (inl l)) = other_read word rest [] n (long_turn word n l)
 kind_read word rest n (inr (inr (inl s))) = other_read word rest [] n (short_turn word n s)
 kind_read word rest n (inr (inr (inr o))) = other_read word rest (InvalidSubcommand ∷ []) n (operand_turn word n o)
@@ -261,15 +333,22 @@ first_read word rest u =
     elim (cases_Bool (bytes_eq (codes "replay") word)) [
       | inl e ↦ subst (λ x. Outcome (x ∷ rest)) (same_text (codes "replay") word e) (replay_read rest (replay.reading rest replay_walk.start u.1))
       | inr r ↦ elim (cases_Bool (bytes_eq (codes "idl") word)) [
-        | inl e ↦ subst (λ x. Outcome (x ∷ rest)) (same_text (codes "idl") word e) (idl_read rest (plain.reading (codes "idl") None rest u.1))
+        | inl e ↦ subst (λ x. Outcome (x ∷ rest)) (same_text (codes "idl") word e) (idl_read rest (file_reading (codes "idl") rest u.1))
         | inr i ↦ elim (cases_Bool (bytes_eq (codes "audit") word)) [
-          | inl e ↦ subst (λ x. Outcome (x ∷ rest)) (same_text (codes "audit") word e) (audit_read rest (plain.reading (codes "audit") None rest u.1))
-          | inr a ↦ kind_read word rest (record { replay = r; idl = i; audit = a }) (kind_of_word word u.0)
+          | inl e ↦ subst (λ x. Outcome (x ∷ rest)) (same_text (codes "audit") word e) (audit_read rest (file_reading (codes "audit") rest u.1))
+          | inr a ↦ elim (cases_Bool (bytes_eq (codes "load") word)) [
+            | inl e ↦ subst (λ x. Outcome (x ∷ rest)) (same_text (codes "load") word e) (load_read rest (operands.reading load.leaf load.ids load.held load.takes_numbers rest u.1 [] (omega arith)))
+            | inr l ↦ kind_read word rest (record { replay = r; idl = i; audit = a; load = l }) (kind_of_word word u.0)
+          ]
         ]
       ]
     ]
+  where
+    file_reading : (name : Text) (words : List Text) → AllByRecursion IsUtf8 words
+        → operands.Reading (file.leaf name) file.ids (stands file.held [] false) words (wish (file.leaf name) file.ids file.held (file.takes_file name) [] words)
+    file_reading name words v = operands.reading (file.leaf name) file.ids file.held (file.takes_file name) words v [] (omega arith)
 
 pub outcome : (words : List Text) → AllByRecursion IsUtf8 words → Outcome words
 unfolding walk_fault defaults_fault
-outcome [] u = inr (record { nothing = λ asked asks. no_line (line_of asked) asks; kind = MissingSubcommand; kinds = []; fails = refl })
+outcome [] u = inr (record { nothing = λ form l. no_line (said form) l; kind = MissingSubcommand; kinds = []; fails = refl })
 outcome (word ∷ rest) u = first_read word rest u

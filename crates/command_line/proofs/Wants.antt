@@ -200,13 +200,3 @@ never_by f i word rest file idl ops opts u (joins name value later e q r) k =
 
 pub never : (f i : Option Text) (word : Text) (rest : List Text) (file : Text) (idl : Option Text) → IsUnknown word → Wants f i (word ∷ rest) file idl → ⊥
 never f i word rest file idl u w = never_by f i word rest file idl w.ops w.opts u (first word rest w.ops w.opts w.reads) w.options
-
--- where no option is taken, each is another
-optionless_by : (word : Text) (rest ops : List Text) (opts : List (Text × Text)) → is_option word ≡ true → (word ≡ codes "--" → ⊥) → First word rest ops opts → opts ≡ [] → ⊥
-optionless_by word rest ops opts p d (ends e o q) k = d e
-optionless_by word rest ops opts p d (begins b later o r) k = true≢false (sym p ∙ b)
-optionless_by word rest ops opts p d (takes name value words later e is b q r) k = absurd (cc)
-optionless_by word rest ops opts p d (joins name value later e q r) k = absurd (cc)
-
-pub optionless : (f : Option Text) (word : Text) (rest : List Text) (file : Text) → is_option word ≡ true → (word ≡ codes "--" → ⊥) → Wants f None (word ∷ rest) file None → ⊥
-optionless f word rest file p d w = optionless_by word rest w.ops w.opts p d (first word rest w.ops w.opts w.reads) w.options

@@ -1,8 +1,8 @@
 -- What the words of the program ask.
-use Rattle.std.specs.Prelude.{◌≡◌, ◌==◌, ℕ, Bool, false, List, [], ◌∷◌, ◌++◌, map, flat_map, Option, Some, None, option_map, option_to_list, unwrap_or, codes, IsPermutation, ⊤}
+use Rattle.std.specs.Prelude.{◌≡◌, ◌==◌, ◌<◌, ◌≤◌, ◌^◌, ℕ, Bool, false, List, [], ◌∷◌, ◌++◌, map, flat_map, Option, Some, None, MatchOption, option_map, option_to_list, unwrap_or, codes, decimal, IsPermutation, ⊤}
 use Rattle.std.specs.List.{AllByRecursion}
 use Rattle.command_line.specs.declared.command.Asked.{Asked}
-use Rattle.command_line.specs.declared.command.Asked.TheVariants.{Replay, Idl, Audit}
+use Rattle.command_line.specs.declared.command.Asked.TheVariants.{Replay, Idl, Audit, Load}
 
 abbrev pub Text : Type 0
 Text = List ℕ
@@ -65,23 +65,37 @@ pub record IsLine (words : List Text) (line : Line) : Type 0 where
   pub operands : flat_map operand_in arguments ++ unwrap_or rest [] ≡ line.operands
   pub options : IsPermutation (flat_map option_in arguments) (given line.options)
 
--- `replay FILE [--idl FILE]`, and a command with a file alone
+-- `replay FILE [--idl FILE]`, a command with a file alone, and `load NUMBER N`
 abbrev pub replay_line : Text → Option Text → Line
 replay_line file idl = record { word = codes "replay"; operands = file ∷ []; options = (codes "idl", idl) ∷ [] }
 
 abbrev pub file_line : Text → Text → Line
 file_line word file = record { word = word; operands = file ∷ []; options = [] }
 
--- what the program can be asked
+abbrev pub load_line : Text → Text → Line
+load_line number steps = record { word = codes "load"; operands = number ∷ steps ∷ []; options = [] }
+
+-- what the program can be asked: numbers are decimal
 abbrev pub line_of : Asked → Line
 line_of (Replay file idl) = replay_line file.now (option_map (λ text. text.now) idl)
 line_of (Idl file) = file_line (codes "idl") file.now
 line_of (Audit file) = file_line (codes "audit") file.now
+line_of (Load number steps) = load_line (decimal number) (decimal steps)
+
+-- and within their ranges
+abbrev pub IsInRange : Asked → Type 0
+IsInRange (Load number steps) = (number < 2 ^ 64) × (steps ≤ 100000)
+IsInRange _ = ⊤
 
 -- the words ask for it
 abbrev pub AsksFor : List Text → Asked → Type 0
-AsksFor words asked = IsLine words (line_of asked)
+AsksFor words asked = IsLine words (line_of asked) × IsInRange asked
 
 -- they ask for nothing
 abbrev pub AsksForNothing : List Text → Type 0
 AsksForNothing words = (asked : Asked) → AsksFor words asked → ⊥
+
+-- what is asked by a line, or that it asks for nothing
+abbrev pub ReadsLine : Line → Option Asked → Type 0
+ReadsLine line found =
+    MatchOption found ((asked : Asked) → IsInRange asked → line_of asked ≡ line → ⊥) (λ asked. (line_of asked ≡ line) × IsInRange asked)

@@ -19,6 +19,16 @@ of_file name = record (new_shape name) { rules = file_rule ∷ [] }
 abbrev pub replay : Shape
 replay = record (new_shape (codes "replay")) { rules = file_rule ∷ idl_rule ∷ [] }
 
+-- the command `load`, with its two numbers
+abbrev pub number_rule : Rule
+number_rule = record (new_rule (codes "NUMBER")) { required = true }
+
+abbrev pub steps_rule : Rule
+steps_rule = record (new_rule (codes "N")) { required = true }
+
+abbrev pub load : Shape
+load = record (new_shape (codes "load")) { rules = number_rule ∷ steps_rule ∷ [] }
+
 -- the program: one of its commands must be named, and it has no words for help
 abbrev pub program : App
 program = record {
@@ -29,5 +39,5 @@ program = record {
     subcommand_required = true;
     is_leaf = false;
   };
-  subs = replay ∷ of_file (codes "idl") ∷ of_file (codes "audit") ∷ [];
+  subs = replay ∷ of_file (codes "idl") ∷ of_file (codes "audit") ∷ load ∷ [];
 }

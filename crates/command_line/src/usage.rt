@@ -23,6 +23,16 @@ fn replay<'a>(alloc: Global) -> Result<Command<'a>, AllocError>
     of_file(alloc, "replay")?.arg(Arg::new(alloc, "idl").long("idl"))
 }
 
+/// The command `load`.
+fn load<'a>(alloc: Global) -> Result<Command<'a>, AllocError>
+    ensures shape { IfOk result (λ c. shape_of c ≡ spec.load) }
+    ensures local { IfOk result (λ c. (out-Command c).has_globals ≡ false) }
+{
+    Command::new(alloc, "load")
+        .arg(Arg::new(alloc, "NUMBER").required(true))?
+        .arg(Arg::new(alloc, "N").required(true))
+}
+
 /// The program and its commands. No word asks for help or for a version.
 pub fn program<'a>(alloc: Global) -> Result<Command<'a>, AllocError>
     ensures app { IfOk result (λ c. app_of c ≡ spec.program) }
@@ -34,5 +44,6 @@ pub fn program<'a>(alloc: Global) -> Result<Command<'a>, AllocError>
         .subcommand_required(true)
         .subcommand(replay(alloc)?)?
         .subcommand(of_file(alloc, "idl")?)?
-        .subcommand(of_file(alloc, "audit")?)
+        .subcommand(of_file(alloc, "audit")?)?
+        .subcommand(load(alloc)?)
 }

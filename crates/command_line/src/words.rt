@@ -1,34 +1,63 @@
 //! What the words ask.
-ghost use Rattle.std.specs.Prelude.{◌≡◌, ℕ, List, Some, map, string_bytes, codes, IsSomeAnd, IfOk, IfSome, IfNone};
+ghost use Rattle.std.specs.Prelude.{◌≡◌, ℕ, List, Some, map, string_bytes, codes, IfOk, IfSome, IfNone};
 ghost use Rattle.clap.specs.Words.{Row, first_of, subcommand_rows_of};
-ghost use Rattle.command_line.specs.Asks.{AsksFor, AsksForNothing, line_of, replay_line, file_line};
+ghost use Rattle.command_line.specs.Asks.{AsksFor, AsksForNothing, ReadsLine, line_of, replay_line, file_line, load_line};
 
 use crate::command::Asked;
 use crate::usage::program;
 use clap::ArgMatches;
 use clap::error::ErrorKind;
 use rpc_base::NoMemory;
+use rpc_words::{read_between, read_u64};
 use std::alloc::Global;
 
-/// The command that `clap` found, with its operand and its options.
+/// How many steps a load has at most.
+const MOST_STEPS: u64 = 100_000;
+
+/// The load of these numbers, if they are numbers within their ranges.
+fn load_of<'a>(number: &str, steps: &str) -> Option<Asked<'a>>
+    ensures { ReadsLine (load_line number.now steps.now) result }
+{
+    let number = read_u64(number.as_bytes())?;
+    let steps = read_between(steps.as_bytes(), 0, MOST_STEPS)?;
+    Some(Asked::Load {
+        number,
+        steps: steps as u32,
+    })
+}
+
+/// The command that `clap` found, with its operands and its options.
 fn found<'a>(matches: &ArgMatches<'a>) -> Option<Asked<'a>>
     ensures replay { (file : List ℕ) (rows : List Row) → subcommand_rows_of matches.now ≡ Some (codes "replay", rows)
-        → first_of (codes "FILE") rows ≡ Some file
-        → IsSomeAnd result (λ a. line_of a ≡ replay_line file (first_of (codes "idl") rows)) }
+        → first_of (codes "FILE") rows ≡ Some file → ReadsLine (replay_line file (first_of (codes "idl") rows)) result }
     ensures idl { (file : List ℕ) (rows : List Row) → subcommand_rows_of matches.now ≡ Some (codes "idl", rows)
-        → first_of (codes "FILE") rows ≡ Some file → IsSomeAnd result (λ a. line_of a ≡ file_line (codes "idl") file) }
+        → first_of (codes "FILE") rows ≡ Some file → ReadsLine (file_line (codes "idl") file) result }
     ensures audit { (file : List ℕ) (rows : List Row) → subcommand_rows_of matches.now ≡ Some (codes "audit", rows)
-        → first_of (codes "FILE") rows ≡ Some file → IsSomeAnd result (λ a. line_of a ≡ file_line (codes "audit") file) }
+        → first_of (codes "FILE") rows ≡ Some file → ReadsLine (file_line (codes "audit") file) result }
+    ensures load { (number steps : List ℕ) (rows : List Row) → subcommand_rows_of matches.now ≡ Some (codes "load", rows)
+        → first_of (codes "NUMBER") rows ≡ Some number → first_of (codes "N") rows ≡ Some steps
+        → ReadsLine (load_line number steps) result }
 {
     let (name, arguments) = matches.subcommand()?;
-    let file = arguments.get_str("FILE")?;
     match name {
         "replay" => {
+            let file = arguments.get_str("FILE")?;
             let idl = arguments.get_str("idl");
             Some(Asked::Replay { file, idl })
         }
-        "idl" => Some(Asked::Idl { file }),
-        "audit" => Some(Asked::Audit { file }),
+        "idl" => {
+            let file = arguments.get_str("FILE")?;
+            Some(Asked::Idl { file })
+        }
+        "audit" => {
+            let file = arguments.get_str("FILE")?;
+            Some(Asked::Audit { file })
+        }
+        "load" => {
+            let number = arguments.get_str("NUMBER")?;
+            let steps = arguments.get_str("N")?;
+            load_of(number, steps)
+        }
         _ => None,
     }
 }

@@ -2,7 +2,7 @@
 
 use command_line::{Asked, asked};
 use rpc_base::NoMemory;
-use rpc_words::put;
+use rpc_words::{put, put_decimal};
 use std::alloc::Global;
 use std::test::*;
 use test_rows::{Answers, wrong_row};
@@ -25,11 +25,11 @@ impl Answers for Words {
                 words.push(String::from_str(alloc, word)?)?;
             }
         }
-        put_asked(asked(alloc, words.as_slice())?, into)
+        put_asked(alloc, asked(alloc, words.as_slice())?, into)
     }
 }
 
-fn put_asked(asked: Option<Asked<'_>>, into: &mut Vec<u8>) -> Result<(), NoMemory> {
+fn put_asked(alloc: Global, asked: Option<Asked<'_>>, into: &mut Vec<u8>) -> Result<(), NoMemory> {
     match asked {
         Some(Asked::Replay { file, idl }) => {
             put_file(b"replay", file, into)?;
@@ -40,6 +40,12 @@ fn put_asked(asked: Option<Asked<'_>>, into: &mut Vec<u8>) -> Result<(), NoMemor
         }
         Some(Asked::Idl { file }) => put_file(b"idl", file, into),
         Some(Asked::Audit { file }) => put_file(b"audit", file, into),
+        Some(Asked::Load { number, steps }) => {
+            put(b"load ", into)?;
+            put_decimal(alloc, number, into)?;
+            put(b" ", into)?;
+            put_decimal(alloc, u64::from(steps), into)
+        }
         None => put(b"nothing", into),
     }
 }
@@ -60,6 +66,35 @@ asks|idl f|idl [f]
 asks|audit f|audit [f]
 asks|replay |replay []
 asks|replay -|replay [-]
+asks|load 1 2|load 1 2
+asks|load 0 0|load 0 0
+asks|load 18446744073709551615 100000|load 18446744073709551615 100000
+asks|load 18446744073709551616 1|nothing
+asks|load 1 100001|nothing
+asks|load 1 18446744073709551616|nothing
+asks|load 01 1|nothing
+asks|load 1 00|nothing
+asks|load +1 1|nothing
+asks|load 1 +1|nothing
+asks|load -1 1|nothing
+asks|load 1 -1|nothing
+asks|load - 1|nothing
+asks|load 1 x|nothing
+asks|load 1 |nothing
+asks|load  1|nothing
+asks|load 1|nothing
+asks|load|nothing
+asks|load 1 1 1|nothing
+asks|load -- 1 1|load 1 1
+asks|load 1 -- 1|load 1 1
+asks|load 1 1 --|load 1 1
+asks|load -- -1 1|nothing
+asks|load 1 -- 1 1|nothing
+asks|load 1 1 --idl i|nothing
+asks|load --idl=i 1 1|nothing
+asks|load 1 -x|nothing
+asks|loads 1 1|nothing
+asks|-- load 1 1|nothing
 asks|replay f f|nothing
 asks|repla f|nothing
 asks|Replay f|nothing

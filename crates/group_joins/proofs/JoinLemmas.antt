@@ -1,20 +1,25 @@
 -- Where a bind's group leads to.
-use Rattle.std.proofs.Common.{◌≡◌, ◌≢◌, ℕ, ◌<◌, ◌-◌, Bool, true, false, Some, None, Result, Ok, Err, List, [], ◌∷◌, ◌++◌, inl, inr, refl, sym, ap, ◌∙◌, subst, arith, append_assoc, append-nil, IfOk}
-use Rattle.std.specs.List.{list_any}
-use Rattle.std.proofs.lemmas.List.{append_cancel_right}
+use Rattle.std.proofs.Common.{◌≡◌, ◌≢◌, ◌==◌, ℕ, suc, ◌+◌, ◌≤◌, ◌<◌, Bool, if◌then◌else◌, true, false, Some, None, Result, Ok, Err, List, [], ◌∷◌, ◌++◌, length, reverse, inl, inr, refl, sym, ap, ◌∙◌, subst, arith, append_assoc, append-nil, IfOk}
+use Rattle.std.specs.List.{list_any, filter_map, cons_option}
+use Rattle.std.proofs.lemmas.List.{append_cancel_right, length-reverse}
+use Rattle.std.proofs.lemmas.Bool.Decides.{eqb_tells}
 use mathlib.Core.Logic.{dite}
 use native.Mathlib.Decide.{ℕ_discrete}
 use Rattle.turn_lock.specs.Histories.{StartsWith}
+use Rattle.handle_model.specs.declared.entry.Entry.{Entry}
 use Rattle.handle_model.specs.declared.entry.Entry.TheVariants.{Join}
 use Rattle.handle_model.specs.declared.limits.JoinLimit.{JoinLimit}
 use Rattle.handle_model.specs.Journal.{is_shut}
 use Rattle.handle_model.specs.History.{History}
 use Rattle.handle_model.specs.Limits.{join_limit}
+use Rattle.hub_story.specs.declared.item.Mark.{Mark}
+use Rattle.hub_story.specs.declared.item.Mark.TheVariants.{Opened}
 use Rattle.hub_story.specs.declared.item.Item.{Item}
-use Rattle.hub_story.specs.Histories.{past_in, journal_in}
+use Rattle.hub_story.specs.declared.item.Item.TheVariants.{Begun, Listed, Of}
+use Rattle.hub_story.specs.Histories.{mark_of, entry_of, marks_in, past_in, journal_in}
 use Rattle.hub_story.specs.Passes.{Seen, Serves}
 use Rattle.hub_story.specs.Calls.{IsNewConn, Enters}
-use Rattle.hub_story.proofs.ItemLemmas.{past-append, past_items}
+use Rattle.hub_story.proofs.ItemLemmas.{past-append, past_items, past_others}
 use Rattle.shard.specs.declared.answer.Absence.{Absence}
 use Rattle.shard.specs.declared.answer.Absence.TheVariants.{Directory, Shut}
 use Rattle.shard.specs.declared.answer.OpenRefusal.{OpenRefusal}
@@ -83,20 +88,54 @@ low_shard g = omega arith
 
 -- ---- a join
 
-joined_with : (boot g c : ℕ) (p q : Pass) (between more : List Item) → Enters boot (shard_of g) (at_shard p (shard_of g)) (at_shard q (shard_of g)) between more → past_in g more ≡ Join c ∷ []
+same_numbers : (n m : ℕ) → (n == m) ≡ true → n ≡ m
+same_numbers n m h = elim (eqb_tells n m) [ inl e ↦ e.1 | inr e ↦ let f = e.0 in absurd cc ]
+
+-- a mark or an entry of one group each
+at_most : (g h : ℕ) → h ≢ g → (items : List Item) → length (filter_map mark_of items) + length (filter_map (entry_of g) items) + length (filter_map (entry_of h) items) ≤ length items
+at_most g h apart [] = omega arith
+at_most g h apart (Begun boot s ∷ items) = let rest = at_most g h apart items in omega arith
+at_most g h apart (Listed m ∷ items) = let rest = at_most g h apart items in omega arith
+at_most g h apart (Of o e ∷ items) =
+    by_test (o == g) (o == h) (one_of o) (at_most g h apart items)
+  where
+    one_of : (o : ℕ) → (o == g) ≡ true → (o == h) ≡ true → ⊥
+    one_of o a b = apart (sym (same_numbers o h b) ∙ same_numbers o g a)
+
+    by_test : (a b : Bool) → (a ≡ true → b ≡ true → ⊥) → length (filter_map mark_of items) + length (filter_map (entry_of g) items) + length (filter_map (entry_of h) items) ≤ length items
+        → length (filter_map mark_of items) + length (cons_option (if a then Some e else None) (filter_map (entry_of g) items)) + length (cons_option (if b then Some e else None) (filter_map (entry_of h) items)) ≤ suc (length items)
+    by_test true true f r = absurd (f refl refl)
+    by_test true false f r = omega arith
+    by_test false true f r = omega arith
+    by_test false false f r = omega arith
+
+-- a group that was opened is alone in what was entered then
+opened_alone : (id h : ℕ) (more : List Item) (one : Entry) → length more ≡ 2 → marks_in more ≡ Opened id ∷ [] → past_in id more ≡ one ∷ [] → h ≢ id → past_in h more ≡ []
+opened_alone id h more one two mark there apart =
+    let most = at_most id h apart more in
+    let m : length (filter_map mark_of more) ≡ 1 = sym (length-reverse (filter_map mark_of more)) ∙ ap (λ (l : List Mark). length l) mark in
+    let n : length (filter_map (entry_of id) more) ≡ 1 = sym (length-reverse (filter_map (entry_of id) more)) ∙ ap (λ (l : List Entry). length l) there in
+    ap reverse (empty (filter_map (entry_of h) more) (omega arith))
+  where
+    empty : (l : List Entry) → length l ≡ 0 → l ≡ []
+    empty [] e = refl
+    empty (x ∷ l) e = absurd cc
+
+joined_with : (boot g c : ℕ) (p q : Pass) (between more : List Item) → Enters boot (shard_of g) (at_shard p (shard_of g)) (at_shard q (shard_of g)) between more → past_in g more ≡ Join c ∷ [] → ((h : ℕ) → h ≢ g → past_in h more ≡ [])
     → IsNewConn c (journal_in boot g ((at_shard p (shard_of g)).log ++ between)) → Serves (at_shard q (shard_of g)) g c → ((t : ℕ) → t < 16 → t ≢ shard_of g → Onward (at_shard p t) (at_shard q t))
     → JoinedAs boot p g c q
-joined_with boot g c p q between more e own new serves others =
+joined_with boot g c p q between more e own alone new serves others =
     let log = (at_shard p (shard_of g)).log ++ between in
     record {
       items = more;
       grown = grown_there boot (shard_of g) p q between more e others;
       own = own;
+      others = alone;
       older = past_in g log;
       past = ap (past_in g) e.log ∙ (past-append g log more ∙ ap (λ x. x ++ past_in g log) own);
       new = new;
-      joined = serves.joined;
-      sound = e.story.sound g;
+      serves = serves;
+      story = e.story;
     }
 
 pub opened : (boot id c : ℕ) (p q : Pass) (asked : ℕ) → asked ≡ 0 → Opens boot p (Ok (id, c)) q → Serves (at_shard q (shard_of id)) id c → Joins boot p asked (Ok (record { group = id; number = c })) q
@@ -105,7 +144,7 @@ opened boot id c p q asked zero_ o serves =
       λ known. absurd (known zero_),
       λ new. o.0,
       subst (λ (x : ℕ). JoinedAs boot p id x q) (sym o.0)
-          (joined_with boot id 1 p q there.0 there.1 there.2 there.3.0.6 there.3.1 (subst (λ (x : ℕ). Serves (at_shard q (shard_of id)) id x) o.0 serves)
+          (joined_with boot id 1 p q there.0 there.1 there.2 there.3.0.6 (λ h apart. opened_alone id h there.1 (Join 1) there.3.0.4 there.3.0.5 there.3.0.6 apart) there.3.1 (subst (λ (x : ℕ). Serves (at_shard q (shard_of id)) id x) o.0 serves)
           (λ t low apart. passed boot t (at_shard p t) (at_shard q t) (o.2 t low apart))),
     )
 
@@ -118,7 +157,7 @@ found boot id c p q some call serves =
     let own : past_in id call.here.1 ≡ Join c ∷ [] = ap (past_in id) says.1 ∙ (past_items id says.0 ∙ one) in (
       λ known. refl,
       λ none. absurd (some none),
-      joined_with boot id c p q call.here.0 call.here.1 call.here.2 own call.here.3.1 serves (λ t low apart. onward_same (at_shard p t) (at_shard q t) (call.others t apart)),
+      joined_with boot id c p q call.here.0 call.here.1 call.here.2 own (λ h apart. ap (past_in h) says.1 ∙ past_others id h says.0 (λ e. apart (sym e))) call.here.3.1 serves (λ t low apart. onward_same (at_shard p t) (at_shard q t) (call.others t apart)),
     )
 
 -- ---- a refusal

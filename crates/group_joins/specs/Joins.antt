@@ -4,14 +4,13 @@ use Rattle.std.specs.List.{list_any}
 use Rattle.handle_model.specs.declared.entry.Entry.{Entry}
 use Rattle.handle_model.specs.declared.entry.Entry.TheVariants.{Join}
 use Rattle.handle_model.specs.Journal.{is_shut}
-use Rattle.handle_model.specs.History.{IsSound}
 use Rattle.handle_model.specs.Limits.{join_limit}
 use Rattle.hub_story.specs.declared.item.Mark.TheVariants.{Missed}
 use Rattle.hub_story.specs.declared.item.Item.{Item}
-use Rattle.hub_story.specs.declared.item.Item.TheVariants.{Listed, Of}
+use Rattle.hub_story.specs.declared.item.Item.TheVariants.{Listed}
 use Rattle.hub_story.specs.Directories.{is_open_id, is_full, is_used_up}
-use Rattle.hub_story.specs.Histories.{marks_in, past_in, journal_in}
-use Rattle.hub_story.specs.Passes.{Seen, HasOwn}
+use Rattle.hub_story.specs.Histories.{marks_in, past_in, journal_in, IsStory}
+use Rattle.hub_story.specs.Passes.{Seen, Serves}
 use Rattle.hub_story.specs.Calls.{of_conn}
 use Rattle.shard.specs.declared.answer.OpenRefusal.{OpenRefusal}
 use Rattle.shard.specs.declared.answer.OpenRefusal.TheVariants.{GroupsFull, Ids}
@@ -25,16 +24,17 @@ use Rattle.group_joins.specs.declared.joining.Membership.{Membership}
 use Rattle.group_joins.specs.Owning.{Grown}
 
 -- The connection c joined the group g: nothing had been entered of a connection of that number, its Join is the newest entry of
--- the group's journal, and the only one of the group among what the pass entered.
+-- the group's journal, and the only entry of a journal among what the pass entered.
 pub record JoinedAs (boot : ℕ) (p : Pass) (g c : ℕ) (q : Pass) : Type 0 where
   pub items : List Item
   pub grown : Grown (shard_of g) p q items
   pub own : past_in g items ≡ Join c ∷ []
+  pub others : (h : ℕ) → h ≢ g → past_in h items ≡ []
   pub older : List Entry
   pub past : past_in g (at_shard q (shard_of g)).log ≡ Join c ∷ older
   pub new : list_any (of_conn c) older ≡ false
-  pub joined : HasOwn (at_shard q (shard_of g)) (Of g (Join c))
-  pub sound : IsSound (journal_in boot g (at_shard q (shard_of g)).log)
+  pub serves : Serves (at_shard q (shard_of g)) g c
+  pub story : IsStory boot (shard_of g) (at_shard q (shard_of g)).log
 
 -- At some moment that the pass saw since, that held of the shard's history.
 pub record Was (v w : Seen) (Holds : List Item → Type 0) : Type 0 where

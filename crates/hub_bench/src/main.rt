@@ -4,8 +4,9 @@
 //! issued so many handles, and then visits its group so often: it joins the group, makes so many calls,
 //! which use the last of its handles, and leaves. Where ROLLS is 1, each thread opens a group of its own in
 //! place of that, and its connection is so often followed by another, each of which makes so many calls, so
-//! the group's journal is folded on and on. It prints how many calls were made that way, and ends with 1
-//! where a visit wasn't whole. `bench/hub.sh` times it.
+//! the group's journal is folded on and on. It prints how many calls were made that way, and on standard
+//! error how many microseconds the threads took, from before the first one starts until the last one is
+//! done; it ends with 1 where a visit wasn't whole. `bench/hub.sh` runs it.
 #![tactic(auto)]
 
 ghost use Rattle.std.specs.Prelude.{◌≤◌};
@@ -15,10 +16,12 @@ use group_hub::{Hub, Pass};
 use handle_model::{Home, Slot};
 use hub_play::{Halt, leave, make_calls, open, retire, roll, visit};
 use std::alloc::Global;
+use std::io::Print;
 use std::process::ExitCode;
-use std::rt::Env;
+use std::rt::{Clock, Env};
 use std::sync::Wait;
 use std::thread::Threads;
+use std::time::Instant;
 use std::{env, thread};
 
 const BOOT: u64 = 1;
@@ -209,27 +212,30 @@ fn four<R: Threads + Wait + Sync>(
     (pass, whole.saturating_add(second.1))
 }
 
-/// How many visits were whole; nothing where there was no hub or a group wasn't opened.
-fn run<R: Threads + Wait + Sync>(
+/// How many visits were whole, and how many microseconds the threads took; nothing where there was no hub,
+/// a group wasn't opened, or the clock failed.
+fn run<R: Threads + Wait + Clock + Sync>(
     rt: &R,
     alloc: Global,
     threads: u32,
     groups: u32,
     sizes: Sizes,
-) -> Option<u64> {
+) -> Option<(u64, u128)> {
     let Ok((hub, mut pass)) = Hub::new(alloc, BOOT) else {
         return None;
     };
     if !open_all(rt, &hub, &mut pass, groups) {
         return None;
     }
+    let start = Instant::now(rt).ok()?;
     let (_, whole) = match threads {
         1 => one(rt, alloc, &hub, pass, 0, sizes),
         2 => two(rt, alloc, &hub, pass, 0, sizes),
         4 => four(rt, alloc, &hub, pass, sizes),
         _ => return None,
     };
-    Some(whole)
+    let time = start.elapsed(rt).ok()?;
+    Some((whole, time.as_micros()))
 }
 
 /// The numbers after the program's name, 0 where there is none.
@@ -257,10 +263,10 @@ fn main(rt: HostRuntime) -> ExitCode {
     };
     let wanted = u64::from(threads).saturating_mul(u64::from(visits));
     match run(&rt, rt.alloc(), threads, groups, sizes) {
-        Some(whole) => {
+        Some((whole, time)) => {
             let made = whole.saturating_mul(u64::from(calls));
-            let told = println!(rt; "{made} calls");
-            ExitCode::from(u8::from(told.is_err() || whole != wanted))
+            let told = println!(rt; "{made} calls").is_ok() && eprintln!(rt; "{time}").is_ok();
+            ExitCode::from(u8::from(!told || whole != wanted))
         }
         None => ExitCode::from(1),
     }

@@ -19,7 +19,7 @@ use Rattle.table_scope.specs.Scopes.{Sense, Scope, handle_sense}
 use Rattle.table_scope.specs.Marks.{says, says_handle, is_serialised}
 use Rattle.table_scope.specs.Declarators.{terms, declared}
 use Rattle.table_specs.specs.Specs.{within, attrs_within, spec_at, attrs_at}
-use Rattle.marshal_table.specs.Interfaces.{Listed, Draft, is_binding, param_names, param_sense, listed_at, param_at, params_at, sort_result, alone_at, op_of, op_at, typed, typedef_one, typedef_all, typedef_sense, typedef_at, decl_at, decls_at, nothing_declared, declared_in}
+use Rattle.table_laws.specs.Interfaces.{Listed, Draft, is_binding, param_names, param_sense, listed_at, param_at, params_at, sort_result, alone_at, op_of, op_at, typed, typedef_one, typedef_all, typedef_sense, typedef_at, decl_at, decls_at, nothing_declared, declared_in}
 use Rattle.marshal_table.proofs.Fitting.{both_of, and_of, less_of, or_left, or_right, fits_more, declared_fits}
 use Rattle.marshal_table.proofs.Sounds.{SenseFits, put_all, Sound, Goes, reach, reach_not, reach_far, spec_sound, attrs_sound}
 

@@ -2,7 +2,7 @@
 use Rattle.std.proofs.Common.{◌≡◌, List, [], ◌++◌, append_assoc, append-nil}
 use Rattle.table_form.specs.declared.operation.HandleUse.{HandleUse}
 use Rattle.table_form.specs.Tables.{ParamForm}
-use Rattle.marshal_table.specs.Interfaces.{Listed, joined}
+use Rattle.table_laws.specs.Interfaces.{Listed, joined}
 
 pub joined_assoc : (a b c : Listed) → joined (joined a b) c ≡ joined a (joined b c)
 joined_assoc a b c =

@@ -1,8 +1,9 @@
 //! The table of an interface that keeps the rules.
 ghost use Rattle.std.specs.Prelude.{◌≡◌, IfOk};
 ghost use Rattle.table_form.specs.Shown.{shown};
-ghost use Rattle.marshal_table.specs.Interfaces as spec;
-ghost use Rattle.marshal_table.specs.Wholes.{HasEachOperation, HasEachHandle};
+ghost use Rattle.table_laws.specs.Interfaces as spec;
+ghost use Rattle.table_laws.specs.Wholes.{HasEachOperation, HasEachHandle};
+ghost use Rattle.table_laws.specs.Stands.{EachNameStands};
 
 use crate::tables::build_tree;
 use idl_check::Checked;
@@ -20,6 +21,7 @@ pub fn build(alloc: Global, checked: &Checked) -> Result<Table, NoMemory>
     ensures exact { IfOk result (λ table. shown table ≡ spec.tabled checked.now) }
     ensures operations { IfOk result (λ table. HasEachOperation checked.now (shown table)) }
     ensures handles { IfOk result (λ table. HasEachHandle checked.now (shown table)) }
+    ensures names { IfOk result (λ table. EachNameStands checked.now) }
 {
     let table = build_tree(alloc, checked.tree())?;
     Ok(table)

@@ -5,7 +5,8 @@ ghost use Rattle.idl_outline.specs.declared.field.Place.TheVariants as places;
 ghost use Rattle.table_scope.specs.Scopes.{sense, scope};
 ghost use Rattle.table_scope.specs.Declarators as declarators;
 ghost use Rattle.name_map.specs.Named.{at_name};
-ghost use Rattle.marshal_table.specs.Interfaces as spec;
+ghost use Rattle.table_laws.specs.Interfaces as spec;
+ghost use Rattle.marshal_table.specs.Lists as lists;
 
 use crate::listing::Operations;
 use crate::operations::{alone, operation};
@@ -156,7 +157,7 @@ fn declaration(
     known: &mut Symbols,
     into: &mut Operations,
 ) -> Result<(), NoMemory>
-    ensures { OnOk result (spec.draft known.new into.new ≡ spec.decl_at default (decl_kind_form kind.now) (spec.draft known.old into.old)) }
+    ensures { OnOk result (lists.draft known.new into.new ≡ spec.decl_at default (decl_kind_form kind.now) (lists.draft known.old into.old)) }
 {
     match kind {
         DeclKind::Const { name, value, .. } => with_constant(known, alloc, name, *value),
@@ -188,7 +189,7 @@ pub fn declarations(
     known: &mut Symbols,
     into: &mut Operations,
 ) -> Result<(), NoMemory>
-    ensures { OnOk result (spec.draft known.new into.new ≡ spec.decls_at default (map decl_form list.now) (spec.draft known.old into.old)) }
+    ensures { OnOk result (lists.draft known.new into.new ≡ spec.decls_at default (map decl_form list.now) (lists.draft known.old into.old)) }
 {
     for decl in list {
         declaration(&decl.what, alloc, default, known, into)?;

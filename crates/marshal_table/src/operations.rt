@@ -5,7 +5,8 @@ ghost use Rattle.table_form.specs.Tables.{result_form, param_form, op_form};
 ghost use Rattle.idl_forms.specs.Forms as idl;
 ghost use Rattle.idl_forms.specs.Forms.{spec_form, attrs_form};
 ghost use Rattle.table_scope.specs.Scopes.{sense, scope};
-ghost use Rattle.marshal_table.specs.Interfaces as spec;
+ghost use Rattle.table_laws.specs.Interfaces as spec;
+ghost use Rattle.marshal_table.specs.Lists as lists;
 
 use crate::listing::{Listing, Operations};
 use crate::params::{param_names, params};
@@ -104,7 +105,7 @@ fn listed(
     known: &mut Symbols,
     default: Pk,
 ) -> Result<Listing, NoMemory>
-    ensures value { IfOk result (λ l. spec.listing l ≡ (spec.params_at default (spec.param_names (map idl.param_form nodes.now)) (map idl.param_form nodes.now) (scope known.old)).0) }
+    ensures value { IfOk result (λ l. lists.listing l ≡ (spec.params_at default (spec.param_names (map idl.param_form nodes.now)) (map idl.param_form nodes.now) (scope known.old)).0) }
     ensures past { OnOk result (scope known.new ≡ (spec.params_at default (spec.param_names (map idl.param_form nodes.now)) (map idl.param_form nodes.now) (scope known.old)).1) }
 {
     let names = param_names(nodes, alloc)?;
@@ -121,7 +122,7 @@ fn add_with(
     known: &Symbols,
     into: &mut Operations,
 ) -> Result<(), NoMemory>
-    ensures { OnOk result (spec.draft known.now into.new ≡ spec.op_with name.now.text (attrs_form attrs.now) (sense meaning) (spec.listing all, scope known.now) (spec.draft known.now into.old)) }
+    ensures { OnOk result (lists.draft known.now into.new ≡ spec.op_with name.now.text (attrs_form attrs.now) (sense meaning) (lists.listing all, scope known.now) (lists.draft known.now into.old)) }
 {
     let Listing { params, uses } = all;
     let op = op_of(alloc, name, attrs, meaning, params)?;
@@ -143,7 +144,7 @@ pub fn operation(
     known: &mut Symbols,
     into: &mut Operations,
 ) -> Result<(), NoMemory>
-    ensures { OnOk result (spec.draft known.new into.new ≡ spec.op_at default (attrs_form attrs.now) (spec_form of.now) name.now (map idl.param_form nodes.now) (spec.draft known.old into.old)) }
+    ensures { OnOk result (lists.draft known.new into.new ≡ spec.op_at default (attrs_form attrs.now) (spec_form of.now) name.now (map idl.param_form nodes.now) (lists.draft known.old into.old)) }
 {
     let meaning = alone(attrs, of, alloc, known, default)?;
     let all = listed(nodes, alloc, known, default)?;

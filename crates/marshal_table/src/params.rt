@@ -10,7 +10,8 @@ ghost use Rattle.table_scope.specs.Scopes.{sense, scope};
 ghost use Rattle.table_scope.specs.Declarators as declarators;
 ghost use Rattle.table_scope.specs.Marks as marks;
 ghost use Rattle.name_map.specs.Named.{at_name};
-ghost use Rattle.marshal_table.specs.Interfaces as spec;
+ghost use Rattle.table_laws.specs.Interfaces as spec;
+ghost use Rattle.marshal_table.specs.Lists as lists;
 
 use crate::listing::Listing;
 use idl_outline::{Place, copy_name};
@@ -134,7 +135,7 @@ fn add_listed(
     meaning: &Meaning,
     into: &mut Listing,
 ) -> Result<(), NoMemory>
-    ensures { OnOk result (spec.listing into.new ≡ spec.joined (spec.listing into.old) (spec.listed_at default names.now (attrs_form node.now.attrs.items) node.now.dtor (sense meaning.now, scope known.now)).0) }
+    ensures { OnOk result (lists.listing into.new ≡ spec.joined (lists.listing into.old) (spec.listed_at default names.now (attrs_form node.now.attrs.items) node.now.dtor (sense meaning.now, scope known.now)).0) }
 {
     let constants = &known.constants;
     let shape = &meaning.shape;
@@ -161,7 +162,7 @@ fn param(
     names: &[Ident],
     into: &mut Listing,
 ) -> Result<(), NoMemory>
-    ensures value { OnOk result (spec.listing into.new ≡ spec.joined (spec.listing into.old) (spec.param_at default names.now (idl.param_form node.now) (scope known.old)).0) }
+    ensures value { OnOk result (lists.listing into.new ≡ spec.joined (lists.listing into.old) (spec.param_at default names.now (idl.param_form node.now) (scope known.old)).0) }
     ensures past { OnOk result (scope known.new ≡ (spec.param_at default names.now (idl.param_form node.now) (scope known.old)).1) }
 {
     if is_binding(&node.spec) {
@@ -184,7 +185,7 @@ pub fn params(
     default: Pk,
     names: &[Ident],
 ) -> Result<Listing, NoMemory>
-    ensures value { IfOk result (λ l. spec.listing l ≡ (spec.params_at default names.now (map idl.param_form nodes.now) (scope known.old)).0) }
+    ensures value { IfOk result (λ l. lists.listing l ≡ (spec.params_at default names.now (map idl.param_form nodes.now) (scope known.old)).0) }
     ensures past { OnOk result (scope known.new ≡ (spec.params_at default names.now (map idl.param_form nodes.now) (scope known.old)).1) }
 {
     let mut all = Listing {

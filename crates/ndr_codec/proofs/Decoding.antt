@@ -17,9 +17,9 @@ use Rattle.ndr_model.specs.Places.{Last}
 use Rattle.ndr_model.specs.Stub.{entries}
 use Rattle.ndr_model.specs.Build.{read_values}
 use Rattle.ndr_model.specs.Message.{IsStub, enough, message_of, unless_off, compared, read_stub}
-use Rattle.ndr_read.specs.declared.fault.ReadError.{ReadError}
-use Rattle.ndr_read.specs.declared.fault.ReadError.TheVariants as errors
-use Rattle.ndr_read.specs.Gives.{Fails}
+use Rattle.ndr_scan.specs.declared.fault.ReadError.{ReadError}
+use Rattle.ndr_scan.specs.declared.fault.ReadError.TheVariants as errors
+use Rattle.ndr_scan.specs.Gives.{Fails}
 use Rattle.ndr_read.specs.Readings.{reading, reading_of}
 use Rattle.ndr_laws.specs.Laws.{IsOp}
 use Rattle.ndr_laws.proofs.Stubs.{read_stands, stub_found}

@@ -5,8 +5,8 @@ use Rattle.ndr_value.specs.Values.{Msg, msg}
 use Rattle.ndr_value.specs.declared.value.Message.{Message}
 use Rattle.ndr_model.specs.declared.departure.Departure.{Departure}
 use Rattle.ndr_model.specs.declared.departure.Departure.TheVariants as departures
-use Rattle.ndr_read.specs.declared.fault.ReadError.{ReadError}
-use Rattle.ndr_read.specs.declared.fault.ReadError.TheVariants as errors
+use Rattle.ndr_scan.specs.declared.fault.ReadError.{ReadError}
+use Rattle.ndr_scan.specs.declared.fault.ReadError.TheVariants as errors
 use Rattle.ndr_codec.specs.declared.fault.NdrFault.{NdrFault}
 use Rattle.ndr_codec.specs.declared.fault.NdrFault.TheVariants.{Short, Bound, Tag, Pointer, Text, TooDeep, Trailing, Memory}
 

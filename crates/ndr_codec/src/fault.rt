@@ -4,7 +4,7 @@ ghost use Rattle.rpc_base.specs.declared.identifiers.Status.{Status};
 ghost use Rattle.ndr_codec.specs.Faults.{fault_of, of_error, status_of};
 
 use ndr_model::Departure;
-use ndr_read::ReadError;
+use ndr_scan::ReadError;
 use rpc_base::Status;
 
 /// Why a stub has no message: its first departure. Each but `Short`, `Trailing` and `Memory` has the

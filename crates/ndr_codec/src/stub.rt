@@ -26,7 +26,7 @@ fn compared(
     asked: Option<&Message>,
     reading: Reading,
 ) -> Result<Message, NdrFault>
-    ensures { Decodes result (model.compared (shown table.now).types (op_form op.now) way (asked_of (λ m. m.now) asked.entry) reading.marks.items (msg reading.message)) }
+    ensures { Decodes result (model.compared (shown table.now).types (op_form op.now) way (asked_of (λ m. m.now) asked.entry) reading.marks (msg reading.message)) }
 {
     let call = Call {
         table,

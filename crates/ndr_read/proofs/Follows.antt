@@ -12,11 +12,11 @@ use Rattle.ndr_model.specs.declared.way.Way.{Way}
 use Rattle.ndr_model.specs.Places.{Last, noting}
 use Rattle.ndr_model.specs.Stub.{Entry, goes, param_entry, entries_of, last_entry, range_marks}
 use Rattle.ndr_model.specs.Build.{Found, whole, follows}
-use Rattle.ndr_read.specs.declared.fault.ReadError.{ReadError}
-use Rattle.ndr_read.specs.declared.fault.ReadError.TheVariants as errors
-use Rattle.ndr_read.specs.Gives.{Fails}
+use Rattle.ndr_scan.specs.declared.fault.ReadError.{ReadError}
+use Rattle.ndr_scan.specs.declared.fault.ReadError.TheVariants as errors
+use Rattle.ndr_scan.specs.Gives.{Fails}
 use Rattle.ndr_read.specs.Readings.{join, Followed, before, param_at, entry_at}
-use Rattle.ndr_read.proofs.Walks.{drop_more}
+use Rattle.ndr_scan.proofs.Walks.{drop_more}
 use Rattle.ndr_read.proofs.Rows.{join_none, join_one}
 
 regroup : (front : Vals) (v : Val) (row : Followed) → before front (row >>= λ y. Ok (then_val v y.0, y.1)) ≡ before (join front (then_val v no_val)) row

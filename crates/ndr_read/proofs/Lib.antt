@@ -2,4 +2,3 @@ mod Follows
 mod Heaps
 mod Octets
 mod Rows
-mod Walks

@@ -19,11 +19,11 @@ use Rattle.ndr_read.specs.Views.{items_of}
 use Rattle.ndr_model.specs.Places.{Place, Last, noting}
 use Rattle.ndr_model.specs.Scan.{Scanned, scan}
 use Rattle.ndr_model.specs.Build.{Cursor, PartEnds, ahead, ends, Built, Row, build, build_at, built_each, built_times, built_arm, in_struct}
-use Rattle.ndr_read.specs.declared.fault.ReadError.{ReadError}
-use Rattle.ndr_read.specs.declared.fault.ReadError.TheVariants as errors
-use Rattle.ndr_read.specs.Gives.{Fails}
+use Rattle.ndr_scan.specs.declared.fault.ReadError.{ReadError}
+use Rattle.ndr_scan.specs.declared.fault.ReadError.TheVariants as errors
+use Rattle.ndr_scan.specs.Gives.{Fails}
 use Rattle.ndr_read.specs.Readings.{join}
-use Rattle.ndr_read.proofs.Walks.{drop_more}
+use Rattle.ndr_scan.proofs.Walks.{drop_more}
 
 pub join_none : (vs : Vals) → join vs no_val ≡ vs
 join_none no_val = refl

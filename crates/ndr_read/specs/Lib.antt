@@ -1,5 +1,5 @@
-pub mod Gives
+pub mod Noted
 pub mod Views
-pub mod Pointing
+pub mod Pieces
 pub mod Slots
 pub mod Readings

@@ -8,18 +8,17 @@ ghost use Rattle.ndr_model.specs.Places.{Last, noting, look};
 ghost use Rattle.ndr_model.specs.Reading.{number};
 ghost use Rattle.ndr_model.specs.Scan.{scan};
 ghost use Rattle.ndr_model.specs.Build.{ahead, ends, build, build_at, built_each, built_times, built_arm, whole, referent, behind_ref, behind_unique, behind_full, behind_known, in_struct, in_array};
-ghost use Rattle.ndr_read.specs.Gives.{Gives};
-ghost use Rattle.ndr_read.specs.Views.{types_in, cursor_of, last_of};
+ghost use Rattle.ndr_scan.specs.Gives.{Gives};
+ghost use Rattle.ndr_scan.specs.Views.{types_in};
+ghost use Rattle.ndr_read.specs.Views.{cursor_of, last_of};
 
-use crate::fault::ReadError;
 use crate::leaves::{
     build_bool, build_byte, build_char, build_enum, build_handle, build_int, build_text, build_uint,
 };
 use crate::notes::{note, note_counts, note_front};
-use crate::pieces::{arm_for, tag_octets};
-use crate::scan::{if_last, scan_flat};
-use crate::state::{Flat, Kept, Reader, Tail};
+use crate::state::{Flat, Kept, Tail};
 use ndr_model::{Departure, Mark};
+use ndr_scan::{ReadError, Reader, arm_for, if_last, scan_flat, tag_octets};
 use ndr_value::{Arm, ArrayKind, Shape, Value};
 use rpc_base::{NoMemory, Octets};
 

@@ -3,14 +3,12 @@
 #![tactic(auto)]
 
 mod build;
-mod fault;
 mod heap;
 mod leaves;
+mod marks;
 mod notes;
-mod pieces;
-mod scan;
 mod state;
 mod whole;
 
-pub use fault::ReadError;
+pub use marks::Marks;
 pub use whole::{Reading, read};

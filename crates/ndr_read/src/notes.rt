@@ -4,12 +4,13 @@ ghost use Rattle.ndr_scalars.specs.Scalars.{up};
 ghost use Rattle.ndr_model.specs.Part.{opened_marks, count_marks};
 ghost use Rattle.ndr_model.specs.Places.{noting};
 ghost use Rattle.ndr_model.specs.declared.mark.Mark.TheVariants.{Number};
-ghost use Rattle.ndr_read.specs.Pointing.{most_marks};
+ghost use Rattle.ndr_read.specs.Pieces.{most_marks};
 ghost use Rattle.ndr_read.specs.Views.{last_of};
 
-use crate::state::{Reader, Tail};
+use crate::state::Tail;
 use ndr_arrays::Counts;
 use ndr_model::Mark;
+use ndr_scan::Reader;
 use ndr_value::ArrayKind;
 use rpc_base::NoMemory;
 

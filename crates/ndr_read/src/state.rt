@@ -1,27 +1,8 @@
-//! What a reader reads, and where it stands.
+//! Where a reader stands, and what it read.
 
-use ndr_model::Mark;
-use ndr_pointers::Referents;
-use ndr_value::{Value, Wires};
-use rpc_base::Order;
-use std::alloc::Global;
-use table_form::Table;
-
-/// A stub, and what it is read by.
-#[derive(Clone, Copy)]
-pub(crate) struct Reader<'a> {
-    pub(crate) alloc: Global,
-    pub(crate) table: &'a Table,
-    pub(crate) order: Order,
-    pub(crate) octets: &'a [u8],
-}
-
-/// The full pointers and handles that were met.
-#[derive(Drop)]
-pub(crate) struct Seen<'a> {
-    pub(crate) referents: Referents<'a>,
-    pub(crate) wires: Wires,
-}
+use crate::marks::Marks;
+use ndr_scan::Seen;
+use ndr_value::Value;
 
 /// Where a flat part goes on, and how many full pointers' ids and how many handles were met before.
 #[derive(Drop)]
@@ -44,5 +25,5 @@ pub(crate) struct Tail<'a> {
     pub(crate) at: usize,
     pub(crate) seen: Seen<'a>,
     pub(crate) items: Vec<Kept>,
-    pub(crate) marks: Vec<Mark>,
+    pub(crate) marks: Marks,
 }

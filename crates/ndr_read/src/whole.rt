@@ -11,18 +11,19 @@ ghost use Rattle.ndr_model.specs.Stub.{Entry, param_entry, entries, entries_of, 
 ghost use Rattle.ndr_model.specs.Stub as stub;
 ghost use Rattle.ndr_model.specs.Build.{follows, no_more, read_values};
 ghost use Rattle.ndr_model.specs.Message.{enough, message_of};
-ghost use Rattle.ndr_read.specs.Gives.{Gives};
+ghost use Rattle.ndr_scan.specs.Gives.{Gives};
+ghost use Rattle.ndr_scan.specs.Views.{types_in, place};
 ghost use Rattle.ndr_read.specs.Readings.{entry_at, before, param_at, reading_of, reading};
-ghost use Rattle.ndr_read.specs.Views.{types_in, place, last_of, items_of};
+ghost use Rattle.ndr_read.specs.Views.{last_of, items_of};
 
 use crate::build::build_whole;
-use crate::fault::ReadError;
 use crate::heap::in_order;
+use crate::marks::Marks;
 use crate::notes::note;
-use crate::pieces::{aligned, tag_octets};
-use crate::state::{Reader, Seen, Tail};
+use crate::state::Tail;
 use ndr_model::{Departure, Mark, Way};
 use ndr_pointers::Referents;
+use ndr_scan::{ReadError, Reader, Seen, aligned, tag_octets};
 use ndr_value::{Message, Shape, Value, Values, Wires};
 use rpc_base::{NoMemory, Order};
 use std::alloc::Global;
@@ -36,7 +37,7 @@ const ENOUGH: u32 = 257 * 1024;
 #[derive(Drop)]
 pub struct Reading {
     pub message: Message,
-    pub marks: Vec<Mark>,
+    pub marks: Marks,
 }
 
 // Whether a parameter goes that way.
@@ -189,7 +190,7 @@ fn read_to_end<'a>(
 
 // The message of values that were read.
 fn message(alloc: Global, values: Values, tail: Tail<'_>) -> Result<Reading, ReadError>
-    ensures { Gives (λ r. (msg r.message, r.marks.items)) result (reading_of (vals values.items, last_of tail.entry)) }
+    ensures { Gives (λ r. (msg r.message, r.marks)) result (reading_of (vals values.items, last_of tail.entry)) }
 {
     let Tail {
         seen,
@@ -223,7 +224,7 @@ pub fn read<'a>(
     order: Order,
     octets: &'a [u8],
 ) -> Result<Reading, ReadError>
-    ensures { Gives (λ r. (msg r.message, r.marks.items)) result (reading (shown table.now).types (op_form op.now) way order octets.now) }
+    ensures { Gives (λ r. (msg r.message, r.marks)) result (reading (shown table.now).types (op_form op.now) way order octets.now) }
 {
     let reader = Reader {
         alloc,
@@ -238,7 +239,7 @@ pub fn read<'a>(
             wires: Wires::new(alloc),
         },
         items: Vec::new(alloc),
-        marks: Vec::new(alloc),
+        marks: Marks::new(alloc),
     };
     let values = read_to_end(&reader, op, way, &mut tail)?;
     message(alloc, values, tail)

@@ -1,6 +1,6 @@
 -- PDUs, one after the other, are packets, and are printed one after the other.
-use Rattle.std.proofs.Common.{◌≡◌, ℕ, ◌+◌, ◌<◌, ◌≤◌, inl, List, [], ◌∷◌, ◌++◌, length, map, take, drop, refl, sym, ap, subst, ◌∙◌, append_assoc, append-nil, arith}
-use Rattle.std.specs.List.{flat_map}
+use Rattle.std.proofs.Common.{◌≡◌, ℕ, zero, suc, ◌+◌, ◌^◌, ◌<◌, ◌≤◌, inl, List, [], ◌∷◌, ◌++◌, length, map, take, drop, refl, sym, ap, subst, ◌∙◌, append_assoc, append-nil, arith}
+use Rattle.std.specs.List.{flat_map, AllByRecursion}
 use Rattle.std.proofs.lemmas.List.{length-append, nil_from_length}
 use Rattle.pdu_codec.specs.declared.pdu.Pdu.{Pdu}
 use Rattle.pdu_codec.specs.Faults.{frag_length}
@@ -11,6 +11,8 @@ use Rattle.replay_world.specs.Worlds.{Printed}
 use Rattle.replay_world.specs.Worlds.Printed.{Answered}
 use Rattle.replay_world.specs.Printing.{IsOnePdu, printed_text, out_text}
 use Rattle.replay_world.specs.Counting.{ArePackets}
+use Rattle.hex.specs.Hex.{IsBytes}
+use Rattle.load_answers.specs.Answered.{FitsPrinted}
 use Rattle.packet_counts.specs.Pieces.{ArePdus, IsFirstPdu, BeginWithPdu, Prints}
 use Rattle.packet_counts.proofs.Heads.{pdu_packet}
 
@@ -95,7 +97,25 @@ prints_on c octets left old new new' piece others count size some s first whole 
       rest = r.1;
     }
 
-pub printed : (c : ℕ) (octets left old new : List ℕ) (count : ℕ) → length left ≡ 0 → PrintedSoFar c octets left old new count → Prints c octets old count new
-printed c octets left old new count none s =
+-- ---- what is printed can be read again
+
+bytes_front : (xs ys : List ℕ) → IsBytes (xs ++ ys) → IsBytes xs
+bytes_front [] ys h i = omega arith
+bytes_front (x ∷ xs) ys h zero = h zero
+bytes_front (x ∷ xs) ys h (suc i) = bytes_front xs ys (λ j. h (suc j)) i
+
+bytes_back : (xs ys : List ℕ) → IsBytes (xs ++ ys) → IsBytes ys
+bytes_back [] ys h = h
+bytes_back (x ∷ xs) ys h = bytes_back xs ys (λ j. h (suc j))
+
+pieces_fit : (c : ℕ) (pieces : List (List ℕ)) (octets : List ℕ) → c < 2 ^ 64 → IsBytes octets → AreSpelled IsOnePdu pieces octets → AllByRecursion FitsPrinted (map (Answered c) pieces)
+pieces_fit c [] octets low bytes are = tt
+pieces_fit c (piece ∷ more) octets low bytes (first, others, whole, is, are) =
+    let parts : IsBytes (first ++ others) = subst IsBytes whole bytes in
+    ((low, subst IsBytes is.0 (bytes_front first others parts)), pieces_fit c more others low (bytes_back first others parts) are)
+
+pub printed : (c : ℕ) (octets left old new : List ℕ) (count : ℕ) → c < 2 ^ 64 → IsBytes octets → length left ≡ 0 → PrintedSoFar c octets left old new count → Prints c octets old count new
+printed c octets left old new count low bytes none s =
     let e : octets ≡ s.front = s.whole ∙ ap (λ (t : List ℕ). s.front ++ t) (nil_from_length left none) ∙ append-nil s.front in
-    record { pieces = s.done; cut = subst (λ (t : List ℕ). AreSpelled IsOnePdu s.done t) (sym e) s.cut; text = s.text; count_is = s.count_is }
+    let cut : AreSpelled IsOnePdu s.done octets = subst (λ (t : List ℕ). AreSpelled IsOnePdu s.done t) (sym e) s.cut in
+    record { pieces = s.done; cut = cut; text = s.text; fit = pieces_fit c s.done octets low bytes cut; count_is = s.count_is }

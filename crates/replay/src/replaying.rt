@@ -7,6 +7,7 @@ ghost use Rattle.replay_world.specs.declared.fault.ReplayFault.TheVariants as fa
 ghost use Rattle.replay_world.specs.Worlds.{booted};
 ghost use Rattle.replay_world.specs.Replays.{Replays, IsCause};
 ghost use Rattle.replay_service.specs.Service.{service_of, IsEcho};
+ghost use Rattle.replay_promises.specs.Laws.{ServesAll};
 ghost use Rattle.replay_events.specs.Standing.{Stands};
 ghost use Rattle.replay_lines.specs.Lines.{HasWorld};
 ghost use Rattle.replay_lines.specs.Closing.{IsLeft};
@@ -14,6 +15,8 @@ ghost use Rattle.replay_lines.specs.Closing.{IsLeft};
 use crate::reading::{first_boot, play_rest};
 use replay_events::Player;
 use replay_lines::close;
+use replay_promises::replays_serve_all;
+use replay_service::BuiltIn;
 use replay_world::ReplayFault;
 use rpc_base::{NoMemory, Octets};
 use std::alloc::Global;
@@ -65,7 +68,8 @@ fn is_echo(echo: Option<&Table>)
 }
 
 /// Replays the text of a script: its lines move connections, groups and the desks behind the interfaces, one after the
-/// other, and then all connections are lost and all calls ended. `echo` is an interface that is served beside the
+/// other, and then all connections are lost and all calls ended. For each connection of the script what is put on out are the
+/// answers to what its octets ask, by the final journal of its group. `echo` is an interface that is served beside the
 /// built-in ones, each of whose calls is answered with what came (C706, chapters "Remote Procedure Call Model" and
 /// "Connection-oriented RPC Protocol Machines").
 ///
@@ -74,9 +78,11 @@ fn is_echo(echo: Option<&Table>)
 /// `Line` with the number of the first line that departs from the scripts, `Memory` where there is no memory.
 pub fn replay(alloc: Global, text: &[u8], echo: Option<&Table>) -> Result<Replayed, ReplayFault>
     ensures replayed { IfOk result (λ r. Replays (service_of (shown_by (λ t. t.now) echo.entry)) text.now r.out r.log) }
+    ensures served { IfOk result (λ r. ServesAll (service_of (shown_by (λ t. t.now) echo.entry)) text.now r.out r.log) }
     ensures fault { IfErr result (IsCause (service_of (shown_by (λ t. t.now) echo.entry)) text.now) }
 {
     is_echo(echo);
+    replays_serve_all::<BuiltIn>();
     let Some((boot, rest)) = first_boot(alloc, text)? else {
         return Err(ReplayFault::Line(1));
     };

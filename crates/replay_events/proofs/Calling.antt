@@ -1,6 +1,6 @@
 -- The call of the connection in hand is taken, and ends.
 use Rattle.std.proofs.Common.{◌≡◌, ◌≢◌, ℕ, ◌-◌, ◌≤◌, ◌==◌, Bool, true, false, not, ◌&&◌, ◌||◌, if◌then◌else◌, Option, Some, None, List, [], ◌∷◌, refl, sym, ap, subst, ◌∙◌}
-use Rattle.std.specs.List.{find, list_any}
+use Rattle.std.specs.List.{find, list_any, AllByRecursion}
 use Rattle.std.proofs.lemmas.Bool.{eq-eqb}
 use Rattle.std.proofs.lemmas.List.{set-get_or}
 use Rattle.table_form.specs.Tables.{TableForm}
@@ -45,6 +45,7 @@ use Rattle.replay_world.specs.Groups.{GoesOn, taken_with}
 use Rattle.replay_world.specs.Plays.{MayAnswer, Ends}
 use Rattle.replay_world.specs.Printing.{out_text}
 use Rattle.replay_world.specs.Counting.{CountAll}
+use Rattle.load_answers.specs.Answered.{FitsPrinted}
 use Rattle.replay_service.specs.Service.{service_of}
 use Rattle.replay_moments.specs.Moments.{IsAs, Coheres}
 use Rattle.replay_moments.proofs.Pasts.{asked_grows}
@@ -95,6 +96,7 @@ reheld echo x t w h realm v call told e =
       minds_others = λ d p s other at found. let was = sym (back d) ∙ at in e.others d p s.call other was (h.minds_others d p s other was found);
       totals = subst (λ (ps : List Peer). CountAll ps x.totals) (sym e.frames.peers) h.totals;
       printed = h.printed ∙ ap out_text (sym e.frames.out);
+      fit = subst (AllByRecursion FitsPrinted) (sym e.frames.out) h.fit;
     }
 
 module _ (x : Player) (t : Played) (m : Member) (k : ℕ) (is : t.member ≡ Some m) (call : t.unanswered ≡ Call k) where

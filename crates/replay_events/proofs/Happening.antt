@@ -1,6 +1,6 @@
 -- An event happens on the connection in hand.
 use Rattle.std.proofs.Common.{◌≡◌, ◌≢◌, ℕ, ◌+◌, Option, Some, None, List, [], ◌∷◌, ◌++◌, refl, sym, ap, subst, ◌∙◌}
-use Rattle.std.specs.List.{find}
+use Rattle.std.specs.List.{find, AllByRecursion}
 use Rattle.std.proofs.lemmas.List.Concat.{flat_map-append}
 use Rattle.table_form.specs.Tables.{TableForm}
 use Rattle.call_stats.specs.Numbers.{Numbers}
@@ -12,6 +12,7 @@ use Rattle.replay_world.specs.Worlds.{Peer, Printed, World, is_named, put_peer, 
 use Rattle.replay_world.specs.Printing.{ArePrinted, printed_text, out_text}
 use Rattle.replay_world.specs.Counting.{CountAll}
 use Rattle.replay_world.specs.Events.{Means, lived, HappensOn}
+use Rattle.load_answers.specs.Answered.{FitsPrinted}
 use Rattle.replay_service.specs.Service.{service_of}
 use Rattle.replay_moments.specs.Moments.{AreSound, Coheres}
 use Rattle.replay_moments.proofs.Peers.{found_name, put_found, put_others}
@@ -31,6 +32,10 @@ use Rattle.replay_events.proofs.Tables.{others_stay}
 pub text_more : (a b : List Printed) → out_text (a ++ b) ≡ out_text a ++ out_text b
 unfolding out_text
 text_more a b = flat_map-append printed_text a b
+
+pub all_fit : (a b : List Printed) → AllByRecursion FitsPrinted a → AllByRecursion FitsPrinted b → AllByRecursion FitsPrinted (a ++ b)
+all_fit [] b f g = g
+all_fit (p ∷ a) b f g = (f.0, all_fit a b f.1 g)
 
 -- What happened, once the group knows of it: the connection was this before, is that behind it, and the realm's world is b.
 pub record Happened (echo : Option TableForm) (x : Player) (t : Played) (w : World Services) (h : Handles echo x t w) (event : Event) (m : Moment) (z : Player) (s : Played) (b : World Services) (a : Peer) : Type 0 where
@@ -115,6 +120,7 @@ module _ (echo : Option TableForm) (x : Player) (t : Played) (w : World Services
     printed =
         e.out ∙ e.lives.out ∙ ap (λ (l : List ℕ). l ++ out_text e.lives.lines) h.printed ∙ sym (text_more w.out e.lives.lines)
         ∙ ap (λ (l : List Printed). out_text (l ++ e.lives.lines)) (sym e.frames.out);
+    fit = all_fit b.out e.lives.lines (subst (AllByRecursion FitsPrinted) (sym e.frames.out) h.fit) e.lives.fit;
   }
 
   pub happened : (v : World Services) × HappensOn (service_of echo) t.name w event v × Handles echo z s v

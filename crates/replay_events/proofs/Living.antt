@@ -60,6 +60,7 @@ lives_on x y t u call call' p event l = record {
   shows = recall u call' (living p event l.state) l.shows;
   lines = l.lines;
   printed = l.printed;
+  fit = l.fit;
   out = l.out;
   counts = l.counts;
 }

@@ -1,6 +1,6 @@
 -- The connection in hand is lost.
 use Rattle.std.proofs.Common.{◌≡◌, ◌≢◌, ℕ, Option, Some, None, List, refl, sym, ap, subst, ◌∙◌}
-use Rattle.std.specs.List.{find}
+use Rattle.std.specs.List.{find, AllByRecursion}
 use Rattle.table_form.specs.Tables.{TableForm}
 use Rattle.service_desks.specs.State.{Services}
 use Rattle.handle_model.specs.Journal.{is_open}
@@ -11,6 +11,7 @@ use Rattle.replay_world.specs.Events.{LeavesIts}
 use Rattle.replay_world.specs.Plays.{Loses, lost}
 use Rattle.replay_world.specs.Printing.{out_text}
 use Rattle.replay_world.specs.Counting.{CountAll}
+use Rattle.load_answers.specs.Answered.{FitsPrinted}
 use Rattle.replay_service.specs.Service.{service_of}
 use Rattle.replay_moments.proofs.Lines.{loses_keep}
 use Rattle.replay_moments.proofs.Peers.{put_found, put_others}
@@ -92,6 +93,7 @@ module _ (x : Player) (t : Played) where
                 subst (λ (ps : List Peer). CountAll (put_peer q ps) x.totals) (sym r.2.peers)
                 (totals_stay w.peers t.name p q x.totals h.others.show.rise h.there named refl h.totals);
             printed = h.printed ∙ ap out_text (sym r.2.out);
+            fit = subst (AllByRecursion FitsPrinted) (sym r.2.out) h.fit;
           },
         ),
   )

@@ -50,6 +50,7 @@ picks_none c x y is out shown echo w h =
         minds = λ d p t there found. h.minds d p t there (ap (λ (ts : List Played). find (has_name d) ts) (sym out.1) ∙ found);
         totals = subst (λ (z : Player). CountAll w.peers z.totals) (sym is) h.totals;
         printed = ap (λ (z : Player). z.out.items) is ∙ h.printed;
+        fit = h.fit;
       },
     )
 
@@ -83,6 +84,7 @@ picks_one c x y t is out shown =
                 h.minds d p s there (sym (find_other d c x.peers apart) ∙ ap (λ (ts : List Played). find (has_name d) ts) (sym out.1) ∙ found);
             totals = subst (λ (z : Player). CountAll w.peers z.totals) (sym is) h.totals;
             printed = ap (λ (z : Player). z.out.items) is ∙ h.printed;
+            fit = h.fit;
           },
     )
 
@@ -118,6 +120,7 @@ puts_back x y t is list back echo w h =
       minds = put_minds echo w t x.peers y.peers q h.there list (ap (λ (l : List Played). find (has_name t.name) l) list ∙ find_self t x.peers) h.minds h.minds_others;
       totals = subst (λ (z : Player). CountAll w.peers z.totals) (sym is) h.totals;
       printed = ap (λ (z : Player). z.out.items) is ∙ h.printed;
+      fit = h.fit;
     }
 
 -- ---- opened
@@ -142,6 +145,7 @@ module _ (c : ℕ) (x y : Player) (t : Played) (is : y ≡ record x { peers = y.
             (λ d p s other at found. h.minds d p s (sym (put_others d q w.peers (λ e. other (sym e ∙ sym named))) ∙ at) found);
         totals = subst (λ (z : Player). CountAll v.peers z.totals) (sym is) (totals_open w.peers q x.totals none refl h.totals);
         printed = ap (λ (z : Player). z.out.items) is ∙ h.printed;
+        fit = h.fit;
       }
 
   pub opens : (ids : List SyntaxId) → ids ≡ ids_of (tables_in x.realm.served) → Shows t (opened_peer ids c) → HasName c x.peers false → Plays (OpensIn c) x y
@@ -175,4 +179,5 @@ begins echo x boot holds shown totals out = record {
   minds = λ c p t there found. absurd (cc (there));
   totals = totals;
   printed = out ∙ sym nothing_printed;
+  fit = tt;
 }

@@ -1,6 +1,7 @@
--- Of which worlds a player has the groups, the desks, the connections, the counts and the text on out.
+-- Of which worlds a player has the groups, the desks, the connections, the counts and the text on out. What is printed can be
+-- read again.
 use Rattle.std.specs.Prelude.{◌≡◌, ◌≢◌, ℕ, Option, Some, None, List, ⊤}
-use Rattle.std.specs.List.{find}
+use Rattle.std.specs.List.{find, AllByRecursion}
 use Rattle.table_form.specs.Tables.{TableForm}
 use Rattle.handle_model.specs.declared.entry.Slot.{Slot}
 use Rattle.handle_model.specs.declared.reply.Reply.{Reply}
@@ -15,6 +16,7 @@ use Rattle.replay_world.specs.Worlds.{Peer, World, peer_at, journal}
 use Rattle.replay_world.specs.Groups.{taken_with}
 use Rattle.replay_world.specs.Printing.{out_text}
 use Rattle.replay_world.specs.Counting.{CountAll}
+use Rattle.load_answers.specs.Answered.{FitsPrinted}
 use Rattle.replay_moments.specs.Moments.{Coheres}
 use Rattle.replay_peers.specs.declared.played.Kept.{Kept}
 use Rattle.replay_peers.specs.declared.played.Played.{Played}
@@ -53,6 +55,7 @@ pub record Stands (echo : Option TableForm) (x : Player) (w : World Services) : 
   pub minds : (c : ℕ) (p : Peer) (t : Played) → peer_at w c ≡ Some p → find (has_name c) x.peers ≡ Some t → Minds echo w p t.call
   pub totals : CountAll w.peers x.totals
   pub printed : x.out.items ≡ out_text w.out
+  pub fit : AllByRecursion FitsPrinted w.out
 
 -- ONE CONNECTION IS IN HAND
 
@@ -74,3 +77,4 @@ pub record Handles (echo : Option TableForm) (x : Player) (t : Played) (w : Worl
   pub minds_others : (d : ℕ) (p : Peer) (s : Played) → d ≢ t.name → peer_at w d ≡ Some p → find (has_name d) x.peers ≡ Some s → Minds echo w p s.call
   pub totals : CountAll w.peers x.totals
   pub printed : x.out.items ≡ out_text w.out
+  pub fit : AllByRecursion FitsPrinted w.out

@@ -16,6 +16,7 @@ use Rattle.replay_world.specs.Replays.{journals_from}
 use Rattle.replay_groups.specs.declared.opening.OpenRefusal.{OpenRefusal}
 use Rattle.replay_groups.specs.declared.opening.OpenRefusal.TheVariants.{Full, Memory}
 use Rattle.replay_groups.specs.Keeps.{GroupsView, home_in, whole_of, AllSound, Keeps, IsFirst, OpensAs, OpensAt, IsFull, Opens}
+use Rattle.replay_groups.proofs.Tallies.{opened_counted}
 use Rattle.replay_groups.proofs.Keeping.{counted, count_first, suc_counted, length_from}
 
 append_from : (boot id : ℕ) (pasts : List (List Entry)) (new : List Entry) → journals_from boot id (pasts ++ new ∷ []) ≡ journals_from boot id pasts ++ kept_since (home_in boot (id + length pasts)) new ∷ []
@@ -67,6 +68,7 @@ opened_keeps x y id o pasts k =
           let more : y.open_groups ≡ x.open_groups + 1 = ap (λ (z : GroupsView). z.open_groups) o.is in
           let counts = count_append pasts (Join 1 ∷ []) refl in
           omega (arith, more, k.open_is, counts);
+      counted = opened_counted x.counts y.counts pasts 1 o.counted k.counted;
     }
 
 not_full : (x y : GroupsView) (id : ℕ) (o : OpensAs x id y) (pasts : List (List Entry)) → Keeps x pasts → IsFull pasts → ⊥

@@ -35,7 +35,8 @@ use Rattle.hub_story.proofs.WholeLemmas.{accepts_whole, takes_whole, cancels_who
 use Rattle.hub_story.proofs.FoldLemmas.{kept_folds}
 use Rattle.replay_world.specs.Worlds.{goes_on}
 use Rattle.replay_world.specs.Replays.{journals_from}
-use Rattle.replay_groups.specs.Keeps.{GroupsView, home_in, whole_of, past_at, AllSound, Keeps, Has, no_journal, group_at, Known, GoesOn, Answers, Touched, left_open}
+use Rattle.replay_groups.specs.Keeps.{GroupsView, home_in, whole_of, past_at, AllSound, Keeps, Has, no_journal, group_at, Known, GoesOn, Answers, Touched, Counted, AddsSettled, left_open}
+use Rattle.replay_groups.proofs.Tallies.{join_counted, orphan_counted, settle_counted}
 
 -- ---- journals in a row
 
@@ -169,9 +170,9 @@ Counts x g Says n = (pasts : List (List Entry)) → Keeps x pasts → (es : List
 
 kept_on : (x y : GroupsView) (g : ℕ) (j : History) (n : ℕ) (Says : History → History → Type 0) → Has x g → GoesOn x g → Touched x g j n y
     → ((past : List Entry) → IsSound (whole_of x.boot g past) → list_any is_shut past ≡ false → group_at x g ≡ kept_since (home_in x.boot g) past → kept.Keeps (home_in x.boot g) past j Says)
-    → Counts x g Says n
+    → Counts x g Says n → Counted Says x.counts y.counts
     → (pasts : List (List Entry)) → Keeps x pasts → (new : List Entry) × Says (whole_of x.boot g (past_at pasts g)) (whole_of x.boot g new) × Keeps y (slice_set pasts (g - 1) new)
-kept_on x y g j n Says has goes touched each counts pasts k =
+kept_on x y g j n Says has goes touched each counts tally pasts k =
     let groups : y.groups ≡ slice_set x.groups (g - 1) j = ap (λ (z : GroupsView). z.groups) touched.0 in
     let boot : y.boot ≡ x.boot = ap (λ (z : GroupsView). z.boot) touched.0 in
     let id : 1 + (g - 1) ≡ g = omega (arith, has.0) in
@@ -189,13 +190,14 @@ kept_on x y g j n Says has goes touched each counts pasts k =
         sound = subst (λ (b : ℕ). AllSound b 1 (slice_set pasts (g - 1) new)) (sym boot)
             (sound_set x.boot 1 pasts (g - 1) new (subst (λ (m : ℕ). IsSound (whole_of x.boot m new)) (sym id) w.sound) k.sound);
         open_is = ap (λ (z : GroupsView). z.open_groups) touched.0 ∙ counts pasts k w.es w.answers;
+        counted = tally (home_in x.boot g) pasts (g - 1) new (is_low x g pasts has k) w.answers k.counted;
       },
     )
 
 pub answered : (x y : GroupsView) (g : ℕ) (j : History) (n : ℕ) (Says : History → History → Type 0) → Has x g → GoesOn x g → Touched x g j n y
     → ((past : List Entry) → IsSound (whole_of x.boot g past) → list_any is_shut past ≡ false → group_at x g ≡ kept_since (home_in x.boot g) past → kept.Keeps (home_in x.boot g) past j Says)
-    → Counts x g Says n → Answers x g Says y
-answered x y g j n Says has goes touched each counts = (ap (λ (z : GroupsView). z.boot) touched.0, kept_on x y g j n Says has goes touched each counts)
+    → Counts x g Says n → Counted Says x.counts y.counts → Answers x g Says y
+answered x y g j n Says has goes touched each counts tally = (ap (λ (z : GroupsView). z.boot) touched.0, kept_on x y g j n Says has goes touched each counts tally)
 
 -- as many are open where no group ends, and one fewer where one does
 same_count : (x : GroupsView) (g : ℕ) (Says : History → History → Type 0) → Has x g
@@ -260,37 +262,37 @@ settle_counts x g e (rest.Shut items) has goes step =
 
 -- ---- each call
 
-pub taken : (x y : GroupsView) (g k : ℕ) (j : History) (r : Taking) → Has x g → GoesOn x g → Touched x g j x.open_groups y → Takes (group_at x g) k r j → Answers x g (λ a b. Takes a k r b) y
-taken x y g k j r has goes touched t =
+pub taken : (x y : GroupsView) (g k : ℕ) (j : History) (r : Taking) → Has x g → GoesOn x g → Touched x g j x.open_groups y → Takes (group_at x g) k r j → Counted (λ a b. Takes a k r b) x.counts y.counts → Answers x g (λ a b. Takes a k r b) y
+taken x y g k j r has goes touched t tally =
     answered x y g j x.open_groups (λ a b. Takes a k r b) has goes touched
     (λ past sound unshut here. takes_whole (home_in x.boot g) past k r j sound unshut (subst (λ (z : History). Takes z k r j) here t) touched.1)
-    (same_count x g (λ a b. Takes a k r b) has (λ past es says. take_quiet (home_in x.boot g) past es k r says))
+    (same_count x g (λ a b. Takes a k r b) has (λ past es says. take_quiet (home_in x.boot g) past es k r says)) tally
 
-pub cancelled_is : (x y : GroupsView) (g k : ℕ) (j : History) (r : Cancelled) → Has x g → GoesOn x g → Touched x g j x.open_groups y → Cancels (group_at x g) k r j → Answers x g (λ a b. Cancels a k r b) y
-cancelled_is x y g k j r has goes touched t =
+pub cancelled_is : (x y : GroupsView) (g k : ℕ) (j : History) (r : Cancelled) → Has x g → GoesOn x g → Touched x g j x.open_groups y → Cancels (group_at x g) k r j → Counted (λ a b. Cancels a k r b) x.counts y.counts → Answers x g (λ a b. Cancels a k r b) y
+cancelled_is x y g k j r has goes touched t tally =
     answered x y g j x.open_groups (λ a b. Cancels a k r b) has goes touched
     (λ past sound unshut here. cancels_whole (home_in x.boot g) past k r j sound unshut (subst (λ (z : History). Cancels z k r j) here t) touched.1)
-    (same_count x g (λ a b. Cancels a k r b) has (λ past es says. cancel_quiet (home_in x.boot g) past es k r says))
+    (same_count x g (λ a b. Cancels a k r b) has (λ past es says. cancel_quiet (home_in x.boot g) past es k r says)) tally
 
-pub orphaned_is : (x y : GroupsView) (g k : ℕ) (j : History) (r : Orphaned) → Has x g → GoesOn x g → Touched x g j x.open_groups y → Orphans (group_at x g) k r j → Answers x g (λ a b. Orphans a k r b) y
-orphaned_is x y g k j r has goes touched t =
+pub orphaned_is : (x y : GroupsView) (g k : ℕ) (j : History) (r : Orphaned) → Has x g → GoesOn x g → Touched x g j x.open_groups y → Orphans (group_at x g) k r j → y.counts ≡ x.counts → Answers x g (λ a b. Orphans a k r b) y
+orphaned_is x y g k j r has goes touched t same =
     answered x y g j x.open_groups (λ a b. Orphans a k r b) has goes touched
     (λ past sound unshut here. orphans_whole (home_in x.boot g) past k r j sound unshut (subst (λ (z : History). Orphans z k r j) here t) touched.1)
-    (same_count x g (λ a b. Orphans a k r b) has (λ past es says. orphan_quiet (home_in x.boot g) past es k r says))
+    (same_count x g (λ a b. Orphans a k r b) has (λ past es says. orphan_quiet (home_in x.boot g) past es k r says)) (orphan_counted k r x.counts y.counts same)
 
 pub accepted_is : (x y : GroupsView) (g : ℕ) (asked : Asked) (j : History) (r : Result ℕ (Asked × AcceptRefusal)) → Has x g → GoesOn x g → Touched x g j x.open_groups y → Accepts (group_at x g) asked r j
-    → Answers x g (λ a b. Accepts a asked r b) y
-accepted_is x y g asked j r has goes touched t =
+    → Counted (λ a b. Accepts a asked r b) x.counts y.counts → Answers x g (λ a b. Accepts a asked r b) y
+accepted_is x y g asked j r has goes touched t tally =
     answered x y g j x.open_groups (λ a b. Accepts a asked r b) has goes touched
     (λ past sound unshut here. accepts_whole (home_in x.boot g) past asked r j sound unshut (subst (λ (z : History). Accepts z asked r j) here t) touched.1)
-    (same_count x g (λ a b. Accepts a asked r b) has (λ past es says. accept_quiet (home_in x.boot g) past es asked r says))
+    (same_count x g (λ a b. Accepts a asked r b) has (λ past es says. accept_quiet (home_in x.boot g) past es asked r says)) tally
 
 pub settled_is : (x y : GroupsView) (g : ℕ) (e : Entry) (j : History) (r : Rest) → Has x g → GoesOn x g → IsStep e → Touched x g j (left_open x.open_groups r) y → Settles (group_at x g) e r j
-    → Answers x g (λ a b. Settles a e r b) y
-settled_is x y g e j r has goes step touched t =
+    → AddsSettled e r x.counts y.counts → Answers x g (λ a b. Settles a e r b) y
+settled_is x y g e j r has goes step touched t tally =
     answered x y g j (left_open x.open_groups r) (λ a b. Settles a e r b) has goes touched
     (λ past sound unshut here. settles_whole (home_in x.boot g) past e r j (step.1 (kept_since (home_in x.boot g) past)) sound (subst (λ (z : History). Settles z e r j) here t) touched.1)
-    (settle_counts x g e r has goes step)
+    (settle_counts x g e r has goes step) (settle_counted e r x.counts tally.0 y.counts tally.1 tally.2)
 
 pub end_step : (k : ℕ) (results : List Outcome) (said : Said) → IsStep (End k results said)
 end_step k results said = (refl, λ x. refl)
@@ -299,8 +301,8 @@ pub leave_step : (c : ℕ) → IsStep (Leave c)
 leave_step c = (refl, λ x. refl)
 
 pub joined_is : (x y : GroupsView) (g : ℕ) (j : History) (r : Result ℕ JoinRefusal) → Has x g → GoesOn x g → Touched x g j x.open_groups y → Joins (group_at x g) r j
-    → Answers x g (λ a b. JoinsWhole a r b) y
-joined_is x y g j r has goes touched t =
+    → y.counts ≡ x.counts → Answers x g (λ a b. JoinsWhole a r b) y
+joined_is x y g j r has goes touched t same =
     answered x y g j x.open_groups (λ a b. JoinsWhole a r b) has goes touched
     (λ past sound unshut here. joins_whole (home_in x.boot g) past r j sound unshut (subst (λ (z : History). Joins z r j) here t) touched.1)
-    (same_count x g (λ a b. JoinsWhole a r b) has (λ past es says. join_quiet (home_in x.boot g) past es r says))
+    (same_count x g (λ a b. JoinsWhole a r b) has (λ past es says. join_quiet (home_in x.boot g) past es r says)) (join_counted r x.counts y.counts same)

@@ -3,24 +3,28 @@ use Rattle.std.specs.Prelude.{◌≡◌, ℕ, ◌+◌, ◌-◌, ◌^◌, ◌<◌
 use Rattle.std.specs.List.{list_any}
 use Rattle.handle_model.specs.declared.entry.Home.{Home}
 use Rattle.handle_model.specs.declared.entry.Entry.{Entry}
-use Rattle.handle_model.specs.declared.entry.Entry.TheVariants.{Join}
+use Rattle.handle_model.specs.declared.entry.Entry.TheVariants.{Join, Shut}
 use Rattle.handle_model.specs.Bases.{empty_base}
 use Rattle.handle_model.specs.Entries.{is_shut}
 use Rattle.handle_model.specs.History.{History, IsSound, since}
 use Rattle.group_core.specs.declared.answer.Rest.{Rest}
 use Rattle.group_core.specs.declared.answer.Rest.TheVariants as rest
 use Rattle.group_core.specs.Conns.{Joins}
+use Rattle.load_counts.specs.declared.counts.Counts.{Counts}
+use Rattle.load_counts.specs.Counting.{Tells, Adds, AddsGroup}
 use Rattle.replay_world.specs.Groups.{most_groups}
 use Rattle.replay_world.specs.Worlds.{goes_on}
 use Rattle.replay_world.specs.Replays.{journals_from}
 use Rattle.replay_groups.specs.declared.opening.OpenRefusal.{OpenRefusal}
 use Rattle.replay_groups.specs.declared.opening.OpenRefusal.TheVariants.{Full, Memory}
 
--- the server's boot word, the journals as the groups keep them, by id from 1, and how many groups are open
+-- the server's boot word, the journals as the groups keep them, by id from 1, how many groups are open, and how many entries of
+-- each kind their whole journals have
 pub record GroupsView : Type 0 where
   pub boot : ℕ
   pub groups : List History
   pub open_groups : ℕ
+  pub counts : Counts
 
 abbrev pub home_in : ℕ → ℕ → Home
 home_in boot g = record { boot = boot; group = g }
@@ -42,6 +46,7 @@ pub record Keeps (x : GroupsView) (pasts : List (List Entry)) : Type 0 where
   pub journals : x.groups ≡ journals_from x.boot 1 pasts
   pub sound : AllSound x.boot 1 pasts
   pub open_is : x.open_groups ≡ length (filter goes_on pasts)
+  pub counted : Tells x.counts pasts
 
 -- the group of that id was opened
 abbrev pub Has : GroupsView → ℕ → Type 0
@@ -77,7 +82,29 @@ Answers x g Says y =
 
 -- the group of that id alone changed, and keeps this; so many are open then
 abbrev pub Touched : GroupsView → ℕ → History → ℕ → GroupsView → Type 0
-Touched x g j n y = (y ≡ record x { groups = slice_set x.groups (g - 1) j; open_groups = n }) × IsSound j
+Touched x g j n y = (y ≡ record x { groups = slice_set x.groups (g - 1) j; open_groups = n; counts = y.counts }) × IsSound j
+
+-- ---- what is counted
+
+-- what shows the counts of journals does so once one of them went on so
+abbrev pub Counted : (History → History → Type 0) → Counts → Counts → Type 0
+Counted Says x y =
+    (home : Home) (pasts : List (List Entry)) (i : ℕ) (new : List Entry) → i < length pasts
+    → Says (since home empty_base (get_or pasts i [])) (since home empty_base new) → Tells x pasts → Tells y (slice_set pasts i new)
+
+-- how many handles the newest entry lists to be run down
+abbrev pub newest_due : List Entry → ℕ
+newest_due (Shut items ∷ past) = length items
+newest_due _ = 0
+
+-- where a group ends its Shut is counted
+abbrev pub AddsRest : Rest → Counts → Counts → Type 0
+AddsRest rest.Stays x y = y ≡ x
+AddsRest (rest.Shut items) x y = Adds (Shut items) x y
+
+-- behind an entry that was counted
+abbrev pub AddsSettled : Entry → Rest → Counts → Counts → Type 0
+AddsSettled e r x y = (c : Counts) × Adds e x c × AddsRest r c y
 
 -- a group is open no longer where it has ended
 abbrev pub left_open : ℕ → Rest → ℕ
@@ -99,7 +126,8 @@ pub record OpensAs (x : GroupsView) (id : ℕ) (y : GroupsView) : Type 0 where
   pub small : id < 2 ^ 32
   pub first : History
   pub is_first : IsFirst (home_in x.boot id) first
-  pub is : y ≡ record x { groups = x.groups ++ first ∷ []; open_groups = x.open_groups + 1 }
+  pub is : y ≡ record x { groups = x.groups ++ first ∷ []; open_groups = x.open_groups + 1; counts = y.counts }
+  pub counted : AddsGroup x.counts y.counts
 
 abbrev pub OpensAt : GroupsView → Result ℕ OpenRefusal → GroupsView → Type 0
 OpensAt x (Ok id) y = OpensAs x id y

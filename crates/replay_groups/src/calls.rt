@@ -7,19 +7,27 @@ ghost use Rattle.handle_model.specs.declared.entry.Entry.TheVariants.{End, Leave
 ghost use Rattle.group_core.specs.Calls.{Accepts, Takes, Cancels, Orphans, Ends};
 ghost use Rattle.group_core.specs.Conns.{Joins, Leaves, Settles};
 ghost use Rattle.hub_story.specs.Answers.{JoinsWhole};
-ghost use Rattle.replay_groups.specs.Keeps.{Has, Known, GoesOn, Answers, Touched, group_at, left_open};
+ghost use Rattle.replay_groups.specs.Keeps.{Has, Known, GoesOn, Answers, Touched, Counted, AddsRest, AddsSettled, group_at, left_open};
 
+use crate::counting::{count_accept, count_cancel, count_rest, count_taking};
 use crate::groups::Groups;
 use group_core::{AcceptRefusal, Cancelled, Group, JoinRefusal, Orphaned, Rest, Taking};
 use handle_model::{Asked, Outcomes, Said};
+use load_counts::Counts;
 
-fn accept_of(group: &mut Group, asked: Asked) -> Result<u32, (Asked, AcceptRefusal)>
+fn accept_of(
+    group: &mut Group,
+    counts: &mut Counts,
+    asked: Asked,
+) -> Result<u32, (Asked, AcceptRefusal)>
     requires is_open { journal.is_open group.old asked.conn ≡ true }
     requires few { length asked.slots ≤ 4 }
     ensures accepts { Accepts group.old asked result group.new }
     ensures sound { IsSound group.new }
+    ensures counted { Counted (λ a b. Accepts a asked result b) counts.old counts.new }
 {
     let result = group.accept(asked);
+    count_accept(counts, &result);
     let _ = group.journal();
     result
 }
@@ -34,23 +42,28 @@ fn join_of(group: &mut Group) -> Result<u32, JoinRefusal>
     result
 }
 
-fn end_of(group: &mut Group, call: u32, results: Outcomes, said: Said) -> Rest
+fn end_of(group: &mut Group, counts: &mut Counts, call: u32, results: Outcomes, said: Said) -> Rest
     requires runs { journal.runs group.old call ≡ true }
     requires suit { journal.suit (journal.slots group.old call) results ≡ true }
     ensures ends { Ends group.old call results said result group.new }
     ensures sound { IsSound group.new }
+    ensures counted { AddsSettled (End call results said) result counts.old counts.new }
 {
+    counts.ended(results.as_slice());
     let rest = group.end(call, results, said);
+    count_rest(counts, &rest, group);
     let _ = group.journal();
     rest
 }
 
-fn leave_of(group: &mut Group, conn: u32) -> Rest
+fn leave_of(group: &mut Group, counts: &mut Counts, conn: u32) -> Rest
     requires { journal.is_open group.old conn ≡ true }
     ensures leaves { Leaves group.old conn result group.new }
     ensures sound { IsSound group.new }
+    ensures counted { AddsRest result counts.old counts.new }
 {
     let rest = group.leave(conn);
+    count_rest(counts, &rest, group);
     let _ = group.journal();
     rest
 }
@@ -65,20 +78,24 @@ fn open_behind(count: usize, rest: &Rest) -> usize
     }
 }
 
-fn take_of(group: &mut Group, call: u32) -> Taking
+fn take_of(group: &mut Group, counts: &mut Counts, call: u32) -> Taking
     ensures takes { Takes group.old call result group.new }
     ensures sound { IsSound group.new }
+    ensures counted { Counted (λ a b. Takes a call result b) counts.old counts.new }
 {
     let taking = group.take(call);
+    count_taking(counts, taking);
     let _ = group.journal();
     taking
 }
 
-fn cancel_of(group: &mut Group, call: u32) -> Cancelled
+fn cancel_of(group: &mut Group, counts: &mut Counts, call: u32) -> Cancelled
     ensures cancels { Cancels group.old call result group.new }
     ensures sound { IsSound group.new }
+    ensures counted { Counted (λ a b. Cancels a call result b) counts.old counts.new }
 {
     let cancelled = group.cancel(call);
+    count_cancel(counts, cancelled);
     let _ = group.journal();
     cancelled
 }
@@ -103,21 +120,21 @@ fn index_of(id: u32) -> usize
 impl Groups {
     fn take_at(&mut self, id: u32, call: u32) -> Taking
         requires { Has self.old id }
-        ensures { (j : History) × Touched self.old id j self.old.open_groups self.new × Takes (group_at self.old id) call result j }
+        ensures { (j : History) × Touched self.old id j self.old.open_groups self.new × Takes (group_at self.old id) call result j × Counted (λ a b. Takes a call result b) self.old.counts self.new.counts }
     {
-        take_of(&mut self.groups[index_of(id)], call)
+        take_of(&mut self.groups[index_of(id)], &mut self.counts, call)
     }
 
     fn cancel_at(&mut self, id: u32, call: u32) -> Cancelled
         requires { Has self.old id }
-        ensures { (j : History) × Touched self.old id j self.old.open_groups self.new × Cancels (group_at self.old id) call result j }
+        ensures { (j : History) × Touched self.old id j self.old.open_groups self.new × Cancels (group_at self.old id) call result j × Counted (λ a b. Cancels a call result b) self.old.counts self.new.counts }
     {
-        cancel_of(&mut self.groups[index_of(id)], call)
+        cancel_of(&mut self.groups[index_of(id)], &mut self.counts, call)
     }
 
     fn orphan_at(&mut self, id: u32, call: u32) -> Orphaned
         requires { Has self.old id }
-        ensures { (j : History) × Touched self.old id j self.old.open_groups self.new × Orphans (group_at self.old id) call result j }
+        ensures { (j : History) × Touched self.old id j self.old.open_groups self.new × Orphans (group_at self.old id) call result j × (self.new.counts ≡ self.old.counts) }
     {
         orphan_of(&mut self.groups[index_of(id)], call)
     }
@@ -153,18 +170,19 @@ impl Groups {
         requires there { Has self.old id }
         requires is_open { journal.is_open (group_at self.old id) asked.conn ≡ true }
         requires few { length asked.slots ≤ 4 }
-        ensures { (j : History) × Touched self.old id j self.old.open_groups self.new × Accepts (group_at self.old id) asked result j }
+        ensures { (j : History) × Touched self.old id j self.old.open_groups self.new × Accepts (group_at self.old id) asked result j × Counted (λ a b. Accepts a asked result b) self.old.counts self.new.counts }
     {
-        accept_of(&mut self.groups[index_of(id)], asked)
+        accept_of(&mut self.groups[index_of(id)], &mut self.counts, asked)
     }
 
     fn end_at(&mut self, id: u32, call: u32, results: Outcomes, said: Said) -> Rest
         requires there { Has self.old id }
         requires runs { journal.runs (group_at self.old id) call ≡ true }
         requires suit { journal.suit (journal.slots (group_at self.old id) call) results ≡ true }
-        ensures { (j : History) × Touched self.old id j (left_open self.old.open_groups result) self.new × Ends (group_at self.old id) call results said result j }
+        ensures { (j : History) × Touched self.old id j (left_open self.old.open_groups result) self.new × Ends (group_at self.old id) call results said result j × AddsSettled (End call results said) result self.old.counts self.new.counts }
     {
-        let rest = end_of(&mut self.groups[index_of(id)], call, results, said);
+        let group = &mut self.groups[index_of(id)];
+        let rest = end_of(group, &mut self.counts, call, results, said);
         self.open_groups = open_behind(self.open_groups, &rest);
         rest
     }
@@ -172,9 +190,10 @@ impl Groups {
     fn leave_at(&mut self, id: u32, conn: u32) -> Rest
         requires there { Has self.old id }
         requires is_open { journal.is_open (group_at self.old id) conn ≡ true }
-        ensures { (j : History) × Touched self.old id j (left_open self.old.open_groups result) self.new × Leaves (group_at self.old id) conn result j }
+        ensures { (j : History) × Touched self.old id j (left_open self.old.open_groups result) self.new × Leaves (group_at self.old id) conn result j × AddsRest result self.old.counts self.new.counts }
     {
-        let rest = leave_of(&mut self.groups[index_of(id)], conn);
+        let group = &mut self.groups[index_of(id)];
+        let rest = leave_of(group, &mut self.counts, conn);
         self.open_groups = open_behind(self.open_groups, &rest);
         rest
     }
@@ -211,7 +230,7 @@ impl Groups {
     fn join_at(&mut self, id: u32) -> Result<u32, JoinRefusal>
         requires there { Has self.old id }
         requires unshut { list_any journal.is_shut (group_at self.old id).past ≡ false }
-        ensures { (j : History) × Touched self.old id j self.old.open_groups self.new × Joins (group_at self.old id) result j }
+        ensures { (j : History) × Touched self.old id j self.old.open_groups self.new × Joins (group_at self.old id) result j × (self.new.counts ≡ self.old.counts) }
     {
         join_of(&mut self.groups[index_of(id)])
     }

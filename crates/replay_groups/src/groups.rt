@@ -1,8 +1,11 @@
 //! The groups.
-ghost use Rattle.std.specs.Prelude.{◌≡◌, [], IfOk};
+ghost use Rattle.std.specs.Prelude.{◌≡◌, List, [], IfOk};
+ghost use Rattle.handle_model.specs.declared.entry.Entry.{Entry};
+ghost use Rattle.load_counts.specs.Counting.{Tells};
 ghost use Rattle.replay_groups.specs.Keeps.{Keeps};
 
 use group_core::Group;
+use load_counts::Counts;
 use std::alloc::Global;
 use std::marker::Model;
 
@@ -14,6 +17,8 @@ pub struct Groups {
     pub(crate) groups: Vec<Group>,
     /// How many are open.
     pub(crate) open_groups: usize,
+    /// How many entries of each kind the whole journals have.
+    pub(crate) counts: Counts,
 }
 
 impl Model for Groups {
@@ -21,7 +26,7 @@ impl Model for Groups {
 
     ghost Value = { GroupsView };
 
-    ghost view = { λ g. record { boot = g.boot; groups = g.groups.items; open_groups = g.open_groups } };
+    ghost view = { λ g. record { boot = g.boot; groups = g.groups.items; open_groups = g.open_groups; counts = g.counts } };
 }
 
 impl Groups {
@@ -35,6 +40,7 @@ impl Groups {
             boot,
             groups: Vec::new(alloc),
             open_groups: 0,
+            counts: Counts::none(),
         }
     }
 
@@ -43,6 +49,13 @@ impl Groups {
         ensures { result ≡ self.now.boot }
     {
         self.boot
+    }
+
+    /// How many entries of each kind the whole journals have.
+    pub fn counts(&self) -> &Counts
+        ensures { (pasts : List (List Entry)) → Keeps self.now pasts → Tells result.now pasts }
+    {
+        &self.counts
     }
 
     /// The groups, that of the id 1 first.

@@ -3,6 +3,7 @@
 #![tactic(auto)]
 
 mod calls;
+mod counting;
 mod groups;
 mod opening;
 

@@ -1,5 +1,6 @@
 //! A group is opened.
 ghost use Rattle.std.specs.Prelude.{◌≡◌, ◌+◌, ◌<◌, ◌++◌, ◌∷◌, [], IfOk, OnOk, OnErr};
+ghost use Rattle.load_counts.specs.Counting.{AddsGroup};
 ghost use Rattle.replay_groups.specs.Keeps.{IsFirst, OpensAt, Opens, home_in};
 
 use crate::groups::Groups;
@@ -65,12 +66,14 @@ impl Groups {
     /// Lists a group behind the others.
     fn list(&mut self, group: Group) -> Result<(), NoMemory>
         requires { self.old.open_groups < 1024 }
-        ensures ok { OnOk result (self.new ≡ record self.old { groups = self.old.groups ++ group ∷ []; open_groups = self.old.open_groups + 1 }) }
+        ensures ok { OnOk result (self.new ≡ record self.old { groups = self.old.groups ++ group ∷ []; open_groups = self.old.open_groups + 1; counts = self.new.counts }) }
+        ensures counted { OnOk result (AddsGroup self.old.counts self.new.counts) }
         ensures err { OnErr result (self.new ≡ self.old) }
     {
         self.groups.reserve(1)?;
         self.groups.push_reserved(group);
         self.open_groups += 1;
+        self.counts.opened();
         Ok(())
     }
 }

@@ -15,9 +15,10 @@ use Rattle.replay_realm.specs.Holding.{Holds}
 use Rattle.replay_events.specs.declared.player.Player.{Player}
 use Rattle.replay_events.specs.Standing.{Stands}
 use Rattle.replay_events.specs.Hands.{Plays, Leads, Picks, PutsBack}
+use Rattle.replay_events.proofs.Minding.{sound_of}
 use Rattle.replay_lines.specs.Lines.{HasWorld}
 use Rattle.replay_lines.specs.Hands.{EndsOrElse, LosesIfThere, MayEnd}
-use Rattle.replay_lines.specs.Closing.{LosesNames, FinishesNames, AllLost, AllFinished, IsLeft}
+use Rattle.replay_lines.specs.Closing.{LosesNames, FinishesNames, AllLost, AllFinished, AllEnded, IsLeft}
 use Rattle.replay_lines.proofs.Hands.{Step, leads_as, plays_by, still_world}
 use Rattle.replay_lines.proofs.Sound.{journals_sound}
 
@@ -67,16 +68,22 @@ all_finished names x y n p echo w s =
 
 -- ---- what is left
 
-pub closed : (x y z : Player) (log : List ℕ) → Plays AllLost x y → Plays AllFinished y z → ((echo : Option TableForm) (w : World Services) → Holds echo z.realm w → log ≡ [] ++ log_text w) → IsLeft x z.out.items log
-closed x y z log l f text echo w s =
+pub ended : (x y z : Player) → Plays AllLost x y → Plays AllFinished y z → Plays AllEnded x z
+ended x y z l f echo w s =
     let a = l echo w s in
     let b = f echo a.0 a.2 in
+    (b.0, (a.0, a.1, b.1), b.2)
+
+pub closed : (x z : Player) (log : List ℕ) → Plays AllEnded x z → ((echo : Option TableForm) (w : World Services) → Holds echo z.realm w → log ≡ [] ++ log_text w) → IsLeft x z.out.items log
+closed x z log e text echo w s =
+    let b = e echo w s in
     record {
       end = b.0;
-      closes = (a.0, a.1, b.1);
+      closes = b.1;
       printed = b.2.printed;
       logged = text echo b.0 b.2.holds;
       sound = journals_sound z.realm.groups b.0 b.2.holds.keeps b.2.holds.boot;
+      whole = sound_of echo z.realm b.0 b.2.holds;
     }
 
 pub loses_named : (c : ℕ) (x y z p : Player) (t u : Played) → Picks c x (Some t) y → Leads (LosesIfThere t.name) y t z u → PutsBack z u p → Plays (LosesIfThere c) x p

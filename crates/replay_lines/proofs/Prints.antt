@@ -1,6 +1,6 @@
 -- A line is printed.
 use Rattle.std.proofs.Common.{◌≡◌, ℕ, Option, List, [], ◌∷◌, ◌++◌, refl, sym, ap, subst, ◌∙◌, append-nil}
-use Rattle.std.specs.List.{flat_map}
+use Rattle.std.specs.List.{flat_map, AllByRecursion}
 use Rattle.std.proofs.lemmas.Grind.{flat_map-append}
 use Rattle.table_form.specs.Tables.{TableForm}
 use Rattle.service_desks.specs.State.{Services}
@@ -8,6 +8,7 @@ use Rattle.replay_world.specs.declared.peer.Member.{Member}
 use Rattle.replay_moments.specs.Moments.{IsAs, Coheres}
 use Rattle.replay_world.specs.Worlds.{Peer, Printed, World, printing}
 use Rattle.replay_world.specs.Printing.{printed_text, out_text}
+use Rattle.load_answers.specs.Answered.{FitsPrinted}
 use Rattle.replay_peers.specs.declared.played.Played.{Played}
 use Rattle.replay_peers.specs.declared.played.Kept.{Kept}
 use Rattle.replay_events.specs.declared.player.Player.{Player}
@@ -40,8 +41,12 @@ coheres_printing w lines h = record {
   calls = λ c k p m i u. h.calls c k p m (as_before w lines c p m i) u;
 }
 
-pub printed : (x y : Player) (t : Played) (line : Printed) → y ≡ record x { out = y.out } → y.out.items ≡ x.out.items ++ printed_text line → Leads (PrintsIn (line ∷ [])) x t y t
-printed x y t line is e =
+one_more : (lines : List Printed) (line : Printed) → AllByRecursion FitsPrinted lines → FitsPrinted line → AllByRecursion FitsPrinted (lines ++ line ∷ [])
+one_more [] line all fit = (fit, tt)
+one_more (first ∷ lines) line all fit = (all.0, one_more lines line all.1 fit)
+
+pub printed : (x y : Player) (t : Played) (line : Printed) → FitsPrinted line → y ≡ record x { out = y.out } → y.out.items ≡ x.out.items ++ printed_text line → Leads (PrintsIn (line ∷ [])) x t y t
+printed x y t line fit is e =
     (refl, λ echo w h. (printing w (line ∷ []), refl, subst (λ (z : Player). Handles echo z t (printing w (line ∷ []))) (sym is) (at echo w h)))
   where
     at : (echo : Option TableForm) (w : World Services) → Handles echo x t w → Handles echo (record x { out = y.out }) t (printing w (line ∷ []))
@@ -57,4 +62,5 @@ printed x y t line is e =
       minds_others = λ d p s n a b. minds_printing echo w (line ∷ []) p s.call (h.minds_others d p s n a b);
       totals = h.totals;
       printed = text_more x.out.items y.out.items w.out line h.printed e;
+      fit = one_more w.out line h.fit fit;
     }

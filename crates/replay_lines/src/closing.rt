@@ -3,7 +3,7 @@ ghost use Rattle.std.specs.Prelude.{IfOk, OnOk};
 ghost use Rattle.replay_events.specs.Hands.{Plays};
 ghost use Rattle.replay_lines.specs.Lines.{HasWorld};
 ghost use Rattle.replay_lines.specs.Hands.{EndsOrElse, LosesIfThere};
-ghost use Rattle.replay_lines.specs.Closing.{LosesNames, FinishesNames, AllLost, AllFinished, IsLeft};
+ghost use Rattle.replay_lines.specs.Closing.{LosesNames, FinishesNames, AllLost, AllFinished, AllEnded, IsLeft};
 
 use crate::finish::end;
 use crate::lose::lose_if_there;
@@ -79,8 +79,22 @@ fn finish_all(alloc: Global, player: &mut Player) -> Result<(), NoMemory>
     Ok(())
 }
 
-/// Closes a replay behind its last line: connections that are there are lost, and then running calls end, both by rising
-/// name. What was printed, and the text of the journals.
+/// What happens behind the last line of a replay: connections that are there are lost, and then running calls end, both by
+/// rising name.
+///
+/// # Errors
+///
+/// `NoMemory` where there is no memory for it.
+pub fn end_all(alloc: Global, player: &mut Player) -> Result<(), NoMemory>
+    requires { HasWorld player.old }
+    ensures { OnOk result (Plays AllEnded player.old player.new) }
+{
+    lose_all(alloc, player)?;
+    finish_all(alloc, player)?;
+    Ok(())
+}
+
+/// Closes a replay behind its last line. What was printed, and the text of the journals.
 ///
 /// # Errors
 ///
@@ -90,8 +104,7 @@ pub fn close(alloc: Global, player: Player) -> Result<(Vec<u8>, Vec<u8>), NoMemo
     ensures { IfOk result (λ texts. IsLeft player texts.0.items texts.1.items) }
 {
     let mut player = player;
-    lose_all(alloc, &mut player)?;
-    finish_all(alloc, &mut player)?;
+    end_all(alloc, &mut player)?;
     let mut log = Vec::new(alloc);
     player.realm.log(&mut log)?;
     Ok((player.out, log))

@@ -10,5 +10,5 @@ mod run;
 mod say;
 mod send;
 
-pub use closing::close;
+pub use closing::{close, end_all};
 pub use lines::play_line;

@@ -2,6 +2,7 @@
 ghost use Rattle.std.specs.Prelude.{◌≡◌, ◌++◌, OnOk, [], ◌∷◌};
 ghost use Rattle.replay_world.specs.Worlds.Printed.{Waits, Idle};
 ghost use Rattle.replay_world.specs.Printing.{printed_text};
+ghost use Rattle.load_answers.specs.Answered.{FitsPrinted};
 ghost use Rattle.replay_events.specs.Hands.{IsInHand, Leads};
 ghost use Rattle.replay_lines.specs.Hands.{PrintsIn};
 
@@ -13,7 +14,8 @@ use std::alloc::Global;
 
 #[tactic(auto, unfolding(replay_world::specs::Printing::printed_text))]
 fn put_idle(alloc: Global, name: u32, out: &mut Vec<u8>) -> Result<(), NoMemory>
-    ensures { OnOk result (out.new.items ≡ out.old.items ++ printed_text (Idle name)) }
+    ensures text { OnOk result (out.new.items ≡ out.old.items ++ printed_text (Idle name)) }
+    ensures fits { FitsPrinted (Idle name) }
 {
     put_decimal(alloc, u64::from(name), out)?;
     put(b" idle", out)?;
@@ -22,7 +24,8 @@ fn put_idle(alloc: Global, name: u32, out: &mut Vec<u8>) -> Result<(), NoMemory>
 
 #[tactic(auto, unfolding(replay_world::specs::Printing::printed_text))]
 fn put_waits(alloc: Global, name: u32, call: u32, out: &mut Vec<u8>) -> Result<(), NoMemory>
-    ensures { OnOk result (out.new.items ≡ out.old.items ++ printed_text (Waits name call)) }
+    ensures text { OnOk result (out.new.items ≡ out.old.items ++ printed_text (Waits name call)) }
+    ensures fits { FitsPrinted (Waits name call) }
 {
     put_decimal(alloc, u64::from(name), out)?;
     put(b" waits ", out)?;

@@ -1,5 +1,6 @@
 -- An event happens on a connection, and what it answers is printed and counted.
 use Rattle.std.proofs.Common.{◌≡◌, ℕ, ◌+◌, ◌^◌, ◌<◌, ◌≤◌, Bool, Option, Some, None, Ok, List, [], ◌∷◌, ◌++◌, length, filter, map, refl, sym, ap, subst, ◌∙◌, append-nil, append_assoc, arith}
+use Rattle.std.specs.List.{AllByRecursion}
 use Rattle.std.proofs.lemmas.List.{length-append}
 use Rattle.std.proofs.lemmas.List.Elements.{filter-append}
 use Rattle.rpc_base.specs.Fields.{IsOctets}
@@ -17,6 +18,7 @@ use Rattle.replay_world.specs.Worlds.{Peer}
 use Rattle.replay_world.specs.Worlds.Printed.{Answered}
 use Rattle.replay_world.specs.Printing.{IsOnePdu, out_text}
 use Rattle.replay_world.specs.Counting.{ArePackets, ends_call}
+use Rattle.load_answers.specs.Answered.{FitsPrinted}
 use Rattle.packet_counts.specs.declared.place.NewPackets.{NewPackets}
 use Rattle.packet_counts.specs.Packets.{PacketsView, at_start, Stands, AreMany, Comes}
 use Rattle.packet_counts.specs.Pieces.{ArePdus}
@@ -41,9 +43,9 @@ nothing_new = record { packets = 0; calls = 0 }
 -- What came and what was answered with the event: the rest follows.
 pub lives_on : (old new : Moment) (p : Peer) (event : Event) (state : ConnState) (conn : ConnFields) (packets : PacketsView) (n : NewPackets) (piece : List ℕ) → Shows old.played p
     → new.played ≡ moved old.played conn packets → Happens p.state event state → IsAt conn state → IsNumbered state → stream (event ∷ []) ≡ piece → Comes old.played.packets piece n packets
-    → (pieces : List (List ℕ)) → AreSpelled IsOnePdu pieces (put (event ∷ [])) → new.out ≡ old.out ++ out_text (map (Answered old.played.name) pieces)
+    → (pieces : List (List ℕ)) → AreSpelled IsOnePdu pieces (put (event ∷ [])) → new.out ≡ old.out ++ out_text (map (Answered old.played.name) pieces) → AllByRecursion FitsPrinted (map (Answered old.played.name) pieces)
     → new.totals ≡ with_more old.totals n.calls n.packets (length pieces) → LivesOn old p event new
-lives_on old new p event state conn packets n piece s is happens at numbered piece_is comes pieces cut out totals =
+lives_on old new p event state conn packets n piece s is happens at numbered piece_is comes pieces cut out fit totals =
     let later : List Event = p.events ++ event ∷ [] in
     let c = comes s.came (stream p.events) s.counted in
     let came : stream later ≡ stream p.events ++ piece = stream_more p.events (event ∷ []) ∙ ap (λ (t : List ℕ). stream p.events ++ t) piece_is in
@@ -68,6 +70,7 @@ lives_on old new p event state conn packets n piece s is happens at numbered pie
       });
       lines = map (Answered p.name) pieces;
       printed = record { pieces = pieces; cut = cut; lines_are = refl };
+      fit = subst (λ (name : ℕ). AllByRecursion FitsPrinted (map (Answered name) pieces)) s.name fit;
       out = out ∙ ap (λ (name : ℕ). old.out ++ out_text (map (Answered name) pieces)) s.name;
       counts = record {
         calls = length (filter ends_call s.came);
@@ -110,7 +113,7 @@ unfolding out_text
 came_lives old new conn packets n piece fits is leads comes out totals p s =
     let l = leads p.state s.at_state in
     lives_on old new p (Came piece) l.0 conn packets n piece s is l.1 l.2 (subst IsNumbered (sym l.1) (came_numbered p.state piece fits s.numbered)) (append-nil piece) comes [] refl
-    (out ∙ sym (append-nil old.out)) totals
+    (out ∙ sym (append-nil old.out)) tt totals
 
 no_packets : (x : PacketsView) → Comes x [] nothing_new x
 no_packets x = comes_none x nothing_new refl refl
@@ -120,7 +123,7 @@ answer_lives : (old new : Moment) (p : Peer) (event : Event) (state : ConnState)
     → Happens p.state event state → IsAt conn state → IsNumbered state → stream (event ∷ []) ≡ [] → put (event ∷ []) ≡ octets → Answers old.played.name octets old.totals old.out new.totals new.out → LivesOn old p event new
 answer_lives old new p event state conn octets s is happens at numbered none put_is a =
     lives_on old new p event state conn old.played.packets nothing_new [] s is happens at numbered none (no_packets old.played.packets) a.pieces
-    (subst (λ (t : List ℕ). AreSpelled IsOnePdu a.pieces t) (sym put_is) a.cut) a.text a.sum
+    (subst (λ (t : List ℕ). AreSpelled IsOnePdu a.pieces t) (sym put_is) a.cut) a.text a.fit a.sum
 
 put_done : (done : Option Act) → put (event_of done ∷ []) ≡ act_octets_of done
 put_done None = refl

@@ -1,6 +1,7 @@
 -- What a call does on a connection of a program: an event happens to each connection that it shows, and the totals of all
 -- connections grow by the packets that came or were answered.
 use Rattle.std.specs.Prelude.{◌≡◌, ℕ, ◌+◌, Option, Some, None, List, [], ◌∷◌, ◌++◌, length, filter}
+use Rattle.std.specs.List.{AllByRecursion}
 use Rattle.call_stats.specs.Numbers.{Numbers, with_more}
 use Rattle.conn_asks.specs.declared.events.Act.{Act}
 use Rattle.conn_asks.specs.States.{ConnState}
@@ -8,6 +9,7 @@ use Rattle.conn_histories.specs.Histories.{Decision, Event, Happens, stream, put
 use Rattle.conn_histories.specs.Histories.Event.{Came, Paused, Did, Decided}
 use Rattle.replay_world.specs.Worlds.{Peer, Printed}
 use Rattle.replay_world.specs.Printing.{ArePrinted, out_text}
+use Rattle.load_answers.specs.Answered.{FitsPrinted}
 use Rattle.replay_world.specs.Counting.{ArePackets, ends_call}
 use Rattle.replay_peers.specs.declared.played.Played.{Played}
 use Rattle.replay_peers.specs.Showing.{Shows}
@@ -48,13 +50,15 @@ pub record Moment : Type 0 where
   pub totals : Numbers
   pub out : List ℕ
 
--- The event happens to the connection, what it answers is printed and counted, and the program's connection shows it.
+-- The event happens to the connection, what it answers is printed, so that it can be read again, and counted, and the program's
+-- connection shows it.
 pub record LivesOn (old : Moment) (p : Peer) (event : Event) (new : Moment) : Type 0 where
   pub state : ConnState
   pub happens : Happens p.state event state
   pub shows : Shows new.played (living p event state)
   pub lines : List Printed
   pub printed : ArePrinted p.name (put (event ∷ [])) lines
+  pub fit : AllByRecursion FitsPrinted lines
   pub out : new.out ≡ old.out ++ out_text lines
   pub counts : Grows p.events old.totals (p.events ++ event ∷ []) new.totals
 

@@ -49,12 +49,13 @@ use Rattle.turn_laws.proofs.TaleFacts.{any_first}
 use Rattle.turn_laws.proofs.Replying.{turns_are_replied}
 use Rattle.replay_world.specs.Events.{is_over, lived}
 use Rattle.replay_world.specs.Promised.{as_server}
-use Rattle.replay_promises.proofs.Staged.{is_waiting, Stage}
-use Rattle.replay_promises.proofs.Making.{called, IsPlain, made_plain}
-use Rattle.replay_promises.proofs.Stepping.{staged}
-use Rattle.replay_promises.proofs.Ending.{IsQuiet}
-use Rattle.replay_promises.proofs.Hearing.{grouping_still}
-use Rattle.replay_promises.proofs.Telling.{IsDone, Front, Behind, BoundBy, is_gone, IsTold, Tells}
+use Rattle.turn_steps.proofs.Staged.{is_waiting, Stage}
+use Rattle.turn_steps.proofs.Making.{called, IsPlain, made_plain}
+use Rattle.turn_steps.proofs.Stepping.{staged}
+use Rattle.turn_steps.specs.Quiet.{IsQuiet}
+use Rattle.turn_steps.proofs.Hearing.{grouping_still}
+use Rattle.turn_steps.specs.Done.{IsDone}
+use Rattle.replay_promises.proofs.Telling.{Front, Behind, BoundBy, is_gone, IsTold, Tells}
 
 -- ---- parts
 
@@ -123,24 +124,6 @@ module _ (ids : List SyntaxId) (events : List Event) (m n : ConnState) (act : Ac
 
 pub front_same : (x : Unanswered) (turns : List Turn) (v w : Waits) → w ≡ v → Front x turns v → Front x turns w
 front_same x turns v w e f = subst (Front x turns) (sym e) f
-
--- ---- refusals
-
-pub refused_so : (tables : List TableForm) (iface op : ℕ) (order : Order) (stub : List ℕ) (Full Fuller : List Slot → Type 0) (status : Status) → ((slots : List Slot) → Full slots → Fuller slots)
-    → IsRefused tables iface op order stub Full status → IsRefused tables iface op order stub Fuller status
-refused_so tables iface op order stub Full Fuller status more (no_operation a b) = no_operation a b
-refused_so tables iface op order stub Full Fuller status more (no_stub o d a b e) = no_stub o d a b e
-refused_so tables iface op order stub Full Fuller status more (no_room o a b) = no_room o a b
-refused_so tables iface op order stub Full Fuller status more (full slots a b e) = full slots a (more slots b) e
-
-pub plain_refused : (c : ℕ) (j : Joined) (iface : ℕ) (status : Status) → IsPlain c (called j iface [] (deeds.Refused status) None)
-plain_refused c j iface status = record { entries = refl; number = refl; open_ = refl; left = refl; stands = λ gone past. tt }
-
-pub plain_closed : (c : ℕ) (octets : List ℕ) (why : ConnFault) → IsPlain c (ClosedTurn octets why)
-plain_closed c octets why = record { entries = refl; number = refl; open_ = refl; left = refl; stands = λ gone past. tt }
-
-pub plain_answer : (c : ℕ) (octets : List ℕ) → IsPlain c (Answered octets)
-plain_answer c octets = record { entries = refl; number = refl; open_ = refl; left = refl; stands = λ gone past. tt }
 
 -- a turn without entries is told
 pub plain_told : (service : Service) (end w : World service.State) (mem : Option Member) (gone : Bool) (t : Turn) (turns : List Turn) → ((c : ℕ) → IsPlain c t) → IsQuiet t
@@ -230,17 +213,6 @@ module _ (server : Server) (home : Home) {S : Type 0} (w : World S) (m : Member)
 
   pub reply_here : replies (journal w m.group) k ≡ fate_reply offs fate
   reply_here = (turns_are_replied (home_of w m.group) m.number false (past_of w m.group) (called j iface offs (deeds.Accepted k slots fate) None ∷ ts) made.stand).0
-
--- ---- events of turns
-
-pub one_more_off : (older : List Event) (first : Event) (offs : List Event) (last : Event) → (older ++ (first ∷ (offs ++ []))) ++ last ∷ [] ≡ older ++ (first ∷ ((offs ++ last ∷ []) ++ []))
-one_more_off older first offs last =
-    append_assoc older (first ∷ (offs ++ [])) (last ∷ [])
-    ∙ ap (λ (l : List Event). older ++ (first ∷ l)) (ap (λ (l : List Event). l ++ last ∷ []) (append-nil offs) ∙ sym (append-nil (offs ++ last ∷ [])))
-
-pub one_answer_more : (older : List Event) (first : Event) (offs : List Event) (last : Event) → (older ++ (first ∷ (offs ++ []))) ++ last ∷ [] ≡ older ++ (first ∷ (offs ++ last ∷ []))
-one_answer_more older first offs last =
-    append_assoc older (first ∷ (offs ++ [])) (last ∷ []) ∙ ap (λ (l : List Event). older ++ (first ∷ l)) (ap (λ (l : List Event). l ++ last ∷ []) (append-nil offs))
 
 pub quiet_called : (j : Joined) (iface : ℕ) (offs : List Off) (deed : Deed) (answer : Option (List ℕ)) (ts turns : List Turn) → turns ≡ called j iface offs deed answer ∷ ts → AllByRecursion IsQuiet turns → ⊥
 quiet_called j iface offs deed answer ts turns is q = (subst (AllByRecursion IsQuiet) is q).0

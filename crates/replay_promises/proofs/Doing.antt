@@ -51,63 +51,17 @@ use Rattle.conn_turns.specs.Stories.{WasFull, Made}
 use Rattle.turn_laws.specs.Steps.{left_turns, left_fate, left_deed, OnlyNewestOpen}
 use Rattle.turn_laws.proofs.TaleFacts.{asked_in}
 use Rattle.replay_moments.proofs.Pasts.{joined_grows}
-use Rattle.replay_promises.proofs.Making.{called, MayLeave, made_plain}
-use Rattle.replay_promises.proofs.Whose.{AskedOf, fresh_none}
-use Rattle.replay_promises.proofs.Stepping.{Onward, cancelled_so, orphaned_so}
-use Rattle.replay_promises.proofs.Ending.{Accepting, accepted_plain, accepted_marked, Leaving, left_so}
-use Rattle.replay_promises.proofs.Hearing.{calls_wait, bound_stays, bind_once, bind_binds}
+use Rattle.turn_steps.proofs.Making.{called, MayLeave, made_plain}
+use Rattle.turn_steps.proofs.Whose.{AskedOf, fresh_none}
+use Rattle.turn_steps.proofs.Stepping.{Onward, off_fate, cancelled_so, orphaned_so}
+use Rattle.turn_steps.proofs.Ending.{Accepting, accepted_plain, accepted_marked, Leaving, left_so}
+use Rattle.turn_steps.proofs.Hearing.{calls_wait, bound_stays, bind_once, bind_binds}
 use Rattle.replay_promises.proofs.Reaching.{Reaches, reaches_twice, accepts_reach, marked_reach, Below, below}
-use Rattle.replay_promises.proofs.Telling.{IsDone, Asking, Front, BoundBy, IsTold, Tells, Enters, others_told, none_apart, call_apart, new_apart, set_there, set_elsewhere}
-use Rattle.replay_promises.proofs.Acting.{bound_by, bound_in, built, free_at, refused_so, plain_refused, plain_closed, plain_answer, plain_told, stage_here, not_left, open_is, one_more_off}
-
--- ---- done turns, and a Leave
-
-pub only_done : (t : Turn) (ts : List Turn) → AllByRecursion IsDone ts → OnlyNewestOpen (t ∷ ts)
-only_done t [] d = refl
-only_done t (Binding asked ∷ ts) d = absurd d.0
-only_done t (Bound asked group octets ∷ ts) d = only_done t ts d.1
-only_done t (NotBound asked reason octets ∷ ts) d = only_done t ts d.1
-only_done t (Answered octets ∷ ts) d = only_done t ts d.1
-only_done t (Called r ∷ ts) d = let here = d.0.1 in let more = only_done t ts d.1 in rw (here, more) refl
-only_done t (ClosedTurn octets why ∷ ts) d = only_done t ts d.1
-
-pub done_closed : (turns : List Turn) → AllByRecursion IsDone turns → OnlyNewestOpen turns
-done_closed [] d = tt
-done_closed (t ∷ ts) d = only_done t ts d.1
-
-pub done_may : (server : Server) (home : Home) (c : ℕ) (turns : List Turn) → AllByRecursion IsDone turns → MayLeave server home c turns
-done_may server home c [] d = tt
-done_may server home c (Binding asked ∷ ts) d = absurd d.0
-done_may server home c (Bound asked group octets ∷ ts) d = tt
-done_may server home c (NotBound asked reason octets ∷ ts) d = tt
-done_may server home c (Answered octets ∷ ts) d = tt
-done_may server home c (Called r ∷ ts) d = λ o. let shut = d.0.1 in absurd (cc (o, shut))
-done_may server home c (ClosedTurn octets why ∷ ts) d = tt
-
-fate_stays : (fate : Fate) → is_open fate ≡ false → left_fate fate ≡ fate
-fate_stays Waiting o = absurd cc
-fate_stays (Running cookies) o = absurd cc
-fate_stays (Denied slot) o = refl
-fate_stays Cancelled o = refl
-fate_stays Orphaned o = refl
-fate_stays LeftWaiting o = refl
-fate_stays (LeftRunning cookies) o = refl
-fate_stays (Ended run) o = refl
-fate_stays (LeftEnded run) o = refl
-
-deed_stays : (deed : Deed) → deed_open deed ≡ false → left_deed deed ≡ deed
-deed_stays deeds.Pending o = refl
-deed_stays (deeds.Refused status) o = refl
-deed_stays (deeds.Accepted k slots fate) o = ap (λ f. deeds.Accepted k slots f) (fate_stays fate o)
-
-pub done_stay : (turns : List Turn) → AllByRecursion IsDone turns → left_turns turns ≡ turns
-done_stay [] d = refl
-done_stay (Binding asked ∷ ts) d = absurd d.0
-done_stay (Bound asked group octets ∷ ts) d = refl
-done_stay (NotBound asked reason octets ∷ ts) d = refl
-done_stay (Answered octets ∷ ts) d = refl
-done_stay (Called r ∷ ts) d = ap (λ (x : Deed). Called (record r { deed = x }) ∷ ts) (deed_stays r.deed d.0.1)
-done_stay (ClosedTurn octets why ∷ ts) d = refl
+use Rattle.turn_steps.specs.Done.{IsDone}
+use Rattle.turn_steps.proofs.Done.{done_may, done_closed, done_stay}
+use Rattle.replay_promises.proofs.Telling.{Asking, Front, BoundBy, IsTold, Tells, Enters, others_told, none_apart, call_apart, new_apart, set_there, set_elsewhere}
+use Rattle.replay_promises.proofs.Acting.{bound_by, bound_in, built, free_at, plain_told, stage_here, not_left, open_is}
+use Rattle.turn_steps.proofs.Plain.{refused_so, plain_refused, plain_closed, plain_answer, one_more_off}
 
 -- ---- what an event comes to
 
@@ -189,8 +143,11 @@ module _ (service : Service) (end w b : World service.State) (c : ℕ) (p : Peer
     abbrev story : (World service.State) → List Turn → Type 0
     story z turns = IsTold service end z (Some m) false turns
 
-    mine : story w t.turns
+    pub mine : story w t.turns
     mine = subst (λ (mem : Option Member). IsTold service end w mem false t.turns) is told
+
+    abbrev pub own_before : List Entry
+    own_before = mine.0
 
     back : (z : World service.State) (gone : Bool) (turns : List Turn) → IsTold service end z (Some m) gone turns → IsTold service end z p.member gone turns
     back z gone turns s = subst (λ (mem : Option Member). IsTold service end z mem gone turns) (sym is) s
@@ -244,7 +201,7 @@ module _ (service : Service) (end w b : World service.State) (c : ℕ) (p : Peer
     accepts_by j iface k u slots says = on_set (λ old new. Accepts old (asked_as m.number (request j iface) slots) (Ok k) new) w u m.group m.number there says
 
     accepting : (j : Joined) (iface k : ℕ) (a : AcceptsRequest service w m j iface k b) (marked : Bool) → j.cancel ≡ marked → CancelsMarked marked a.accepted m.group k b
-        → Accepting server (home_of end m.group) m.number j iface k t.turns (past_of w m.group) (past_of b m.group)
+        → Accepting server (home_of end m.group) m.number j iface k t.turns (past_of w m.group) (past_of b m.group) mine.0
     accepting j iface k a false unmarked t' =
         let says : AcceptsIn w m.group (asked_as m.number (request j iface) a.slots) k b = subst (λ (z : World service.State). AcceptsIn w m.group (asked_as m.number (request j iface) a.slots) k z) (sym t') a.accepts in
         accepted_plain server (home_of end m.group) (home_of w m.group) m.number j iface k t.turns a.slots (past_of w m.group) (past_of b m.group) mine.0 (low_b.legal m.group low) unmarked a.has
@@ -308,10 +265,10 @@ module _ (service : Service) (end w b : World service.State) (c : ℕ) (p : Peer
       asked_here = record { what = _; asks = (stage_here server (home_of end m.group) w m at.joined at.iface k at.offs at.slots at.fate at.older mine.0 made_here).asks; theirs = refl }
 
       abbrev So : Off → List Off → List Slot → Fate → Type 0
-      So o offs slots fate = (offs ≡ o ∷ at.offs) × (has_left fate ≡ false)
+      So o offs slots fate = (offs ≡ o ∷ at.offs) × (has_left fate ≡ false) × (slots ≡ at.slots) × (fate ≡ off_fate o at.fate)
 
       off_call : (o : Off) (id : ℕ) → act_off id o ≡ act_off (at.joined.call_id) o → (event : Event) → event ≡ Did (act_off id o) → Happens p.state event state → state.waits ≡ p.state.waits
-          → Onward server (home_of end m.group) m.number false at.joined at.iface k at.older (past_of w m.group) (past_of b m.group) (So o) → ((g : ℕ) → 1 ≤ g → g ≢ m.group → past_of b g ≡ past_of w g)
+          → Onward server (home_of end m.group) m.number false at.joined at.iface k at.older (past_of w m.group) (past_of b m.group) mine.0 (So o) → ((g : ℕ) → 1 ≤ g → g ≢ m.group → past_of b g ≡ past_of w g)
           → p.unanswered ≡ Call k → seen (event ∷ []) ≡ event ∷ []
           → Acted service end w b c (after event (record p { member = p.member; unanswered = p.unanswered; standing = Open }))
       off_call o id same_id event event_is happens still on elsewhere x_is saw =
@@ -382,13 +339,13 @@ module _ (service : Service) (end w b : World service.State) (c : ℕ) (p : Peer
         (s.rest, subst (λ (past : List Entry). Settles (whole (home_of w m.group) (past_of w m.group)) (Leave m.number) s.rest (whole (home_of w m.group) past)) (sym now) s.settles)
 
     pub leaving : (turns : List Turn) → OnlyNewestOpen turns → MayLeave server (home_of end m.group) m.number turns → turns ≡ t.turns → SettlesIn service w m.group (Leave m.number) b
-        → Leaving server (home_of end m.group) m.number turns (past_of w m.group) (past_of b m.group)
+        → Leaving server (home_of end m.group) m.number turns (past_of w m.group) (past_of b m.group) mine.0
     leaving turns newest may same s =
         let now = settled s in
         left_so server (home_of end m.group) (home_of w m.group) m.number turns (past_of w m.group) (past_of b m.group) mine.0 now.0 (low_b.legal m.group low) newest may now.1
         (subst (λ (l : List Turn). Made server (home_of end m.group) m.number (past_of w m.group) false l mine.0) (sym same) mine.1)
 
-    pub left_others : (turns : List Turn) → Leaving server (home_of end m.group) m.number turns (past_of w m.group) (past_of b m.group) → SettlesIn service w m.group (Leave m.number) b
+    pub left_others : (turns : List Turn) → Leaving server (home_of end m.group) m.number turns (past_of w m.group) (past_of b m.group) mine.0 → SettlesIn service w m.group (Leave m.number) b
         → (d : ℕ) (x : Peer) → d ≢ c → peer_at w d ≡ Some x → (gone : Bool) (ts : List Turn) → IsTold service end w x.member gone ts → IsTold service end b x.member gone ts
     left_others turns l s =
         others_by service end w b c p h was m is

@@ -1,9 +1,4 @@
-pub mod Staged
-pub mod Making
-pub mod Whose
-pub mod Stepping
-pub mod Ending
-pub mod Hearing
+pub mod Cookies
 pub mod Reaching
 pub mod Telling
 pub mod Acting

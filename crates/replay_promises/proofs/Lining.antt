@@ -2,6 +2,7 @@
 use Rattle.std.proofs.Common.{◌≡◌, ◌≢◌, ℕ, Bool, true, false, Option, Some, None, List, [], ◌∷◌, refl, sym, ap, subst, ◌∙◌, inl, inr, arith}
 use Rattle.std.proofs.lemmas.List.{append-nil}
 use Rattle.std.proofs.lemmas.Bool.Decides.{eqb_tells}
+use Rattle.handle_model.specs.declared.entry.Entry.{Entry}
 use Rattle.handle_model.specs.declared.entry.Entry.TheVariants.{End, Leave}
 use Rattle.handle_model.specs.History.{History}
 use Rattle.replay_world.specs.declared.peer.Member.{Member}
@@ -35,13 +36,14 @@ use Rattle.replay_world.specs.Plays.{idles, Opens, SendsAt, TriedAs, Tries, Ends
 use Rattle.replay_world.specs.Promised.{as_server}
 use Rattle.replay_moments.proofs.Peers.{put_found, put_others}
 use Rattle.replay_moments.proofs.Lines.{opens_keep, takes_keep, ends_keep, loses_keep, starts}
-use Rattle.replay_promises.proofs.Making.{called, MayLeave}
-use Rattle.replay_promises.proofs.Ending.{Leaving}
+use Rattle.turn_steps.proofs.Making.{called, MayLeave}
+use Rattle.turn_steps.proofs.Ending.{Leaving}
 use Rattle.replay_promises.proofs.Reaching.{Reaches, reaches_none, reaches_twice, reaches_same, leaves_reach, takes_reach, settles_reach, below}
 use Rattle.replay_promises.proofs.Still.{still_on, still_left}
 use Rattle.replay_promises.proofs.Telling.{Front, Left, Behind, RestsBy, RestsAs, newest_open, is_gone, IsTold, Tells, busy, retold, same_told}
+use Rattle.turn_steps.proofs.Done.{only_done, done_may, done_stay, done_closed}
 use Rattle.replay_promises.proofs.Acting.{quiet_called}
-use Rattle.replay_promises.proofs.Doing.{others_same, only_done, done_may, done_stay, done_closed, leaving, left_others}
+use Rattle.replay_promises.proofs.Doing.{others_same, own_before, leaving, left_others}
 use Rattle.replay_promises.proofs.Happening.{Inv, Busy, begin_busy, some_peer, inv_put, idle_inv, happens_busy, event_reach, goes_reach, goes_inv}
 use Rattle.replay_promises.proofs.Running.{true_is, IsDenied, taken_tells, taken_rests, taken_others, ended_tells, ended_others}
 
@@ -176,11 +178,14 @@ module _ (service : Service) (end w u : World service.State) (c : ℕ) (p : Peer
       absurd (quiet_called f.0.joined f.0.iface f.0.offs _ None f.0.older t.turns f.0.is quiet.0)
 
   module _ (m : Member) (is : p.member ≡ Some m) (s : SettlesIn service w m.group (Leave m.number) u) where
+    abbrev before : List Entry
+    before = own_before service end w u c p p.state h ends from reach was mine front told m is
+
     leave_with : (turns : List Turn) → OnlyNewestOpen turns → MayLeave (as_server service end) (home_of end m.group) m.number turns → turns ≡ t.turns
-        → Leaving (as_server service end) (home_of end m.group) m.number turns (past_of w m.group) (past_of u m.group)
+        → Leaving (as_server service end) (home_of end m.group) m.number turns (past_of w m.group) (past_of u m.group) before
     leave_with turns newest may same = leaving service end w u c p p.state h ends from reach was mine front told m is turns newest may same s
 
-    others_with : (turns : List Turn) → Leaving (as_server service end) (home_of end m.group) m.number turns (past_of w m.group) (past_of u m.group) → Others
+    others_with : (turns : List Turn) → Leaving (as_server service end) (home_of end m.group) m.number turns (past_of w m.group) (past_of u m.group) before → Others
     others_with turns l = left_others service end w u c p p.state h ends from reach was mine front told m is turns l s
 
     some_lost : (x : Unanswered) → p.unanswered ≡ x → Front x t.turns p.state.waits → RestsBy x t.turns p.state → Tells service end u (lost service p) true × Others

@@ -41,13 +41,16 @@ use Rattle.turn_laws.proofs.TaleFacts.{any_first}
 use Rattle.replay_world.specs.Groups.{GoesOn}
 use Rattle.replay_world.specs.Plays.{Ends}
 use Rattle.replay_world.specs.Promised.{as_server}
-use Rattle.replay_promises.proofs.Staged.{Stage, marked_running, marked_left}
-use Rattle.replay_promises.proofs.Making.{called}
-use Rattle.replay_promises.proofs.Whose.{AskedOf}
-use Rattle.replay_promises.proofs.Stepping.{no_behind, Onward, staged, taken, OpensBy, TakenSo, EndSo, EndsWell}
-use Rattle.replay_promises.proofs.Ending.{ended_so}
+use Rattle.turn_steps.proofs.Staged.{Stage, marked_running, marked_left}
+use Rattle.replay_promises.proofs.Cookies.{taken_running, taken_left}
+use Rattle.turn_steps.proofs.Making.{called}
+use Rattle.turn_steps.proofs.Whose.{AskedOf}
+use Rattle.turn_steps.proofs.Stepping.{no_behind, Onward, staged, taken, OpensBy, TakenSo, given, EndSo, EndsWell, ended_fate}
+use Rattle.turn_steps.proofs.Ending.{ended_so}
 use Rattle.replay_promises.proofs.Reaching.{Reaches, Below, below}
-use Rattle.replay_promises.proofs.Telling.{IsDone, Asking, Behind, RestsAs, newest_open, is_gone, not_free, IsTold, Tells, call_apart, set_there}
+use Rattle.turn_steps.specs.Done.{IsDone}
+use Rattle.turn_steps.proofs.Done.{done_runs}
+use Rattle.replay_promises.proofs.Telling.{Asking, Behind, RestsAs, newest_open, is_gone, not_free, IsTold, Tells, call_apart, set_there}
 use Rattle.replay_promises.proofs.Doing.{others_by, on_set, off_set}
 
 pub true_is : (b : Bool) → b ≡ true → b ≡ false → ⊥
@@ -56,15 +59,6 @@ true_is b h i = absurd (cc (h, i))
 abbrev pub IsDenied : Taking → Type 0
 IsDenied (taking.Denied slot) = ⊤
 IsDenied _ = ⊥
-
-pub done_runs : (ts : List Turn) → AllByRecursion IsDone ts → list_any turn_runs ts ≡ false
-done_runs [] d = refl
-done_runs (Binding asked ∷ ts) d = absurd d.0
-done_runs (Bound asked group octets ∷ ts) d = done_runs ts d.1
-done_runs (NotBound asked reason octets ∷ ts) d = done_runs ts d.1
-done_runs (Answered octets ∷ ts) d = done_runs ts d.1
-done_runs (Called r ∷ ts) d = let here = d.0.2 in let more = done_runs ts d.1 in rw (here, more) refl
-done_runs (ClosedTurn octets why ∷ ts) d = done_runs ts d.1
 
 pub neither : (x y : Bool) → x ≡ false → y ≡ false → (x || y) ≡ false
 neither x y h i = rw (h, i) refl
@@ -136,7 +130,7 @@ module _ (service : Service) (end w u : World service.State) (c : ℕ) (p : Peer
 
   -- it goes on
   pub record Went (So : List Off → List Slot → Fate → Type 0) : Type 0 where
-    pub on : Onward server (home_of end m.group) m.number gone at.joined at.iface k at.older (past_of w m.group) (past_of u m.group) So
+    pub on : Onward server (home_of end m.group) m.number gone at.joined at.iface k at.older (past_of w m.group) (past_of u m.group) mine.0 So
     pub elsewhere : (g : ℕ) → 1 ≤ g → g ≢ m.group → past_of u g ≡ past_of w g
 
   module _ (So : List Off → List Slot → Fate → Type 0) (g : Went So) (same : g.on.offs ≡ at.offs) (left' : has_left g.on.fate ≡ gone) (may : is_open g.on.fate ≡ true → at.joined.cancel ≡ false) where
@@ -167,7 +161,7 @@ module _ (service : Service) (end w u : World service.State) (c : ℕ) (p : Peer
 
   -- ---- it is taken
 
-  pub takes_went : (answer : Taking) → GoesOn (λ old new. Takes old k answer new) w m.group u → Went (TakenSo server (home_of end m.group) (home_of w m.group) m.number gone at.joined at.iface k at.older at.apart at.offs answer at.fate)
+  pub takes_went : (answer : Taking) → GoesOn (λ old new. Takes old k answer new) w m.group u → Went (TakenSo server (home_of end m.group) (home_of w m.group) m.number gone at.joined at.iface k at.older at.apart at.offs at.slots (given server (home_of end m.group) (home_of w m.group) m.number gone at.joined at.iface k at.older at.apart (past_of w m.group)) answer at.fate)
   takes_went answer says = record {
     on =
         taken server (home_of end m.group) (home_of w m.group) m.number gone at.joined at.iface k at.older at.apart (past_of w m.group) (past_of u m.group) at.offs at.slots at.fate mine.0 answer (low_u.legal m.group low) left at.may
@@ -224,13 +218,15 @@ module _ (service : Service) (end w u : World service.State) (c : ℕ) (p : Peer
     ran : (fate : Fate) → fate ≡ at.fate → is_running fate ≡ true → Ran fate
     ran (Running cookies) same r =
         let stands = subst (λ (f : Fate). Stands m.number gone (past_of w m.group) (called at.joined at.iface at.offs (deeds.Accepted k at.slots f) None)) (sym same) made.stand.stand.0 in
-        let marked = marked_running (home_of w m.group) k asked_is (past_of w m.group) at.offs cookies (stands ∙ ap (λ l. l ++ told_entries at.offs (Running cookies) ++ Join m.number ∷ []) (no_behind m.number gone false (ap has_left same ∙ left))) in
-        let one : cookies ≡ e.cookies = some_cookies cookies e.cookies (sym marked.taken ∙ e.taken) in
+        let tells = stands ∙ ap (λ l. l ++ told_entries at.offs (Running cookies) ++ Join m.number ∷ []) (no_behind m.number gone false (ap has_left same ∙ left)) in
+        let marked = marked_running (home_of w m.group) k asked_is (past_of w m.group) at.offs cookies tells in
+        let one : cookies ≡ e.cookies = some_cookies cookies e.cookies (sym (taken_running k asked_is (past_of w m.group) at.offs cookies tells) ∙ e.taken) in
         record { which = inl (ap (λ (x : List (Option ℕ)). Running x) one); told = marked.told }
     ran (LeftRunning cookies) same r =
         let stands = subst (λ (f : Fate). Stands m.number gone (past_of w m.group) (called at.joined at.iface at.offs (deeds.Accepted k at.slots f) None)) (sym same) made.stand.stand.0 in
-        let marked = marked_left (home_of w m.group) k asked_is (past_of w m.group) at.offs cookies (stands ∙ ap (λ l. l ++ told_entries at.offs (LeftRunning cookies) ++ Join m.number ∷ []) (no_behind m.number gone true (ap has_left same ∙ left))) in
-        let one : cookies ≡ e.cookies = some_cookies cookies e.cookies (sym marked.taken ∙ e.taken) in
+        let tells = stands ∙ ap (λ l. l ++ told_entries at.offs (LeftRunning cookies) ++ Join m.number ∷ []) (no_behind m.number gone true (ap has_left same ∙ left)) in
+        let marked = marked_left (home_of w m.group) k asked_is (past_of w m.group) at.offs cookies tells in
+        let one : cookies ≡ e.cookies = some_cookies cookies e.cookies (sym (taken_left k asked_is (past_of w m.group) at.offs cookies tells) ∙ e.taken) in
         record { which = inr (ap (λ (x : List (Option ℕ)). LeftRunning x) one); told = marked.told }
     ran Waiting same r = absurd cc
     ran (Denied slot) same r = absurd cc
@@ -263,7 +259,7 @@ module _ (service : Service) (end w u : World service.State) (c : ℕ) (p : Peer
         (subst (λ (b : Bool). Meets (home_of w m.group) service.tables server.may asked_is e.cookies b e.results e.said) told
         (subst (λ (a : Asked). Meets (home_of w m.group) service.tables server.may a e.cookies (is_asked (journal w m.group) k) e.results e.said) one y))
 
-    pub ends_went : runs (journal w m.group) k ≡ true → Went (EndSo server (home_of end m.group) (home_of w m.group) m.number gone at.joined at.iface k at.older at.apart at.offs)
+    pub ends_went : runs (journal w m.group) k ≡ true → Went (EndSo server (home_of end m.group) (home_of w m.group) m.number gone at.joined at.iface k at.older at.apart at.offs at.slots (ended_fate e.results e.said at.fate))
     ends_went r =
         let r' : is_running at.fate ≡ true = sym stage.runs_is ∙ r in
         let s = e.settles in

@@ -32,8 +32,9 @@ use Rattle.replay_world.specs.Printing.{answered_on}
 use Rattle.replay_world.specs.Promised.{sent_to, IsAnsweredIn}
 use Rattle.replay_moments.proofs.Peers.{found_name}
 use Rattle.replay_promises.specs.Laws.{EachIsServedWhereSound, ReplaysServeAll}
-use Rattle.replay_promises.proofs.Ending.{quiet_all}
-use Rattle.replay_promises.proofs.Telling.{IsDone, Behind, IsTold, Tells, is_gone}
+use Rattle.turn_steps.proofs.Ending.{quiet_all}
+use Rattle.turn_steps.proofs.Done.{done_over}
+use Rattle.replay_promises.proofs.Telling.{Behind, IsTold, Tells, is_gone}
 use Rattle.replay_promises.proofs.Heard.{CameTo, puts}
 use Rattle.replay_promises.proofs.Closing.{ends_over, ends_heard}
 
@@ -66,15 +67,6 @@ sent_octets c (lines.Finish d ∷ more) h = sent_octets c more h.1
 sent_octets c (lines.Lose d ∷ more) h = sent_octets c more h.1
 
 -- ---- the turns of a connection that is no longer there
-
-done_over : (ts : List Turn) → AllByRecursion IsDone ts → AllByRecursion IsOver ts
-done_over [] d = tt
-done_over (Binding asked ∷ ts) d = absurd d.0
-done_over (Bound asked group octets ∷ ts) d = (tt, done_over ts d.1)
-done_over (NotBound asked reason octets ∷ ts) d = (tt, done_over ts d.1)
-done_over (Answered octets ∷ ts) d = (tt, done_over ts d.1)
-done_over (Called r ∷ ts) d = (d.0.0, done_over ts d.1)
-done_over (ClosedTurn octets why ∷ ts) d = (tt, done_over ts d.1)
 
 all_over : (s : Standing) (x : Unanswered) (turns : List Turn) (m : ConnState) → s ≢ Open → Behind s x turns m → AllByRecursion IsOver turns × IsAllAsked m turns
 all_over Open x turns m gone b = absurd (gone refl)

@@ -32,21 +32,15 @@ use Rattle.conn_turns.specs.Entries.{has_left, is_open, deed_open, deed_runs, tu
 use Rattle.conn_turns.specs.Events.{all_events}
 use Rattle.conn_turns.specs.Stories.{AllDue, Made}
 use Rattle.conn_turns.specs.Tales.{Stands}
-use Rattle.turn_answers.specs.Laws.{IsRequestOver}
+use Rattle.turn_steps.specs.Done.{IsDone}
 use Rattle.replay_world.specs.Promised.{as_server}
-use Rattle.replay_promises.proofs.Making.{called, made_stays}
-use Rattle.replay_promises.proofs.Whose.{AreBy, ApartFrom, AskedOf, all_asked, apart_asked, apart_unasked, are_others}
-use Rattle.replay_promises.proofs.Ending.{IsQuiet}
+use Rattle.turn_steps.proofs.Making.{called, made_stays}
+use Rattle.turn_steps.proofs.Whose.{AreBy, ApartFrom, AskedOf, all_asked, apart_asked, apart_unasked, are_others}
+use Rattle.turn_steps.specs.Quiet.{IsQuiet}
 use Rattle.replay_promises.proofs.Reaching.{Below}
 use Rattle.turn_laws.proofs.TaleFacts.{asked_in}
 
 -- ---- the newest turn, by what waits for the server's word
-
--- a turn that is over, with no call that is open or runs
-abbrev pub IsDone : Turn → Type 0
-IsDone (Binding asked) = ⊥
-IsDone (Called r) = IsRequestOver r.offs r.deed r.answer × (deed_open r.deed ≡ false) × (deed_runs r.deed ≡ false)
-IsDone _ = ⊤
 
 pub record IsBinding (asked : ℕ) (turns : List Turn) : Type 0 where
   pub older : List Turn

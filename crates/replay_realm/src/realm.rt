@@ -6,12 +6,14 @@ ghost use Rattle.service_desks.specs.Start.{at_start};
 ghost use Rattle.service_desks.specs.State.{Services};
 ghost use Rattle.service_desks.specs.Views.{services};
 ghost use Rattle.served_tables.specs.Served.{tables_in};
+ghost use Rattle.load_counts.specs.Counting.{Tells};
 ghost use Rattle.replay_world.specs.Worlds.{World, booted};
 ghost use Rattle.replay_world.specs.Services.{RunsDown};
 ghost use Rattle.replay_world.specs.Replays.{log_text};
 ghost use Rattle.replay_service.specs.Service.{service_of};
 
 use group_core::Rest;
+use load_counts::Counts;
 use replay_binds::log;
 use replay_groups::Groups;
 use replay_service::run_down;
@@ -67,6 +69,13 @@ impl Realm {
         ensures { tables_in result.now ≡ tables_in self.now.served }
     {
         &self.served
+    }
+
+    /// How many entries of each kind the whole journals have.
+    pub fn counts(&self) -> &Counts
+        ensures { (echo : Option TableForm) (w : World Services) → Holds echo self.now w → Tells result.now w.groups }
+    {
+        self.groups.counts()
     }
 
     /// Adds the text of all journals, by the groups' ids.

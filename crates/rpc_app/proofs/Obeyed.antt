@@ -3,7 +3,7 @@ use Rattle.std.proofs.Common.{◌≡◌, ◌≢◌, ◌⊎◌, ℕ, ◌<◌, Opt
 use Rattle.rpc_base.specs.Causes.{Rose}
 use Rattle.rpc_base.specs.Shelves.{Tells}
 use Rattle.table_form.specs.Tables.{TableForm}
-use Rattle.rpc_app.specs.Asks.{Task, AsksFor, AsksForNothing}
+use Rattle.rpc_app.specs.Asks.{FileTask, Task, OfFile, OfLoad, AsksFor, AsksForNothing}
 use Rattle.rpc_app.specs.Obeys.{Obeys, Shelf, Output, IsKept, Put, HasDone, HasRefused, WasCutShort, IsTaken, TellsText, NoneFailed}
 use Rattle.rpc_app.specs.Runs.{Gains, GainsFront, words_refusal}
 use Rattle.rpc_app.proofs.Told.{task_refused, task_done, task_short, task_text}
@@ -39,11 +39,14 @@ pub obeyed : (given : List (List ℕ)) (store : Shelf) (out log : Output) (statu
     → (status ≡ 4 → Rose out.before out.after ⊎ Rose log.before log.after) → (status ≡ 4 → WasCutShort task store out log)
     → ((status ≡ 3) ⊎ (status ≡ 5) → IsKept out) → ((status ≡ 3) ⊎ (status ≡ 5) → IsKept log) → Obeys given store out log status
 obeyed given store out log status task asks alone known done refused shelf sinks fronts silent quiet =
-    let takes = λ (other : Task) (echo : Option TableForm) (octets : List ℕ) (a : AsksFor given other) (x : TellsText store.files other.idl echo) (t : Tells store.files other.file octets)
+    let takes = λ (other : FileTask) (echo : Option TableForm) (octets : List ℕ) (a : AsksFor given (OfFile other)) (x : TellsText store.files other.idl echo) (t : Tells store.files other.file octets)
     (k : IsTaken echo other.command octets) (e : status ≡ 2).
-    let r = subst (λ (z : Task). HasRefused z store out log) (sym (alone other a)) (refused e) in
+    let r = subst (λ (z : Task). HasRefused z store out log) (sym (alone (OfFile other) a)) (refused e) in
     task_refused store.files other echo octets r.refusal r.refuses x t k in
-    let does = λ (other : Task) (a : AsksFor given other) (e : status ≡ 0). subst (λ (z : Task). HasDone z store out log) (sym (alone other a)) (done e) in
+    let does = λ (other : FileTask) (a : AsksFor given (OfFile other)) (e : status ≡ 0). subst (λ (z : Task). HasDone z store out log) (sym (alone (OfFile other) a)) (done e) in
+    let loads = λ (number steps : ℕ) (a : AsksFor given (OfLoad number steps)) (e : status ≡ 2).
+    let r = subst (λ (z : Task). HasRefused z store out log) (sym (alone (OfLoad number steps) a)) (refused e) in
+    r.refuses in
     record {
       known = below_six status known;
       done = λ e. (task, asks, done e);
@@ -62,6 +65,8 @@ obeyed given store out log status task asks alone known done refused shelf sinks
       too_long = λ other octets a t long. (λ e. let d = does other a e in task_short store.files other octets d.printed d.logged d.does t long, not_one status known);
       text_refused = λ other name octets a i t no. (λ e. let d = does other a e in no (task_text store.files other name octets d.printed d.logged d.does i t), not_one status known);
       complete = λ other echo octets a x t k none. left_over status store out log known (takes other echo octets a x t k) shelf sinks none;
+      load_taken = λ number steps a. (not_one status known, loads number steps a);
+      load_complete = λ number steps a none. left_over status store out log known (loads number steps a) shelf sinks none;
     }
 
 one_or_four : (status : ℕ) → (status ≡ 1) ⊎ (status ≡ 4) → (status < 6) × (status ≢ 0) × (status ≢ 2) × (status ≢ 3) × (status ≢ 5)
@@ -92,9 +97,11 @@ unasked given store out log status nothing known said failed front kept =
       silent = λ e. absurd (neither status no.3 no.4 e);
       quiet = λ e. kept;
       unknown = λ e. refused_so status known;
-      taken = λ other echo octets a x t k. absurd (nothing other a);
-      refused = λ other echo octets a x t k. absurd (nothing other a);
-      too_long = λ other octets a t k. absurd (nothing other a);
-      text_refused = λ other name octets a i t k. absurd (nothing other a);
-      complete = λ other echo octets a x t k none. absurd (nothing other a);
+      taken = λ other echo octets a x t k. absurd (nothing (OfFile other) a);
+      refused = λ other echo octets a x t k. absurd (nothing (OfFile other) a);
+      too_long = λ other octets a t k. absurd (nothing (OfFile other) a);
+      text_refused = λ other name octets a i t k. absurd (nothing (OfFile other) a);
+      complete = λ other echo octets a x t k none. absurd (nothing (OfFile other) a);
+      load_taken = λ number steps a. absurd (nothing (OfLoad number steps) a);
+      load_complete = λ number steps a none. absurd (nothing (OfLoad number steps) a);
     }

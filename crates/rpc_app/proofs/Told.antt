@@ -5,9 +5,9 @@ use Rattle.rpc_base.specs.Shelves.{Files, HasFile, Tells}
 use Rattle.table_form.specs.Tables.{TableForm}
 use Rattle.rpc_app.specs.declared.command.Command.{Command}
 use Rattle.rpc_app.specs.declared.command.Command.TheVariants.{Idl}
-use Rattle.rpc_app.specs.Asks.{Task}
+use Rattle.rpc_app.specs.Asks.{FileTask}
 use Rattle.rpc_app.specs.Commands.{limit, IsTextFor, IsInterface, Refuses}
-use Rattle.rpc_app.specs.Runs.{MakesOf, RefusesFile, ServesText, Serves, DoesTask, RefusesText, RefusesTask}
+use Rattle.rpc_app.specs.Runs.{MakesOf, RefusesFile, ServesText, Serves, DoesFiles, RefusesText, RefusesFiles}
 use Rattle.rpc_app.specs.Obeys.{IsTaken, TellsText}
 use Rattle.rpc_app.proofs.Made.{one_interface, made_of_its_texts, not_both}
 
@@ -47,21 +47,21 @@ module _ (files : Option Files) where
       s.2.2 ∙ ap Some one ∙ sym t.3.2
 
   -- a task whose files are told and taken isn't refused
-  pub task_refused : (task : Task) (echo : Option TableForm) (octets said : List ℕ) → RefusesTask files task said → TellsText files task.idl echo → Tells files task.file octets → IsTaken echo task.command octets → ⊥
+  pub task_refused : (task : FileTask) (echo : Option TableForm) (octets said : List ℕ) → RefusesFiles files task said → TellsText files task.idl echo → Tells files task.file octets → IsTaken echo task.command octets → ⊥
   task_refused task echo octets said (inl r) x t k = text_refused task.idl echo said r x
   task_refused task echo octets said (inr r) x t k =
       file_refused echo task.command task.file octets said
       (subst (λ (e : Option TableForm). RefusesFile files e task.command task.file said) (one_echo task.idl r.0 echo r.1 x) r.2) t k
 
   -- of one that the command doesn't take nothing is made
-  pub task_done : (task : Task) (echo : Option TableForm) (octets printed logged : List ℕ) → DoesTask files task printed logged → TellsText files task.idl echo → Tells files task.file octets → IsTextFor echo task.command octets
+  pub task_done : (task : FileTask) (echo : Option TableForm) (octets printed logged : List ℕ) → DoesFiles files task printed logged → TellsText files task.idl echo → Tells files task.file octets → IsTextFor echo task.command octets
   task_done task echo octets printed logged d x t =
       let m = d.2 in
       let made = made_of_its_texts d.0 task.command m.octets printed logged m.makes in
       subst (λ (e : Option TableForm). IsTextFor e task.command octets) (one_echo task.idl d.0 echo d.1 x)
       (subst (λ (y : List ℕ). IsTextFor d.0 task.command y) (sym (told_is files task.file octets m.octets t m.loaded.file)) made)
 
-  pub task_short : (task : Task) (octets printed logged : List ℕ) → DoesTask files task printed logged → Tells files task.file octets → limit task.command < length octets → ⊥
+  pub task_short : (task : FileTask) (octets printed logged : List ℕ) → DoesFiles files task printed logged → Tells files task.file octets → limit task.command < length octets → ⊥
   task_short task octets printed logged d t long =
       let m = d.2 in
       let same : octets ≡ m.octets = told_is files task.file octets m.octets t m.loaded.file in
@@ -75,5 +75,5 @@ module _ (files : Option Files) where
       let i = served.2.1 in
       subst (λ (y : List ℕ). IsTaken None Idl y) (sym same) (served.1.short, (i.tree, i.idl, i.checked))
 
-  pub task_text : (task : Task) (name octets printed logged : List ℕ) → DoesTask files task printed logged → task.idl ≡ Some name → Tells files name octets → IsTaken None Idl octets
+  pub task_text : (task : FileTask) (name octets printed logged : List ℕ) → DoesFiles files task printed logged → task.idl ≡ Some name → Tells files name octets → IsTaken None Idl octets
   task_text task name octets printed logged d e t = text_served task.idl d.0 name octets d.1 e t

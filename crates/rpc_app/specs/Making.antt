@@ -8,9 +8,9 @@ use Rattle.rpc_app.specs.declared.make.MakeFault.{MakeFault}
 use Rattle.rpc_app.specs.declared.make.MakeFault.TheVariants.{Refused, Memory}
 use Rattle.rpc_app.specs.declared.task.TaskFault.{TaskFault}
 use Rattle.rpc_app.specs.declared.task.TaskFault.TheVariants as tasks
-use Rattle.rpc_app.specs.Asks.{Task}
+use Rattle.rpc_app.specs.Asks.{FileTask, Task}
 use Rattle.rpc_app.specs.Commands.{Refuses}
-use Rattle.rpc_app.specs.Runs.{RefusesFile, RefusesTask}
+use Rattle.rpc_app.specs.Runs.{RefusesFile, RefusesFiles, RefusesTask}
 
 -- this is said of the file, or memory ran out
 abbrev pub Says : (List ℕ → Type 0) → MakeFault → Type 0
@@ -34,6 +34,9 @@ WhyNot P before after tasks.Memory = ⊤
 
 abbrev pub WhyNotFile : Option TableForm → Command → Option Files → List ℕ → ℕ → ℕ → TaskFault → Type 0
 WhyNotFile echo command files name before after fault = WhyNot (RefusesFile files echo command name) before after fault
+
+abbrev pub WhyNotFiles : FileTask → Option Files → ℕ → ℕ → TaskFault → Type 0
+WhyNotFiles task files before after fault = WhyNot (RefusesFiles files task) before after fault
 
 abbrev pub WhyNotTask : Task → Option Files → ℕ → ℕ → TaskFault → Type 0
 WhyNotTask task files before after fault = WhyNot (RefusesTask files task) before after fault

@@ -5,7 +5,7 @@ use Rattle.rpc_base.specs.Shelves.{Files, Tells}
 use Rattle.table_form.specs.Tables.{TableForm}
 use Rattle.rpc_app.specs.declared.command.Command.{Command}
 use Rattle.rpc_app.specs.declared.command.Command.TheVariants.{Idl}
-use Rattle.rpc_app.specs.Asks.{Task, AsksFor, AsksForNothing}
+use Rattle.rpc_app.specs.Asks.{FileTask, Task, OfFile, OfLoad, AsksFor, AsksForNothing}
 use Rattle.rpc_app.specs.Commands.{IsInterface, IsTextFor, limit}
 use Rattle.rpc_app.specs.Runs.{words_refusal, Growth, Gains, GainsFront, IsDone, IsRefused, IsCutShort}
 
@@ -59,19 +59,23 @@ TellsText files None echo = echo ≡ None
 TellsText files (Some name) echo =
     (octets : List ℕ) × Tells files name octets × (length octets ≤ limit Idl) × ((table : TableForm) × IsInterface octets table × (echo ≡ Some table))
 
--- and whichever task they ask for, with files that are told: with the interface of its interface text and the octets of its file
+-- and whichever command they ask for, with files that are told: with the interface of its interface text and the octets of its file
 abbrev pub WhereTold : List (List ℕ) → Shelf → (Option TableForm → Command → List ℕ → Type 0) → Type 0
 WhereTold words shelf P =
-    (task : Task) (echo : Option TableForm) (octets : List ℕ) → AsksFor words task → TellsText shelf.files task.idl echo → Tells shelf.files task.file octets
+    (task : FileTask) (echo : Option TableForm) (octets : List ℕ) → AsksFor words (OfFile task) → TellsText shelf.files task.idl echo → Tells shelf.files task.file octets
     → P echo task.command octets
 
 -- with the octets of its file alone
 abbrev pub WhereFileTold : List (List ℕ) → Shelf → (Command → List ℕ → Type 0) → Type 0
-WhereFileTold words shelf P = (task : Task) (octets : List ℕ) → AsksFor words task → Tells shelf.files task.file octets → P task.command octets
+WhereFileTold words shelf P = (task : FileTask) (octets : List ℕ) → AsksFor words (OfFile task) → Tells shelf.files task.file octets → P task.command octets
 
 -- or of its interface text alone
 abbrev pub WhereTextTold : List (List ℕ) → Shelf → (List ℕ → Type 0) → Type 0
-WhereTextTold words shelf P = (task : Task) (name octets : List ℕ) → AsksFor words task → task.idl ≡ Some name → Tells shelf.files name octets → P octets
+WhereTextTold words shelf P = (task : FileTask) (name octets : List ℕ) → AsksFor words (OfFile task) → task.idl ≡ Some name → Tells shelf.files name octets → P octets
+
+-- whichever load they ask for
+abbrev pub WhereLoad : List (List ℕ) → Type 0 → Type 0
+WhereLoad words P = (number steps : ℕ) → AsksFor words (OfLoad number steps) → P
 
 -- no count of failures rose
 abbrev pub NoneFailed : Shelf → Output → Output → Type 0
@@ -102,3 +106,6 @@ pub record Obeys (given : List (List ℕ)) (store : Shelf) (out log : Output) (s
   pub text_refused : WhereTextTold given store (λ octets. (IsTaken None Idl octets → ⊥) → (status ≢ 0) × (status ≢ 1))
   -- and what the command makes of those that it takes is put, unless an object of the outside failed or memory ran out
   pub complete : WhereTold given store (λ echo command octets. IsTaken echo command octets → NoneFailed store out log → (status ≡ 0) ⊎ (status ≡ 5))
+  -- a load is refused neither, and is done but for the same
+  pub load_taken : WhereLoad given ((status ≢ 1) × (status ≢ 2))
+  pub load_complete : WhereLoad given (NoneFailed store out log → (status ≡ 0) ⊎ (status ≡ 5))

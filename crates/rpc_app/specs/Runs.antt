@@ -5,7 +5,9 @@ use Rattle.rpc_base.specs.Shelves.{Files, HasFile}
 use Rattle.table_form.specs.Tables.{TableForm}
 use Rattle.rpc_app.specs.declared.command.Command.{Command}
 use Rattle.rpc_app.specs.declared.command.Command.TheVariants.{Idl}
-use Rattle.rpc_app.specs.Asks.{Task}
+use Rattle.replay_service.specs.Service.{service_of}
+use Rattle.load_laws.specs.Loads.{IsSummary}
+use Rattle.rpc_app.specs.Asks.{FileTask, Task, OfFile, OfLoad}
 use Rattle.rpc_app.specs.Commands.{limit, IsInterface, Makes, Refuses}
 
 abbrev pub words_refusal : List ℕ
@@ -66,8 +68,13 @@ Serves files None echo = echo ≡ None
 Serves files (Some name) echo = ServesText files name echo
 
 -- The command makes this of the task's file, with the interface of its interface text.
+abbrev pub DoesFiles : Option Files → FileTask → List ℕ → List ℕ → Type 0
+DoesFiles files task printed logged = (echo : Option TableForm) × Serves files task.idl echo × MakesOf files echo task.command task.file printed logged
+
+-- Or the line is put that tells what the load comes to, on the built-in interfaces.
 abbrev pub DoesTask : Option Files → Task → List ℕ → List ℕ → Type 0
-DoesTask files task printed logged = (echo : Option TableForm) × Serves files task.idl echo × MakesOf files echo task.command task.file printed logged
+DoesTask files (OfFile task) printed logged = DoesFiles files task printed logged
+DoesTask files (OfLoad number steps) printed logged = IsSummary (service_of None) number steps printed × (logged ≡ [])
 
 -- the interface text is refused, where the task names one, as the command `idl` refuses it
 abbrev pub RefusesText : Option Files → Option (List ℕ) → List ℕ → Type 0
@@ -75,9 +82,14 @@ RefusesText files None said = ⊥
 RefusesText files (Some name) said = RefusesFile files None Idl name said
 
 -- that is, or else the command refuses the task's file
-abbrev pub RefusesTask : Option Files → Task → List ℕ → Type 0
-RefusesTask files task said =
+abbrev pub RefusesFiles : Option Files → FileTask → List ℕ → Type 0
+RefusesFiles files task said =
     RefusesText files task.idl said ⊎ ((echo : Option TableForm) × Serves files task.idl echo × RefusesFile files echo task.command task.file said)
+
+-- no load is refused
+abbrev pub RefusesTask : Option Files → Task → List ℕ → Type 0
+RefusesTask files (OfFile task) said = RefusesFiles files task said
+RefusesTask files (OfLoad number steps) said = ⊥
 
 -- ---- outputs
 

@@ -1,6 +1,7 @@
 //! A task is carried out.
 ghost use Rattle.std.specs.Prelude.{◌≡◌, ◌⊎◌};
 ghost use Rattle.rpc_base.specs.Causes.{Rose};
+ghost use Rattle.rpc_app.specs.Asks.{IsInRange};
 ghost use Rattle.rpc_app.specs.Runs.{Gains, IsDone, IsRefused, IsCutShort};
 ghost use Rattle.rpc_app.specs.Words.{told_task};
 
@@ -18,6 +19,7 @@ pub fn carry_out<F: Shelf, S: Sink, L: Sink>(
     out: &mut S,
     log: &mut L,
 ) -> u8
+    requires { IsInRange (told_task task) }
     ensures known { (result ≡ 0) ⊎ (result ≡ 2) ⊎ (result ≡ 3) ⊎ (result ≡ 4) ⊎ (result ≡ 5) }
     ensures done { result ≡ 0 → IsDone Gains (told_task task.entry) (F.files shelf.old)
         (S.written out.old) (S.written out.new) (L.written log.old) (L.written log.new) }

@@ -1,21 +1,24 @@
 //! A task is done, but for the outputs.
-ghost use Rattle.std.specs.Prelude.{◌≡◌, ◌≤◌, Some, None, option_map, IfOk, IfErr};
+ghost use Rattle.std.specs.Prelude.{◌≡◌, ◌≤◌, [], Some, None, option_map, IfOk, IfErr};
 ghost use Rattle.table_form.specs.Shown.{shown};
 ghost use Rattle.service_desks.specs.Shows.{shown_by};
-ghost use Rattle.rpc_app.specs.Making.{WhyNot, WhyNotFile, WhyNotTask};
-ghost use Rattle.rpc_app.specs.Runs.{IsLoaded, IsTooLong, MakesOf, ServesText, Serves, RefusesText, DoesTask};
+ghost use Rattle.replay_service.specs.Service.{service_of};
+ghost use Rattle.load_laws.specs.Loads.{IsSummary};
+ghost use Rattle.rpc_app.specs.Asks.{IsInRange};
+ghost use Rattle.rpc_app.specs.Making.{WhyNot, WhyNotFile, WhyNotFiles, WhyNotTask};
+ghost use Rattle.rpc_app.specs.Runs.{IsLoaded, IsTooLong, MakesOf, ServesText, Serves, RefusesText, DoesFiles, DoesTask};
 ghost use Rattle.rpc_app.specs.Runs as runs;
 ghost use Rattle.rpc_app.specs.Commands as spec;
-ghost use Rattle.rpc_app.specs.Words.{told_task};
+ghost use Rattle.rpc_app.specs.Words.{told_files, told_task};
 
 use crate::command::Command;
 use crate::idl::interface;
 use crate::limits::limit;
 use crate::load::{LoadFault, load_file};
 use crate::make::{MakeFault, make};
-use crate::words::Task;
+use crate::words::{FileTask, Task};
 use replay::Replayed;
-use rpc_base::{NoMemory, Shelf};
+use rpc_base::{NoMemory, Octets, Shelf};
 use rpc_words::put;
 use std::alloc::Global;
 use table_form::Table;
@@ -132,12 +135,42 @@ fn file_made<F: Shelf>(
     Ok(made)
 }
 
-/// What the task makes of its files: an interface text is loaded, read and checked first, and then the command's file.
-pub fn done<F: Shelf>(alloc: Global, task: Task<'_>, shelf: &mut F) -> Result<Replayed, TaskFault>
-    ensures made { IfOk result (λ r. DoesTask (F.files shelf.old) (told_task task.entry) r.out r.log) }
-    ensures fault { IfErr result (WhyNotTask (told_task task.entry) (F.files shelf.old) (F.faults shelf.old) (F.faults shelf.new)) }
+/// What a command makes of its files: an interface text is loaded, read and checked first, and then the command's file.
+fn files_done<F: Shelf>(
+    alloc: Global,
+    task: FileTask<'_>,
+    shelf: &mut F,
+) -> Result<Replayed, TaskFault>
+    ensures made { IfOk result (λ r. DoesFiles (F.files shelf.old) (told_files task.entry) r.out r.log) }
+    ensures fault { IfErr result (WhyNotFiles (told_files task.entry) (F.files shelf.old) (F.faults shelf.old) (F.faults shelf.new)) }
 {
     let echo = echo_of(alloc, task.idl, shelf)?;
     let made = file_made(alloc, task.command, echo.as_ref(), task.file, shelf)?;
     Ok(made)
+}
+
+/// Plays a load, and makes its line.
+fn load_done(alloc: Global, number: u64, steps: u32) -> Result<Replayed, TaskFault>
+    requires { steps ≤ 100000 }
+    ensures out { IfOk result (λ r. IsSummary (service_of None) number steps r.out) }
+    ensures log { IfOk result (λ r. r.log ≡ []) }
+    ensures fault { IfErr result (λ e. e ≡ TaskFault.Memory) }
+{
+    let text = load_player::load(alloc, number, steps)?;
+    Ok(Replayed {
+        out: Octets::from_vec(text),
+        log: Octets::new(alloc),
+    })
+}
+
+/// What the task makes.
+pub fn done<F: Shelf>(alloc: Global, task: Task<'_>, shelf: &mut F) -> Result<Replayed, TaskFault>
+    requires { IsInRange (told_task task) }
+    ensures made { IfOk result (λ r. DoesTask (F.files shelf.old) (told_task task.entry) r.out r.log) }
+    ensures fault { IfErr result (WhyNotTask (told_task task.entry) (F.files shelf.old) (F.faults shelf.old) (F.faults shelf.new)) }
+{
+    match task {
+        Task::File(task) => files_done(alloc, task, shelf),
+        Task::Load { number, steps } => load_done(alloc, number, steps),
+    }
 }

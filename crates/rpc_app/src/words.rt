@@ -10,10 +10,19 @@ use std::alloc::Global;
 
 /// A command, the name of its file, and that of the interface text beside it.
 #[derive(Clone, Copy, Debug)]
-pub struct Task<'a> {
+pub struct FileTask<'a> {
     pub command: Command,
     pub file: &'a str,
     pub idl: Option<&'a str>,
+}
+
+/// What is to be done.
+#[derive(Clone, Copy, Debug)]
+pub enum Task<'a> {
+    /// A command with files.
+    File(FileTask<'a>),
+    /// The load of a number in so many steps.
+    Load { number: u64, steps: u32 },
 }
 
 /// The task that is asked for.
@@ -21,21 +30,22 @@ fn task_in(asked: Asked<'_>) -> Task<'_>
     ensures { told_task result ≡ task_of asked.entry }
 {
     match asked {
-        Asked::Replay { file, idl } => Task {
+        Asked::Replay { file, idl } => Task::File(FileTask {
             command: Command::Replay,
             file,
             idl,
-        },
-        Asked::Idl { file } => Task {
+        }),
+        Asked::Idl { file } => Task::File(FileTask {
             command: Command::Idl,
             file,
             idl: None,
-        },
-        Asked::Audit { file } => Task {
+        }),
+        Asked::Audit { file } => Task::File(FileTask {
             command: Command::Audit,
             file,
             idl: None,
-        },
+        }),
+        Asked::Load { number, steps } => Task::Load { number, steps },
     }
 }
 

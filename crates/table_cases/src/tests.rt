@@ -4,6 +4,7 @@
 
 use crate::text::table_text;
 use idl_check::check;
+use idl_print::print_idl;
 use idl_reader::read_idl;
 use marshal_table::{Table, build};
 use std::alloc::Global;
@@ -169,6 +170,14 @@ fn table_of(alloc: Global, text: &str) -> Result<String, Fail> {
     Ok(String::from_utf8(own)?)
 }
 
+/// The canonical text.
+fn printed(alloc: Global, text: &str) -> Result<String, Fail> {
+    let tree = read_idl(alloc, text.as_bytes())?;
+    let mut printed = Vec::new(alloc);
+    print_idl(alloc, &tree, &mut printed)?;
+    Ok(String::from_utf8(printed)?)
+}
+
 fn interface(alloc: Global, declarations: &str) -> Result<String, Fail> {
     let mut text = String::from_str(
         alloc,
@@ -218,6 +227,10 @@ fn a_large_text_has_its_table(rt: HostRuntime) -> Result<(), Fail> {
     let text = interface(rt.alloc(), declarations.as_str())?;
     let table = table_of(rt.alloc(), text.as_str())?;
     assert_eq!(rt; table.as_str(), types.as_str());
+    let canonical = printed(rt.alloc(), text.as_str())?;
+    assert!(rt; canonical.len() > text.len());
+    let same = table_of(rt.alloc(), canonical.as_str())?;
+    assert_eq!(rt; same.as_str(), types.as_str());
     Ok(())
 }
 

@@ -10,4 +10,5 @@ returns c =
     (no_program c.new.result c.no_binary_name.result _ c.no_binary_name.ensures c.new.ensures.app))) in
     let one = one_more c.subcommand_required.result c.in_ok-replay.field-0 c.in_ok-subcommand.field-0 _ _ c.in_ok-subcommand.ensures c.in_ok-replay.ensures.local bare c.in_ok-replay.ensures.shape in
     let two = one_more c.in_ok-subcommand.field-0 c.in_ok-of_file.field-0 c.in_ok-subcommand-2.field-0 _ _ c.in_ok-subcommand-2.ensures c.in_ok-of_file.ensures.local one c.in_ok-of_file.ensures.shape in
-    record { app = IfOk-weaker c.subcommand-3.result _ _ (λ d added. one_more c.in_ok-subcommand-2.field-0 c.in_ok-of_file-2.field-0 d _ _ added c.in_ok-of_file-2.ensures.local two c.in_ok-of_file-2.ensures.shape) c.subcommand-3.ensures }
+    let three = one_more c.in_ok-subcommand-2.field-0 c.in_ok-of_file-2.field-0 c.in_ok-subcommand-3.field-0 _ _ c.in_ok-subcommand-3.ensures c.in_ok-of_file-2.ensures.local two c.in_ok-of_file-2.ensures.shape in
+    record { app = IfOk-weaker c.subcommand-4.result _ _ (λ d added. one_more c.in_ok-subcommand-3.field-0 c.in_ok-load.field-0 d _ _ added c.in_ok-load.ensures.local three c.in_ok-load.ensures.shape) c.subcommand-4.ensures }

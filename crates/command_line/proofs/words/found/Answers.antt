@@ -1,31 +1,48 @@
-use Rattle.std.proofs.Common.{◌∙◌, ap, ap₂, codes, option_map}
-use Rattle.command_line.specs.Asks.{file_line, replay_line}
+use Rattle.std.proofs.Common.{◌∙◌, ap, ap₂, subst₂, codes, option_map}
+use Rattle.command_line.specs.Asks.{ReadsLine, file_line, load_line, replay_line}
 use Rattle.command_line.proofs.Found.{none_met, same_text, value_met}
 use Rattle.command_line.proofs.words.found.Goals as goal
 
-pub returns-in_err-file-clause-replay : goal.returns-in_err-file-clause-replay
-returns-in_err-file-clause-replay c = λ file rows met row.
-    absurd (none_met file (c.in_err-file.ensures ∙ value_met c.in_ok-name.arguments.now rows (codes "FILE") (c.in_ok-name.ensures.rows ∙ ap (option_map (λ p. p.1)) met) ∙ row))
+pub returns-in_err-file-in-replay-clause-replay : goal.returns-in_err-file-in-replay-clause-replay
+returns-in_err-file-in-replay-clause-replay c = λ file rows met row.
+    absurd (none_met file (c.in_err-file-in-replay.ensures ∙ value_met c.in_ok-name.arguments.now rows (codes "FILE") (c.in_ok-name.ensures.rows ∙ ap (option_map (λ p. p.1)) met) ∙ row))
 
-pub returns-in_err-file-clause-idl : goal.returns-in_err-file-clause-idl
-returns-in_err-file-clause-idl c = λ file rows met row.
-    absurd (none_met file (c.in_err-file.ensures ∙ value_met c.in_ok-name.arguments.now rows (codes "FILE") (c.in_ok-name.ensures.rows ∙ ap (option_map (λ p. p.1)) met) ∙ row))
+pub returns-in_err-file-in-idl-clause-idl : goal.returns-in_err-file-in-idl-clause-idl
+returns-in_err-file-in-idl-clause-idl c = λ file rows met row.
+    absurd (none_met file (c.in_err-file-in-idl.ensures ∙ value_met c.in_ok-name.arguments.now rows (codes "FILE") (c.in_ok-name.ensures.rows ∙ ap (option_map (λ p. p.1)) met) ∙ row))
 
-pub returns-in_err-file-clause-audit : goal.returns-in_err-file-clause-audit
-returns-in_err-file-clause-audit c = λ file rows met row.
-    absurd (none_met file (c.in_err-file.ensures ∙ value_met c.in_ok-name.arguments.now rows (codes "FILE") (c.in_ok-name.ensures.rows ∙ ap (option_map (λ p. p.1)) met) ∙ row))
+pub returns-in_err-file-in-audit-clause-audit : goal.returns-in_err-file-in-audit-clause-audit
+returns-in_err-file-in-audit-clause-audit c = λ file rows met row.
+    absurd (none_met file (c.in_err-file-in-audit.ensures ∙ value_met c.in_ok-name.arguments.now rows (codes "FILE") (c.in_ok-name.ensures.rows ∙ ap (option_map (λ p. p.1)) met) ∙ row))
 
-pub returns-in-replay-clause-replay : goal.returns-in-replay-clause-replay
-returns-in-replay-clause-replay c = λ file rows met row.
+pub returns-in_err-number-in-load-clause-load : goal.returns-in_err-number-in-load-clause-load
+returns-in_err-number-in-load-clause-load c = λ number steps rows met row also.
+    absurd (none_met number (c.in_err-number-in-load.ensures ∙ value_met c.in_ok-name.arguments.now rows (codes "NUMBER") (c.in_ok-name.ensures.rows ∙ ap (option_map (λ p. p.1)) met) ∙ row))
+
+pub returns-in_err-steps-in-load-clause-load : goal.returns-in_err-steps-in-load-clause-load
+returns-in_err-steps-in-load-clause-load c = λ number steps rows met row also.
+    absurd (none_met steps (c.in_err-steps-in-load.ensures ∙ value_met c.in_ok-name.arguments.now rows (codes "N") (c.in_ok-name.ensures.rows ∙ ap (option_map (λ p. p.1)) met) ∙ also))
+
+pub returns-in_ok-file-in-replay-clause-replay : goal.returns-in_ok-file-in-replay-clause-replay
+returns-in_ok-file-in-replay-clause-replay c = λ file rows met row.
+    let rows_are = c.in_ok-name.ensures.rows ∙ ap (option_map (λ p. p.1)) met in (
+      ap₂ replay_line
+          (same_text c.in_ok-file-in-replay.file.now file (c.in_ok-file-in-replay.ensures ∙ value_met c.in_ok-name.arguments.now rows (codes "FILE") rows_are ∙ row))
+          (c.get_str-idl.ensures ∙ value_met c.in_ok-name.arguments.now rows (codes "idl") rows_are),
+      tt,
+    )
+
+pub returns-in_ok-file-in-idl-clause-idl : goal.returns-in_ok-file-in-idl-clause-idl
+returns-in_ok-file-in-idl-clause-idl c = λ file rows met row.
+    (ap (file_line (codes "idl")) (same_text c.in_ok-file-in-idl.file.now file (c.in_ok-file-in-idl.ensures ∙ value_met c.in_ok-name.arguments.now rows (codes "FILE") (c.in_ok-name.ensures.rows ∙ ap (option_map (λ p. p.1)) met) ∙ row)), tt)
+
+pub returns-in_ok-file-in-audit-clause-audit : goal.returns-in_ok-file-in-audit-clause-audit
+returns-in_ok-file-in-audit-clause-audit c = λ file rows met row.
+    (ap (file_line (codes "audit")) (same_text c.in_ok-file-in-audit.file.now file (c.in_ok-file-in-audit.ensures ∙ value_met c.in_ok-name.arguments.now rows (codes "FILE") (c.in_ok-name.ensures.rows ∙ ap (option_map (λ p. p.1)) met) ∙ row)), tt)
+
+pub returns-in_ok-steps-in-load-clause-load : goal.returns-in_ok-steps-in-load-clause-load
+returns-in_ok-steps-in-load-clause-load c = λ number steps rows met row also.
     let rows_are = c.in_ok-name.ensures.rows ∙ ap (option_map (λ p. p.1)) met in
-    ap₂ replay_line
-    (same_text c.in_ok-file.file.now file (c.in_ok-file.ensures ∙ value_met c.in_ok-name.arguments.now rows (codes "FILE") rows_are ∙ row))
-    (c.get_str-idl.ensures ∙ value_met c.in_ok-name.arguments.now rows (codes "idl") rows_are)
-
-pub returns-in-idl-clause-idl : goal.returns-in-idl-clause-idl
-returns-in-idl-clause-idl c = λ file rows met row.
-    ap (file_line (codes "idl")) (same_text c.in_ok-file.file.now file (c.in_ok-file.ensures ∙ value_met c.in_ok-name.arguments.now rows (codes "FILE") (c.in_ok-name.ensures.rows ∙ ap (option_map (λ p. p.1)) met) ∙ row))
-
-pub returns-in-audit-clause-audit : goal.returns-in-audit-clause-audit
-returns-in-audit-clause-audit c = λ file rows met row.
-    ap (file_line (codes "audit")) (same_text c.in_ok-file.file.now file (c.in_ok-file.ensures ∙ value_met c.in_ok-name.arguments.now rows (codes "FILE") (c.in_ok-name.ensures.rows ∙ ap (option_map (λ p. p.1)) met) ∙ row))
+    subst₂ (λ a b. ReadsLine (load_line a b) c.load_of.result)
+    (same_text c.in_ok-number-in-load.number.now number (c.in_ok-number-in-load.ensures ∙ value_met c.in_ok-name.arguments.now rows (codes "NUMBER") rows_are ∙ row))
+    (same_text c.in_ok-steps-in-load.steps.now steps (c.in_ok-steps-in-load.ensures ∙ value_met c.in_ok-name.arguments.now rows (codes "N") rows_are ∙ also)) c.load_of.ensures

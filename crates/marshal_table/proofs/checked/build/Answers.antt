@@ -1,8 +1,9 @@
 use Rattle.std.proofs.Common.{ap, ◌∙◌}
 use Rattle.table_form.specs.Shown.{shown}
-use Rattle.marshal_table.specs.Interfaces.{tabled}
-use Rattle.marshal_table.proofs.Listed.{has_each}
-use Rattle.marshal_table.proofs.Handles.{has_handles}
+use Rattle.table_laws.specs.Interfaces.{tabled}
+use Rattle.table_laws.proofs.Listed.{has_each}
+use Rattle.table_laws.proofs.Handles.{has_handles}
+use Rattle.table_laws.proofs.Declarations.{each_name_stands}
 use Rattle.marshal_table.proofs.checked.build.Goals as goal
 
 pub returns-clause-operations : goal.returns-clause-operations
@@ -10,3 +11,6 @@ returns-clause-operations c = has_each c.args.checked.now (shown c.in_ok-table.t
 
 pub returns-clause-handles : goal.returns-clause-handles
 returns-clause-handles c = has_handles c.args.checked.now (shown c.in_ok-table.table) c.tree.ensures.sound (c.in_ok-table.ensures ∙ ap tabled c.tree.ensures.value)
+
+pub returns-clause-names : goal.returns-clause-names
+returns-clause-names c = each_name_stands c.args.checked.now c.tree.ensures.sound

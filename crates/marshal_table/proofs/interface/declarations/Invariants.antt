@@ -1,6 +1,7 @@
 use Rattle.std.proofs.Common.{◌≡◌, map, drop}
 use Rattle.idl_forms.specs.Forms.{decl_form}
-use Rattle.marshal_table.specs.Interfaces.{draft, decls_at}
+use Rattle.table_laws.specs.Interfaces.{decls_at}
+use Rattle.marshal_table.specs.Lists.{draft}
 use Rattle.marshal_table.proofs.interface.declarations.Given as goal
 
 abbrev pub invariant-loop-decl : goal.invariant-loop-decl

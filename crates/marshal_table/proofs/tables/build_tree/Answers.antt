@@ -7,7 +7,8 @@ use Rattle.table_form.specs.declared.operation.HandleUse.{HandleUse}
 use Rattle.table_form.specs.declared.operation.Op.{Op}
 use Rattle.table_form.specs.Tables.{op_form}
 use Rattle.table_scope.specs.Scopes.{Scope, scope, nothing_known}
-use Rattle.marshal_table.specs.Interfaces.{Draft, draft, decls_at, nothing_declared}
+use Rattle.table_laws.specs.Interfaces.{Draft, decls_at, nothing_declared}
+use Rattle.marshal_table.specs.Lists.{draft}
 use Rattle.marshal_table.proofs.Drafts.{made_is}
 use Rattle.marshal_table.proofs.tables.build_tree.Goals as goal
 

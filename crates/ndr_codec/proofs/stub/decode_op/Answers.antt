@@ -19,4 +19,4 @@ returns-in-Err c =
 pub returns-in-Ok : goal.returns-in-Ok
 returns-in-Ok c =
     let asked : Option Msg = asked_of {A = Bor Message} (λ m. m.now) c.args.asked in
-    read_decodes (shown c.args.table.now).types (op_form c.args.op.now) c.args.way c.args.order asked c.args.stub.now (msg c.in-Ok.reading.message, c.in-Ok.reading.marks.items) c.compared.result c.in-Ok.ensures c.compared.ensures
+    read_decodes (shown c.args.table.now).types (op_form c.args.op.now) c.args.way c.args.order asked c.args.stub.now (msg c.in-Ok.reading.message, c.in-Ok.reading.marks) c.compared.result c.in-Ok.ensures c.compared.ensures

@@ -12,9 +12,10 @@ use Rattle.std.proofs.lemmas.Result.{err_from_is_err_and}
 use Rattle.ndr_value.specs.Forms.{form, forms, body, arms_of, OfUnion}
 use Rattle.ndr_value.specs.Values.{Val, val, vals, no_val, then_val, VFull}
 use Rattle.ndr_model.specs.Build.{Built, Found, build, build_at, built_each, built_arm, in_struct, referent, ahead, ends}
-use Rattle.ndr_read.specs.Gives.{Gives}
-use Rattle.ndr_read.specs.Views.{types_in, place, cursor_of, items_of, last_of}
-use Rattle.ndr_read.proofs.Walks.{moved_is}
+use Rattle.ndr_scan.specs.Gives.{Gives}
+use Rattle.ndr_scan.specs.Views.{types_in, place}
+use Rattle.ndr_read.specs.Views.{cursor_of, items_of, last_of}
+use Rattle.ndr_scan.proofs.Walks.{moved_is}
 use Rattle.ndr_read.specs.Readings.{join}
 use Rattle.ndr_read.proofs.Rows.{vals_push, one_more, one_fails, all_done, each_more, each_fails, each_done, build_step, struct_build, union_build, items_push}
 use Rattle.ndr_read.proofs.build.+build.Goals as goal
@@ -73,7 +74,7 @@ build_new-returns t c =
     let k : suc flat.ids ≡ n + 1 = omega (arith, c.requires) in
     ap (λ (r : Found). r >>= λ x. Ok (VFull (Some n), ends (record { at = flat.at; ids = suc flat.ids; handles = flat.handles }) (keeping n x.0 x.1))) found
     ∙ ap (λ (j : ℕ). Ok (VFull (Some n), ends (record { at = flat.at; ids = j; handles = flat.handles }) (keeping n v (last_of tail)))) k
-    ∙ ap (λ (xs : List (ℕ × Val)). Ok (VFull (Some n), ends (record { at = flat.at; ids = n + 1; handles = flat.handles }) (record { here = place tail.at tail.seen; items = xs; marks = tail.marks.items }))) (sym items)
+    ∙ ap (λ (xs : List (ℕ × Val)). Ok (VFull (Some n), ends (record { at = flat.at; ids = n + 1; handles = flat.handles }) (record { here = place tail.at tail.seen; items = xs; marks = tail.marks }))) (sym items)
 
 pub build_one-returns-in-Handle : goal.build_one-returns-in-Handle
 build_one-returns-in-Handle t c = rw c.in-Handle.is (c.build_handle.ensures (last_of c.args.tail.now))

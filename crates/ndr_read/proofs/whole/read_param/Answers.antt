@@ -9,7 +9,8 @@ use Rattle.ndr_model.specs.Build.{Found}
 use Rattle.ndr_model.specs.Places.{Last}
 use Rattle.ndr_model.specs.Message.{enough}
 use Rattle.ndr_read.specs.Readings.{join, Followed, entry_at, param_at}
-use Rattle.ndr_read.specs.Views.{types_in, last_of}
+use Rattle.ndr_scan.specs.Views.{types_in}
+use Rattle.ndr_read.specs.Views.{last_of}
 use Rattle.ndr_read.proofs.Rows.{vals_push}
 use Rattle.ndr_read.proofs.whole.read_param.Goals as goal
 

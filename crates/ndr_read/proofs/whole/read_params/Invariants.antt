@@ -4,7 +4,8 @@ use Rattle.table_form.specs.Tables.{param_form, result_form}
 use Rattle.ndr_model.specs.Stub.{entries_of}
 use Rattle.ndr_model.specs.Build.{follows}
 use Rattle.ndr_model.specs.Message.{enough}
-use Rattle.ndr_read.specs.Views.{types_in, last_of}
+use Rattle.ndr_scan.specs.Views.{types_in}
+use Rattle.ndr_read.specs.Views.{last_of}
 use Rattle.ndr_read.specs.Readings.{before}
 use Rattle.ndr_read.proofs.whole.read_params.Given as goal
 

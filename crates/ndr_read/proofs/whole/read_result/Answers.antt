@@ -6,7 +6,8 @@ use Rattle.ndr_model.specs.Places.{Last}
 use Rattle.ndr_model.specs.Stub.{last_entry}
 use Rattle.ndr_model.specs.Message.{enough}
 use Rattle.ndr_read.specs.Readings.{join, Followed}
-use Rattle.ndr_read.specs.Views.{types_in, last_of}
+use Rattle.ndr_scan.specs.Views.{types_in}
+use Rattle.ndr_read.specs.Views.{last_of}
 use Rattle.ndr_read.proofs.Rows.{vals_push}
 use Rattle.ndr_read.proofs.Follows.{no_result, a_result}
 use Rattle.ndr_read.proofs.whole.read_result.Goals as goal

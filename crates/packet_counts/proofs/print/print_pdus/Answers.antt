@@ -1,6 +1,7 @@
-use Rattle.std.proofs.Common.{◌≡◌, ◌+◌, ◌<◌, ◌++◌, List, ℕ, length, take, drop, refl, sym, ap, ◌∙◌, arith}
+use Rattle.std.proofs.Common.{rules, ◌≡◌, ◌+◌, ◌^◌, ◌<◌, ◌++◌, List, ℕ, length, take, drop, refl, sym, ap, ◌∙◌, arith}
 use Rattle.std.proofs.lemmas.List.{length-append, length-take, length-drop, take-append-drop}
 use Rattle.std.proofs.lemmas.Bool.Decides.{nat_tests}
+use Rattle.hex.specs.Hex.{IsBytes}
 use Rattle.packet_counts.proofs.Heads.{first_within}
 use Rattle.packet_counts.proofs.Pieces.{starts, begins, prints_on, printed}
 use Rattle.packet_counts.proofs.print.print_pdus.Goals as goal
@@ -28,4 +29,8 @@ loop-left-preserved c =
     (omega (arith, ap length front, length-take size left, within.1)) c.in_ok-print_line.ensures
 
 pub returns : goal.returns
-returns c = printed c.args.name c.args.octets.now c.loop-left.left.now c.args.out.now.items c.loop-left.out.items c.loop-left.count (grind (arith, nat_tests)) c.loop-left.invariant
+returns c =
+    let bytes : IsBytes c.args.octets.now = search rules in
+    let small : c.args.name < 2 ^ 32 = search rules in
+    let low : c.args.name < 2 ^ 64 = omega (arith, small) in
+    printed c.args.name c.args.octets.now c.loop-left.left.now c.args.out.now.items c.loop-left.out.items c.loop-left.count low bytes (grind (arith, nat_tests)) c.loop-left.invariant

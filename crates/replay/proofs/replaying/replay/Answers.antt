@@ -5,7 +5,7 @@ use Rattle.service_desks.specs.Start.{at_start}
 use Rattle.replay_world.specs.Worlds.{booted}
 use Rattle.replay_service.specs.Service.{service_of}
 use Rattle.replay.proofs.Read.{departs_first, departs_there, still_played}
-use Rattle.replay.proofs.Whole.{replayed}
+use Rattle.replay.proofs.Whole.{replayed, served}
 use Rattle.replay.proofs.replaying.replay.Goals as goal
 
 pub play_rest-requires : goal.play_rest-requires
@@ -33,3 +33,9 @@ returns-clause-replayed c =
     let echo : Option TableForm = shown_by (λ t. t.now) c.args.echo in
     replayed echo c.in-Some.boot c.args.text.now c.in-Some.rest.now c.in_ok-player.player c.play_rest.new.player c.in_ok-replayed.replayed.out c.in_ok-replayed.replayed.log
     (rw c.in-Some.is at c.in_ok-boot.ensures.boot) c.in_ok-player.ensures.stands c.in_ok-play_rest.ensures.played c.in_ok-replayed.ensures.left
+
+pub returns-clause-served : goal.returns-clause-served
+returns-clause-served c =
+    let echo : Option TableForm = shown_by (λ t. t.now) c.args.echo in
+    served echo c.in-Some.boot c.args.text.now c.in-Some.rest.now c.in_ok-player.player c.play_rest.new.player c.in_ok-replayed.replayed.out c.in_ok-replayed.replayed.log
+    (rw c.in-Some.is at c.in_ok-boot.ensures.boot) c.in_ok-player.ensures.stands c.in_ok-play_rest.ensures.played c.in_ok-replayed.ensures.left (c.replays_serve_all.ensures echo)

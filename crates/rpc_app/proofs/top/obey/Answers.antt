@@ -1,7 +1,11 @@
-use Rattle.std.proofs.Common.{refl}
+use Rattle.std.proofs.Common.{refl, map, string_bytes}
 use Rattle.rpc_app.specs.Words.{told_task}
+use Rattle.rpc_app.proofs.Carried.{in_range}
 use Rattle.rpc_app.proofs.Obeyed.{obeyed, unasked}
 use Rattle.rpc_app.proofs.top.obey.Goals as goal
+
+pub carry_out-requires : goal.carry_out-requires
+carry_out-requires g c = in_range (map string_bytes c.args.words.now) (told_task c.in-Some.task) (rw c.in-Some.is at c.in-Ok.ensures.asked)
 
 pub returns-in-Some : goal.returns-in-Some
 returns-in-Some g c =

@@ -9,7 +9,7 @@ returns-in-Some-clause-asked c =
 
 pub returns-in-Some-clause-alone : goal.returns-in-Some-clause-alone
 returns-in-Some-clause-alone c =
-    alone (map string_bytes c.args.words.now) c.in-Some.asked (told_task c.task_in.result) c.task_in.ensures (rw c.in-Some.is at c.in_ok-asked.ensures.alone)
+    alone (map string_bytes c.args.words.now) c.in-Some.asked (told_task c.task_in.result) c.task_in.ensures (rw c.in-Some.is at c.in_ok-asked.ensures.asked) (rw c.in-Some.is at c.in_ok-asked.ensures.alone)
 
 pub returns-in-None-clause-nothing : goal.returns-in-None-clause-nothing
 returns-in-None-clause-nothing c = unasked (map string_bytes c.args.words.now) (rw c.in-None.is at c.in_ok-asked.ensures.nothing)

@@ -8,4 +8,4 @@ pub returns : goal.returns
 returns c =
     let d = c.accept_at.ensures in
     accepted_is c.args.self.now c.accept_at.new.self c.args.id c.args.asked d.0 c.accept_at.result c.requires.there
-    (open_goes c.args.self.now c.args.id c.args.asked.conn c.requires.there c.requires.is_open) d.1 d.2
+    (open_goes c.args.self.now c.args.id c.args.asked.conn c.requires.there c.requires.is_open) d.1 d.2 d.3

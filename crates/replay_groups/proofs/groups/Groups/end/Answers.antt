@@ -12,4 +12,4 @@ pub returns : goal.returns
 returns c =
     let d = c.end_at.ensures in
     settled_is c.args.self.now c.end_at.new.self c.args.id (End c.args.call c.args.results c.args.said) d.0 c.end_at.result c.requires.there
-    (runs_goes c.args.self.now c.args.id c.args.call c.args.results c.requires.there c.requires.runs) (end_step c.args.call c.args.results c.args.said) d.1 d.2
+    (runs_goes c.args.self.now c.args.id c.args.call c.args.results c.requires.there c.requires.runs) (end_step c.args.call c.args.results c.args.said) d.1 d.2 d.3

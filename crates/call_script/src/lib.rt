@@ -1,0 +1,12 @@
+//! Call scripts: the texts that write down the calls of a caller, a line for each step.
+//!
+//! `bind C new`, `bind C with D`, `start C OP (v, v)`, `cancel C`, `wait C`, `close C`. A line that is read is written as
+//! the very octets that were read. What a `start` line carries behind the name of its operation is judged by the
+//! operation's table.
+#![tactic(auto)]
+
+mod line;
+mod read;
+
+pub use line::{CallLine, MOST_CONNECTIONS};
+pub use read::next_line;

@@ -1,0 +1,5 @@
+pub mod States
+pub mod Octets
+pub mod Calls
+pub mod Hears
+pub mod Histories

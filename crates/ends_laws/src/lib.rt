@@ -1,0 +1,7 @@
+//! Both ends of a connection: what a caller asks is what its server reads, and what the server answers is
+//! what the caller is told. Laws alone.
+#![tactic(auto)]
+
+mod laws;
+
+pub use laws::{answers_are_told, binds_meet, calls_meet, requests_arrive};

@@ -1,0 +1,57 @@
+//! Waiting for a socket.
+use mio::event::Source;
+use mio::{Events, Interest, Poll, Token};
+use rpc_base::{Failed, OutFault};
+use std::alloc::Global;
+use std::net::Net;
+use std::time::Duration;
+
+/// How long a turn lasts at most, in milliseconds.
+const TURN: u64 = 10;
+
+/// Waits until its one socket is ready, turn by turn.
+#[derive(Drop)]
+pub(crate) struct Waiter {
+    poll: Poll,
+    events: Events,
+}
+
+impl Waiter {
+    /// One that waits for no socket yet.
+    pub(crate) fn new(net: &impl Net, alloc: Global) -> Result<Waiter, OutFault> {
+        let events = Events::with_capacity(alloc, 1)?;
+        match Poll::new(net) {
+            Ok(poll) => Ok(Waiter { poll, events }),
+            Err(_) => Err(OutFault::Failed),
+        }
+    }
+
+    /// From now on it waits until this socket can be read, or written.
+    pub(crate) fn watch<S: Source>(&self, socket: &mut S, what: Interest) -> Result<(), Failed> {
+        match self.poll.registry().register(socket, Token(0), what) {
+            Ok(()) => Ok(()),
+            Err(_) => Err(Failed),
+        }
+    }
+
+    /// The same of the socket that it waits for already. What the socket is ready for is reported again.
+    pub(crate) fn watch_again<S: Source>(
+        &self,
+        socket: &mut S,
+        what: Interest,
+    ) -> Result<(), Failed> {
+        match self.poll.registry().reregister(socket, Token(0), what) {
+            Ok(()) => Ok(()),
+            Err(_) => Err(Failed),
+        }
+    }
+
+    /// Waits for a turn, or until the socket is ready.
+    pub(crate) fn wait(&mut self) -> Result<(), Failed> {
+        let turn = Duration::from_millis(TURN);
+        match self.poll.poll(&mut self.events, Some(turn)) {
+            Ok(()) => Ok(()),
+            Err(_) => Err(Failed),
+        }
+    }
+}

@@ -1,0 +1,9 @@
+pub mod Declarations
+pub mod Handles
+pub mod Known
+pub mod Listed
+pub mod Quiet
+pub mod Resolved
+pub mod Said
+pub mod Standing
+pub mod Suits

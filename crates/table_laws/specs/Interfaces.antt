@@ -1,0 +1,210 @@
+-- The table of an interface: its declarations, in order.
+use Rattle.std.specs.Prelude.{ℕ, ◌==◌, Bool, true, false, not, nat_lt, if◌then◌else◌, List, [], ◌∷◌, ◌++◌, length, take, Option, Some, None}
+use Rattle.std.specs.List.{flat_map}
+use Rattle.std.specs.Option.{option_or}
+use Rattle.uuid.specs.Parts.{zero_bytes}
+use Rattle.rpc_base.specs.declared.identifiers.SyntaxId.{SyntaxId}
+use Rattle.idl_tree.specs.declared.leaf.Ident.{Ident}
+use Rattle.idl_tree.specs.declared.leaf.Num.{Num}
+use Rattle.idl_tree.specs.declared.leaf.Pk.{Pk}
+use Rattle.idl_tree.specs.declared.leaf.ArraySize.{ArraySize}
+use Rattle.idl_tree.specs.declared.leaf.Dtor.{Dtor}
+use Rattle.idl_tree.specs.declared.declaration.Ast.{Ast}
+use Rattle.idl_outline.specs.declared.field.Place.TheVariants as places
+use Rattle.idl_outline.specs.Outline.{all_pointed, pointer_default}
+use Rattle.idl_forms.specs.Forms as idl
+use Rattle.ndr_value.specs.Forms.{Form}
+use Rattle.table_form.specs.declared.operation.HandleUse.{HandleUse}
+use Rattle.table_form.specs.Tables.{ParamForm, OpForm, TableForm}
+use Rattle.table_scope.specs.declared.symbols.Sort.{Sort}
+use Rattle.table_scope.specs.declared.symbols.Sort.TheVariants as sorts
+use Rattle.table_scope.specs.declared.said.Terms.{Terms}
+use Rattle.table_scope.specs.Marks.{given, range_in, says, says_in, says_out, says_maybe, says_handle, is_serialised}
+use Rattle.table_scope.specs.Scopes.{ByName, Sense, Scope, nothing_known, with_type, with_handle, with_constant}
+use Rattle.table_scope.specs.Declarators.{terms, declared}
+use Rattle.table_specs.specs.Specs.{spec_at, attrs_at}
+
+-- ---- parameters. handle_t is not listed, and has no index
+
+abbrev pub is_binding_kind : idl.KindForm → Bool
+is_binding_kind idl.OfHandle = true
+is_binding_kind _ = false
+
+abbrev pub is_binding : idl.SpecForm → Bool
+is_binding (idl.a_spec at k) = is_binding_kind k
+
+-- the name of a parameter that is listed
+abbrev pub listed_name : idl.ParamForm → List Ident
+listed_name n = if is_binding n.spec then [] else n.dtor.name ∷ []
+
+abbrev pub param_names : List idl.ParamForm → List Ident
+param_names ns = flat_map listed_name ns
+
+-- a context handle is one by value, or behind the pointer through which it comes back
+abbrev pub handle_use : Bool → Bool → Sort → List HandleUse
+handle_use inward outward (sorts.Handle kind serialised) = record { kind = kind; inward = inward; outward = outward; serialised = serialised } ∷ []
+handle_use inward outward _ = []
+
+-- parameters and handles
+abbrev pub Listed : Type 0
+Listed = List ParamForm × List HandleUse
+
+abbrev pub joined : Listed → Listed → Listed
+joined a b = (a.0 ++ b.0, a.1 ++ b.1)
+
+-- what a parameter's spec stands for
+abbrev pub param_sense : Pk → idl.ParamForm → Scope → Sense × Scope
+param_sense default n p =
+    let marks : Option Form × Scope = attrs_at default n.attrs p in
+    spec_at default (not (n.dtor.stars == 0)) marks.0 n.spec marks.1
+
+abbrev pub one_param : Pk → List Ident → idl.AttrForms → Dtor → Sense × Scope → ParamForm
+one_param default names as' d behind =
+    record { shape = declared (terms default places.Parameter true names as') behind.1.constants behind.0.shape d; inward = says says_in as'; outward = says says_out as'; range = given range_in as' }
+
+abbrev pub listed_at : Pk → List Ident → idl.AttrForms → Dtor → Sense × Scope → Listed × Scope
+listed_at default names as' d behind =
+    ((one_param default names as' d behind ∷ [], handle_use (says says_in as') (says says_out as') behind.0.sort), behind.1)
+
+abbrev pub param_at : Pk → List Ident → idl.ParamForm → Scope → Listed × Scope
+param_at default names n p =
+    if is_binding n.spec then (([], []), p) else listed_at default names n.attrs n.dtor (param_sense default n p)
+
+abbrev pub params_at : Pk → List Ident → List idl.ParamForm → Scope → Listed × Scope
+params_at default names [] p = (([], []), p)
+params_at default names (n ∷ ns) p =
+    (joined (param_at default names n p).0 (params_at default names ns (param_at default names n p).1).0, (params_at default names ns (param_at default names n p).1).1)
+
+-- ---- operations
+
+abbrev pub sort_result : Sort → Form → Option Form
+sort_result sorts.Void s = None
+sort_result _ s = Some s
+
+abbrev pub is_status : Sort → Bool
+is_status sorts.ErrorStatus = true
+is_status _ = false
+
+-- what is declared so far
+pub record Draft : Type 0 where
+  pub scope : Scope
+  pub ops : List OpForm
+  pub uses : List (List HandleUse)
+
+-- no interface that keeps the rules has more operations than 65,535, and no operation of it more than four handles
+abbrev pub kept_ops : List OpForm → OpForm → List OpForm
+kept_ops ops o = if nat_lt (length ops) 65535 then ops ++ o ∷ [] else ops
+
+abbrev pub kept_uses : List OpForm → List (List HandleUse) → List HandleUse → List (List HandleUse)
+kept_uses ops uses us = if nat_lt (length ops) 65535 then uses ++ take 4 us ∷ [] else uses
+
+abbrev pub with_op : OpForm → List HandleUse → Draft → Draft
+with_op o us d = record { scope = d.scope; ops = kept_ops d.ops o; uses = kept_uses d.ops d.uses us }
+
+abbrev pub in_scope : Draft → Scope → Draft
+in_scope d p = record { scope = p; ops = d.ops; uses = d.uses }
+
+abbrev pub op_of : List ℕ → idl.AttrForms → Sense → List ParamForm → OpForm
+op_of name as' r ps = record { name = name; params = ps; result = sort_result r.sort r.shape; status = is_status r.sort; maybe = says says_maybe as' }
+
+-- what the spec of an operation's result stands for, or one without a declarator
+abbrev pub alone_at : Pk → idl.AttrForms → idl.SpecForm → Scope → Sense × Scope
+alone_at default as' s p = let marks : Option Form × Scope = attrs_at default as' p in spec_at default false marks.0 s marks.1
+
+abbrev pub op_with : List ℕ → idl.AttrForms → Sense → Listed × Scope → Draft → Draft
+op_with name as' r ps d = with_op (op_of name as' r ps.0.0) ps.0.1 (in_scope d ps.1)
+
+abbrev pub op_at : Pk → idl.AttrForms → idl.SpecForm → Ident → List idl.ParamForm → Draft → Draft
+op_at default as' s name ns d =
+    op_with name.text as' (alone_at default as' s d.scope).0 (params_at default (param_names ns) ns (alone_at default as' s d.scope).1) d
+
+-- ---- typedefs
+
+abbrev pub bare_sort : Option ArraySize → Sort → Sort
+bare_sort None s = s
+bare_sort (Some size) s = sorts.Value
+
+-- a name for the type itself, and not for a pointer or an array
+abbrev pub sort_of : Dtor → Sort → Sort
+sort_of d s = if d.stars == 0 then bare_sort d.array s else sorts.Value
+
+abbrev pub typed : Terms → ByName Num → Sense → Dtor → Sense
+typed t constants m d = record { shape = declared t constants m.shape d; sort = sort_of d m.sort }
+
+-- a declarator of a typedef; handle: a word for context handles stands there
+abbrev pub typedef_one : Bool → Bool → Terms → Sense → Dtor → Scope → Scope
+typedef_one handle serialised t m d p = if handle then with_handle d.name serialised p else with_type d.name (typed t p.constants m d) p
+
+abbrev pub typedef_all : Bool → Bool → Terms → Sense → List Dtor → Scope → Scope
+typedef_all handle serialised t m [] p = p
+typedef_all handle serialised t m (d ∷ ds) p = typedef_all handle serialised t m ds (typedef_one handle serialised t m d p)
+
+-- what a typedef's spec stands for
+abbrev pub typedef_sense : Pk → idl.AttrForms → idl.SpecForm → List Dtor → Scope → Sense × Scope
+typedef_sense default as' s ds p =
+    let marks : Option Form × Scope = attrs_at default as' p in
+    spec_at default (all_pointed ds) marks.0 s marks.1
+
+abbrev pub typedef_at : Pk → idl.AttrForms → idl.SpecForm → List Dtor → Scope → Scope
+typedef_at default as' s ds p =
+    typedef_all (says says_handle as') (is_serialised as') (terms default places.Typedef false [] as') (typedef_sense default as' s ds p).0 ds (typedef_sense default as' s ds p).1
+
+abbrev pub lone_at : Pk → idl.AttrForms → idl.SpecForm → Scope → Scope
+lone_at default as' s p = (alone_at default as' s p).1
+
+-- ---- declarations
+
+abbrev pub decl_at : Pk → idl.DeclKindForm → Draft → Draft
+decl_at default (idl.OfConst base name value) d = in_scope d (with_constant name value d.scope)
+decl_at default (idl.OfTypedef as' s ds) d = in_scope d (typedef_at default as' s ds d.scope)
+decl_at default (idl.OfLone as' s) d = in_scope d (lone_at default as' s d.scope)
+decl_at default (idl.OfOp as' s name void ps) d = op_at default as' s name ps d
+
+abbrev pub decls_at : Pk → List idl.DeclForm → Draft → Draft
+decls_at default [] d = d
+decls_at default (x ∷ xs) d = decls_at default xs (decl_at default x.what d)
+
+-- ---- the interface's own attributes
+
+abbrev pub uuid_in : idl.FileKindForm → Option (List ℕ)
+uuid_in (idl.OfUuid u) = Some u
+uuid_in _ = None
+
+abbrev pub minor_of : Option Num → ℕ
+minor_of None = 0
+minor_of (Some n) = n.value
+
+abbrev pub version_in : idl.FileKindForm → Option (ℕ × ℕ)
+version_in (idl.OfVersion major minor) = Some (major.value, minor_of minor)
+version_in _ = None
+
+abbrev pub first_in : {X : Type 0} → (idl.FileKindForm → Option X) → List idl.FileForm → Option X
+first_in f [] = None
+first_in f (a ∷ as') = option_or (f a.what) (first_in f as')
+
+abbrev pub id_or : Option (List ℕ) → List ℕ
+id_or None = zero_bytes
+id_or (Some u) = u
+
+-- version 0.0 where none is given
+abbrev pub version_or : Option (ℕ × ℕ) → ℕ × ℕ
+version_or None = (0, 0)
+version_or (Some v) = v
+
+abbrev pub syntax_of : List idl.FileForm → SyntaxId
+syntax_of as' = record { id = id_or (first_in uuid_in as'); major = (version_or (first_in version_in as')).0; minor = (version_or (first_in version_in as')).1 }
+
+-- ---- the table
+
+abbrev pub nothing_declared : Draft
+nothing_declared = record { scope = nothing_known; ops = []; uses = [] }
+
+abbrev pub declared_in : idl.TreeForm → Draft
+declared_in tree = decls_at (pointer_default tree.attributes) tree.decls nothing_declared
+
+-- the table of an interface of that form
+abbrev pub table_of : idl.TreeForm → TableForm
+table_of tree = record { id = syntax_of tree.attributes; types = (declared_in tree).scope.types; ops = (declared_in tree).ops; uses = (declared_in tree).uses }
+
+abbrev pub tabled : Ast → TableForm
+tabled tree = table_of (idl.tree_form tree)

@@ -1,0 +1,5 @@
+pub mod Alike
+pub mod Interfaces
+pub mod Laws
+pub mod Stands
+pub mod Wholes

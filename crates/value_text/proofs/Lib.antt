@@ -1,0 +1,9 @@
+pub mod Rows
+pub mod Steps
+pub mod Numerals
+pub mod Quotes
+pub mod Sound
+pub mod Complete
+pub mod Tells
+pub mod Printed
+pub mod Parts
