@@ -4,8 +4,8 @@ use Rattle.rpc_base.specs.declared.identifiers.Order.TheVariants.{Little}
 use Rattle.pdu_codec.specs.Pdus.{pdu_octets}
 use Rattle.ndr_value.specs.Values.{Msg}
 use Rattle.ndr_model.specs.declared.way.Way.TheVariants.{Request}
-use Rattle.ndr_written.specs.Written.{stub}
-use Rattle.ndr_written.specs.Fits.{IsOfOp}
+use Rattle.ndr_model.specs.Written.{stub}
+use Rattle.ndr_model.specs.Fits.{IsOfOp}
 use Rattle.ndr_codec.specs.declared.written.EncodeFault.{EncodeFault}
 use Rattle.ndr_codec.specs.Encoded.{Encodes}
 use Rattle.rpc_base.specs.declared.fault.NoMemory.{NoMemory}

@@ -22,9 +22,9 @@ use Rattle.ndr_value.specs.Values.{Msg}
 use Rattle.table_form.specs.Tables.{OpForm}
 use Rattle.ndr_model.specs.declared.way.Way.TheVariants.{Response}
 use Rattle.ndr_model.specs.Message.{IsStub, read_stub}
-use Rattle.ndr_codec.specs.declared.fault.NdrFault.{NdrFault}
-use Rattle.ndr_codec.specs.declared.fault.NdrFault.TheVariants as faults
-use Rattle.ndr_codec.specs.Faults.{IsFault}
+use Rattle.ndr_model.specs.declared.fault.NdrFault.{NdrFault}
+use Rattle.ndr_model.specs.declared.fault.NdrFault.TheVariants as faults
+use Rattle.ndr_model.specs.Faults.{IsFault}
 use Rattle.client_asks.specs.declared.begun.Stage.TheVariants.{Unbound, Bound}
 use Rattle.client_asks.specs.declared.begun.Out.{Out}
 use Rattle.client_asks.specs.declared.begun.Out.TheVariants as outs

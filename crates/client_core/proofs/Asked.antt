@@ -12,7 +12,7 @@ use Rattle.ndr_model.specs.declared.way.Way.TheVariants.{Request}
 use Rattle.ndr_model.specs.Message.{IsStub}
 use Rattle.ndr_laws.specs.Laws.{IsOp}
 use Rattle.ndr_written.specs.Laws.{WrittenIsStub}
-use Rattle.ndr_written.specs.Fits.{IsOfOp}
+use Rattle.ndr_model.specs.Fits.{IsOfOp}
 use Rattle.ndr_codec.specs.declared.written.EncodeFault.{EncodeFault}
 use Rattle.client_asks.specs.declared.begun.CallOut.{CallOut}
 use Rattle.client_asks.specs.Octets.{IsRequest}

@@ -16,7 +16,7 @@ use Rattle.ndr_value.specs.declared.value.Message.{Message}
 use Rattle.table_form.specs.Tables.{OpForm, TableForm}
 use Rattle.ndr_model.specs.declared.way.Way.TheVariants.{Response}
 use Rattle.ndr_model.specs.Message.{IsStub, read_stub}
-use Rattle.ndr_codec.specs.declared.fault.NdrFault.{NdrFault}
+use Rattle.ndr_model.specs.declared.fault.NdrFault.{NdrFault}
 use Rattle.ndr_codec.specs.Faults.{Decodes}
 use Rattle.client_asks.specs.declared.begun.Out.{Out}
 use Rattle.client_asks.specs.declared.begun.Out.TheVariants as outs

@@ -10,11 +10,11 @@ use Rattle.ndr_value.specs.declared.value.Message.{Message}
 use Rattle.table_form.specs.Tables.{OpForm, TableForm}
 use Rattle.ndr_codec.specs.declared.written.EncodeFault.{EncodeFault}
 use Rattle.ndr_codec.specs.Encoded.{Encodes}
-use Rattle.ndr_codec.specs.Faults.{IsFault}
+use Rattle.ndr_model.specs.Faults.{IsFault}
 use Rattle.ndr_model.specs.declared.way.Way.TheVariants.{Response}
 use Rattle.ndr_model.specs.Message.{IsStub, read_stub}
-use Rattle.ndr_codec.specs.declared.fault.NdrFault.{NdrFault}
-use Rattle.ndr_codec.specs.declared.fault.NdrFault.TheVariants as faults
+use Rattle.ndr_model.specs.declared.fault.NdrFault.{NdrFault}
+use Rattle.ndr_model.specs.declared.fault.NdrFault.TheVariants as faults
 use Rattle.client_asks.specs.declared.begun.CallOut.{CallOut}
 use Rattle.client_asks.specs.declared.begun.Out.{Out}
 use Rattle.client_asks.specs.declared.begun.Out.TheVariants as outs

@@ -7,7 +7,7 @@ use Rattle.ndr_value.specs.Values.{Msg}
 use Rattle.table_form.specs.declared.operation.HandleUse.{HandleUse}
 use Rattle.table_form.specs.Tables.{OpForm, TableForm}
 use Rattle.ndr_model.specs.declared.way.Way.TheVariants.{Response}
-use Rattle.ndr_written.specs.Fits.{IsOfOp}
+use Rattle.ndr_model.specs.Fits.{IsOfOp}
 use Rattle.manager_api.specs.declared.answer.Answer.{Answer}
 use Rattle.manager_api.specs.Answers.{Ans, AOut, AFault, ans, settled, no_memory, cancelled}
 use Rattle.manager_api.specs.Messages.{ForOp}

@@ -7,7 +7,7 @@ use Rattle.ndr_value.specs.Values.{Val, VStruct, VUnion, VArray, VPtr, VFull, Va
 use Rattle.table_form.specs.Tables.{ParamForm}
 use Rattle.ndr_model.specs.Stub.{of_param}
 use Rattle.ndr_model.specs.Named.{nth}
-use Rattle.ndr_written.specs.Written.{deep}
+use Rattle.ndr_model.specs.Written.{deep}
 
 -- ---- items that were met
 

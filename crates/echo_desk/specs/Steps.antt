@@ -7,7 +7,7 @@ use Rattle.ndr_value.specs.Values.{VUint, Vals, no_val, then_val, Msg}
 use Rattle.table_form.specs.declared.operation.HandleUse.{HandleUse}
 use Rattle.table_form.specs.Tables.{ParamForm, OpForm, TableForm}
 use Rattle.ndr_model.specs.declared.way.Way.TheVariants.{Response}
-use Rattle.ndr_written.specs.Fits.{IsOfOp}
+use Rattle.ndr_model.specs.Fits.{IsOfOp}
 use Rattle.manager_api.specs.Answers.{Ans, AOut, AFault, no_memory}
 use Rattle.manager_api.specs.Messages.{ForOp}
 use Rattle.manager_api.specs.Calls.{uses_at}

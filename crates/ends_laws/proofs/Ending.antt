@@ -21,7 +21,7 @@ use Rattle.ndr_model.specs.declared.way.Way.TheVariants.{Request, Response}
 use Rattle.ndr_model.specs.Message.{IsStub}
 use Rattle.ndr_laws.specs.Laws.{IsOp, OneMessage, StubIsRead}
 use Rattle.ndr_written.specs.Laws.{WrittenIsStub}
-use Rattle.ndr_written.specs.Fits.{IsOfOp}
+use Rattle.ndr_model.specs.Fits.{IsOfOp}
 use Rattle.conn_asks.specs.declared.events.Agreement.{Agreement}
 use Rattle.conn_asks.specs.declared.events.Caller.{Caller}
 use Rattle.conn_asks.specs.declared.events.Waits.{Waits}

@@ -13,9 +13,9 @@ use Rattle.ndr_model.specs.declared.departure.Departure.{Departure}
 use Rattle.ndr_model.specs.declared.way.Way.TheVariants.{Response}
 use Rattle.ndr_model.specs.Message.{IsStub, read_stub}
 use Rattle.ndr_laws.specs.Laws.{IsOp, OneMessage, StubIsRead}
-use Rattle.ndr_codec.specs.declared.fault.NdrFault.{NdrFault}
-use Rattle.ndr_codec.specs.declared.fault.NdrFault.TheVariants as ndr
-use Rattle.ndr_codec.specs.Faults.{IsFault}
+use Rattle.ndr_model.specs.declared.fault.NdrFault.{NdrFault}
+use Rattle.ndr_model.specs.declared.fault.NdrFault.TheVariants as ndr
+use Rattle.ndr_model.specs.Faults.{IsFault}
 use Rattle.conn_asks.specs.declared.events.Caller.{Caller}
 use Rattle.conn_asks.specs.Answers.{octets_in}
 use Rattle.client_asks.specs.declared.begun.Out.TheVariants as outs

@@ -16,8 +16,8 @@ use Rattle.table_form.specs.Tables.{OpForm, TableForm}
 use Rattle.ndr_model.specs.declared.way.Way.TheVariants.{Request, Response}
 use Rattle.ndr_model.specs.Message.{IsStub}
 use Rattle.ndr_laws.specs.Laws.{IsOp}
-use Rattle.ndr_written.specs.Written.{stub}
-use Rattle.ndr_written.specs.Fits.{IsOfOp}
+use Rattle.ndr_model.specs.Written.{stub}
+use Rattle.ndr_model.specs.Fits.{IsOfOp}
 use Rattle.conn_asks.specs.declared.events.Caller.{Caller}
 use Rattle.conn_asks.specs.declared.events.Waits.TheVariants.{Call}
 use Rattle.conn_asks.specs.declared.events.Act.TheVariants as acts

@@ -13,8 +13,8 @@ use Rattle.message_parts.proofs.Counted.{count-pointers}
 use Rattle.ndr_model.specs.declared.way.Way.TheVariants.{Response}
 use Rattle.ndr_model.specs.Stub.{Entry, entries}
 use Rattle.ndr_model.specs.Named.{Call, nth, named as named_by, of_known, with_heap}
-use Rattle.ndr_written.specs.Written.{call_of}
-use Rattle.ndr_written.specs.Fits.{Seen, nothing_seen, suits_uint, suits_handle, suits_array, counts_both, SuitAll, SuitEntries, no_entry, then_entry, IsOfOp}
+use Rattle.ndr_model.specs.Written.{call_of}
+use Rattle.ndr_model.specs.Fits.{Seen, nothing_seen, suits_uint, suits_handle, suits_array, counts_both, SuitAll, SuitEntries, no_entry, then_entry, IsOfOp}
 use Rattle.response_laws.specs.Laws.{plain}
 use Rattle.response_laws.specs.Parts.{with_items}
 use Rattle.response_laws.proofs.Suits.{plus_none, null_fits, one_seen, handle_and_status_is}

@@ -10,7 +10,7 @@ use Rattle.ndr_value.specs.Fits.{has_nul}
 use Rattle.ndr_value.specs.Values.{VUint, VArray, VFull, Vals, no_val, then_val, bytes, count_of}
 use Rattle.table_parts.specs.Parts.{named}
 use Rattle.ndr_model.specs.Named.{Call, nth}
-use Rattle.ndr_written.specs.Fits.{Seen, with_item, Suits, suits_uint, suits_text, suits_name, suits_struct, suits_array, suits_new, no_member, then_member, SuitsCounts, counts_conformant, SuitsText, SuitAll, no_element, then_element}
+use Rattle.ndr_model.specs.Fits.{Seen, with_item, Suits, suits_uint, suits_text, suits_name, suits_struct, suits_array, suits_new, no_member, then_member, SuitsCounts, counts_conformant, SuitsText, SuitAll, no_element, then_element}
 use Rattle.response_laws.specs.Parts.{EachSuits, with_items}
 use Rattle.response_laws.proofs.Suits.{plus_none, bytes_count, bytes_suit}
 use Rattle.response_laws.proofs.Parts.{uuid_suits}

@@ -3,7 +3,7 @@ use Rattle.std.specs.Prelude.{◌≡◌, ℕ, slice_get, Some, None}
 use Rattle.ndr_value.specs.Values.{Msg}
 use Rattle.table_form.specs.Tables.{OpForm, TableForm}
 use Rattle.ndr_model.specs.declared.way.Way.TheVariants.{Request, Response}
-use Rattle.ndr_written.specs.Fits.{IsOfOp}
+use Rattle.ndr_model.specs.Fits.{IsOfOp}
 
 -- P of the operation of that number
 abbrev pub ForOp : TableForm → ℕ → (OpForm → Type 0) → Type 0

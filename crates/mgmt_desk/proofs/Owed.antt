@@ -9,8 +9,8 @@ use Rattle.message_parts.specs.Parts.{pointers}
 use Rattle.message_parts.proofs.Counted.{count-pointers}
 use Rattle.ndr_model.specs.declared.way.Way.TheVariants.{Response}
 use Rattle.ndr_model.specs.Named.{Call, nth}
-use Rattle.ndr_written.specs.Written.{call_of}
-use Rattle.ndr_written.specs.Fits.{Seen, with_item, nothing_seen, suits_uint, suits_name, suits_struct, suits_array, suits_new, no_member, then_member, counts_conformant, SuitAll, no_element, then_element, no_entry, then_entry, IsOfOp}
+use Rattle.ndr_model.specs.Written.{call_of}
+use Rattle.ndr_model.specs.Fits.{Seen, with_item, nothing_seen, suits_uint, suits_name, suits_struct, suits_array, suits_new, no_member, then_member, counts_conformant, SuitAll, no_element, then_element, no_entry, then_entry, IsOfOp}
 use Rattle.rpc_base.specs.declared.fault.NoMemory.{NoMemory}
 use Rattle.manager_api.specs.declared.answer.Answer.{Answer}
 use Rattle.manager_api.specs.Answers.{AOut, ans, settled}

@@ -23,11 +23,12 @@ use Rattle.ndr_scan.specs.Gives.{Fails}
 use Rattle.ndr_read.specs.Readings.{reading, reading_of}
 use Rattle.ndr_laws.specs.Laws.{IsOp}
 use Rattle.ndr_laws.proofs.Stubs.{read_stands, stub_found}
-use Rattle.ndr_written.specs.Fits.{IsOfOp}
+use Rattle.ndr_model.specs.Fits.{IsOfOp}
 use Rattle.ndr_written.proofs.Stubs.{read_of_op}
-use Rattle.ndr_codec.specs.declared.fault.NdrFault.{NdrFault}
-use Rattle.ndr_codec.specs.declared.fault.NdrFault.TheVariants.{Short, Bound, Tag, Pointer, Text, TooDeep, Trailing, Memory}
-use Rattle.ndr_codec.specs.Faults.{fault_of, of_error, IsFault, Decodes, IsThat}
+use Rattle.ndr_model.specs.declared.fault.NdrFault.{NdrFault}
+use Rattle.ndr_model.specs.declared.fault.NdrFault.TheVariants.{Short, Bound, Tag, Pointer, Text, TooDeep, Trailing, Memory}
+use Rattle.ndr_model.specs.Faults.{fault_of, IsFault}
+use Rattle.ndr_codec.specs.Faults.{of_error, Decodes, IsThat}
 
 abbrev ok_msg : Msg → Result Msg Departure
 ok_msg m = Ok m

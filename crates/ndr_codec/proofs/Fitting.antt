@@ -15,12 +15,12 @@ use Rattle.ndr_model.specs.Message.{IsStub, read_stub}
 use Rattle.ndr_laws.specs.Laws.{IsOp}
 use Rattle.ndr_laws.proofs.Stubs.{read_stands, stub_found}
 use Rattle.ndr_written.specs.Laws.{HasIds}
-use Rattle.ndr_written.specs.Written.{stub}
-use Rattle.ndr_written.specs.Fits.{IsOfOp}
+use Rattle.ndr_model.specs.Written.{stub}
+use Rattle.ndr_model.specs.Fits.{IsOfOp}
 use Rattle.ndr_written.proofs.Stubs.{stub_suits, written_stub}
-use Rattle.ndr_codec.specs.declared.fault.NdrFault.{NdrFault}
-use Rattle.ndr_codec.specs.declared.fault.NdrFault.TheVariants.{Memory}
-use Rattle.ndr_codec.specs.Faults.{IsFault}
+use Rattle.ndr_model.specs.declared.fault.NdrFault.{NdrFault}
+use Rattle.ndr_model.specs.declared.fault.NdrFault.TheVariants.{Memory}
+use Rattle.ndr_model.specs.Faults.{IsFault}
 use Rattle.ndr_codec.proofs.Decoding.{no_fault}
 
 -- what holds, and what doesn't

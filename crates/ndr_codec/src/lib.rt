@@ -7,9 +7,8 @@ mod range;
 mod stub;
 mod written;
 
-pub use fault::NdrFault;
 pub use fit::fits;
-pub use ndr_model::Way;
+pub use ndr_model::{NdrFault, Way};
 pub use range::in_range;
 pub use stub::decode;
 pub use written::{EncodeFault, encode};

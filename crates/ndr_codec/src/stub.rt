@@ -5,13 +5,13 @@ ghost use Rattle.table_form.specs.Shown.{shown};
 ghost use Rattle.table_form.specs.Tables.{OpForm, op_form};
 ghost use Rattle.ndr_model.specs.Message.{IsStub, read_stub};
 ghost use Rattle.ndr_model.specs.Message as model;
-ghost use Rattle.ndr_written.specs.Fits.{IsOfOp};
+ghost use Rattle.ndr_model.specs.Fits.{IsOfOp};
 ghost use Rattle.ndr_agree.specs.Views.{asked_of};
 ghost use Rattle.ndr_codec.specs.Faults.{Decodes, IsThat};
 
-use crate::fault::{NdrFault, departed, unread};
+use crate::fault::unread;
 use ndr_agree::{Call, first_off};
-use ndr_model::Way;
+use ndr_model::{NdrFault, Way};
 use ndr_read::{Reading, read};
 use ndr_value::Message;
 use rpc_base::Order;
@@ -37,7 +37,7 @@ fn compared(
     };
     match first_off(&call, reading.marks.as_slice()) {
         None => Ok(reading.message),
-        Some(departure) => Err(departed(departure)),
+        Some(departure) => Err(NdrFault::of(departure)),
     }
 }
 

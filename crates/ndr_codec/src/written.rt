@@ -4,7 +4,7 @@ ghost use Rattle.ndr_value.specs.Values.{msg};
 ghost use Rattle.table_form.specs.Shown.{shown};
 ghost use Rattle.table_form.specs.Tables.{OpForm};
 ghost use Rattle.ndr_agree.specs.Views.{asked_of, types_in, call_of};
-ghost use Rattle.ndr_written.specs.Written.{stub};
+ghost use Rattle.ndr_model.specs.Written.{stub};
 ghost use Rattle.ndr_codec.specs.Encoded.{Encodes};
 
 use ndr_agree::Call;

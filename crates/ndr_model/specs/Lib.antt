@@ -9,4 +9,9 @@ pub mod Named
 pub mod Agree
 pub mod Compare
 pub mod Message
+pub mod Pieces
+pub mod Fronts
+pub mod Written
+pub mod Fits
+pub mod Faults
 pub mod Laws

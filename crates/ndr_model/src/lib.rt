@@ -3,11 +3,13 @@
 #![tactic(auto)]
 
 mod departure;
+mod fault;
 mod laws;
 mod mark;
 mod way;
 
 pub use departure::Departure;
+pub use fault::NdrFault;
 pub use laws::{read_values_stand, same_is_tested};
 pub use mark::Mark;
 pub use way::Way;

@@ -3,7 +3,7 @@ use Rattle.std.proofs.Common.{◌≡◌, ℕ, suc, ◌+◌, add-one, List, [], �
 use Rattle.std.proofs.lemmas.List.{append-nil}
 use Rattle.rpc_base.specs.declared.identifiers.Order.{Order}
 use Rattle.ndr_value.specs.Values.{count_of, bytes}
-use Rattle.ndr_written.specs.Pieces.{Given, Behind, Piece, only, joined, then_piece, next_id, number}
+use Rattle.ndr_model.specs.Pieces.{Given, Behind, Piece, only, joined, then_piece, next_id, number}
 use Rattle.ndr_write.specs.Views.{followed, octets_only}
 
 abbrev pub piece : List ℕ → Given → List Behind → Piece

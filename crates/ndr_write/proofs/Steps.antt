@@ -15,9 +15,9 @@ use Rattle.ndr_value.specs.Values.{Val, VByte, VStruct, VArray, count_of, Vals, 
 use Rattle.table_form.specs.Aligned.{is_last}
 use Rattle.ndr_model.specs.Part.{opens_with}
 use Rattle.ndr_model.specs.Named.{Call}
-use Rattle.ndr_written.specs.Pieces.{Given, Behind, Piece, only, joined, then_piece, number}
-use Rattle.ndr_written.specs.Fronts.{front, front_at, front_last, size_of, array_counts, front_array}
-use Rattle.ndr_written.specs.Written.{Writing, leaf, flat, flat_at, opening, members, struct_piece, elements, array_piece, each_behind, with_behind, whole, deep}
+use Rattle.ndr_model.specs.Pieces.{Given, Behind, Piece, only, joined, then_piece, number}
+use Rattle.ndr_model.specs.Fronts.{front, front_at, front_last, size_of, array_counts, front_array}
+use Rattle.ndr_model.specs.Written.{Writing, leaf, flat, flat_at, opening, members, struct_piece, elements, array_piece, each_behind, with_behind, whole, deep}
 use Rattle.ndr_write.specs.declared.state.Pending.{Pending}
 use Rattle.ndr_write.specs.Views.{behind_of, followed, octets_only}
 use Rattle.ndr_write.proofs.Chains.{piece, followed_none, followed_then, octets_more}

@@ -3,7 +3,7 @@ use Rattle.std.specs.Prelude.{ℕ, Bool, List, [], ◌∷◌, map, length, if◌
 use Rattle.rpc_base.specs.declared.identifiers.Order.{Order}
 use Rattle.ndr_value.specs.Forms.{form}
 use Rattle.ndr_value.specs.Values.{Val, VByte, val, vals}
-use Rattle.ndr_written.specs.Pieces.{Given, Behind, Piece, only, joined, number}
+use Rattle.ndr_model.specs.Pieces.{Given, Behind, Piece, only, joined, number}
 use Rattle.ndr_write.specs.declared.state.Pointed.{Pointed}
 use Rattle.ndr_write.specs.declared.state.Pointed.TheVariants as pointed
 use Rattle.ndr_write.specs.declared.state.Pending.{Pending}

@@ -2,7 +2,7 @@
 ghost use Rattle.std.specs.Prelude.{◌≡◌, ◌++◌, ◌<◌, ◌^◌, length, OnOk};
 ghost use Rattle.ndr_value.specs.Values.{vals};
 ghost use Rattle.ndr_agree.specs.Views.{types_in, call_of};
-ghost use Rattle.ndr_written.specs.Fronts as spec;
+ghost use Rattle.ndr_model.specs.Fronts as spec;
 
 use crate::numbers::{count_of, counted};
 use crate::state::Writer;

@@ -3,8 +3,8 @@ ghost use Rattle.std.specs.Prelude.{◌≡◌, OnOk};
 ghost use Rattle.ndr_value.specs.Forms.{form, OfByte};
 ghost use Rattle.ndr_value.specs.Values.{VByte, vals, bytes};
 ghost use Rattle.ndr_agree.specs.Views.{types_in, call_of};
-ghost use Rattle.ndr_written.specs.Pieces as pieces;
-ghost use Rattle.ndr_written.specs.Written as spec;
+ghost use Rattle.ndr_model.specs.Pieces as pieces;
+ghost use Rattle.ndr_model.specs.Written as spec;
 ghost use Rattle.ndr_write.specs.Views.{followed, octets_only, piece_of};
 
 use crate::numbers::number;
@@ -20,7 +20,7 @@ fn put_octet(writer: &Writer<'_>, octet: u8, out: &mut Out) -> Result<(), NoMemo
 }
 
 /// The flat part of a `Byte` value, by its octet.
-#[tactic(auto, unfolding(ndr_written::specs::Written::flat))]
+#[tactic(auto, unfolding(ndr_model::specs::Written::flat))]
 pub(crate) fn flat_byte<'a>(
     fuel: u32,
     writer: &Writer<'a>,

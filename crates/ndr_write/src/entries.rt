@@ -5,7 +5,7 @@ ghost use Rattle.ndr_value.specs.Values.{val, vals, no_val, msg};
 ghost use Rattle.table_form.specs.Tables.{param_form, result_form};
 ghost use Rattle.ndr_model.specs.Stub as stub;
 ghost use Rattle.ndr_agree.specs.Views.{types_in, call_of};
-ghost use Rattle.ndr_written.specs.Written as spec;
+ghost use Rattle.ndr_model.specs.Written as spec;
 ghost use Rattle.ndr_write.specs.Views.{followed, piece_of};
 
 use crate::state::{Out, Pending, Pointed, Writer};
@@ -94,7 +94,7 @@ fn put_params<'a>(
 }
 
 // The canonical octets, in the room of an empty vector.
-#[tactic(auto, unfolding(ndr_written::specs::Written::stub))]
+#[tactic(auto, unfolding(ndr_model::specs::Written::stub))]
 fn stub_in(alloc: Global, call: &Call<'_>, order: Order, room: Vec<u8>) -> Result<Vec<u8>, NoMemory>
     requires { room.items ≡ [] }
     ensures { IfOk result (λ v. v.items ≡ spec.stub (types_in call.now) (call_of call.now).op (call_of call.now).way order (call_of call.now).asked (call_of call.now).said) }

@@ -7,8 +7,8 @@ ghost use Rattle.table_form.specs.Aligned.{is_last, align_of, alignments};
 ghost use Rattle.table_form.specs.Ordered.{is_size};
 ghost use Rattle.ndr_model.specs.Part.{opens_with};
 ghost use Rattle.ndr_agree.specs.Views.{types_in, call_of};
-ghost use Rattle.ndr_written.specs.Fronts.{front};
-ghost use Rattle.ndr_written.specs.Written as spec;
+ghost use Rattle.ndr_model.specs.Fronts.{front};
+ghost use Rattle.ndr_model.specs.Written as spec;
 ghost use Rattle.ndr_write.specs.Views.{followed, octets_only, piece_of};
 
 use crate::arrays::put_counts;
@@ -22,7 +22,7 @@ use rpc_base::NoMemory;
 
 /// Adds the flat part of a value, and what its pointers point to at the end of `behind`. `moved`: its
 /// max_count stands in front.
-#[tactic(auto, unfolding(ndr_written::specs::Written::flat))]
+#[tactic(auto, unfolding(ndr_model::specs::Written::flat))]
 #[cycle(flat)]
 pub(crate) fn flat_value<'a>(
     fuel: u32,

@@ -6,8 +6,8 @@ ghost use Rattle.table_form.specs.Aligned.{align_of, alignments};
 ghost use Rattle.table_form.specs.Ordered.{is_size};
 ghost use Rattle.ndr_model.specs.Part.{opens_with};
 ghost use Rattle.ndr_agree.specs.Views.{types_in, call_of};
-ghost use Rattle.ndr_written.specs.Fronts as spec;
-ghost use Rattle.ndr_written.specs.Written as written;
+ghost use Rattle.ndr_model.specs.Fronts as spec;
+ghost use Rattle.ndr_model.specs.Written as written;
 ghost use Rattle.ndr_write.specs.Views.{front_octets};
 
 use crate::arrays::size_of;
@@ -41,7 +41,7 @@ fn front_text(writer: &Writer<'_>, value: &Value) -> u64
     }
 }
 
-#[tactic(auto, unfolding(ndr_written::specs::Fronts::front))]
+#[tactic(auto, unfolding(ndr_model::specs::Fronts::front))]
 #[cycle(front)]
 fn front_count(fuel: u32, writer: &Writer<'_>, body: &[Value], shape: &Shape, value: &Value) -> u64
     ensures { result ≡ spec.front (types_in writer.now.call) writer.now.order (call_of writer.now.call) fuel (vals body.now) (form shape.now) (val value.now) }

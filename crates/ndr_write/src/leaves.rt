@@ -5,8 +5,8 @@ ghost use Rattle.ndr_value.specs.Values.{val};
 ghost use Rattle.ndr_agree.specs.Views.{types_in, call_of};
 ghost use Rattle.table_form.specs.Ordered.{is_size};
 ghost use Rattle.ndr_arrays.specs.Written.{both};
-ghost use Rattle.ndr_written.specs.Pieces as pieces;
-ghost use Rattle.ndr_written.specs.Written as spec;
+ghost use Rattle.ndr_model.specs.Pieces as pieces;
+ghost use Rattle.ndr_model.specs.Written as spec;
 
 use crate::numbers::{gap, natural, number, signed};
 use crate::state::Writer;

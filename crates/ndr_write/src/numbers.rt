@@ -3,7 +3,7 @@ ghost use Rattle.std.specs.Prelude.{◌≡◌, ◌<◌, ◌≤◌, ◌-◌, ◌^
 ghost use Rattle.table_form.specs.Ordered.{is_size};
 ghost use Rattle.ndr_scalars.specs.Scalars.{up, holds_number, holds_signed};
 ghost use Rattle.ndr_value.specs.Fits.{within};
-ghost use Rattle.ndr_written.specs.Pieces as spec;
+ghost use Rattle.ndr_model.specs.Pieces as spec;
 
 use ndr_scalars::{write_int, write_uint};
 use rpc_base::{NoMemory, Order};

@@ -4,8 +4,8 @@ ghost use Rattle.ndr_value.specs.Forms.{form};
 ghost use Rattle.ndr_value.specs.Values.{val, vals, VFull};
 ghost use Rattle.ndr_model.specs.Named.{nth};
 ghost use Rattle.ndr_agree.specs.Views.{types_in, call_of};
-ghost use Rattle.ndr_written.specs.Written as spec;
-ghost use Rattle.ndr_written.specs.Pieces as pieces;
+ghost use Rattle.ndr_model.specs.Written as spec;
+ghost use Rattle.ndr_model.specs.Pieces as pieces;
 ghost use Rattle.ndr_write.specs.Views.{behind_of, pointed_of, followed, octets_only, piece_of};
 
 use crate::numbers::{next_id, number as word};

@@ -3,7 +3,7 @@ ghost use Rattle.std.specs.Prelude.{◌≡◌, [], map, false, OnOk};
 ghost use Rattle.ndr_value.specs.Forms.{form};
 ghost use Rattle.ndr_value.specs.Values.{vals};
 ghost use Rattle.ndr_agree.specs.Views.{types_in, call_of};
-ghost use Rattle.ndr_written.specs.Written as spec;
+ghost use Rattle.ndr_model.specs.Written as spec;
 ghost use Rattle.ndr_write.specs.Views.{behind_of, pointed_of, followed, piece_of};
 
 use crate::bytes::flat_byte;
@@ -47,7 +47,7 @@ fn flat_pending<'a>(
 }
 
 /// Adds a value with what its pointers point to, on at most so many levels of pointers.
-#[tactic(auto, unfolding(ndr_written::specs::Written::whole))]
+#[tactic(auto, unfolding(ndr_model::specs::Written::whole))]
 #[cycle(whole)]
 pub(crate) fn put_whole<'a>(
     levels: u16,

@@ -18,10 +18,10 @@ use Rattle.ndr_model.specs.Named.{Call, nth}
 use Rattle.ndr_model.specs.Stub.{item}
 use Rattle.ndr_model.specs.Agree.{Stood, is_plain, Agrees, plainly, by_name, by_members, by_empty_arm, by_arm, by_array, by_ref, by_null, by_pointer, by_null_full, by_new, by_repeat, AgreesEach, no_member_left, member_then, AgreesAll, all_plainly, no_element_left, element_then}
 use Rattle.ndr_laws.proofs.Grounded.{EachForm, Shallow, Targets, EachTarget, Grounded, each_arm, type_has, arm_has}
-use Rattle.ndr_written.specs.Pieces.{fitting, Given, only, then_piece, next_id, one_given, item_given, gap, number, signed_number}
-use Rattle.ndr_written.specs.Fronts.{array_counts, front_type, front_last, front}
-use Rattle.ndr_written.specs.Written.{wire, tag, item_behind, item_piece, arm_piece, type_piece, opening, members, elements, flat, deep}
-use Rattle.ndr_written.specs.Fits.{Seen, with_item, with_wire, Suits, suits_bool, suits_byte, suits_char, suits_int, suits_uint, suits_enum, suits_handle, suits_text, suits_name, suits_struct, suits_empty_arm, suits_arm, suits_array, suits_ref, suits_null, suits_unique, suits_null_full, suits_new, suits_repeat, SuitEach, no_member, then_member, SuitAll, no_element, then_element}
+use Rattle.ndr_model.specs.Pieces.{fitting, Given, only, then_piece, next_id, one_given, item_given, gap, number, signed_number}
+use Rattle.ndr_model.specs.Fronts.{array_counts, front_type, front_last, front}
+use Rattle.ndr_model.specs.Written.{wire, tag, item_behind, item_piece, arm_piece, type_piece, opening, members, elements, flat, deep}
+use Rattle.ndr_model.specs.Fits.{Seen, with_item, with_wire, Suits, suits_bool, suits_byte, suits_char, suits_int, suits_uint, suits_enum, suits_handle, suits_text, suits_name, suits_struct, suits_empty_arm, suits_arm, suits_array, suits_ref, suits_null, suits_unique, suits_null_full, suits_new, suits_repeat, SuitEach, no_member, then_member, SuitAll, no_element, then_element}
 use Rattle.ndr_written.proofs.Texts.{Has, has_first, has_second, fitting_is}
 use Rattle.ndr_written.proofs.Leaves.{number_again, signed_is, signed_stands, wire_stands}
 use Rattle.ndr_written.proofs.Counts.{Front, front_none, front_some, Placed, placed_here, placed_front, texted_by, text_again, counts_written}

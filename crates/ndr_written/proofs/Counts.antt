@@ -21,11 +21,11 @@ use Rattle.ndr_model.specs.declared.mark.Mark.TheVariants.{Number}
 use Rattle.ndr_model.specs.Part.{count_marks}
 use Rattle.ndr_model.specs.Named.{Call, named}
 use Rattle.ndr_model.specs.Agree.{Stood, most_in_front, most_here, AgreesCounts, agrees_fixed, agrees_varying, agrees_conformant, agrees_both}
-use Rattle.ndr_written.specs.Pieces.{fitting, counted}
-use Rattle.ndr_written.specs.Fronts.{size_of, array_counts}
-use Rattle.ndr_written.specs.Written.{text}
+use Rattle.ndr_model.specs.Pieces.{fitting, counted}
+use Rattle.ndr_model.specs.Fronts.{size_of, array_counts}
+use Rattle.ndr_model.specs.Written.{text}
 use Rattle.ndr_value.specs.Fits.{has_nul}
-use Rattle.ndr_written.specs.Fits.{SuitsText, SuitsCounts, counts_fixed, counts_varying, counts_conformant, counts_both}
+use Rattle.ndr_model.specs.Fits.{SuitsText, SuitsCounts, counts_fixed, counts_varying, counts_conformant, counts_both}
 use Rattle.ndr_written.proofs.Texts.{Has, has_first, has_second, has_within, has_there, scalar_fits, fitting_is, number_stands}
 
 -- a max_count in front of a structure, in the octets that are written

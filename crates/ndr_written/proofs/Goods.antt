@@ -13,11 +13,11 @@ use Rattle.ndr_model.specs.Named.{Call}
 use Rattle.ndr_model.proofs.Mets.{eq_self, less_not}
 use Rattle.std.proofs.lemmas.Option.{slice_get_within}
 use Rattle.ndr_value.specs.declared.shape.Count.{Count}
-use Rattle.ndr_written.specs.Fits.{Seen, with_item, with_wire, Suits, suits_bool, suits_byte, suits_char, suits_int, suits_uint, suits_enum, suits_handle, suits_text, suits_name, suits_struct, suits_empty_arm, suits_arm, suits_array, suits_ref, suits_null, suits_unique, suits_null_full, suits_new, suits_repeat, SuitEach, no_member, then_member, SuitAll, no_element, then_element}
+use Rattle.ndr_model.specs.Fits.{Seen, with_item, with_wire, Suits, suits_bool, suits_byte, suits_char, suits_int, suits_uint, suits_enum, suits_handle, suits_text, suits_name, suits_struct, suits_empty_arm, suits_arm, suits_array, suits_ref, suits_null, suits_unique, suits_null_full, suits_new, suits_repeat, SuitEach, no_member, then_member, SuitAll, no_element, then_element}
 use Rattle.ndr_laws.proofs.Grounded.{EachForm, Shallow, type_has, arm_has}
-use Rattle.ndr_written.specs.Pieces.{fitting, Given, Piece, only, next_id, one_given, item_given, gap, number}
-use Rattle.ndr_written.specs.Fronts.{array_counts, front}
-use Rattle.ndr_written.specs.Written.{item_piece, tag, opening, arm_piece, type_piece, members, elements, flat}
+use Rattle.ndr_model.specs.Pieces.{fitting, Given, Piece, only, next_id, one_given, item_given, gap, number}
+use Rattle.ndr_model.specs.Fronts.{array_counts, front}
+use Rattle.ndr_model.specs.Written.{item_piece, tag, opening, arm_piece, type_piece, members, elements, flat}
 use Rattle.ndr_written.proofs.Ids.{Rising, rising_weaker, rising_last}
 use Rattle.ndr_written.proofs.Texts.{Has, has_first, has_second, has_within, fitting_is, fitting_4, number_ends}
 use Rattle.ndr_written.proofs.Leaves.{number_again}

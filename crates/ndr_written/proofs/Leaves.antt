@@ -15,10 +15,10 @@ use Rattle.ndr_value.specs.Fits.{within}
 use Rattle.ndr_scalars.specs.Scalars.{up, octets_of, signed, unsigned, Scalar, written}
 use Rattle.ndr_model.specs.Named.{Call}
 use Rattle.ndr_model.specs.Part.{IsWire, IsTag, tag_bool, tag_char, tag_int, tag_uint, tag_enum}
-use Rattle.ndr_written.specs.Pieces.{half, fitting_int, gap, number, signed_number}
-use Rattle.ndr_written.specs.Written.{wire, tag}
-use Rattle.ndr_written.specs.Fits.{HoldsInt, HoldsTag}
-use Rattle.ndr_written.specs.Fits as holding
+use Rattle.ndr_model.specs.Pieces.{half, fitting_int, gap, number, signed_number}
+use Rattle.ndr_model.specs.Written.{wire, tag}
+use Rattle.ndr_model.specs.Fits.{HoldsInt, HoldsTag}
+use Rattle.ndr_model.specs.Fits as holding
 use Rattle.ndr_written.proofs.Texts.{Has, has_second, has_within, has_there, fitting_is, gap_end, number_stands}
 
 -- ---- signed numbers

@@ -13,14 +13,14 @@ use Rattle.ndr_model.specs.Part.{IsTag, opens_with, in_place, Opens, in_a_greate
 use Rattle.ndr_model.specs.Part as part
 use Rattle.ndr_model.specs.Named.{Call}
 use Rattle.ndr_model.specs.Agree.{Stood, Fronts, fronts_greater, fronts, fronts_none}
-use Rattle.ndr_written.specs.Pieces.{fitting, gap, number}
-use Rattle.ndr_written.specs.Fronts.{front_last}
-use Rattle.ndr_written.specs.Written.{tag, opening}
+use Rattle.ndr_model.specs.Pieces.{fitting, gap, number}
+use Rattle.ndr_model.specs.Fronts.{front_last}
+use Rattle.ndr_model.specs.Written.{tag, opening}
 use Rattle.ndr_written.proofs.Texts.{Has, has_first, has_second, has_within, fitting_4, gap_end, number_stands}
 use Rattle.ndr_written.proofs.Leaves.{tag_stands}
 use Rattle.ndr_written.proofs.Counts.{Front, front_none, front_some}
 use Rattle.ndr_written.proofs.Places.{ends_both}
-use Rattle.ndr_written.specs.Fits.{HoldsTag}
+use Rattle.ndr_model.specs.Fits.{HoldsTag}
 
 eq_is : (n m : ℕ) → (n == m) ≡ true → n ≡ m
 eq_is n m e = grind (arith)

@@ -9,9 +9,9 @@ use Rattle.ndr_model.specs.declared.mark.Mark.{Mark}
 use Rattle.ndr_model.specs.Places.{Place, Last, noting}
 use Rattle.ndr_model.specs.Stub.{item}
 use Rattle.ndr_model.specs.Named.{Call, nth}
-use Rattle.ndr_written.specs.Pieces.{Given, Behind, Piece, only, joined}
-use Rattle.ndr_written.specs.Written.{each_behind, whole}
-use Rattle.ndr_written.specs.Fits.{Seen}
+use Rattle.ndr_model.specs.Pieces.{Given, Behind, Piece, only, joined}
+use Rattle.ndr_model.specs.Written.{each_behind, whole}
+use Rattle.ndr_model.specs.Fits.{Seen}
 use Rattle.ndr_written.proofs.Ids.{Rising, zipped}
 use Rattle.ndr_written.proofs.Texts.{Has, has_first, has_second}
 

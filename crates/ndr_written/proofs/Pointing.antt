@@ -4,7 +4,7 @@ use Rattle.std.specs.Prelude.{slice_get, unwrap_or}
 use Rattle.ndr_scalars.specs.Scalars.{Scalar}
 use Rattle.ndr_model.specs.Same.{IsSame}
 use Rattle.ndr_model.specs.Part.{a_repeat}
-use Rattle.ndr_written.specs.Fits.{Seen, with_item}
+use Rattle.ndr_model.specs.Fits.{Seen, with_item}
 use Rattle.ndr_written.proofs.Texts.{has_within}
 use Rattle.ndr_written.proofs.Leaves.{number_again}
 use Rattle.std.proofs.lemmas.List.{append-nil}
@@ -17,8 +17,8 @@ use Rattle.ndr_model.specs.Places.{Place, Last, onto, noting, keeping, look}
 use Rattle.ndr_model.specs.Part.{Part, a_new}
 use Rattle.ndr_model.specs.Named.{Call}
 use Rattle.ndr_model.proofs.Mets.{Mets}
-use Rattle.ndr_written.specs.Pieces.{Given, Behind, Piece, next_id, item_given, number}
-use Rattle.ndr_written.specs.Written.{flat, deep, whole}
+use Rattle.ndr_model.specs.Pieces.{Given, Behind, Piece, next_id, item_given, number}
+use Rattle.ndr_model.specs.Written.{flat, deep, whole}
 use Rattle.ndr_written.proofs.Ids.{Rising, zipped, zipped_length, zipped_last, unmet, met_again}
 use Rattle.ndr_written.proofs.Texts.{Has, has_first, has_second}
 use Rattle.ndr_written.proofs.Places.{written_place, Numbered, written_last, Good, Kept, In, Sound, ends_both, refs, Stands, split}

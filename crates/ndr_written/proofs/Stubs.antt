@@ -23,10 +23,10 @@ use Rattle.ndr_laws.proofs.Grounded.{Grounded, EachEntry}
 use Rattle.ndr_laws.proofs.Grows.{part_grows}
 use Rattle.ndr_laws.proofs.Levels.{plus, plus_is, tight, tight_is, types_grounded, op_entries}
 use Rattle.ndr_laws.proofs.Stubs.{read_stands, stub_found}
-use Rattle.ndr_written.specs.Pieces.{fitting, Given, Piece}
-use Rattle.ndr_written.specs.Fronts.{front}
-use Rattle.ndr_written.specs.Written.{flat, deep, whole, each_entry, call_of, stub}
-use Rattle.ndr_written.specs.Fits.{Seen, Suits, SuitsRange, SuitEntries, no_entry, then_entry, nothing_seen, IsOfOp}
+use Rattle.ndr_model.specs.Pieces.{fitting, Given, Piece}
+use Rattle.ndr_model.specs.Fronts.{front}
+use Rattle.ndr_model.specs.Written.{flat, deep, whole, each_entry, call_of, stub}
+use Rattle.ndr_model.specs.Fits.{Seen, Suits, SuitsRange, SuitEntries, no_entry, then_entry, nothing_seen, IsOfOp}
 use Rattle.ndr_written.specs.Laws.{HasIds}
 use Rattle.ndr_written.proofs.Ids.{zipped, zipped_length}
 use Rattle.ndr_written.proofs.Texts.{Has, has_first, has_second}

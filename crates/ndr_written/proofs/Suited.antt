@@ -24,8 +24,8 @@ use Rattle.ndr_model.specs.Named.{Call, nth}
 use Rattle.ndr_model.specs.Agree.{Stood, Fronts, fronts_greater, fronts, fronts_none, most_in_front, most_here, AgreesCounts, agrees_fixed, agrees_varying, agrees_conformant, agrees_both, Agrees, plainly, by_name, by_members, by_empty_arm, by_arm, by_array, by_ref, by_null, by_pointer, by_null_full, by_new, by_repeat, AgreesEach, no_member_left, member_then, AgreesAll, all_plainly, no_element_left, element_then}
 use Rattle.ndr_model.proofs.Mets.{Mets, Ext, ext_self, ext_then}
 use Rattle.ndr_laws.proofs.Grows.{part_grows, parts_grow, items_grow}
-use Rattle.ndr_written.specs.Fits.{Holds, HoldsTag, SuitsText, SuitsCounts, counts_fixed, counts_varying, counts_conformant, counts_both, Seen, with_item, Suits, suits_bool, suits_byte, suits_char, suits_int, suits_uint, suits_enum, suits_handle, suits_text, suits_name, suits_struct, suits_empty_arm, suits_arm, suits_array, suits_ref, suits_null, suits_unique, suits_null_full, suits_new, suits_repeat, SuitEach, no_member, then_member, SuitAll, no_element, then_element, SuitsRange, SuitEntries, no_entry, then_entry}
-use Rattle.ndr_written.specs.Fits as holding
+use Rattle.ndr_model.specs.Fits.{Holds, HoldsTag, SuitsText, SuitsCounts, counts_fixed, counts_varying, counts_conformant, counts_both, Seen, with_item, Suits, suits_bool, suits_byte, suits_char, suits_int, suits_uint, suits_enum, suits_handle, suits_text, suits_name, suits_struct, suits_empty_arm, suits_arm, suits_array, suits_ref, suits_null, suits_unique, suits_null_full, suits_new, suits_repeat, SuitEach, no_member, then_member, SuitAll, no_element, then_element, SuitsRange, SuitEntries, no_entry, then_entry}
+use Rattle.ndr_model.specs.Fits as holding
 use Rattle.ndr_written.proofs.Texts.{scalar_fits}
 use Rattle.ndr_written.proofs.Leaves.{handle_fits, signed_fits}
 use Rattle.ndr_written.proofs.Counts.{texted, placed_nul, mark_is}

@@ -8,7 +8,7 @@ use Rattle.rpc_base.specs.declared.identifiers.Order.{Order}
 use Rattle.rpc_base.specs.Fields.{IsOctets, number_of, number_octets}
 use Rattle.rpc_base.proofs.FieldLaws.{IsOctets-drop, IsOctets-take, wide16, wide32, wide64}
 use Rattle.ndr_scalars.specs.Scalars.{up, octets_of, number_in, cells_of, Scalar, written}
-use Rattle.ndr_written.specs.Pieces.{fitting}
+use Rattle.ndr_model.specs.Pieces.{fitting}
 
 -- the octets have this text at this index
 pub record Has (octets : List ℕ) (i : ℕ) (text : List ℕ) : Type 0 where

@@ -7,7 +7,7 @@ use Rattle.rpc_base.specs.declared.identifiers.WireHandle.{WireHandle}
 use Rattle.ndr_value.specs.Forms.{Form, Forms}
 use Rattle.ndr_value.specs.Values.{Val, Vals}
 use Rattle.ndr_model.specs.Named.{Call}
-use Rattle.ndr_written.specs.Fits.{Seen, Suits, suits_bool, suits_byte, suits_char, suits_int, suits_uint, suits_enum, suits_handle, suits_text, suits_name, suits_struct, suits_empty_arm, suits_arm, suits_array, suits_ref, suits_null, suits_unique, suits_null_full, suits_new, suits_repeat, SuitEach, no_member, then_member, SuitAll, no_element, then_element}
+use Rattle.ndr_model.specs.Fits.{Seen, Suits, suits_bool, suits_byte, suits_char, suits_int, suits_uint, suits_enum, suits_handle, suits_text, suits_name, suits_struct, suits_empty_arm, suits_arm, suits_array, suits_ref, suits_null, suits_unique, suits_null_full, suits_new, suits_repeat, SuitEach, no_member, then_member, SuitAll, no_element, then_element}
 
 -- the second begins with the first
 abbrev pub Begin : List WireHandle → List WireHandle → Type 0

@@ -8,8 +8,8 @@ use Rattle.table_form.specs.Tables.{OpForm}
 use Rattle.ndr_model.specs.declared.way.Way.{Way}
 use Rattle.ndr_model.specs.Message.{IsStub, read_stub}
 use Rattle.ndr_laws.specs.Laws.{IsOp}
-use Rattle.ndr_written.specs.Written.{stub}
-use Rattle.ndr_written.specs.Fits.{IsOfOp}
+use Rattle.ndr_model.specs.Written.{stub}
+use Rattle.ndr_model.specs.Fits.{IsOfOp}
 
 -- ids of pointers have 32 bits, and each pointer has four octets
 abbrev pub HasIds : List ℕ → Type 0

@@ -2,7 +2,7 @@
 use Rattle.std.proofs.Common.{◌≡◌, ℕ, Bool, true, false, Option, Some, None, List, [], ◌∷◌, refl, arith}
 use Rattle.ndr_value.specs.Values.{Msg}
 use Rattle.ndr_model.specs.declared.way.Way.TheVariants.{Response}
-use Rattle.ndr_written.specs.Fits.{IsOfOp}
+use Rattle.ndr_model.specs.Fits.{IsOfOp}
 use Rattle.manager_api.specs.declared.answer.Kept.TheVariants.{Cookie, Null}
 use Rattle.manager_api.specs.Answers.{Ans, AOut, Does, cancelled}
 use Rattle.manager_api.specs.Arguments.{uint_at}

@@ -22,7 +22,7 @@ use Rattle.replay_peers.specs.declared.played.Kept.{Kept}
 use Rattle.replay_peers.specs.declared.played.Played.{Played}
 use Rattle.replay_peers.specs.Showing.{Shows}
 use Rattle.replay_peers.specs.Tables.{has_name, ShowAll, ShowOthers}
-use Rattle.replay_realm.specs.Holding.{Holds}
+pub use Rattle.replay_realm.specs.Holding.{Holds}
 use Rattle.replay_realm.specs.Requests.{IsRequest}
 use Rattle.replay_events.specs.declared.player.Player.{Player}
 

@@ -11,9 +11,8 @@ use Rattle.replay_world.specs.Replays.{name_of, names_of, LosesIfOpen, LosesAll,
 use Rattle.replay_service.specs.Service.{service_of}
 use Rattle.replay_peers.specs.declared.played.Played.{Played}
 use Rattle.replay_peers.specs.Tables.{ShowAll}
-use Rattle.replay_realm.specs.Holding.{Holds}
 use Rattle.replay_events.specs.declared.player.Player.{Player}
-use Rattle.replay_events.specs.Standing.{Stands}
+use Rattle.replay_events.specs.Standing.{Stands, Holds}
 use Rattle.replay_events.specs.Hands.{Plays, Leads, Picks, PutsBack}
 use Rattle.replay_events.proofs.Minding.{sound_of}
 use Rattle.replay_lines.specs.Lines.{HasWorld}

@@ -8,7 +8,7 @@ use Rattle.ndr_value.specs.declared.shape.ArrayKind.TheVariants.{Fixed}
 use Rattle.ndr_value.specs.Forms.{Form, OfFull}
 use Rattle.ndr_value.specs.Values.{Val, VUint, VArray, VFull, Vals, no_val, then_val, bytes, count_of}
 use Rattle.ndr_model.specs.Named.{Call, nth}
-use Rattle.ndr_written.specs.Fits.{Seen, with_item, Suits, suits_uint, suits_name, suits_struct, suits_array, suits_new, no_member, then_member, SuitsCounts, counts_fixed, SuitAll, no_element, then_element}
+use Rattle.ndr_model.specs.Fits.{Seen, with_item, Suits, suits_uint, suits_name, suits_struct, suits_array, suits_new, no_member, then_member, SuitsCounts, counts_fixed, SuitAll, no_element, then_element}
 use Rattle.message_parts.specs.Parts.{uuid_value, pointers}
 use Rattle.message_parts.specs.Typed.{IsUuid, IsSyntax}
 use Rattle.response_laws.specs.Parts.{UuidSuits, SyntaxSuits, EachSuits, with_items, PointersSuit}

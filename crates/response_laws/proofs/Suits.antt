@@ -12,8 +12,8 @@ use Rattle.table_form.specs.Tables.{OpForm}
 use Rattle.ndr_model.specs.declared.way.Way.TheVariants.{Response}
 use Rattle.ndr_model.specs.Stub.{Entry, entries}
 use Rattle.ndr_model.specs.Named.{Call}
-use Rattle.ndr_written.specs.Written.{call_of}
-use Rattle.ndr_written.specs.Fits.{Seen, with_wire, nothing_seen, Suits, suits_uint, suits_byte, suits_handle, suits_array, SuitsCounts, counts_both, SuitAll, no_element, then_element, SuitEntries, no_entry, then_entry, IsOfOp}
+use Rattle.ndr_model.specs.Written.{call_of}
+use Rattle.ndr_model.specs.Fits.{Seen, with_wire, nothing_seen, Suits, suits_uint, suits_byte, suits_handle, suits_array, SuitsCounts, counts_both, SuitAll, no_element, then_element, SuitEntries, no_entry, then_entry, IsOfOp}
 use Rattle.manager_api.specs.Responses.{null_handle, handle_and_status}
 use Rattle.response_laws.specs.Laws.{plain, handle_then_status, number_then_status, number_and_status, octets_then_status, octets_read, HandleAndStatusIsOf, NumberAndStatusIsOf, OctetsReadIsOf}
 

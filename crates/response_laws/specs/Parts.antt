@@ -4,7 +4,7 @@ use Rattle.rpc_base.specs.declared.identifiers.SyntaxId.{SyntaxId}
 use Rattle.ndr_value.specs.Forms.{Form, OfFull}
 use Rattle.ndr_value.specs.Values.{Vals, no_val, then_val, count_of}
 use Rattle.ndr_model.specs.Named.{Call, nth}
-use Rattle.ndr_written.specs.Fits.{Seen, with_item, Suits, SuitAll}
+use Rattle.ndr_model.specs.Fits.{Seen, with_item, Suits, SuitAll}
 use Rattle.table_parts.specs.Parts.{named, uuid_form, syntax_form}
 use Rattle.message_parts.specs.Parts.{uuid_value, syntax_value, pointers}
 use Rattle.message_parts.specs.Typed.{IsUuid, IsSyntax}

@@ -15,7 +15,7 @@ use Rattle.table_form.specs.Tables.{OpForm, TableForm}
 use Rattle.table_form.specs.Sound.{IsSound}
 use Rattle.ndr_value.specs.Values.{Msg}
 use Rattle.ndr_model.specs.declared.way.Way.TheVariants.{Request}
-use Rattle.ndr_written.specs.Fits.{IsOfOp}
+use Rattle.ndr_model.specs.Fits.{IsOfOp}
 use Rattle.manager_api.specs.declared.answer.Kept.{Kept}
 use Rattle.manager_api.specs.declared.answer.Kept.TheVariants.{Stays, Cookie, Null}
 use Rattle.manager_api.specs.Answers.{Ans, AOut, AFault}

@@ -18,7 +18,7 @@ use Rattle.ndr_model.specs.declared.way.Way.TheVariants.{Request}
 use Rattle.ndr_model.specs.Message.{IsStub}
 use Rattle.ndr_laws.specs.Laws.{IsOp, OneMessage}
 use Rattle.ndr_laws.proofs.Stubs.{one_stub}
-use Rattle.ndr_written.specs.Fits.{IsOfOp}
+use Rattle.ndr_model.specs.Fits.{IsOfOp}
 use Rattle.ndr_written.proofs.Stubs.{stub_suits}
 use Rattle.manager_api.specs.Answers.{Ans}
 use Rattle.manager_api.specs.Calls.{Call, Owes, uses_at}

@@ -12,9 +12,9 @@ use Rattle.ndr_model.specs.declared.departure.Departure.{Departure}
 use Rattle.ndr_model.specs.declared.departure.Departure.TheVariants as departures
 use Rattle.ndr_model.specs.declared.way.Way.TheVariants.{Request}
 use Rattle.ndr_model.specs.Message.{read_stub}
-use Rattle.ndr_codec.specs.declared.fault.NdrFault.{NdrFault}
-use Rattle.ndr_codec.specs.declared.fault.NdrFault.TheVariants.{Short, Bound, Tag, Pointer, Text, TooDeep, Trailing, Memory}
-use Rattle.ndr_codec.specs.Faults.{IsFault, fault_of, status_of}
+use Rattle.ndr_model.specs.declared.fault.NdrFault.{NdrFault}
+use Rattle.ndr_model.specs.declared.fault.NdrFault.TheVariants.{Short, Bound, Tag, Pointer, Text, TooDeep, Trailing, Memory}
+use Rattle.ndr_model.specs.Faults.{IsFault, fault_of, status_of}
 use Rattle.served_calls.specs.Requests.{types_in, op_in, IsRefused, no_operation, no_stub, no_room, full}
 
 -- a refusal stays one, whichever groups are full

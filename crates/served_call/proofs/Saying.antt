@@ -8,7 +8,7 @@ use Rattle.handle_model.specs.declared.entry.Said.{Said}
 use Rattle.ndr_value.specs.Values.{Msg}
 use Rattle.table_form.specs.Tables.{OpForm, TableForm}
 use Rattle.ndr_model.specs.declared.way.Way.TheVariants.{Response}
-use Rattle.ndr_written.specs.Written.{stub}
+use Rattle.ndr_model.specs.Written.{stub}
 use Rattle.manager_api.specs.Answers.{Ans, AOut, AFault}
 use Rattle.served_calls.specs.Requests.{types_in, op_in, op_of}
 use Rattle.served_calls.specs.Ends.{Says, SaysStub, wires_at, with_wires}

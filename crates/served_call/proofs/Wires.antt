@@ -15,8 +15,8 @@ use Rattle.ndr_laws.proofs.Grounded.{HasBody, EachArm, arm_has}
 use Rattle.ndr_model.specs.declared.way.Way.TheVariants.{Request}
 use Rattle.ndr_model.specs.Stub.{Entry, of_param, param_entry, entries_of, entries}
 use Rattle.ndr_model.specs.Named.{Call}
-use Rattle.ndr_written.specs.Fits.{Seen, with_wire, Suits, suits_bool, suits_byte, suits_char, suits_int, suits_uint, suits_enum, suits_handle, suits_text, suits_name, suits_struct, suits_empty_arm, suits_arm, suits_array, suits_ref, suits_null, suits_unique, suits_null_full, suits_new, suits_repeat, SuitEach, no_member, then_member, SuitAll, no_element, then_element, SuitEntries, no_entry, then_entry, nothing_seen, IsOfOp}
-use Rattle.ndr_written.specs.Written.{call_of}
+use Rattle.ndr_model.specs.Fits.{Seen, with_wire, Suits, suits_bool, suits_byte, suits_char, suits_int, suits_uint, suits_enum, suits_handle, suits_text, suits_name, suits_struct, suits_empty_arm, suits_arm, suits_array, suits_ref, suits_null, suits_unique, suits_null_full, suits_new, suits_repeat, SuitEach, no_member, then_member, SuitAll, no_element, then_element, SuitEntries, no_entry, then_entry, nothing_seen, IsOfOp}
+use Rattle.ndr_model.specs.Written.{call_of}
 use Rattle.manager_api.specs.Calls.{uses_or}
 
 pub both : (a b : Bool) → (a && b) ≡ true → (a ≡ true) × (b ≡ true)

@@ -8,7 +8,7 @@ use Rattle.table_form.specs.Tables.{TableForm, OpForm}
 use Rattle.table_form.specs.Sound.{IsSound}
 use Rattle.ndr_value.specs.Values.{Msg}
 use Rattle.ndr_model.specs.declared.way.Way.TheVariants.{Request}
-use Rattle.ndr_written.specs.Fits.{IsOfOp}
+use Rattle.ndr_model.specs.Fits.{IsOfOp}
 use Rattle.manager_api.specs.Answers.{Ans}
 use Rattle.manager_api.specs.Calls.{Owes, has_cookies, uses_at}
 use Rattle.served_calls.specs.Requests.{HasSlots, slots_for}

@@ -4,7 +4,7 @@ ghost use Rattle.ndr_value.specs.Values.{msg};
 ghost use Rattle.table_form.specs.Shown.{shown};
 ghost use Rattle.table_form.specs.Tables.{OpForm};
 ghost use Rattle.ndr_model.specs.declared.way.Way.TheVariants.{Response};
-ghost use Rattle.ndr_written.specs.Written.{stub};
+ghost use Rattle.ndr_model.specs.Written.{stub};
 ghost use Rattle.manager_api.specs.Answers.{ans};
 ghost use Rattle.served_calls.specs.Ends as spec;
 ghost use Rattle.served_call.specs.Said.{SaysAt};

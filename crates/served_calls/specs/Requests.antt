@@ -14,7 +14,7 @@ use Rattle.table_form.specs.Tables.{OpForm, TableForm}
 use Rattle.ndr_model.specs.declared.departure.Departure.{Departure}
 use Rattle.ndr_model.specs.declared.way.Way.TheVariants.{Request}
 use Rattle.ndr_model.specs.Message.{IsStub, read_stub}
-use Rattle.ndr_codec.specs.Faults.{fault_of, status_of}
+use Rattle.ndr_model.specs.Faults.{fault_of, status_of}
 use Rattle.manager_api.specs.Calls.{uses_at}
 
 -- THE INTERFACES, by number

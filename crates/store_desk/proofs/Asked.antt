@@ -4,7 +4,7 @@ use Rattle.ndr_value.specs.Forms.{OfUint, OfHandle}
 use Rattle.ndr_value.specs.Values.{Val, VUint, Vals, Msg}
 use Rattle.ndr_model.specs.Stub.{Entry}
 use Rattle.ndr_model.specs.Named.{Call, nth, of_known, with_heap}
-use Rattle.ndr_written.specs.Fits.{Seen, suits_uint, SuitEntries, no_entry, then_entry}
+use Rattle.ndr_model.specs.Fits.{Seen, suits_uint, SuitEntries, no_entry, then_entry}
 use Rattle.manager_api.specs.Messages.{IsRequest}
 use Rattle.manager_api.specs.Arguments.{uint_at}
 use Rattle.response_laws.specs.Laws.{plain, octets_read, Counted}

@@ -1,6 +1,6 @@
 use Rattle.std.proofs.Common.{◌≡◌, ℕ, ◌≤◌, ◌^◌, List, ◌++◌, length, ap, ◌∙◌, arith}
 use Rattle.rpc_base.specs.declared.identifiers.Order.TheVariants.{Little}
-use Rattle.ndr_written.specs.Written.{stub}
+use Rattle.ndr_model.specs.Written.{stub}
 use Rattle.ndr_agree.specs.Views.{types_in, call_of}
 use Rattle.ndr_codec.proofs.Fitting.{no_told}
 use Rattle.ndr_codec.proofs.fit.fits_call.Goals as goal

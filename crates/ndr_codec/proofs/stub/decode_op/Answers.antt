@@ -5,8 +5,8 @@ use Rattle.table_form.specs.Shown.{shown}
 use Rattle.table_form.specs.Tables.{op_form}
 use Rattle.ndr_model.specs.Message.{read_stub}
 use Rattle.ndr_agree.specs.Views.{asked_of}
-use Rattle.ndr_codec.specs.declared.fault.NdrFault.{NdrFault}
-use Rattle.ndr_codec.specs.Faults.{IsFault}
+use Rattle.ndr_model.specs.declared.fault.NdrFault.{NdrFault}
+use Rattle.ndr_model.specs.Faults.{IsFault}
 use Rattle.ndr_codec.proofs.Decoding.{read_decodes, error_decodes}
 use Rattle.ndr_codec.proofs.stub.decode_op.Goals as goal
 

@@ -3,7 +3,7 @@ use Rattle.ndr_value.specs.Values.{vals}
 use Rattle.table_form.specs.Tables.{param_form, result_form}
 use Rattle.ndr_model.specs.Stub as stub
 use Rattle.ndr_agree.specs.Views.{types_in, call_of}
-use Rattle.ndr_written.specs.Written as spec
+use Rattle.ndr_model.specs.Written as spec
 use Rattle.ndr_write.specs.Views.{followed, piece_of}
 use Rattle.ndr_write.proofs.entries.put_params.Given as goal
 

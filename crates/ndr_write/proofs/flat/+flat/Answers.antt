@@ -8,8 +8,8 @@ use Rattle.table_form.specs.Tails.{ends_open, tails_of}
 use Rattle.ndr_model.specs.Part.{opens_with}
 use Rattle.ndr_agree.specs.Views.{types_in, call_of}
 use Rattle.ndr_agree.proofs.Items.{struct_is, union_is, value_struct, value_array}
-use Rattle.ndr_written.specs.Fronts.{front}
-use Rattle.ndr_written.specs.Written as spec
+use Rattle.ndr_model.specs.Fronts.{front}
+use Rattle.ndr_model.specs.Written as spec
 use Rattle.ndr_write.specs.Views.{followed, piece_of}
 use Rattle.ndr_write.proofs.Chains.{count-bytes}
 use Rattle.ndr_write.proofs.Steps.{then_so, flat_so, struct_so, array_so, members_done, AsLeaf}

@@ -2,7 +2,7 @@ use Rattle.std.proofs.Common.{◌≡◌, ◌+◌, ◌*◌, drop}
 use Rattle.ndr_value.specs.Forms.{form, forms}
 use Rattle.ndr_value.specs.Values.{vals}
 use Rattle.ndr_agree.specs.Views.{types_in, call_of}
-use Rattle.ndr_written.specs.Written as spec
+use Rattle.ndr_model.specs.Written as spec
 use Rattle.ndr_write.specs.Views.{followed, piece_of}
 use Rattle.ndr_write.proofs.flat.+flat.Given as goal
 

@@ -4,7 +4,7 @@ use Rattle.ndr_value.specs.Forms.{form, forms}
 use Rattle.ndr_value.specs.Values.{val, vals}
 use Rattle.ndr_agree.specs.Views.{types_in, call_of}
 use Rattle.ndr_agree.proofs.Items.{struct_is, value_struct}
-use Rattle.ndr_written.specs.Fronts.{front, front_struct}
+use Rattle.ndr_model.specs.Fronts.{front, front_struct}
 use Rattle.ndr_write.proofs.Steps.{not_zero, last_none, last_some}
 use Rattle.ndr_write.proofs.front.+front.Goals as goal
 

@@ -1,6 +1,6 @@
 use Rattle.std.proofs.Common.{◌≡◌, [], ◌∷◌, ◌++◌, length, map, ap, sym, ◌∙◌, refl}
 use Rattle.std.proofs.lemmas.List.{map-append, append-nil}
-use Rattle.ndr_written.specs.Pieces.{number}
+use Rattle.ndr_model.specs.Pieces.{number}
 use Rattle.ndr_write.specs.Views.{behind_of}
 use Rattle.ndr_write.proofs.Chains.{pointed_more}
 use Rattle.ndr_write.proofs.pointers.point.Goals as goal

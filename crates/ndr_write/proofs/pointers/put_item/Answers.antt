@@ -4,7 +4,7 @@ use Rattle.std.proofs.lemmas.Grind.{common_steps}
 use Rattle.ndr_value.specs.Forms.{form}
 use Rattle.ndr_value.specs.Values.{vals}
 use Rattle.ndr_agree.specs.Views.{types_in, call_of}
-use Rattle.ndr_written.specs.Written.{item_piece}
+use Rattle.ndr_model.specs.Written.{item_piece}
 use Rattle.ndr_write.specs.Views.{followed, piece_of}
 use Rattle.ndr_write.proofs.pointers.put_item.Goals as goal
 

@@ -2,8 +2,8 @@ use Rattle.std.proofs.Common.{◌≡◌, [], List, map, false, ap, ◌∙◌}
 use Rattle.ndr_value.specs.Forms.{form}
 use Rattle.ndr_value.specs.Values.{vals}
 use Rattle.ndr_agree.specs.Views.{types_in, call_of}
-use Rattle.ndr_written.specs.Pieces.{Piece}
-use Rattle.ndr_written.specs.Written.{flat, deep}
+use Rattle.ndr_model.specs.Pieces.{Piece}
+use Rattle.ndr_model.specs.Written.{flat, deep}
 use Rattle.ndr_write.specs.declared.state.Pending.{Pending}
 use Rattle.ndr_write.specs.Views.{behind_of, pointed_of, given_of, followed, piece_of}
 use Rattle.ndr_write.proofs.Chains.{piece}

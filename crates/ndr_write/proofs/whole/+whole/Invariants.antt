@@ -1,6 +1,6 @@
 use Rattle.std.proofs.Common.{◌≡◌, ◌+◌, ◌*◌, [], map, drop}
 use Rattle.ndr_agree.specs.Views.{types_in, call_of}
-use Rattle.ndr_written.specs.Written as spec
+use Rattle.ndr_model.specs.Written as spec
 use Rattle.ndr_write.specs.Views.{behind_of, followed, piece_of}
 use Rattle.ndr_write.proofs.whole.+whole.Given as goal
 

@@ -9,7 +9,7 @@ use Rattle.table_form.specs.Aligned.{is_last}
 use Rattle.ndr_arrays.specs.Counted.{counts}
 use Rattle.ndr_arrays.specs.Written.{counts_octets}
 use Rattle.ndr_model.specs.Named.{Call, named}
-use Rattle.ndr_written.specs.Pieces.{fitting, counted}
+use Rattle.ndr_model.specs.Pieces.{fitting, counted}
 
 module _ (types : List Form) (order : Order) (call : Call) where
   -- the size of an array of so many elements

@@ -16,8 +16,8 @@ use Rattle.ndr_model.specs.declared.way.Way.{Way}
 use Rattle.ndr_model.specs.Part.{opens_with}
 use Rattle.ndr_model.specs.Stub.{Entry, entries}
 use Rattle.ndr_model.specs.Named.{Call, nth}
-use Rattle.ndr_written.specs.Pieces.{natural, gap, Given, Behind, Piece, only, then_piece, next_id, one_given, item_given, number, signed_number}
-use Rattle.ndr_written.specs.Fronts.{array_counts, front_last, front}
+use Rattle.ndr_model.specs.Pieces.{natural, gap, Given, Behind, Piece, only, then_piece, next_id, one_given, item_given, number, signed_number}
+use Rattle.ndr_model.specs.Fronts.{array_counts, front_last, front}
 
 -- how a part is written: in a body of those members, with its max_count in front of it or not, of that shape, at an index
 abbrev pub Writing : Type 0

@@ -17,8 +17,8 @@ use Rattle.ndr_model.specs.Same.{IsSame}
 use Rattle.ndr_model.specs.Stub.{Entry, entries}
 use Rattle.ndr_model.specs.Named.{Call, nth, named}
 use Rattle.ndr_model.specs.Agree.{IsTied, IsWithin}
-use Rattle.ndr_written.specs.Pieces.{half}
-use Rattle.ndr_written.specs.Written.{call_of}
+use Rattle.ndr_model.specs.Pieces.{half}
+use Rattle.ndr_model.specs.Written.{call_of}
 
 -- ---- numbers, texts, counts
 
