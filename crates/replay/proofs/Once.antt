@@ -1,9 +1,8 @@
 -- Lines lead to one world.
-use Rattle.std.proofs.Common.{◌≡◌, ℕ, List, [], ◌∷◌, ◌++◌, refl, sym, subst, ◌∙◌}
+use Rattle.std.proofs.Common.{List, [], ◌∷◌, ◌++◌, sym, subst}
 use Rattle.replay_script.specs.declared.line.Line.{Line}
 use Rattle.replay_world.specs.Services.{Service, IsDetermined}
 use Rattle.replay_world.specs.Worlds.{World}
-use Rattle.replay_world.specs.Plays.{Plays}
 use Rattle.replay_world.specs.Replays.{Leads}
 use Rattle.replay_laws.proofs.Lines.{one_line}
 

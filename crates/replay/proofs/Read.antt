@@ -1,5 +1,5 @@
 -- What was read and played of a text, and where it departs.
-use Rattle.std.proofs.Common.{◌≡◌, ◌≢◌, ◌==◌, true, false, ℕ, suc, ◌+◌, ◌^◌, ◌<◌, ◌⊎◌, inl, inr, Option, List, [], ◌∷◌, ◌++◌, length, refl, ap, sym, ◌∙◌, subst, arith, append_assoc, length-append, append-nil}
+use Rattle.std.proofs.Common.{◌≡◌, ◌≢◌, ◌==◌, true, false, ℕ, suc, ◌+◌, ◌^◌, ◌<◌, inl, inr, Option, List, [], ◌∷◌, ◌++◌, length, refl, ap, sym, ◌∙◌, subst, arith, append_assoc, length-append, append-nil}
 use Rattle.std.proofs.lemmas.Bool.{false≢true}
 use Rattle.table_form.specs.Tables.{TableForm}
 use Rattle.service_desks.specs.State.{Services}
@@ -8,11 +8,11 @@ use Rattle.replay_script.specs.declared.line.Line.TheVariants as lines
 use Rattle.replay_script.specs.Lines.{FitLines, FitsLine, line_text, text_of_lines, BeginsWith, BeginsWithNoLine}
 use Rattle.replay_script.specs.Scripts.{DepartsAt, IsFront}
 use Rattle.replay_script.proofs.Fronts.{first_line_unique, not_empty}
-use Rattle.replay_script.proofs.Departures.{text-more, text-push, shorter, fit-push, departs}
+use Rattle.replay_script.proofs.Departures.{text-more, shorter, fit-push, departs}
 use Rattle.replay_laws.proofs.Coming.{only_these}
 use Rattle.replay_world.specs.declared.fault.ReplayFault.{ReplayFault}
 use Rattle.replay_world.specs.declared.fault.ReplayFault.TheVariants as faults
-use Rattle.replay_world.specs.Services.{Service, IsDetermined}
+use Rattle.replay_world.specs.Services.{Service}
 use Rattle.replay_world.specs.Worlds.{World, booted}
 use Rattle.replay_world.specs.Plays.{MayCome}
 use Rattle.replay_world.specs.Replays.{Leads, PlaysTo, IsReplay, IsCause}
@@ -20,8 +20,9 @@ use Rattle.replay_service.specs.Service.{service_of, IsEcho}
 use Rattle.replay_service.proofs.Determined.{determined}
 use Rattle.replay_events.specs.declared.player.Player.{Player}
 use Rattle.replay_events.specs.Standing.{Stands}
-use Rattle.replay_lines.specs.Lines.{HasWorld, PlaysLine, BarsLine}
-use Rattle.replay.specs.Reading.{BeginsWithNoBoot, HasNoBoot, Continues, IsBarred, Stops, LeadsTo, Reads, Played, GoesNowhere, HaltsAt, Halts}
+use Rattle.replay_lines.specs.Lines.{HasWorld, PlaysLine}
+use Rattle.replay.specs.Reading.{BeginsWithNoBoot, HasNoBoot, Continues, Stops, LeadsTo, Reads, Played, GoesNowhere, Halts}
+use Rattle.replay.specs.Departures.{HaltsBehind, StopsAt}
 use Rattle.replay.proofs.Once.{leads_more, leads_rest}
 
 -- ---- lines in a row
@@ -111,6 +112,9 @@ departs_first service text none =
     (record { more = lines.Boot 0 ∷ []; fits = (let e : 0 < 2 ^ 64 = omega arith in e, tt); script = (booted 0 service.start, refl) }) (nothing_written text)
     (λ line after b front. let t = boot_alone service line front.more front.script.0 front.script.1 in none t.0 after (subst (λ (l : Line). BeginsWith l after text) t.1 b)) (λ h e. absurd h.1)
 
+pub stops_first : (service : Service) (text : List ℕ) → BeginsWithNoBoot text → StopsAt service text (faults.Line 1)
+stops_first service text none = inl (refl, none)
+
 module _ (echo : Option TableForm) (is_echo : IsEcho echo) (word : ℕ) (text first : List ℕ) (boot : BeginsWith (lines.Boot word) first text) (p : Player) (stands : Stands echo p (booted word (service_of echo).start)) where
   written_with : (ls : List Line) (rest : List ℕ) → first ≡ text_of_lines ls ++ rest → text ≡ text_of_lines (lines.Boot word ∷ ls) ++ rest
   unfolding text_of_lines
@@ -148,6 +152,27 @@ module _ (echo : Option TableForm) (is_echo : IsEcho echo) (word : ℕ) (text fi
   departs_there (faults.Line n) h =
       subst (λ (x : ℕ). DepartsAt (IsReplay (service_of echo)) x text) (sym h.1) (departs_nowhere h.0 h.2.rest h.2.player h.2.reads h.2.nowhere)
   departs_there faults.Memory h = tt
+
+  halts_behind : (count n : ℕ) (rest : List ℕ) (q : Player) (r : Reads p first rest count q) → n ≡ count + 2 → GoesNowhere q rest → HaltsBehind (service_of echo) text n
+  halts_behind count n rest q r e g =
+      let t = r.leads echo (booted word (service_of echo).start) stands in
+      record {
+        lines = lines.Boot word ∷ r.lines;
+        fit = (boot.0, r.fit);
+        counted = e ∙ ap (λ (x : ℕ). x + 2) (sym r.counted) ∙ omega arith;
+        rest = rest;
+        written = written_with r.lines rest r.written;
+        world = t.0;
+        plays = t.1;
+        nowhere = elim g [
+          | inl none ↦ inl none
+          | inr bar ↦ inr (record { line = bar.line; rest = bar.rest; begins = bar.begins; bars = bar.bars echo t.0 t.2 })
+        ];
+      }
+
+  pub stops_there : (e : ReplayFault) → Halts p first e → StopsAt (service_of echo) text e
+  stops_there (faults.Line n) h = inr (halts_behind h.0 n h.2.rest h.2.player h.2.reads h.1 h.2.nowhere)
+  stops_there faults.Memory h = tt
 
 -- ---- the first line
 

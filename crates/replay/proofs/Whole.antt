@@ -1,5 +1,5 @@
 -- What a whole text leaves.
-use Rattle.std.proofs.Common.{◌≡◌, ℕ, Option, List, [], ◌∷◌, ◌++◌, ap, sym, ◌∙◌, append_assoc, append-nil}
+use Rattle.std.proofs.Common.{◌≡◌, ℕ, Option, List, [], ◌∷◌, ◌++◌, ap, ◌∙◌, append-nil}
 use Rattle.table_form.specs.Tables.{TableForm}
 use Rattle.replay_script.specs.declared.line.Line.{Line}
 use Rattle.replay_script.specs.declared.line.Line.TheVariants as lines
@@ -11,7 +11,7 @@ use Rattle.replay_events.specs.declared.player.Player.{Player}
 use Rattle.replay_events.specs.Standing.{Stands}
 use Rattle.replay_promises.specs.Laws.{ReplaysServeAll, ServesAll}
 use Rattle.replay_lines.specs.Closing.{IsLeft}
-use Rattle.replay.specs.Reading.{Reads, Played}
+use Rattle.replay.specs.Reading.{Played}
 
 whole_text : (word : ℕ) (text first : List ℕ) (ls : List Line) → BeginsWith (lines.Boot word) first text → first ≡ text_of_lines ls ++ [] → text ≡ text_of_lines (lines.Boot word ∷ ls)
 unfolding text_of_lines

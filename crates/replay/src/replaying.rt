@@ -11,6 +11,7 @@ ghost use Rattle.replay_promises.specs.Laws.{ServesAll};
 ghost use Rattle.replay_events.specs.Standing.{Stands};
 ghost use Rattle.replay_lines.specs.Lines.{HasWorld};
 ghost use Rattle.replay_lines.specs.Closing.{IsLeft};
+ghost use Rattle.replay.specs.Departures.{StopsAt};
 
 use crate::reading::{first_boot, play_rest};
 use replay_events::Player;
@@ -75,11 +76,13 @@ fn is_echo(echo: Option<&Table>)
 ///
 /// # Errors
 ///
-/// `Line` with the number of the first line that departs from the scripts, `Memory` where there is no memory.
+/// `Line` with the number of the first line that departs from the scripts: the lines before it were played, and what follows
+/// begins with no line, or with one that may not come there. `Memory` where there is no memory.
 pub fn replay(alloc: Global, text: &[u8], echo: Option<&Table>) -> Result<Replayed, ReplayFault>
     ensures replayed { IfOk result (λ r. Replays (service_of (shown_by (λ t. t.now) echo.entry)) text.now r.out r.log) }
     ensures served { IfOk result (λ r. ServesAll (service_of (shown_by (λ t. t.now) echo.entry)) text.now r.out r.log) }
     ensures fault { IfErr result (IsCause (service_of (shown_by (λ t. t.now) echo.entry)) text.now) }
+    ensures stops { IfErr result (StopsAt (service_of (shown_by (λ t. t.now) echo.entry)) text.now) }
 {
     is_echo(echo);
     replays_serve_all::<BuiltIn>();

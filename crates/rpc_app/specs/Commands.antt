@@ -14,6 +14,8 @@ use Rattle.rpc_app.specs.declared.command.Command.{Command}
 use Rattle.rpc_app.specs.declared.command.Command.TheVariants.{Replay, Idl, Audit}
 use Rattle.rpc_app.specs.Audits.{AreGood, IsAudited, HasBreach, DepartsAtJournalLine}
 use Rattle.replay_world.specs.Replays.{IsReplay, Replays}
+use Rattle.replay_world.specs.declared.fault.ReplayFault.TheVariants as script_faults
+use Rattle.replay.specs.Departures.{StopsAt}
 use Rattle.replay_service.specs.Service.{service_of}
 
 -- the longest file that it takes: 64 MiB of a script or of journals, 1 MiB of an interface text
@@ -66,10 +68,11 @@ Says (faults.TooLarge at) said = said ≡ place_refusal 3 at
 Says (faults.TooDeep at) said = said ≡ place_refusal 4 at
 Says faults.Memory said = ⊥
 
--- The script departs at a line, the first that does.
+-- The script departs at a line, the first that does: what stands before it is played, and none that may come follows there.
 pub record DepartsAtLine (echo : Option TableForm) (text said : List ℕ) : Type 0 where
   pub line : ℕ
   pub departs : DepartsAt (IsReplay (service_of echo)) line text
+  pub stops : StopsAt (service_of echo) text (script_faults.Line line)
   pub said_is : said ≡ line_refusal line
 
 -- The interface text departs from the grammar, and has no tree.

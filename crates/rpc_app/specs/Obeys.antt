@@ -35,7 +35,7 @@ RefusesWords grows words out log = AsksForNothing words × Put grows out words_r
 
 -- the task was done; it was refused; an output failed meanwhile
 abbrev pub HasDone : Task → Shelf → Output → Output → Type 0
-HasDone task shelf out log = IsDone Gains task shelf.files out.had out.has log.had log.has
+HasDone task shelf out log = IsDone task shelf.files out.had out.has log.had log.has
 
 abbrev pub HasRefused : Task → Shelf → Output → Output → Type 0
 HasRefused task shelf out log = IsRefused Gains task shelf.files out.had out.has log.had log.has

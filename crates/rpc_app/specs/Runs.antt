@@ -94,12 +94,24 @@ RefusesTask files (OfLoad number steps) said = ⊥
 -- ---- outputs
 
 -- The task was done, and what it makes is on both outputs.
-pub record IsDone (grows : Growth) (task : Task) (files : Option Files) (out out' log log' : Option (List ℕ)) : Type 0 where
+pub record IsDone (task : Task) (files : Option Files) (out out' log log' : Option (List ℕ)) : Type 0 where
   pub printed : List ℕ
   pub logged : List ℕ
   pub does : DoesTask files task printed logged
-  pub on_out : grows out out' printed
-  pub on_log : grows log log' logged
+  pub on_out : Gains out out' printed
+  pub on_log : Gains log log' logged
+
+-- Two texts were to be put, the first on out and then the second on log: out has gained a front of the first and log nothing, or
+-- out all of it and log a front of the second.
+abbrev pub EndsEarly : Option (List ℕ) → Option (List ℕ) → Option (List ℕ) → Option (List ℕ) → List ℕ → List ℕ → Type 0
+EndsEarly out out' log log' printed logged = (GainsFront out out' printed × (log' ≡ log)) ⊎ (Gains out out' printed × GainsFront log log' logged)
+
+-- It was done, and what it makes is put so far.
+pub record IsDoneInPart (task : Task) (files : Option Files) (out out' log log' : Option (List ℕ)) : Type 0 where
+  pub printed : List ℕ
+  pub logged : List ℕ
+  pub does : DoesTask files task printed logged
+  pub put : EndsEarly out out' log log' printed logged
 
 -- It was refused, that is said on out, and nothing else is said.
 pub record IsRefused (grows : Growth) (task : Task) (files : Option Files) (out out' log log' : Option (List ℕ)) : Type 0 where
@@ -108,6 +120,6 @@ pub record IsRefused (grows : Growth) (task : Task) (files : Option Files) (out 
   pub said : grows out out' refusal
   pub quiet : log' ≡ log
 
--- An output failed: each has gained a front of what was to be said of the task.
+-- An output failed: it ended early with what was to be said of the task, and nothing was put behind that.
 abbrev pub IsCutShort : Task → Option Files → Option (List ℕ) → Option (List ℕ) → Option (List ℕ) → Option (List ℕ) → Type 0
-IsCutShort task files out out' log log' = IsDone GainsFront task files out out' log log' ⊎ IsRefused GainsFront task files out out' log log'
+IsCutShort task files out out' log log' = IsDoneInPart task files out out' log log' ⊎ IsRefused GainsFront task files out out' log log'

@@ -21,7 +21,7 @@ pub fn carry_out<F: Shelf, S: Sink, L: Sink>(
 ) -> u8
     requires { IsInRange (told_task task) }
     ensures known { (result ≡ 0) ⊎ (result ≡ 2) ⊎ (result ≡ 3) ⊎ (result ≡ 4) ⊎ (result ≡ 5) }
-    ensures done { result ≡ 0 → IsDone Gains (told_task task.entry) (F.files shelf.old)
+    ensures done { result ≡ 0 → IsDone (told_task task.entry) (F.files shelf.old)
         (S.written out.old) (S.written out.new) (L.written log.old) (L.written log.new) }
     ensures refused { result ≡ 2 → IsRefused Gains (told_task task.entry) (F.files shelf.old)
         (S.written out.old) (S.written out.new) (L.written log.old) (L.written log.new) }

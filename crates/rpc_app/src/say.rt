@@ -1,7 +1,7 @@
 //! What is put on the outputs.
 ghost use Rattle.std.specs.Prelude.{◌≡◌, ◌⊎◌, ◌<◌};
 ghost use Rattle.rpc_base.specs.Causes.{Rose};
-ghost use Rattle.rpc_app.specs.Runs.{Gains, GainsFront};
+ghost use Rattle.rpc_app.specs.Runs.{Gains, GainsFront, EndsEarly};
 
 use replay::Replayed;
 use rpc_base::{Sink, put_all};
@@ -20,15 +20,13 @@ pub fn refuse<S: Sink>(out: &mut S, text: &[u8], status: u8) -> u8
     }
 }
 
-/// Puts what was made of a file on both outputs.
-#[tactic(auto, using(crate::proofs::Sets::growing))]
+/// Puts what was made of a file on out, and then on log.
 pub fn print<S: Sink, L: Sink>(made: &Replayed, out: &mut S, log: &mut L) -> u8
     ensures known { (result ≡ 0) ⊎ (result ≡ 4) }
     ensures out { result ≡ 0 → Gains (S.written out.old) (S.written out.new) made.now.out }
     ensures log { result ≡ 0 → Gains (L.written log.old) (L.written log.new) made.now.log }
     ensures failed { result ≡ 4 → Rose (S.faults out.old) (S.faults out.new) ⊎ Rose (L.faults log.old) (L.faults log.new) }
-    ensures front_of_out { result ≡ 4 → GainsFront (S.written out.old) (S.written out.new) made.now.out }
-    ensures front_of_log { result ≡ 4 → GainsFront (L.written log.old) (L.written log.new) made.now.log }
+    ensures fronts { result ≡ 4 → EndsEarly (S.written out.old) (S.written out.new) (L.written log.old) (L.written log.new) made.now.out made.now.log }
 {
     if put_all(out, made.out.as_slice()).is_err() {
         return 4;

@@ -4,7 +4,7 @@ use Rattle.service_desks.specs.Shows.{shown_by}
 use Rattle.service_desks.specs.Start.{at_start}
 use Rattle.replay_world.specs.Worlds.{booted}
 use Rattle.replay_service.specs.Service.{service_of}
-use Rattle.replay.proofs.Read.{departs_first, departs_there, still_played}
+use Rattle.replay.proofs.Read.{departs_first, departs_there, stops_first, stops_there, still_played}
 use Rattle.replay.proofs.Whole.{replayed, served}
 use Rattle.replay.proofs.replaying.replay.Goals as goal
 
@@ -20,6 +20,16 @@ left-requires c =
 
 pub returns-in_default-clause-fault : goal.returns-in_default-clause-fault
 returns-in_default-clause-fault c = departs_first (service_of (shown_by (λ t. t.now) c.args.echo)) c.args.text.now (rw c.in_default.is at c.in_ok-boot.ensures.boot)
+
+pub returns-in_default-clause-stops : goal.returns-in_default-clause-stops
+returns-in_default-clause-stops c = stops_first (service_of (shown_by (λ t. t.now) c.args.echo)) c.args.text.now (rw c.in_default.is at c.in_ok-boot.ensures.boot)
+
+pub returns-in_err-play_rest-clause-stops : goal.returns-in_err-play_rest-clause-stops
+returns-in_err-play_rest-clause-stops c =
+    let echo : Option TableForm = shown_by (λ t. t.now) c.args.echo in
+    let cause =
+    stops_there echo c.is_echo.ensures c.in-Some.boot c.args.text.now c.in-Some.rest.now (rw c.in-Some.is at c.in_ok-boot.ensures.boot) c.in_ok-player.player c.in_ok-player.ensures.stands c.in_err-play_rest.field-0.0 c.in_err-play_rest.ensures.fault in
+    search rules
 
 pub returns-in_err-play_rest-clause-fault : goal.returns-in_err-play_rest-clause-fault
 returns-in_err-play_rest-clause-fault c =
