@@ -21,8 +21,8 @@ use Rattle.replay_service.proofs.Determined.{determined}
 use Rattle.replay_events.specs.declared.player.Player.{Player}
 use Rattle.replay_events.specs.Standing.{Stands}
 use Rattle.replay_lines.specs.Lines.{HasWorld, PlaysLine}
-use Rattle.replay.specs.Reading.{BeginsWithNoBoot, HasNoBoot, Continues, Stops, LeadsTo, Reads, Played, GoesNowhere, Halts}
-use Rattle.replay.specs.Departures.{HaltsBehind, StopsAt}
+use Rattle.replay.specs.Reading.{HasNoBoot, Continues, Stops, LeadsTo, Reads, Played, GoesNowhere, Halts}
+use Rattle.replay.specs.Departures.{BeginsWithNoBoot, HaltsBehind, StopsAt}
 use Rattle.replay.proofs.Once.{leads_more, leads_rest}
 
 -- ---- lines in a row

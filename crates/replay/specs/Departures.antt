@@ -1,6 +1,7 @@
 -- The line at which a text departs from the scripts: what stands before it is played, and there no line that may come follows.
 use Rattle.std.specs.Prelude.{◌≡◌, ◌≢◌, ℕ, ◌+◌, List, [], ◌++◌, length, ◌⊎◌, ⊤}
 use Rattle.replay_script.specs.declared.line.Line.{Line}
+use Rattle.replay_script.specs.declared.line.Line.TheVariants.{Boot}
 use Rattle.replay_script.specs.Lines.{FitLines, text_of_lines, BeginsWith, BeginsWithNoLine}
 use Rattle.replay_world.specs.declared.fault.ReplayFault.{ReplayFault}
 use Rattle.replay_world.specs.declared.fault.ReplayFault.TheVariants as faults
@@ -8,7 +9,10 @@ use Rattle.replay_world.specs.Services.{Service}
 use Rattle.replay_world.specs.Worlds.{World}
 use Rattle.replay_world.specs.Plays.{MayCome}
 use Rattle.replay_world.specs.Replays.{PlaysTo}
-use Rattle.replay.specs.Reading.{BeginsWithNoBoot}
+
+-- no line with a boot word begins the text
+abbrev pub BeginsWithNoBoot : List ℕ → Type 0
+BeginsWithNoBoot text = (word : ℕ) (rest : List ℕ) → BeginsWith (Boot word) rest text → ⊥
 
 module _ (service : Service) where
   -- the text begins with a line that may not come in the world

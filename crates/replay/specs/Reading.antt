@@ -14,10 +14,6 @@ use Rattle.replay_events.specs.declared.player.Player.{Player}
 use Rattle.replay_events.specs.Standing.{Stands}
 use Rattle.replay_lines.specs.Lines.{PlaysLine, BarsLine}
 
--- no line with a boot word begins the text
-abbrev pub BeginsWithNoBoot : List ℕ → Type 0
-BeginsWithNoBoot text = (word : ℕ) (rest : List ℕ) → BeginsWith (Boot word) rest text → ⊥
-
 -- it isn't such a line
 abbrev pub HasNoBoot : Line → Type 0
 HasNoBoot line = (word : ℕ) → line ≢ Boot word

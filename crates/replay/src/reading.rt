@@ -4,7 +4,8 @@ ghost use Rattle.replay_script.specs.Lines.{BeginsWith, BeginsWithNoLine};
 ghost use Rattle.replay_script.specs.declared.line.Line.TheVariants as lines;
 ghost use Rattle.replay_world.specs.declared.fault.ReplayFault.TheVariants as faults;
 ghost use Rattle.replay_lines.specs.Lines.{HasWorld, Comes};
-ghost use Rattle.replay.specs.Reading.{BeginsWithNoBoot, HasNoBoot, Continues, Stops, Played, Halts};
+ghost use Rattle.replay.specs.Departures.{BeginsWithNoBoot};
+ghost use Rattle.replay.specs.Reading.{HasNoBoot, Continues, Stops, Played, Halts};
 
 use replay_events::Player;
 use replay_lines::play_line;
