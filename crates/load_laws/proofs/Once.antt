@@ -5,7 +5,7 @@ use Rattle.replay_script.specs.declared.line.Line.{Line}
 use Rattle.replay_world.specs.declared.peer.Standing.{Standing}
 use Rattle.replay_world.specs.declared.peer.Standing.TheVariants.{Open, Closed, Lost}
 use Rattle.replay_world.specs.Services.{Service, IsDetermined}
-use Rattle.replay_world.specs.Worlds.{Peer, World, Printed}
+use Rattle.replay_world.specs.Worlds.{Peer, World}
 use Rattle.replay_world.specs.Plays.{Finishes}
 use Rattle.replay_world.specs.Replays.{names_of, Leads, LosesIfOpen, LosesAll, FinishesAll, Closes}
 use Rattle.replay_laws.proofs.Lines.{one_peer, one_finish, one_loss, one_line}
@@ -13,7 +13,7 @@ use Rattle.load_script.specs.declared.deed.Step.{Step}
 use Rattle.load_script.specs.Rounds.{Round, AreMade, step_after}
 use Rattle.load_script.specs.Scripts.{lines_of}
 use Rattle.load_answers.specs.Answered.{answered_pdus}
-use Rattle.load_laws.specs.Loads.{PlaysRounds, IsLoad, OneLoad}
+use Rattle.load_laws.specs.Loads.{PlaysRounds, OneLoad}
 
 module _ (service : Service) (determined : IsDetermined service) where
   one_lead : (script : List Line) (w v u : World service.State) → Leads service w script v → Leads service w script u → v ≡ u

@@ -2,9 +2,9 @@
 use Rattle.std.specs.Prelude.{◌≡◌, ℕ, List, [], ◌∷◌, ◌++◌, length}
 use Rattle.replay_world.specs.Services.{Service, IsDetermined}
 use Rattle.replay_world.specs.Worlds.{World, Printed, booted}
-use Rattle.replay_world.specs.Replays.{Leads, Closes}
+use Rattle.replay_world.specs.Replays.{Leads, Closes, EndsAs}
 use Rattle.load_script.specs.Rounds.{Round, AreMade}
-use Rattle.load_script.specs.Scripts.{lines_of}
+use Rattle.load_script.specs.Scripts.{lines_of, script_of}
 use Rattle.load_answers.specs.Answered.{answered_pdus}
 use Rattle.load_counts.specs.Counting.{counts_of}
 use Rattle.load_counts.specs.Summary.{summary_text}
@@ -39,3 +39,7 @@ IsSummary service number steps text = (end : World service.State) × IsLoad serv
 abbrev pub OneLoad : Service → Type 0
 OneLoad service =
     IsDetermined service → (number steps : ℕ) (end end' : World service.State) → IsLoad service number steps end → IsLoad service number steps end' → end ≡ end'
+
+-- A load is a replay: the script of its rounds is played to the same end.
+abbrev pub LoadsAreReplays : Service → Type 0
+LoadsAreReplays service = (number steps : ℕ) (end : World service.State) (l : IsLoad service number steps end) → EndsAs service (script_of l.rounds) end

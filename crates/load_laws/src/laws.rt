@@ -1,7 +1,7 @@
 //! What holds of every load.
 ghost use Rattle.std.specs.Prelude.{Option};
 ghost use Rattle.table_form.specs.Tables.{TableForm};
-ghost use Rattle.load_laws.specs.Loads.{OneLoad};
+ghost use Rattle.load_laws.specs.Loads.{OneLoad, LoadsAreReplays};
 
 use replay_laws::Serves;
 
@@ -9,4 +9,9 @@ use replay_laws::Serves;
 /// and what they are asked.
 pub fn one_load<D: Serves>()
     ensures { (echo : Option TableForm) → OneLoad (D.service echo) }
+{}
+
+/// A load is a replay: the lines of its rounds, behind a line with the boot word 1, are played to its end.
+pub fn loads_are_replays<D: Serves>()
+    ensures { (echo : Option TableForm) → LoadsAreReplays (D.service echo) }
 {}

@@ -1,5 +1,5 @@
 -- A step of a load is played.
-use Rattle.std.proofs.Common.{◌≡◌, ℕ, suc, ◌+◌, ◌<◌, ◌≤◌, Option, None, List, [], ◌∷◌, ◌++◌, length, drop, refl, sym, ap, subst, ◌∙◌, arith}
+use Rattle.std.proofs.Common.{◌≡◌, ℕ, ◌+◌, ◌<◌, ◌≤◌, Option, None, List, [], ◌∷◌, ◌++◌, length, drop, refl, sym, ap, subst, ◌∙◌, arith}
 use Rattle.std.specs.List.{AllByRecursion}
 use Rattle.std.proofs.Math.Seq.{drop-append_seam}
 use Rattle.std.proofs.lemmas.List.{length-append}
@@ -9,7 +9,6 @@ use Rattle.service_desks.specs.Start.{at_start}
 use Rattle.replay_script.specs.declared.line.Line.{Line}
 use Rattle.replay_world.specs.Worlds.{World, Printed, booted}
 use Rattle.replay_world.specs.Printing.{out_text}
-use Rattle.replay_world.specs.Replays.{Closes}
 use Rattle.replay_service.specs.Service.{service_of}
 use Rattle.replay_events.specs.declared.player.Player.{Player}
 use Rattle.replay_events.specs.Standing.{Stands}
@@ -25,9 +24,9 @@ use Rattle.load_script.specs.declared.load.Load.{Load}
 use Rattle.load_script.specs.Rounds.{Round, step_after}
 use Rattle.load_script.specs.Scripts.{lines_of}
 use Rattle.load_script.specs.Knowing.{Knows}
-use Rattle.load_answers.specs.Answered.{FitsPrinted, AddsText, answered_pdus}
-use Rattle.load_laws.specs.Loads.{PlaysRound, IsLoad, IsSummary}
-use Rattle.load_player.specs.Playing.{LinesLead, ArePlayed, IsBehind, HasPlayed}
+use Rattle.load_answers.specs.Answered.{FitsPrinted, AddsText}
+use Rattle.load_laws.specs.Loads.{PlaysRound, IsSummary}
+use Rattle.load_player.specs.Playing.{LinesLead, IsBehind, HasPlayed}
 use Rattle.load_player.proofs.Growing.{leads_grew, leads_last}
 
 -- ---- lines

@@ -1,4 +1,4 @@
-use Rattle.std.proofs.Common.{◌∙◌, ◌≡◌, ◌∷◌, ℕ, List, ap, drop, length, subst, sym, arith}
+use Rattle.std.proofs.Common.{◌∙◌, ◌≡◌, ◌∷◌, ℕ, List, ap, drop, length, subst, arith}
 use Rattle.load_script.specs.Knowing.{Knows}
 use Rattle.load_player.proofs.Stepping.{grown, stepped}
 use Rattle.load_player.proofs.playing.step.Goals as goal
