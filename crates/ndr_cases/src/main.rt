@@ -1,6 +1,8 @@
-//! The program: `ndr_cases FILE..` decodes the stubs of each file, writes each message and reads it
-//! again, prints each whose message or fault isn't the one that the file names, and then how many there were. Beside `src/`, `data/outside.txt`
-//! has cases that a program written apart from this one made, and `data/rows.txt` has cases by hand.
+//! The program: `ndr_cases FILE..` decodes the stubs of each file, writes each message, compares the
+//! octets with the stub where that is in canonical form, and reads them again. It prints each stub whose
+//! message or fault isn't the one that the file names, or that is written otherwise, and then how many
+//! there were. Beside `src/`, `data/outside.txt` has cases that a program written apart from this one
+//! made, and `data/rows.txt` has cases by hand.
 #![tactic(auto)]
 
 use anyhow::{Context, Result};
@@ -36,11 +38,14 @@ fn main(rt: HostRuntime) -> Result<()> {
         let Blocks {
             interfaces,
             stubs,
+            canonical,
             wrong,
             ..
         } = blocks;
         print!(rt; "{differences}")?;
-        println!(rt; "{file}: {interfaces} interfaces, {stubs} stubs, {wrong} differ")?;
+        println!(rt;
+            "{file}: {interfaces} interfaces, {stubs} stubs, {canonical} of them canonical, {wrong} differ"
+        )?;
     }
     Ok(())
 }

@@ -1,7 +1,10 @@
 //! The deepest message: types that nest by value as deep as a table's may, and behind each another, at
 //! 256 levels of pointers. And messages that aren't of an operation.
+ghost use Rattle.std.specs.Prelude.{◌≡◌};
 
-use ndr_codec::{Way, in_range};
+use echo_desk::EchoDesk;
+use manager_api::{Answer, Desk, Probe, has_cookies};
+use ndr_codec::{Way, decode, encode, in_range};
 use ndr_lines::{are_typed, decoded, is_fit, put_message, table_of};
 use ndr_value::{Message, Value, Wires};
 use rpc_base::{NoMemory, Octets, Order, WireHandle};
@@ -67,7 +70,12 @@ const NESTS: &[Nest] = &[
 
 const POINTERS: u32 = 256;
 
-/// What a thread that decodes is to be given: twice what the deepest message takes.
+/// The numbers of pointers as they are written: the first, and how far each is from the one before it.
+const FIRST: u32 = 0x0002_0000;
+
+const STEP: u32 = 4;
+
+/// What a thread that answers a call is to be given: twice what the deepest message takes.
 const STACK: usize = 4 << 20;
 
 fn put_times(text: &str, times: u16, into: &mut Vec<u8>) -> Result<(), NoMemory> {
@@ -94,15 +102,16 @@ impl Nest {
         let middle = format!(in alloc; "[{pointer}]struct s*p;")?;
         put(middle.as_bytes(), &mut text)?;
         put_times(self.close, self.count(), &mut text)?;
-        let end = format!(in alloc; "}};void f([in,{pointer}]struct s*p);}}")?;
+        let end = format!(in alloc; "}};void f([in,out,{pointer}]struct s*p);}}")?;
         put(end.as_bytes(), &mut text)?;
         Ok(text)
     }
 
+    // The stub in its canonical form, the response's as the request's.
     fn stub(&self, alloc: Global) -> Result<Vec<u8>, NoMemory> {
         let mut stub = Vec::new(alloc);
-        for number in 1..=POINTERS {
-            put(&number.to_le_bytes(), &mut stub)?;
+        for number in 0..POINTERS {
+            put(&(FIRST + STEP * number).to_le_bytes(), &mut stub)?;
             for _ in 0..self.count() {
                 put(self.octets, &mut stub)?;
             }
@@ -182,8 +191,53 @@ fn is_whole(
     )
 }
 
-// Whether a message is decoded and is what it is to be; it is dropped here too.
-fn is_decoded(alloc: Global, nest: &Nest) -> Result<bool, NoMemory> {
+/// A probe that tells of no cancel.
+#[derive(Drop)]
+struct Silent;
+
+impl Probe for Silent {
+    ghost use Rattle.std.specs.Prelude.{false};
+
+    type Key = ();
+
+    ghost told = { λ p. false };
+
+    ghost key = { λ p. tt };
+
+    fn asked(&mut self) -> bool {
+        false
+    }
+}
+
+// The octets of a request's echo, which is a copy of its message; none where there is no response.
+fn echoed(alloc: Global, table: &Table, stub: &[u8]) -> Result<Vec<u8>, NoMemory> {
+    let mut octets = Vec::new(alloc);
+    let (order, request, response) = (Order::Little, Way::Request, Way::Response);
+    let Some(uses) = table.handle_uses(0) else {
+        return Ok(octets);
+    };
+    if table.op_count() == 0 {
+        return Ok(octets);
+    }
+    let Ok(message) = decode(alloc, table, 0, request, order, None, stub) else {
+        return Ok(octets);
+    };
+    let cookies = [None; 4];
+    if !has_cookies(uses.as_slice(), message.wires.as_slice(), &cookies) {
+        return Ok(octets);
+    }
+    let mut desk = EchoDesk::new(alloc, table);
+    if let Answer::Out(said, _) = desk.call(0, 0, message, cookies, &mut Silent) {
+        if encode(table, 0, response, order, None, &said, &mut octets).is_err() {
+            return Err(NoMemory);
+        }
+    }
+    Ok(octets)
+}
+
+// Whether a message is decoded and is what it is to be, and its echo is written as the same octets; both
+// are dropped here too.
+fn is_echoed(alloc: Global, nest: &Nest) -> Result<bool, NoMemory> {
     let interface = nest.interface(alloc)?;
     let stub = nest.stub(alloc)?;
     let wanted = nest.text(alloc)?;
@@ -192,15 +246,18 @@ fn is_decoded(alloc: Global, nest: &Nest) -> Result<bool, NoMemory> {
     };
     let little = Order::Little;
     match decoded(alloc, &table, Way::Request, little, None, stub.as_slice()) {
-        Ok(message) => is_whole(alloc, &table, &message, wanted.as_slice()),
+        Ok(message) => Ok(
+            is_whole(alloc, &table, &message, wanted.as_slice())?
+                && echoed(alloc, &table, stub.as_slice())?.as_slice() == stub.as_slice(),
+        ),
         Err(_) => Ok(false),
     }
 }
 
-fn is_decoded_on_a_thread<R: Threads>(rt: &R, alloc: Global, nest: Nest) -> Result<bool, Fail> {
+fn is_echoed_on_a_thread<R: Threads>(rt: &R, alloc: Global, nest: Nest) -> Result<bool, Fail> {
     let child = Builder::new().stack_size(STACK).spawn(rt, move || -> bool {
-        match is_decoded(alloc, &nest) {
-            Ok(decoded) => decoded,
+        match is_echoed(alloc, &nest) {
+            Ok(echoed) => echoed,
             Err(NoMemory) => false,
         }
     })?;
@@ -210,7 +267,7 @@ fn is_decoded_on_a_thread<R: Threads>(rt: &R, alloc: Global, nest: Nest) -> Resu
 #[test]
 fn the_deepest_message_fits_a_thread(rt: HostRuntime) -> Result<(), Fail> {
     for nest in NESTS {
-        assert!(rt; is_decoded_on_a_thread(&rt, rt.alloc(), *nest)?);
+        assert!(rt; is_echoed_on_a_thread(&rt, rt.alloc(), *nest)?);
     }
     Ok(())
 }

@@ -22,6 +22,8 @@ pub struct Blocks {
     asked: Option<Message>,
     pub interfaces: u32,
     pub stubs: u32,
+    /// How many of the stubs are in canonical form.
+    pub canonical: u32,
     pub wrong: u32,
     /// The lines that differ, each with what came in the place of what is wanted.
     pub differences: Vec<u8>,
@@ -43,6 +45,7 @@ impl Blocks {
             asked: None,
             interfaces: 0,
             stubs: 0,
+            canonical: 0,
             wrong: 0,
             differences: Vec::new(alloc),
         }
@@ -115,6 +118,9 @@ impl Blocks {
             return self.differs(alloc, line, b"no case");
         };
         self.stubs = self.stubs.saturating_add(1);
+        if case.is_canonical {
+            self.canonical = self.canonical.saturating_add(1);
+        }
         let answer = self.answer(alloc, &case)?;
         if answer.as_slice() == case.wanted {
             return Ok(());

@@ -1,19 +1,22 @@
 //! One stub, and what it is.
 
+use crate::read::{is_plain, message_of};
 use crate::text::{put_fault, put_message};
+use crate::typed::are_typed;
 use ndr_codec::{NdrFault, Way, decode, encode, fits, in_range};
-use ndr_value::{Message, Shape, Value, well_typed};
+use ndr_value::Message;
 use rpc_base::{NoMemory, Octets, Order};
 use rpc_words::{cut_at, put, read_octets};
 use std::alloc::Global;
-use table_form::{Param, Table};
+use table_form::Table;
 
-/// A line `WAY ORDER HEX = TEXT`.
+/// A line `WAY ORDER HEX = TEXT`, with `==` in place of `=` where the octets are the canonical ones.
 #[derive(Clone, Copy)]
 pub struct Case<'a> {
     way: Way,
     order: Order,
     hex: &'a [u8],
+    pub is_canonical: bool,
     pub wanted: &'a [u8],
 }
 
@@ -33,66 +36,28 @@ fn order_of(word: &[u8]) -> Option<Order> {
     }
 }
 
+// Whether the octets are the canonical ones.
+fn says_canonical(sign: &[u8]) -> Option<bool> {
+    match sign {
+        b"=" => Some(false),
+        b"==" => Some(true),
+        _ => None,
+    }
+}
+
 /// The case of a line. None where it has another form.
 pub fn case_of(line: &[u8]) -> Option<Case<'_>> {
     let (way, rest) = cut_at(b' ', line)?;
     let (order, rest) = cut_at(b' ', rest)?;
     let (hex, rest) = cut_at(b' ', rest)?;
     let (sign, wanted) = cut_at(b' ', rest)?;
-    if sign != b"=".as_slice() {
-        return None;
-    }
     Some(Case {
         way: way_of(way)?,
         order: order_of(order)?,
         hex,
+        is_canonical: says_canonical(sign)?,
         wanted,
     })
-}
-
-fn goes(way: Way, param: &Param) -> bool {
-    match way {
-        Way::Request => param.inward,
-        Way::Response => param.outward,
-    }
-}
-
-// The values behind the first, if that is of the shape.
-fn behind_typed<'a>(
-    table: &Table,
-    shape: &Shape,
-    message: &Message,
-    values: &'a [Value],
-) -> Option<&'a [Value]> {
-    let (first, rest) = values.split_first()?;
-    if well_typed(table.types(), shape, first, &message.heap) {
-        Some(rest)
-    } else {
-        None
-    }
-}
-
-// The values behind those that are of the shapes in their places.
-fn behind_all<'a>(table: &Table, way: Way, message: &'a Message) -> Option<&'a [Value]> {
-    let op = table.op(0)?;
-    let mut values = message.values.as_slice();
-    for param in &op.params {
-        if goes(way, param) {
-            values = behind_typed(table, &param.shape, message, values)?;
-        }
-    }
-    match (way, &op.result) {
-        (Way::Response, Some(shape)) => behind_typed(table, shape, message, values),
-        _ => Some(values),
-    }
-}
-
-/// Whether each value is of the shape in its place, and there are no more.
-pub fn are_typed(table: &Table, way: Way, message: &Message) -> bool {
-    match behind_all(table, way, message) {
-        Some(rest) => rest.is_empty(),
-        None => false,
-    }
 }
 
 /// The message of the first operation that has a stub.
@@ -125,27 +90,78 @@ pub fn is_fit(
 }
 
 impl Case<'_> {
-    // Whether the message is read again from the octets that it is written as: the text is the same.
-    fn is_written(
+    // The octets that a message is written as. None where it isn't written.
+    fn written(
         &self,
         alloc: Global,
         table: &Table,
         asked: Option<&Message>,
         message: &Message,
+    ) -> Option<Vec<u8>> {
+        if table.op_count() == 0 {
+            return None;
+        }
+        let mut octets = Vec::new(alloc);
+        encode(table, 0, self.way, self.order, asked, message, &mut octets).ok()?;
+        Some(octets)
+    }
+
+    // Whether what is read from octets has that text.
+    fn is_read_as(
+        &self,
+        alloc: Global,
+        table: &Table,
+        asked: Option<&Message>,
+        octets: &[u8],
         text: &[u8],
     ) -> Result<bool, NoMemory> {
-        let mut octets = Vec::new(alloc);
-        if table.op_count() == 0
-            || encode(table, 0, self.way, self.order, asked, message, &mut octets).is_err()
-        {
-            return Ok(false);
-        }
         let mut again = Vec::new(alloc);
-        match decoded(alloc, table, self.way, self.order, asked, octets.as_slice()) {
+        match decoded(alloc, table, self.way, self.order, asked, octets) {
             Ok(message) => put_message(&message, alloc, &mut again)?,
             Err(fault) => put_fault(fault, alloc, &mut again)?,
         }
         Ok(again.as_slice() == text)
+    }
+
+    // Adds what is amiss with the octets that the message of the text is written as.
+    fn put_written(
+        &self,
+        alloc: Global,
+        table: &Table,
+        asked: Option<&Message>,
+        message: &Message,
+        stub: &[u8],
+        into: &mut Vec<u8>,
+    ) -> Result<(), NoMemory> {
+        let Some(octets) = self.written(alloc, table, asked, message) else {
+            return put(b" not written", into);
+        };
+        let octets = octets.as_slice();
+        if !self.is_read_as(alloc, table, asked, octets, into.as_slice())? {
+            put(b" written otherwise", into)?;
+        }
+        if self.is_canonical && octets != stub {
+            put(b" in other octets", into)?;
+        }
+        if self.is_canonical && !self.is_read(alloc, table, asked, stub) {
+            put(b" read otherwise", into)?;
+        }
+        Ok(())
+    }
+
+    // Whether the message that the wanted text is read as is written as those octets. A text with a heap
+    // or handles isn't read.
+    fn is_read(&self, alloc: Global, table: &Table, asked: Option<&Message>, stub: &[u8]) -> bool {
+        if !is_plain(self.wanted) {
+            return true;
+        }
+        match message_of(alloc, table, self.way, self.wanted) {
+            None => false,
+            Some(message) => match self.written(alloc, table, asked, &message) {
+                None => false,
+                Some(octets) => octets.as_slice() == stub,
+            },
+        }
     }
 
     // The text of what the stub is.
@@ -162,9 +178,7 @@ impl Case<'_> {
             Err(fault) => return put_fault(fault, alloc, into),
         };
         put_message(&message, alloc, into)?;
-        if !self.is_written(alloc, table, asked, &message, into.as_slice())? {
-            put(b" written otherwise", into)?;
-        }
+        self.put_written(alloc, table, asked, &message, stub.as_slice(), into)?;
         if !is_fit(alloc, table, self.way, asked, &message)? {
             put(b" of another operation", into)?;
         }

@@ -1,10 +1,14 @@
-//! Lines with stubs of interfaces: each is decoded, and what came is compared with what the line names.
+//! Lines with stubs of interfaces: each is decoded, and what came is compared with what the line names. Its text is
+//! read too, where its octets are the canonical ones, and what comes is written.
 #![tactic(auto)]
 
 mod blocks;
 mod case;
+mod read;
 mod text;
+mod typed;
 
 pub use blocks::{Blocks, table_of};
-pub use case::{are_typed, decoded, is_fit};
+pub use case::{decoded, is_fit};
 pub use text::put_message;
+pub use typed::are_typed;
