@@ -1,7 +1,11 @@
 //! The command `audit`.
 
-use crate::outcome::{NO_FAULTS, comes_to};
+use crate::conn_rows::CONN_ROWS;
+use crate::desk_rows::DESK_ROWS;
+use crate::handle_rows::HANDLE_ROWS;
+use crate::outcome::{NO_FAULTS, comes_to, outcome};
 use crate::scripts::CASES;
+use crate::stories::{STORIES, Story};
 use rpc_base::NoMemory;
 use std::alloc::Global;
 use std::test::Fail;
@@ -137,5 +141,34 @@ fn replayed_journals_are_legal(rt: HostRuntime) -> Result<(), Fail> {
             assert!(rt; is_legal(rt.alloc(), log)?, "{}", case.what);
         }
     }
+    Ok(())
+}
+
+/// Whether journals are legal and settled.
+fn are_legal(alloc: Global, log: &str) -> bool {
+    match outcome(alloc, "audit f", [log.as_bytes(), b""], NO_FAULTS) {
+        Ok(text) => text.as_slice().first() == Some(&b'0'),
+        Err(_) => false,
+    }
+}
+
+/// What the first story is of whose journals aren't.
+fn first_illegal(alloc: Global, stories: &[Story]) -> Option<&str> {
+    for story in stories {
+        if let Some(log) = wanted_log(story.text)
+            && !are_legal(alloc, log)
+        {
+            return Some(story.what);
+        }
+    }
+    None
+}
+
+#[test]
+fn journals_of_stories_are_legal(rt: HostRuntime) -> Result<(), Fail> {
+    assert_eq!(rt; first_illegal(rt.alloc(), &STORIES), None);
+    assert_eq!(rt; first_illegal(rt.alloc(), &HANDLE_ROWS), None);
+    assert_eq!(rt; first_illegal(rt.alloc(), &CONN_ROWS), None);
+    assert_eq!(rt; first_illegal(rt.alloc(), &DESK_ROWS), None);
     Ok(())
 }

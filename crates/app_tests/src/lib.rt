@@ -4,7 +4,13 @@
 #[cfg(test)]
 mod audits;
 #[cfg(test)]
+mod conn_rows;
+#[cfg(test)]
 mod departures;
+#[cfg(test)]
+mod desk_rows;
+#[cfg(test)]
+mod handle_rows;
 #[cfg(test)]
 mod idl_texts;
 #[cfg(test)]

@@ -1,6 +1,9 @@
 //! Scripts of several connections, groups and interfaces. What they leave was computed independently, by a program that
 //! isn't part of this repository.
 
+use crate::conn_rows::CONN_ROWS;
+use crate::desk_rows::DESK_ROWS;
+use crate::handle_rows::HANDLE_ROWS;
 use crate::outcome::both_come_to;
 use std::alloc::Global;
 use std::test::Fail;
@@ -650,10 +653,21 @@ fn goes_as_written(alloc: Global, story: &Story) -> bool {
     both_come_to(alloc, words, files, wanted.as_bytes())
 }
 
+/// What the first story is of that doesn't go as written.
+fn first_that_differs(alloc: Global, stories: &[Story]) -> Option<&str> {
+    for story in stories {
+        if !goes_as_written(alloc, story) {
+            return Some(story.what);
+        }
+    }
+    None
+}
+
 #[test]
 fn each_story_goes_as_written(rt: HostRuntime) -> Result<(), Fail> {
-    for story in &STORIES {
-        assert!(rt; goes_as_written(rt.alloc(), story), "{}", story.what);
-    }
+    assert_eq!(rt; first_that_differs(rt.alloc(), &STORIES), None);
+    assert_eq!(rt; first_that_differs(rt.alloc(), &HANDLE_ROWS), None);
+    assert_eq!(rt; first_that_differs(rt.alloc(), &CONN_ROWS), None);
+    assert_eq!(rt; first_that_differs(rt.alloc(), &DESK_ROWS), None);
     Ok(())
 }

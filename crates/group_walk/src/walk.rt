@@ -6,7 +6,7 @@ ghost use Rattle.handle_model.specs.Journal as spec;
 
 use crate::plain::{Came, expected, is_asked_since, stage};
 use crate::random::{Random, next_step};
-use crate::whole::{Whole, base_of, floor, number};
+use crate::whole::{Whole, base_of, floor, number, open_asked};
 use group_core::Group;
 use group_play::{Answer, Step, play};
 use handle_model::{Base, Entry, Home};
@@ -21,7 +21,7 @@ pub enum Trouble {
     Memory,
     /// A call came to something else than was expected, where so many entries stood before.
     Differs(usize),
-    /// Where a call is, or whether it was asked to end, is told otherwise.
+    /// Where a call is, what it asked, or whether it was asked to end, is told otherwise.
     Call(u32),
     /// The journal isn't legal and settled.
     Illegal,
@@ -115,6 +115,25 @@ fn step(alloc: Global, walk: &mut Walk) -> Result<(), Trouble> {
     }
 }
 
+/// Whether the group tells what the call asked where it waits or runs, and nothing where it is over.
+fn tells_asked(walk: &Walk, call: u32) -> bool {
+    match (
+        walk.group.asked_of(call),
+        open_asked(walk.whole.record(), call),
+    ) {
+        (Some(told), Some(asked)) => {
+            told.conn == asked.conn && told.slots.as_slice() == asked.slots.as_slice()
+        }
+        (None, None) => true,
+        _ => false,
+    }
+}
+
+/// One of the last eight calls, another one after each entry.
+fn late_call(walk: &Walk) -> u32 {
+    number(accept_count(walk.whole.record())).saturating_sub((walk.whole.len() % 8) as u32)
+}
+
 /// The first number that the group and the plain rules tell apart as a call's.
 fn told_apart(walk: &Walk) -> Option<u32> {
     let journal = walk.whole.record();
@@ -123,6 +142,7 @@ fn told_apart(walk: &Walk) -> Option<u32> {
     for call in 0..calls.saturating_add(2) {
         if walk.group.asked(call) != is_asked_since(journal, front, call)
             || walk.group.stage(call) != stage(journal, call)
+            || !tells_asked(walk, call)
         {
             return Some(call);
         }
@@ -192,11 +212,15 @@ fn renew(alloc: Global, walk: &mut Walk) -> Result<(), Trouble> {
     Ok(())
 }
 
-/// One call. Where the group has folded its journal with it, that is compared; where it has ended, the
-/// next one begins.
+/// One call. What a late call asked is compared, and the journal where the group has folded it; where it has
+/// ended, the next one begins.
 fn go(alloc: Global, walk: &mut Walk) -> Result<(), Trouble> {
     let before = walk.folded;
     step(alloc, walk)?;
+    let call = late_call(walk);
+    if !tells_asked(walk, call) {
+        return Err(Trouble::Call(call));
+    }
     if walk.group.has_shut() {
         return renew(alloc, walk);
     }

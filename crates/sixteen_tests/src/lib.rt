@@ -1,6 +1,8 @@
-//! Groups at a hub of sixteen shards: one thread, two on one handle, and eight.
+//! Groups at a hub of sixteen shards: one thread, two on one handle, and sixteen.
 #![tactic(auto)]
 
+#[cfg(test)]
+mod looks;
 #[cfg(test)]
 mod play;
 #[cfg(test)]

@@ -1,7 +1,8 @@
-//! A hub on passes of eight threads.
+//! A hub on passes of sixteen threads: eight that make calls, and beside each one that looks on.
 ghost use Rattle.group_hub.specs.Passes.{IsPassOf};
 
-use crate::visit::{Calls, each_once, visit_all};
+use crate::looks::visit_and_look;
+use crate::visit::{Calls, each_once};
 use group_hub::{Hub, Pass};
 use hub_play::{Judged, judge_all, leave, open, retire};
 use std::alloc::Global;
@@ -39,11 +40,11 @@ fn in_two<R: Threads + Wait + Sync>(
         || -> (Pass, Option<Calls>)
             requires { IsPassOf hub.now pass }
             ensures { IsPassOf hub.entry.now result.0 }
-        { visit_all(rt, hub, pass, alloc, first) },
+        { visit_and_look(rt, hub, pass, alloc, first) },
         || -> (Pass, Option<Calls>)
             requires { IsPassOf hub.now other }
             ensures { IsPassOf hub.entry.now result.0 }
-        { visit_all(rt, hub, other, alloc, next) },
+        { visit_and_look(rt, hub, other, alloc, next) },
     );
     hub.join(&mut pass, other);
     (pass, both(made, others))
@@ -103,8 +104,8 @@ fn in_eight<R: Threads + Wait + Sync>(
     (pass, both(made, others))
 }
 
-/// Opens so many groups, in which eight threads then make their calls, and leaves each: what was made,
-/// where each group then ended.
+/// Opens so many groups, in which eight threads then make their calls while eight look on, and leaves each: what
+/// was made, where each group then ended.
 fn hold<R: Threads + Wait + Sync>(
     rt: &R,
     hub: &Hub,
@@ -140,7 +141,9 @@ const CALLS: u32 = 7;
 const ENTRIES: usize = 21;
 
 #[test]
-fn eight_threads_make_calls_in_sixteen_groups(rt: HostRuntime) -> Result<(), Fail> {
+fn eight_threads_make_calls_in_sixteen_groups_while_eight_look_on(
+    rt: HostRuntime,
+) -> Result<(), Fail> {
     let alloc = rt.alloc();
     let (hub, mut pass) = Hub::new(alloc, 1)?;
     let Some(mut made) = hold(&rt, &hub, &mut pass, alloc, 16) else {
