@@ -16,7 +16,7 @@ use Rattle.hub_story.specs.Calls as calls
 use Rattle.hub_story.specs.Calls.{Apart}
 
 -- where no entry is of the connection, none is its Join or Leave, and none accepts a call of it
-of_none : (c : ℕ) (es : List Entry) → list_any (calls.of_conn c) es ≡ false → (list_any (of_conn c) es ≡ false) × (calls_of c es ≡ [])
+pub of_none : (c : ℕ) (es : List Entry) → list_any (calls.of_conn c) es ≡ false → (list_any (of_conn c) es ≡ false) × (calls_of c es ≡ [])
 of_none c [] h = (refl, refl)
 of_none c (Join d ∷ es) h = by_test (d == c) (of_none c es) h
   where

@@ -1,0 +1,85 @@
+//! One connection at a server of the probe.
+ghost use Rattle.std.specs.Prelude.{◌≡◌, IfOk, [], ◌∷◌, false};
+ghost use Rattle.probe_desk.specs.Table as probe;
+ghost use Rattle.served_tables.specs.Served.{tables_in};
+
+use crate::links::{link, octets, steps};
+use group_hub::{Hub, Retired};
+use locked_desks::Locked;
+use probe_desk::{ProbeDesk, probe_table};
+use rpc_base::{Items, NoMemory};
+use rpc_outside::{LinkStep, ScriptLink};
+use served_tables::{Served, Tables};
+use server_ends::{Ending, Finished};
+use server_run::serve_connection;
+use std::alloc::Global;
+use std::test::*;
+
+/// Of the server with which its handles begin.
+const BOOT: u64 = 0x0102_0304_0506_0708;
+
+/// A bind of call 1: a new group, context 0 of the probe, over NDR; and its bind_ack, with group 1.
+const BIND: &str = "05000b03 10000000 48000000 01000000 98059805 00000000 01000000 00000100 127a0c5f4d3b6f4e8a90b1c2d3e4f506 01000000 045d888aeb1cc9119fe808002b104860 02000000";
+
+const ACK: &str = "05000c03 10000000 38000000 01000000 98059805 01000000 00000000 01000000 00000000 045d888aeb1cc9119fe808002b104860 02000000";
+
+/// A request of call 2 for probe_open with the number 5, and its response with handle 1.
+const OPEN: &str = "05000003 10000000 1c000000 02000000 04000000 00000000 05000000";
+
+const OPENED: &str = "05000203 10000000 30000000 02000000 18000000 00000000 00000000 04030201 0605 0807 0000 000100000001 00000000";
+
+/// The interfaces of a server of the probe alone.
+fn probe_alone(alloc: Global) -> Result<Served, NoMemory>
+    ensures { IfOk result (λ served. tables_in served ≡ probe.probe_table ∷ []) }
+{
+    let mut tables: Tables = Vec::new(alloc);
+    tables.push(probe_table(alloc)?)?;
+    Ok(Served::new(tables))
+}
+
+/// What a connection over a link comes to at a new server of the probe.
+fn serve(rt: &HostRuntime, link: ScriptLink) -> Result<Finished<ScriptLink>, Fail>
+    requires { link.closed ≡ false }
+{
+    let alloc = rt.alloc();
+    let served = probe_alone(alloc)?;
+    let manager = Locked::new(ProbeDesk::new(alloc));
+    let (hub, pass) = Hub::new(alloc, BOOT)?;
+    Ok(serve_connection(rt, alloc, &served, &manager, &hub, pass, link))
+}
+
+#[test]
+fn a_call_is_answered_and_the_group_is_retired(rt: HostRuntime) -> Result<(), Fail> {
+    let alloc = rt.alloc();
+    let done = serve(&rt, link(alloc, steps(alloc, &[BIND, OPEN])?))?;
+    let mut wanted = octets(alloc, ACK)?;
+    wanted.append(octets(alloc, OPENED)?.as_slice())?;
+    assert_eq!(rt; done.link.written().as_slice(), wanted.as_slice());
+    assert_eq!(rt; (done.joined, done.ending), (Some((1, 1)), Ending::Closed));
+    assert_eq!(rt; done.retired, Some(Retired { group: 1 }));
+    Ok(())
+}
+
+#[test]
+fn ten_octets_of_a_further_pdu_are_cut(rt: HostRuntime) -> Result<(), Fail> {
+    let alloc = rt.alloc();
+    let mut all = steps(alloc, &[BIND])?;
+    all.push(LinkStep::Give(octets(alloc, "05000003 10000000 1c00")?))?;
+    let done = serve(&rt, link(alloc, all))?;
+    assert_eq!(rt; done.link.written().as_slice(), octets(alloc, ACK)?.as_slice());
+    assert_eq!(rt; (done.joined, done.ending), (Some((1, 1)), Ending::Cut(10)));
+    Ok(())
+}
+
+#[test]
+fn a_link_that_fails_at_once_joins_no_group(rt: HostRuntime) -> Result<(), Fail> {
+    let alloc = rt.alloc();
+    let mut failing = Items::new(alloc);
+    failing.push(1)?;
+    let steps = steps(alloc, &[BIND])?;
+    let link = ScriptLink::new(alloc, steps, 7, failing, Items::new(alloc));
+    let done = serve(&rt, link)?;
+    assert_eq!(rt; (done.joined, done.ending), (None, Ending::LinkFault));
+    assert_eq!(rt; done.retired, None);
+    Ok(())
+}

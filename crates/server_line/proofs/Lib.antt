@@ -1,0 +1,9 @@
+pub mod Holding
+pub mod Telling
+pub mod Hearing
+pub mod Saying
+pub mod Suiting
+pub mod Calling
+pub mod Accepting
+pub mod LeaveLemmas
+pub mod Closing

@@ -1,0 +1,6 @@
+use Rattle.std.proofs.Common.{◌≡◌}
+use Rattle.server_line.specs.Lines.{IsEarly}
+use Rattle.server_run.proofs.binding.enter.Given as goal
+
+abbrev pub invariant-loop : goal.invariant-loop
+invariant-loop g l = (l.wire.first.value ≡ l.initial.wire.first.value) × IsEarly g.K.Link.shows (g.M.Manager.tables l.manager) l.wire

@@ -1,0 +1,130 @@
+//! A connection from its first octet to its end.
+ghost use Rattle.std.specs.Prelude.{◌≡◌, false};
+ghost use Rattle.group_hub.specs.Passes.{IsPassOf};
+ghost use Rattle.served_tables.specs.Served.{tables_in};
+ghost use Rattle.server_ends.specs.Finishes.{Finishes};
+ghost use Rattle.group_hub.specs.declared.pass.Pass.{Pass as PassSpec};
+ghost use Rattle.server_line.specs.Lines.{IsAlone, IsStopping};
+
+use crate::binding::{Entered, enter};
+use crate::calling::serve_calls;
+use conn_link::Wire;
+use group_hub::{Hub, Pass};
+use manager_calls::Manager;
+use rpc_outside::Link;
+use served_tables::Served;
+use server_ends::{Ending, Finished};
+use server_line::{Line, Stop, close};
+use std::alloc::Global;
+use std::sync::Wait;
+
+/// A connection for which there is no memory at all.
+fn unserved<K: Link, M: Manager>(_manager: &M, _hub: &Hub, pass: Pass, link: K) -> Finished<K>
+    requires pass { IsPassOf _hub.now pass }
+    requires open { (K.shows link).closed ≡ false }
+    ensures pass { IsPassOf _hub.now result.pass }
+    ensures finishes { Finishes K.shows (M.may _manager.now) (M.tables _manager.now) _hub.now.boot pass (K.shows link) result }
+{
+    let mut link = link;
+    link.close();
+    Finished {
+        link,
+        pass,
+        joined: None,
+        ending: Ending::Memory,
+        retired: None,
+    }
+}
+
+/// A connection of no group that doesn't go on is closed.
+fn finish_alone<K: Link, M: Manager>(
+    _manager: &M,
+    _hub: &Hub,
+    wire: Wire<K>,
+    pass: Pass,
+    why: Stop,
+) -> Finished<K>
+    requires pass { IsPassOf _hub.now pass }
+    requires alone { (before : PassSpec) × IsAlone K.shows (M.tables _manager.now) (M.may _manager.now) _hub.now.boot before wire pass why }
+    ensures pass { IsPassOf _hub.now result.pass }
+    ensures finishes { (before : PassSpec) → IsAlone K.shows (M.tables _manager.now) (M.may _manager.now) _hub.now.boot before wire pass why → Finishes K.shows (M.may _manager.now) (M.tables _manager.now) _hub.now.boot before (K.shows wire.first.value) result }
+{
+    let (link, ending) = close(wire, why);
+    Finished {
+        link,
+        pass,
+        joined: None,
+        ending,
+        retired: None,
+    }
+}
+
+/// A connection of a group that doesn't go on leaves, and is closed.
+fn finish<R: Wait, K: Link, M: Manager>(
+    rt: &R,
+    hub: &Hub,
+    manager: &M,
+    line: Line<K>,
+    why: Stop,
+) -> Finished<K>
+    requires { IsStopping K.shows (M.may manager.now) (M.tables manager.now) hub.now line why }
+    ensures pass { IsPassOf hub.now result.pass }
+    ensures finishes { Finishes K.shows (M.may manager.now) (M.tables manager.now) hub.now.boot line.began.value (K.shows line.wire.first.value) result }
+{
+    let mut line = line;
+    line.leave(rt, hub, manager, why);
+    let Line {
+        wire,
+        pass,
+        group,
+        number,
+        retired,
+        began: _,
+    } = line;
+    let (link, ending) = close(wire, why);
+    Finished {
+        link,
+        pass,
+        joined: Some((group, number)),
+        ending,
+        retired,
+    }
+}
+
+/// Serves a connection to its end: it answers its bind, and then one call after another, each by the manager of its
+/// interface. At its end it leaves its group, which is run down and retired where that was due, and its link is closed.
+/// Nothing else is done with the link, and the hub is entered by this pass alone. What it came to is told; `Memory`
+/// stands wherever there was no memory for an answer or for what came.
+pub fn serve_connection<R: Wait, K: Link, M: Manager>(
+    rt: &R,
+    alloc: Global,
+    served: &Served,
+    manager: &M,
+    hub: &Hub,
+    pass: Pass,
+    link: K,
+) -> Finished<K>
+    requires pass { IsPassOf hub.now pass }
+    requires open { (K.shows link).closed ≡ false }
+    requires served { M.tables manager.now ≡ tables_in served.now }
+    ensures pass { IsPassOf hub.now result.pass }
+    ensures finishes { Finishes K.shows (M.may manager.now) (M.tables manager.now) hub.now.boot pass (K.shows link) result }
+{
+    let ids = match served.ids(alloc) {
+        Ok(ids) => ids,
+        Err(_) => return unserved(manager, hub, pass, link),
+    };
+    let wire = match Wire::new(alloc, link, ids.as_slice()) {
+        Ok(wire) => wire,
+        Err(link) => return unserved(manager, hub, pass, link),
+    };
+    match enter(rt, hub, manager, wire, pass) {
+        Entered::Joined(line) => {
+            let mut line = line;
+            let why = serve_calls(rt, alloc, served, manager, hub, &mut line);
+            return finish(rt, hub, manager, line, why);
+        }
+        Entered::Stopped(line, why) => return finish(rt, hub, manager, line, why),
+        Entered::Alone(wire, pass, why) => return finish_alone(manager, hub, wire, pass, why),
+    }
+}
