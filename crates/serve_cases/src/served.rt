@@ -19,14 +19,17 @@ use std::test::*;
 const BOOT: u64 = 0x0102_0304_0506_0708;
 
 /// A bind of call 1: a new group, context 0 of the probe, over NDR; and its bind_ack, with group 1.
-const BIND: &str = "05000b03 10000000 48000000 01000000 98059805 00000000 01000000 00000100 127a0c5f4d3b6f4e8a90b1c2d3e4f506 01000000 045d888aeb1cc9119fe808002b104860 02000000";
+const BIND: &str =
+    "05000b03 10000000 48000000 01000000 98059805 00000000 01000000 00000100 127a0c5f4d3b6f4e8a90b1c2d3e4f506 01000000 045d888aeb1cc9119fe808002b104860 02000000";
 
-const ACK: &str = "05000c03 10000000 38000000 01000000 98059805 01000000 00000000 01000000 00000000 045d888aeb1cc9119fe808002b104860 02000000";
+const ACK: &str =
+    "05000c03 10000000 38000000 01000000 98059805 01000000 00000000 01000000 00000000 045d888aeb1cc9119fe808002b104860 02000000";
 
 /// A request of call 2 for probe_open with the number 5, and its response with handle 1.
 const OPEN: &str = "05000003 10000000 1c000000 02000000 04000000 00000000 05000000";
 
-const OPENED: &str = "05000203 10000000 30000000 02000000 18000000 00000000 00000000 04030201 0605 0807 0000 000100000001 00000000";
+const OPENED: &str =
+    "05000203 10000000 30000000 02000000 18000000 00000000 00000000 04030201 0605 0807 0000 000100000001 00000000";
 
 /// The interfaces of a server of the probe alone.
 fn probe_alone(alloc: Global) -> Result<Served, NoMemory>
@@ -66,7 +69,10 @@ fn ten_octets_of_a_further_pdu_are_cut(rt: HostRuntime) -> Result<(), Fail> {
     let mut all = steps(alloc, &[BIND])?;
     all.push(LinkStep::Give(octets(alloc, "05000003 10000000 1c00")?))?;
     let done = serve(&rt, link(alloc, all))?;
-    assert_eq!(rt; done.link.written().as_slice(), octets(alloc, ACK)?.as_slice());
+    assert_eq!(rt;
+        done.link.written().as_slice(),
+        octets(alloc, ACK)?.as_slice()
+    );
     assert_eq!(rt; (done.joined, done.ending), (Some((1, 1)), Ending::Cut(10)));
     Ok(())
 }

@@ -19,6 +19,7 @@ pub enum Ending {
 }
 
 /// What a connection came to.
+#[derive(Drop)]
 pub struct Finished<K> {
     /// Its link, which is closed.
     pub link: K,

@@ -1,0 +1,4 @@
+pub mod Lists
+pub mod Takes
+pub mod Servings
+pub mod Doors

@@ -1,0 +1,5 @@
+pub mod Passes
+pub mod Served
+pub mod Running
+pub mod Serving
+pub mod Rounds

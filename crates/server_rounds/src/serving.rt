@@ -1,0 +1,131 @@
+//! A round in the middle.
+ghost use Rattle.std.specs.Prelude.{◌≡◌, ◌+◌, ◌<◌, ◌≤◌, ◌++◌, [], ◌∷◌, vec_len, vec_capacity, OnOk};
+ghost use Rattle.std.specs.Arc.{arc_value};
+ghost use Rattle.std.specs.VecDeque.{deque_len, deque_capacity};
+ghost use Rattle.rpc_outside.specs.Links.{IsNew};
+ghost use Rattle.group_hub.specs.Passes.{IsPassOf};
+ghost use Rattle.server_rounds.specs.Serving.{IsServing, HasRoom, links_of, Keeps, Same};
+
+use crate::running::Running;
+use crate::service::Service;
+use crate::settled::Settled;
+use group_hub::{Hub, Pass};
+use rpc_base::NoMemory;
+use rpc_outside::Link;
+use std::alloc::Global;
+use std::collections::VecDeque;
+use std::mem;
+use std::snapshot::Snapshot;
+use std::sync::atomic::AtomicBool;
+use std::sync::{Arc, Wait};
+use std::thread::Threads;
+
+/// Behind how many connections the threads of those that are over are joined. A thread that isn't joined keeps its stack.
+const SWEEP: u32 = 64;
+
+/// The connections of a round so far: those that are over, and behind them those that are being served.
+#[derive(Drop)]
+pub(crate) struct Serving<S: Service, K: Link> {
+    pub(crate) pass: Pass,
+    pub(crate) finished: Vec<Settled<K>>,
+    pub(crate) running: VecDeque<Running<S, K>>,
+    pub(crate) service: Snapshot<S>,
+    pub(crate) first: Snapshot<Pass>,
+}
+
+impl<S: Service, K: Link> Serving<S, K> {
+    /// No connection yet. It takes no memory.
+    pub(crate) fn new(alloc: Global, service: &S, hub: &Hub, pass: Pass) -> Serving<S, K>
+        requires pass { IsPassOf hub.now pass }
+        ensures serving { IsServing K.shows S.may S.tables hub.now result }
+        ensures service { result.service.value ≡ service.now }
+        ensures first { result.first.value ≡ pass }
+        ensures links { links_of result ≡ [] }
+    {
+        let _ = hub;
+        Serving {
+            first: Snapshot::of(&pass),
+            pass,
+            finished: Vec::new(alloc),
+            running: VecDeque::new(alloc),
+            service: Snapshot::of(service),
+        }
+    }
+
+    /// Makes room for one connection more, and what will tell that it is over.
+    pub(crate) fn make_room(&mut self, alloc: Global) -> Result<Arc<AtomicBool, Global>, NoMemory>
+        ensures same { Same self.old self.new }
+        ensures room { OnOk result (HasRoom self.new) }
+    {
+        let Some(wanted) = self.running.len().checked_add(1) else {
+            return Err(NoMemory);
+        };
+        self.running.reserve(1)?;
+        self.finished.reserve(wanted)?;
+        Ok(Arc::new(alloc, AtomicBool::new(false))?)
+    }
+
+    /// Serves one connection more, with a pass that is split off.
+    pub(crate) fn start<R: Wait + Threads + Send + Sync + Copy + 'static>(
+        &mut self,
+        rt: R,
+        service: &Arc<S, Global>,
+        hub: &Arc<Hub, Global>,
+        over: Arc<AtomicBool, Global>,
+        link: K,
+    )
+    where
+        S: Send + Sync + Drop + 'static,
+        K: 'static,
+        requires serving { IsServing K.shows S.may S.tables (arc_value hub.now) self.old }
+        requires service { self.old.service.value ≡ arc_value service.now }
+        requires room { HasRoom self.old }
+        requires new { IsNew (K.shows link) }
+        ensures serving { IsServing K.shows S.may S.tables (arc_value hub.now) self.new }
+        ensures keeps { Keeps self.old self.new }
+        ensures links { links_of self.new ≡ links_of self.old ++ link ∷ [] }
+    {
+        let pass = (**hub).split(&mut self.pass);
+        let running = Running::start(rt, service, hub, over, pass, link);
+        self.running.push_back_reserved(running);
+    }
+
+    /// Waits until the first of those that are being served is over, and takes in its pass.
+    pub(crate) fn settle_first<R: Threads>(&mut self, rt: &R, hub: &Hub)
+        requires serving { IsServing K.shows S.may S.tables hub.now self.old }
+        requires some { 0 < deque_len self.old.running }
+        ensures serving { IsServing K.shows S.may S.tables hub.now self.new }
+        ensures keeps { Keeps self.old self.new }
+        ensures links { links_of self.new ≡ links_of self.old }
+        ensures fewer { deque_len self.new.running + 1 ≡ deque_len self.old.running }
+    {
+        let Some(running) = self.running.pop_front() else {
+            unreachable!()
+        };
+        let (settled, pass) = running.finish(rt);
+        hub.join(&mut self.pass, pass);
+        self.finished.push_reserved(settled);
+    }
+
+    /// Behind so many connections joins the threads of those that are over, wherever they stand, where it is time
+    /// for that and there is memory for it.
+    pub(crate) fn sweep<R: Threads>(&mut self, rt: &R, alloc: Global, hub: &Hub, count: u32)
+        requires serving { IsServing K.shows S.may S.tables hub.now self.old }
+        ensures serving { IsServing K.shows S.may S.tables hub.now self.new }
+        ensures keeps { Keeps self.old self.new }
+        ensures links { links_of self.new ≡ links_of self.old }
+        ensures len { deque_len self.new.running ≡ deque_len self.old.running }
+    {
+        let _ = hub;
+        if count % SWEEP != 0 {
+            return;
+        }
+        let Ok(swept) = VecDeque::with_capacity(alloc, self.running.len()) else {
+            return;
+        };
+        let mut waiting = mem::replace(&mut self.running, swept);
+        while let Some(running) = waiting.pop_front() {
+            self.running.push_back_reserved(running.rest(rt));
+        }
+    }
+}
