@@ -8,8 +8,8 @@ ghost use Rattle.handle_model.specs.Journal as spec;
 use group_core::Journal;
 use handle_model::{Asked, Base, BaseCall, BaseCalls, Conns, Entry, Home, count_opens};
 use handle_rules::{
-    Record, accept_count, asked, due_items, is_cancelled, is_open, is_orphaned, join_count, opened,
-    runs, waits,
+    Record, accept_count, due_items, is_cancelled, is_open, is_orphaned, join_count, opened, runs,
+    waits,
 };
 use rpc_base::{Items, NoMemory};
 use std::alloc::Global;
@@ -128,11 +128,20 @@ fn is_active(journal: Record<'_>, call: u32) -> bool {
 
 /// What a call asked that waits or runs.
 pub fn open_asked(journal: Record<'_>, call: u32) -> Option<&Asked> {
-    if is_active(journal, call) {
-        asked(journal, call)
-    } else {
-        None
+    if !is_active(journal, call) {
+        return None;
     }
+    for entry in journal.entries {
+        if let Entry::Accept {
+            call: number,
+            asked,
+        } = entry
+            && *number == call
+        {
+            return Some(asked);
+        }
+    }
+    None
 }
 
 /// Whether a journal that is folded behind these entries knows of the call.
