@@ -1,0 +1,104 @@
+//! Lines of outcomes.
+ghost use Rattle.std.specs.Prelude.{◌≡◌, ◌++◌, List, ℕ, true, OnOk, IfOk, codes, decimal};
+ghost use Rattle.ndr_value.specs.Values.{msg};
+ghost use Rattle.client_asks.specs.States as states;
+ghost use Rattle.call_texts.specs.Texts.{IsCallText};
+ghost use Rattle.call_answers.specs.Answers as spec;
+
+use call_texts::put_row;
+use client_asks::Told;
+use ndr_value::Message;
+use rpc_base::{NoMemory, Status, WireHandle};
+use rpc_words::{put, put_decimal, put_hex_u32};
+use std::alloc::Global;
+
+#[tactic(auto, unfolding(crate::specs::Answers::bound_text))]
+fn put_bound(alloc: Global, group: u32, into: &mut Vec<u8>) -> Result<(), NoMemory>
+    ensures { OnOk result (into.new.items ≡ into.old.items ++ spec.bound_text group) }
+{
+    put(b" bound ", into)?;
+    put_decimal(alloc, u64::from(group), into)
+}
+
+#[tactic(auto, unfolding(crate::specs::Answers::refused_text))]
+fn put_refused(alloc: Global, reason: u16, into: &mut Vec<u8>) -> Result<(), NoMemory>
+    ensures { OnOk result (into.new.items ≡ into.old.items ++ spec.refused_text reason) }
+{
+    put(b" refused ", into)?;
+    put_decimal(alloc, u64::from(reason), into)
+}
+
+#[tactic(auto, unfolding(crate::specs::Answers::fault_text))]
+fn put_fault(
+    alloc: Global,
+    status: Status,
+    not_run: bool,
+    into: &mut Vec<u8>,
+) -> Result<(), NoMemory>
+    ensures { OnOk result (into.new.items ≡ into.old.items ++ spec.fault_text status.0 not_run) }
+{
+    put(b" fault ", into)?;
+    put_hex_u32(alloc, status.0, into)?;
+    if not_run {
+        put(b" not-run", into)
+    } else {
+        put(b" run", into)
+    }
+}
+
+fn put_done(
+    alloc: Global,
+    known: &[WireHandle],
+    message: &Message,
+    into: &mut Vec<u8>,
+) -> Result<bool, NoMemory>
+    ensures { IfOk result (λ done. done ≡ true → (text : List ℕ) × IsCallText known.now (msg message.now).wires (msg message.now).values text × (into.new.items ≡ into.old.items ++ (codes " done " ++ text))) }
+{
+    put(b" done ", into)?;
+    put_row(alloc, known, message, into)
+}
+
+/// Adds what is said of an outcome. False where nothing can be.
+fn put_said(
+    alloc: Global,
+    known: &[WireHandle],
+    told: &Told,
+    into: &mut Vec<u8>,
+) -> Result<bool, NoMemory>
+    ensures { IfOk result (λ done. done ≡ true → (said : List ℕ) × spec.Says known.now (states.told told.now) said × (into.new.items ≡ into.old.items ++ said)) }
+{
+    match told {
+        Told::Bound(group) => put_bound(alloc, *group, into)?,
+        Told::NotBound(reason) => put_refused(alloc, *reason, into)?,
+        Told::Done(message) => return put_done(alloc, known, message, into),
+        Told::Fault { status, not_run } => put_fault(alloc, *status, *not_run, into)?,
+        Told::Broken(_) => return Ok(false),
+    }
+    Ok(true)
+}
+
+/// Adds the line of a connection's outcome, where these handles have come. False where nothing can be said of it: it is a breach
+/// of the protocol, or a handle of its message has no place among its wires; what is added then means nothing.
+pub fn put_answer(
+    alloc: Global,
+    known: &[WireHandle],
+    connection: u32,
+    told: &Told,
+    into: &mut Vec<u8>,
+) -> Result<bool, NoMemory>
+    ensures { IfOk result (λ done. done ≡ true → (line : List ℕ) × spec.IsLine known.now connection (states.told told.now) line × (into.new.items ≡ into.old.items ++ line)) }
+{
+    put_decimal(alloc, u64::from(connection), into)?;
+    let done = put_said(alloc, known, told, into)?;
+    put(b"\n", into)?;
+    Ok(done)
+}
+
+/// Adds the line of a connection that is lost with a call out.
+#[tactic(auto, unfolding(crate::specs::Answers::lost_line))]
+pub fn put_lost(alloc: Global, connection: u32, into: &mut Vec<u8>) -> Result<(), NoMemory>
+    ensures { OnOk result (into.new.items ≡ into.old.items ++ spec.lost_line connection) }
+{
+    put_decimal(alloc, u64::from(connection), into)?;
+    put(b" lost\n", into)
+}

@@ -1,0 +1,28 @@
+use Rattle.std.proofs.Common.{◌∷◌, [], ◌++◌, ◌∙◌, ap, List, ℕ}
+use Rattle.call_texts.specs.Handles.{name}
+use Rattle.call_texts.proofs.Renamed.{adds_handle, adds_quoted, adds_other, adds_end, empty}
+use Rattle.call_texts.proofs.names.put_named.Goals as goal
+
+pub loop-first-preserved-then-first-eq36 : goal.loop-first-preserved-then-first-eq36
+loop-first-preserved-then-first-eq36 c =
+    let at = c.in-Some-wire_at.ensures in
+    let digits = c.cut_digits.ensures in
+    let rest_is = c.in-Some.ensures.cases.0 ∙ (ap (λ x. x ∷ c.in-Some.after.now) c.if-first-eq36.true ∙ ap (λ (x : List ℕ). 36 ∷ x) digits.text) in
+    let now_is = c.in_ok-put_name.ensures ∙ ap (λ (x : List ℕ). x ++ name c.args.known.now c.in-Some-wire_at.wire) c.in_ok-put.ensures.ok in
+    rw now_is (adds_handle c.args.known.now c.args.wires.now c.args.text.now c.args.into.now.items at.0 c.in-Some-wire_at.wire c.loop-first.rest.now c.loop-first.into.items c.cut_digits.result.0.now c.cut_digits.result.1.now rest_is at.1 at.2
+    digits.behind c.loop-first.invariant)
+
+pub loop-first-preserved-then-first-eq34 : goal.loop-first-preserved-then-first-eq34
+loop-first-preserved-then-first-eq34 c =
+    let cut = c.in-Some-cut_at.ensures in
+    let rest_is = c.in-Some.ensures.cases.0 ∙ (ap (λ x. x ∷ c.in-Some.after.now) c.if-first-eq34.true ∙ ap (λ (x : List ℕ). 34 ∷ x) cut.0) in
+    let now_is = c.in_ok-put-4.ensures.ok ∙ ap (λ (x : List ℕ). x ++ 34 ∷ []) (c.in_ok-put-3.ensures.ok ∙ ap (λ (x : List ℕ). x ++ c.in-Some-cut_at.inside.now) c.in_ok-put-2.ensures.ok) in
+    rw now_is (adds_quoted c.args.known.now c.args.wires.now c.args.text.now c.args.into.now.items c.loop-first.rest.now c.loop-first.into.items c.in-Some-cut_at.inside.now c.in-Some-cut_at.after.now rest_is cut.1 c.loop-first.invariant)
+
+pub loop-first-preserved : goal.loop-first-preserved
+loop-first-preserved c =
+    rw c.in_ok-put-5.ensures.ok (adds_other c.args.known.now c.args.wires.now c.args.text.now c.args.into.now.items c.loop-first.rest.now c.loop-first.into.items c.in-Some.first.now c.in-Some.after.now c.in-Some.ensures.cases.0
+    c.if-first-eq36.false c.if-first-eq34.false c.loop-first.invariant)
+
+pub returns : goal.returns
+returns c = λ _. adds_end c.args.known.now c.args.wires.now c.args.text.now c.args.into.now.items c.loop-first.rest.now c.loop-first.into.items (empty c.loop-first.rest.now c.in_default.ensures.cases) c.loop-first.invariant

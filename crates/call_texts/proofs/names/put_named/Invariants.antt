@@ -1,0 +1,9 @@
+use Rattle.std.proofs.Common.{length}
+use Rattle.call_texts.proofs.Renamed.{Adds}
+use Rattle.call_texts.proofs.names.put_named.Given as goal
+
+abbrev pub invariant-loop-first : goal.invariant-loop-first
+invariant-loop-first l = Adds l.known l.wires l.text l.initial.into.items l.rest l.into.items
+
+abbrev pub decreases-loop-first : goal.decreases-loop-first
+decreases-loop-first l = length l.rest

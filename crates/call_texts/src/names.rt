@@ -1,0 +1,158 @@
+//! Texts of values with the places of handles, and with their names.
+ghost use Rattle.std.specs.Prelude.{◌≡◌, ◌++◌, ◌∷◌, List, ℕ, Some, false, true, IfOk, IfSome, slice_get, codes, decimal};
+ghost use Rattle.std.specs.Option.{option_copied};
+ghost use Rattle.value_text.specs.Marks as marks;
+ghost use Rattle.call_texts.specs.Handles as spec;
+ghost use Rattle.call_texts.specs.Texts.{Named};
+ghost use Rattle.call_texts.specs.Renaming.{IsRenamed};
+
+use crate::handles::{place, put_name};
+use ndr_value::Wires;
+use rpc_base::{NoMemory, WireHandle};
+use rpc_words::{cut_at, put, put_decimal, read_u8, read_u64};
+use std::alloc::Global;
+
+/// What stands behind an octet.
+pub(crate) fn behind(octet: u8, text: &[u8]) -> Option<&[u8]>
+    ensures { IfSome result (λ rest. text.now ≡ octet ∷ rest.now) }
+{
+    let (first, rest) = text.split_first()?;
+    if *first == octet { Some(rest) } else { None }
+}
+
+/// What stands behind `null`.
+fn behind_null(text: &[u8]) -> Option<&[u8]>
+    ensures { IfSome result (λ rest. text.now ≡ codes "null" ++ rest.now) }
+{
+    behind(b'l', behind(b'l', behind(b'u', behind(b'n', text)?)?)?)
+}
+
+/// Whether a text begins with a digit.
+fn heads_digit(text: &[u8]) -> bool
+    ensures { result ≡ marks.heads_digit text.now }
+{
+    match text {
+        [] => false,
+        [first, ..] => first.is_ascii_digit(),
+    }
+}
+
+/// The digits at the front of a text, and what stands behind them.
+fn cut_digits(text: &[u8]) -> (&[u8], &[u8])
+    ensures text { text.now ≡ result.0.now ++ result.1.now }
+    ensures behind { marks.heads_digit result.1.now ≡ false }
+{
+    match text.iter().position(|octet| !octet.is_ascii_digit()) {
+        Some(at) => text.split_at(at),
+        None => (text, &[]),
+    }
+}
+
+/// The handle that came at a place, where that is its first.
+fn came_at(known: &[WireHandle], number: u64) -> Option<WireHandle>
+    ensures { IfSome result (λ w. (spec.is_null w ≡ false) × (spec.place known.now w ≡ number)) }
+{
+    let at = usize::try_from(number.checked_sub(1)?).ok()?;
+    let wire = *known.get(at)?;
+    if wire.is_null() || place(known, &wire) != number {
+        return None;
+    }
+    Some(wire)
+}
+
+/// The handle whose name stands at the front of a text, and what stands behind it.
+#[tactic(auto, unfolding(crate::specs::Handles::name))]
+fn read_name<'a>(known: &[WireHandle], text: &'a [u8]) -> Option<(WireHandle, &'a [u8])>
+    ensures { IfSome result (λ x. (text.now ≡ spec.name known.now x.0 ++ x.1.now) × (marks.heads_digit x.1.now ≡ false)) }
+{
+    if let Some(rest) = behind_null(text) {
+        if heads_digit(rest) {
+            return None;
+        }
+        return Some((WireHandle::NULL, rest));
+    }
+    let (digits, rest) = cut_digits(behind(b'h', text)?);
+    let wire = came_at(known, read_u64(digits)?)?;
+    Some((wire, rest))
+}
+
+/// The text with the places of the handles that it names, and these handles. `None` where something else stands for a
+/// handle, or a double quote isn't closed.
+pub(crate) fn with_places(
+    alloc: Global,
+    known: &[WireHandle],
+    text: &[u8],
+) -> Result<Option<(Vec<u8>, Wires)>, NoMemory>
+    ensures { IfOk result (λ found. IfSome found (λ x. Named known.now x.1 x.0.items text.now)) }
+{
+    let mut plain = Vec::new(alloc);
+    let mut wires = Wires::new(alloc);
+    let mut rest = text;
+    while let Some((first, after)) = rest.split_first() {
+        if *first == b'$' {
+            let Some((wire, after)) = read_name(known, after) else {
+                return Ok(None);
+            };
+            put(b"$", &mut plain)?;
+            put_decimal(alloc, wires.len() as u64, &mut plain)?;
+            wires.push(wire)?;
+            rest = after;
+        } else if *first == b'"' {
+            let Some((inside, after)) = cut_at(b'"', after) else {
+                return Ok(None);
+            };
+            put(b"\"", &mut plain)?;
+            put(inside, &mut plain)?;
+            put(b"\"", &mut plain)?;
+            rest = after;
+        } else {
+            put(&[*first], &mut plain)?;
+            rest = after;
+        }
+    }
+    Ok(Some((plain, wires)))
+}
+
+/// Adds the text with the names of handles in place of their places. False where a place is none of theirs.
+pub(crate) fn put_named(
+    alloc: Global,
+    known: &[WireHandle],
+    wires: &[WireHandle],
+    text: &[u8],
+    into: &mut Vec<u8>,
+) -> Result<bool, NoMemory>
+    ensures { IfOk result (λ named. named ≡ true → IsRenamed known.now wires.now text.now into.old.items into.new.items) }
+{
+    let mut rest = text;
+    while let Some((first, after)) = rest.split_first() {
+        if *first == b'$' {
+            let (digits, after) = cut_digits(after);
+            let Some(wire) = wire_at(wires, digits) else {
+                return Ok(false);
+            };
+            put(b"$", into)?;
+            put_name(alloc, known, &wire, into)?;
+            rest = after;
+        } else if *first == b'"' {
+            let Some((inside, after)) = cut_at(b'"', after) else {
+                return Ok(false);
+            };
+            put(b"\"", into)?;
+            put(inside, into)?;
+            put(b"\"", into)?;
+            rest = after;
+        } else {
+            put(&[*first], into)?;
+            rest = after;
+        }
+    }
+    Ok(true)
+}
+
+/// The handle at the place that is written so.
+fn wire_at(wires: &[WireHandle], digits: &[u8]) -> Option<WireHandle>
+    ensures { IfSome result (λ w. (k : ℕ) × (decimal k ≡ digits.now) × (slice_get wires.now k ≡ Some w)) }
+{
+    let at = read_u8(digits)?;
+    wires.get(at as usize).copied()
+}
