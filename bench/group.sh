@@ -10,10 +10,13 @@ source "$top/bench/timing.sh"
 (cd "$top/crates/group_bench" && rt run >/dev/null) # builds it where it is older than its sources
 program=$top/crates/group_bench/out/group_bench
 
-# The time of one of so many, in thousandths of a microsecond: calls, closes or visits.
+# The time of one of so many, in thousandths of a microsecond: calls, closes or visits. A group that stops early ends
+# the script.
 each() { # COUNT LIVE WAITING ROUNDS CLOSES VISITS
-    local count=$1 bare whole
+    local count=$1 bare whole said
     shift
+    said=$("$program" "$@")
+    case $said in *entries) ;; *) echo "$said: $*" >&2; return 1 ;; esac
     bare=$(least 0 "$program" "$1" "$2" 0 0 0)
     whole=$(least 0 "$program" "$@")
     echo $(((whole - bare) * 1000 / count))

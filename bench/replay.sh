@@ -105,8 +105,8 @@ for kind in appends fragments octets; do
     long_script "$kind" >"$work/long"
     time=$(least 0 "$program" replay "$work/long")
     show "64 MiB of $kind" "$time"
-    most=$(/usr/bin/time -f %M -o /dev/stdout "$program" replay "$work/long" 2>/dev/null >"$work/out" | tail -n 1)
-    awk -v most="$most" -v size="$(stat -c %s "$work/long")" 'BEGIN { printf "%-24s %9.2f times the file\n", "most memory", most * 1024 / size }'
+    /usr/bin/time -f %M -o "$work/most" "$program" replay "$work/long" >/dev/null 2>&1
+    awk -v most="$(cat "$work/most")" -v size="$(stat -c %s "$work/long")" 'BEGIN { printf "%-24s %9.2f times the file\n", "most memory", most * 1024 / size }'
 done
 
 before=
