@@ -140,7 +140,10 @@ module _ {T E : Type 0} (tells : T → List E → Type 0) (ties : List E → E �
       )
 
   -- the table at the start
-  pub opens : (x : T) → tells x first → Rule record { words = 0 ∷ 0 ∷ []; homes = some (Some x) ∷ []; views = view false first [] ∷ [] }
+  abbrev pub no_words : List ℕ
+  no_words = 0 ∷ 0 ∷ 0 ∷ 0 ∷ 0 ∷ 0 ∷ 0 ∷ 0 ∷ 0 ∷ 0 ∷ 0 ∷ 0 ∷ 0 ∷ 0 ∷ 0 ∷ 0 ∷ []
+
+  pub opens : (x : T) → tells x first → Rule record { words = no_words; homes = some (Some x) ∷ []; views = view false first [] ∷ [] }
   opens x is_told =
       let one : (Q : D → Type 0) → Q (view false first []) → (j : ℕ) (d : D) → get_elem? (view false first [] ∷ []) j ≡ some d → Q d = λ Q q j d e. ⊎_elim (λ (n : _). absurd (some-ne-none d (sym n))) (λ is. subst Q is q) (at_snoc [] (view false first []) d j e) in
       record {

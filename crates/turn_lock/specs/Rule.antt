@@ -1,5 +1,5 @@
--- The rule of a turn lock. Its parts are word 0, the turn, word 1, the number of entries that were entered modulo 2 ^ 64, the slot,
--- where the value is at home, and the view of each pass. `first` is what the history began with.
+-- The rule of a turn lock. Its parts are word 0, the turn, word 1, the number of entries that were entered modulo 2 ^ 64, fourteen
+-- words that nothing uses, the slot, where the value is at home, and the view of each pass. `first` is what the history began with.
 use Rattle.std.specs.Prelude.{◌≡◌, ◌≢◌, ℕ, ◌+◌, ◌%◌, ◌^◌, ◌≤◌, Bool, true, false, List, [], length, slice_index, Option, Some}
 use mathlib.Core.Option.{some}
 use lib.ListN.{get_elem?}
@@ -15,7 +15,7 @@ module _ {T E : Type 0} (tells : T → List E → Type 0) (ties : List E → E �
     -- the history of which all views speak, and who has the turn
     pub history : List E
     pub holder : ℕ
-    pub wide : length s.words ≡ 2
+    pub wide : length s.words ≡ 16
     -- the count word counts what was entered
     pub counted : (n : ℕ) × (length history ≡ length first + n) × (slice_index s.words 1 ≡ n % 2 ^ 64)
     -- a value told the history

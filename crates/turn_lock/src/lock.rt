@@ -12,13 +12,17 @@ use std::alloc::Global;
 use std::sync::Wait;
 use std::thread;
 
+/// A lock's words, two that are used and as many as two lines of a processor's cache hold: no line has
+/// words of two locks, or else threads at different locks would wait for one another's lines.
+const WORDS: [u64; 16] = [0, 0, 0, 0, 0, 0, 0, 0, 0, 0, 0, 0, 0, 0, 0, 0];
+
 /// A value that threads take turns at.
 #[derive(Drop)]
 pub struct TurnLock<T: Storied> {
     // Word 0 is 1 while a thread has the turn. Word 1 counts the entries that were entered, modulo
-    // 2^64. The slot has the value while nobody has the turn.
+    // 2^64. Nothing uses the others. The slot has the value while nobody has the turn.
     pub(crate) table: Table<Option<T>, View<T::Entry>, T::Start, TurnRule<T>, Global>,
-    ghost sized: { (table.shared.table_id.words ≡ 2) × (table.shared.table_id.slots ≡ 1) },
+    ghost sized: { (table.shared.table_id.words ≡ 16) × (table.shared.table_id.slots ≡ 1) },
 }
 
 /// The turn at a lock, with its value. It can't be dropped: `exit` alone gives it back.
@@ -45,7 +49,7 @@ impl<T: Storied> TurnLock<T> {
     {
         let mut slots = Vec::new(alloc);
         slots.push(Some(value))?;
-        match Table::new(alloc, &[0, 0], slots, start) {
+        match Table::new(alloc, &WORDS, slots, start) {
             Ok((table, pass)) => Ok((TurnLock { table }, pass)),
             Err(_) => Err(NoMemory),
         }

@@ -8,4 +8,4 @@ pub new-requires : goal.new-requires
 new-requires g c =
     let first = g.T.Storied.first c.args.start.now in
     let items : c.push.new.self.items ≡ Some c.args.value ∷ [] = c.in_ok-push.ensures.items ∙ ap (λ xs. xs ++ Some c.args.value ∷ []) c.new-slots.ensures.items in
-    subst (λ xs. Lawful g.T.Storied.tells g.T.Storied.ties first (opening (0 ∷ 0 ∷ []) xs (view false first []))) (sym items) (opens g.T.Storied.tells g.T.Storied.ties first c.args.value c.requires)
+    subst (λ xs. Lawful g.T.Storied.tells g.T.Storied.ties first (opening (0 ∷ 0 ∷ 0 ∷ 0 ∷ 0 ∷ 0 ∷ 0 ∷ 0 ∷ 0 ∷ 0 ∷ 0 ∷ 0 ∷ 0 ∷ 0 ∷ 0 ∷ 0 ∷ []) xs (view false first []))) (sym items) (opens g.T.Storied.tells g.T.Storied.ties first c.args.value c.requires)
