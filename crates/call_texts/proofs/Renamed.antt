@@ -1,11 +1,11 @@
 -- Texts that are renamed piece by piece.
-use Rattle.std.proofs.Common.{◌≡◌, ◌≢◌, ℕ, false, List, [], ◌∷◌, ◌++◌, length, refl, ap, sym, ◌∙◌, subst, append_assoc, arith, decimal, Some}
+use Rattle.std.proofs.Common.{◌≡◌, ◌≢◌, ℕ, true, false, List, [], ◌∷◌, ◌++◌, length, refl, ap, sym, ◌∙◌, subst, append_assoc, arith, decimal, Some}
 use Rattle.std.specs.Prelude.{slice_get}
 use Rattle.std.proofs.lemmas.List.{append-nil}
 use Rattle.rpc_base.specs.declared.identifiers.WireHandle.{WireHandle}
 use Rattle.rpc_words.specs.Reads.{HasNo}
 use Rattle.value_text.specs.Marks.{heads_digit}
-use Rattle.call_texts.specs.Handles.{name}
+use Rattle.call_texts.specs.Handles.{name, has_name}
 use Rattle.call_texts.specs.Texts.{Named}
 use Rattle.call_texts.specs.Texts.Named.{the_end, handle, quoted, other}
 
@@ -20,7 +20,7 @@ empty (x ∷ xs) e = absurd (omega arith)
 -- both texts begin with the same octet
 pub same_head : (known wires : List WireHandle) (a b : List ℕ) → Named known wires a b → heads_digit a ≡ heads_digit b
 same_head known wires a b the_end = refl
-same_head known wires a b (handle k w r s at behind n) = refl
+same_head known wires a b (handle k w r s at named behind n) = refl
 same_head known wires a b (quoted i r s none n) = refl
 same_head known wires a b (other c r s d e n) = refl
 
@@ -34,12 +34,12 @@ module _ (known : List WireHandle) (text : List ℕ) where
   goes_end wires plain rest none go =
       subst (λ (x : List ℕ). Named known wires x text) (append-nil plain) (go wires [] [] (sym (append-nil wires)) (subst (λ (x : List ℕ). Named known wires [] x) (sym none) the_end))
 
-  pub goes_handle : (wires : List WireHandle) (w : WireHandle) (plain rest after : List ℕ) → rest ≡ 36 ∷ name known w ++ after → heads_digit after ≡ false → Goes wires plain rest
+  pub goes_handle : (wires : List WireHandle) (w : WireHandle) (plain rest after : List ℕ) → rest ≡ 36 ∷ name known w ++ after → has_name known w ≡ true → heads_digit after ≡ false → Goes wires plain rest
       → Goes (wires ++ w ∷ []) ((plain ++ 36 ∷ []) ++ decimal (length wires)) after
-  goes_handle wires w plain rest after is behind go all more b all_is n =
+  goes_handle wires w plain rest after is has behind go all more b all_is n =
       let whole : all ≡ wires ++ w ∷ more = all_is ∙ append_assoc wires (w ∷ []) more in
       let at : slice_get all (length wires) ≡ Some w = ap (λ (x : List WireHandle). slice_get x (length wires)) whole ∙ at_end wires w more in
-      let one : Named known all (36 ∷ decimal (length wires) ++ b) (36 ∷ name known w ++ after) = handle (length wires) w b after at (same_head known all b after n ∙ behind) n in
+      let one : Named known all (36 ∷ decimal (length wires) ++ b) (36 ∷ name known w ++ after) = handle (length wires) w b after at has (same_head known all b after n ∙ behind) n in
       let on = go all (w ∷ more) (36 ∷ decimal (length wires) ++ b) whole (subst (λ (x : List ℕ). Named known all (36 ∷ decimal (length wires) ++ b) x) (sym is) one) in
       subst (λ (x : List ℕ). Named known all x text) (sym (append_assoc (plain ++ 36 ∷ []) (decimal (length wires)) b ∙ append_assoc plain (36 ∷ []) (decimal (length wires) ++ b))) on
 
@@ -67,10 +67,10 @@ module _ (known wires : List WireHandle) (text before : List ℕ) where
   adds_end rest now none add =
       let all = add [] (subst (λ (x : List ℕ). Named known wires x []) (sym none) the_end) in (all.0, all.1, sym (all.2 ∙ append-nil now))
 
-  pub adds_handle : (k : ℕ) (w : WireHandle) (rest now digits after : List ℕ) → rest ≡ 36 ∷ digits ++ after → decimal k ≡ digits → slice_get wires k ≡ Some w → heads_digit after ≡ false → Adds rest now
+  pub adds_handle : (k : ℕ) (w : WireHandle) (rest now digits after : List ℕ) → rest ≡ 36 ∷ digits ++ after → decimal k ≡ digits → slice_get wires k ≡ Some w → has_name known w ≡ true → heads_digit after ≡ false → Adds rest now
       → Adds after ((now ++ 36 ∷ []) ++ name known w)
-  adds_handle k w rest now digits after is same at behind add b n =
-      let one : Named known wires (36 ∷ decimal k ++ after) (36 ∷ name known w ++ b) = handle k w after b at behind n in
+  adds_handle k w rest now digits after is same at has behind add b n =
+      let one : Named known wires (36 ∷ decimal k ++ after) (36 ∷ name known w ++ b) = handle k w after b at has behind n in
       let two : Named known wires rest (36 ∷ name known w ++ b) = subst (λ (x : List ℕ). Named known wires x (36 ∷ name known w ++ b)) (ap (λ (x : List ℕ). 36 ∷ x ++ after) same ∙ sym is) one in
       let all = add (36 ∷ name known w ++ b) two in
       (all.0, all.1, all.2 ∙ sym (append_assoc (now ++ 36 ∷ []) (name known w) b ∙ append_assoc now (36 ∷ []) (name known w ++ b)))

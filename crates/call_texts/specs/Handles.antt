@@ -24,9 +24,13 @@ is_that w k = is_same k w
 abbrev pub is_among : List WireHandle → WireHandle → Bool
 is_among known w = list_any (is_that w) known
 
+-- it has a name: it is null, or came
+abbrev pub has_name : List WireHandle → WireHandle → Bool
+has_name known w = is_null w || is_among known w
+
 -- one that isn't null and didn't come before comes
 abbrev pub with_handle : List WireHandle → WireHandle → List WireHandle
-with_handle known w = if is_null w || is_among known w then known else known ++ w ∷ []
+with_handle known w = if has_name known w then known else known ++ w ∷ []
 
 -- these come, in this order
 abbrev pub with_handles : List WireHandle → List WireHandle → List WireHandle

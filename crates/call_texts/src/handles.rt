@@ -41,11 +41,18 @@ fn is_among(known: &[WireHandle], wire: &WireHandle) -> bool
     known.iter().any(|other| is_same(other, wire))
 }
 
+/// Whether a handle has a name: whether it is null, or came.
+pub(crate) fn has_name(known: &[WireHandle], wire: &WireHandle) -> bool
+    ensures { result ≡ spec.has_name known.now wire.now }
+{
+    is_null(wire) || is_among(known, wire)
+}
+
 /// A handle comes.
 fn learn_one(known: &mut Wires, wire: &WireHandle) -> Result<(), NoMemory>
     ensures { OnOk result (known.new ≡ spec.with_handle known.old wire.now) }
 {
-    if is_null(wire) || is_among(known.as_slice(), wire) {
+    if has_name(known.as_slice(), wire) {
         return Ok(());
     }
     known.push(*wire)

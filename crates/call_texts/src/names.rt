@@ -6,7 +6,7 @@ ghost use Rattle.call_texts.specs.Handles as spec;
 ghost use Rattle.call_texts.specs.Texts.{Named};
 ghost use Rattle.call_texts.specs.Renaming.{IsRenamed};
 
-use crate::handles::{place, put_name};
+use crate::handles::{has_name, place, put_name};
 use ndr_value::Wires;
 use rpc_base::{NoMemory, WireHandle};
 use rpc_words::{cut_at, put, put_decimal, read_u8, read_u64};
@@ -50,11 +50,11 @@ fn cut_digits(text: &[u8]) -> (&[u8], &[u8])
 
 /// The handle that came at a place, where that is its first.
 fn came_at(known: &[WireHandle], number: u64) -> Option<WireHandle>
-    ensures { IfSome result (λ w. (spec.is_null w ≡ false) × (spec.place known.now w ≡ number)) }
+    ensures { IfSome result (λ w. (spec.is_null w ≡ false) × (spec.has_name known.now w ≡ true) × (spec.place known.now w ≡ number)) }
 {
     let at = usize::try_from(number.checked_sub(1)?).ok()?;
     let wire = *known.get(at)?;
-    if wire.is_null() || place(known, &wire) != number {
+    if wire.is_null() || !has_name(known, &wire) || place(known, &wire) != number {
         return None;
     }
     Some(wire)
@@ -63,7 +63,7 @@ fn came_at(known: &[WireHandle], number: u64) -> Option<WireHandle>
 /// The handle whose name stands at the front of a text, and what stands behind it.
 #[tactic(auto, unfolding(crate::specs::Handles::name))]
 fn read_name<'a>(known: &[WireHandle], text: &'a [u8]) -> Option<(WireHandle, &'a [u8])>
-    ensures { IfSome result (λ x. (text.now ≡ spec.name known.now x.0 ++ x.1.now) × (marks.heads_digit x.1.now ≡ false)) }
+    ensures { IfSome result (λ x. (text.now ≡ spec.name known.now x.0 ++ x.1.now) × (marks.heads_digit x.1.now ≡ false) × (spec.has_name known.now x.0 ≡ true)) }
 {
     if let Some(rest) = behind_null(text) {
         if heads_digit(rest) {
@@ -113,7 +113,8 @@ pub(crate) fn with_places(
     Ok(Some((plain, wires)))
 }
 
-/// Adds the text with the names of handles in place of their places. False where a place is none of theirs.
+/// Adds the text with the names of handles in place of their places. False where a place is none of theirs, or its handle has no
+/// name.
 pub(crate) fn put_named(
     alloc: Global,
     known: &[WireHandle],
@@ -130,6 +131,9 @@ pub(crate) fn put_named(
             let Some(wire) = wire_at(wires, digits) else {
                 return Ok(false);
             };
+            if !has_name(known, &wire) {
+                return Ok(false);
+            }
             put(b"$", into)?;
             put_name(alloc, known, &wire, into)?;
             rest = after;

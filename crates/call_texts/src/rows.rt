@@ -52,7 +52,7 @@ fn put_plain(alloc: Global, values: &[Value], into: &mut Vec<u8>) -> Result<(), 
 }
 
 /// Adds the text of a message's values, in which handles have their names among those that came. False where a handle of the
-/// message has no place among its wires; what is added then means nothing.
+/// message has no place among its wires, or no name; what is added then means nothing.
 pub fn put_row(
     alloc: Global,
     known: &[WireHandle],

@@ -1,5 +1,5 @@
-use Rattle.std.proofs.Common.{◌∷◌, [], ◌++◌, ◌∙◌, ap, List, ℕ}
-use Rattle.call_texts.specs.Handles.{name}
+use Rattle.std.proofs.Common.{◌∷◌, [], ◌++◌, ◌∙◌, ◌≡◌, true, ap, sym, List, ℕ}
+use Rattle.call_texts.specs.Handles.{name, has_name}
 use Rattle.call_texts.proofs.Renamed.{adds_handle, adds_quoted, adds_other, adds_end, empty}
 use Rattle.call_texts.proofs.names.put_named.Goals as goal
 
@@ -9,8 +9,9 @@ loop-first-preserved-then-first-eq36 c =
     let digits = c.cut_digits.ensures in
     let rest_is = c.in-Some.ensures.cases.0 ∙ (ap (λ x. x ∷ c.in-Some.after.now) c.if-first-eq36.true ∙ ap (λ (x : List ℕ). 36 ∷ x) digits.text) in
     let now_is = c.in_ok-put_name.ensures ∙ ap (λ (x : List ℕ). x ++ name c.args.known.now c.in-Some-wire_at.wire) c.in_ok-put.ensures.ok in
+    let has : has_name c.args.known.now c.in-Some-wire_at.wire ≡ true = sym c.has_name.ensures ∙ c.if-not-has_name.false in
     rw now_is (adds_handle c.args.known.now c.args.wires.now c.args.text.now c.args.into.now.items at.0 c.in-Some-wire_at.wire c.loop-first.rest.now c.loop-first.into.items c.cut_digits.result.0.now c.cut_digits.result.1.now rest_is at.1 at.2
-    digits.behind c.loop-first.invariant)
+    has digits.behind c.loop-first.invariant)
 
 pub loop-first-preserved-then-first-eq34 : goal.loop-first-preserved-then-first-eq34
 loop-first-preserved-then-first-eq34 c =

@@ -8,7 +8,7 @@ loop-first-preserved-then-first-eq36 c =
     let rest_is = c.in-Some.ensures.cases.0 ∙ (ap (λ x. x ∷ c.in-Some.after.now) c.if-first-eq36.true ∙ ap (λ (x : List ℕ). 36 ∷ x) named.0) in
     let plain_is = c.in_ok-put_decimal.ensures.ok
     ∙ (ap (λ (x : List ℕ). x ++ decimal c.len.result) c.in_ok-put.ensures.ok ∙ ap (λ n. (c.loop-first.plain.items ++ 36 ∷ []) ++ decimal n) c.len.ensures) in
-    rw (c.in_ok-push.ensures.ok, plain_is) (goes_handle c.args.known.now c.args.text.now c.loop-first.wires c.in-Some-read_name.wire c.loop-first.plain.items c.loop-first.rest.now c.in-Some-read_name.after.now rest_is named.1 c.loop-first.invariant)
+    rw (c.in_ok-push.ensures.ok, plain_is) (goes_handle c.args.known.now c.args.text.now c.loop-first.wires c.in-Some-read_name.wire c.loop-first.plain.items c.loop-first.rest.now c.in-Some-read_name.after.now rest_is named.2 named.1 c.loop-first.invariant)
 
 pub loop-first-preserved-then-first-eq34 : goal.loop-first-preserved-then-first-eq34
 loop-first-preserved-then-first-eq34 c =
