@@ -13,6 +13,7 @@ use served_tables::{Served, Tables};
 use server_ends::{Ending, Finished};
 use server_run::serve_connection;
 use std::alloc::Global;
+use std::sync::Wait;
 use std::test::*;
 
 /// Of the server with which its handles begin.
@@ -41,10 +42,9 @@ fn probe_alone(alloc: Global) -> Result<Served, NoMemory>
 }
 
 /// What a connection over a link comes to at a new server of the probe.
-fn serve(rt: &HostRuntime, link: ScriptLink) -> Result<Finished<ScriptLink>, Fail>
+fn serve<R: Wait>(rt: &R, alloc: Global, link: ScriptLink) -> Result<Finished<ScriptLink>, Fail>
     requires { link.closed ≡ false }
 {
-    let alloc = rt.alloc();
     let served = probe_alone(alloc)?;
     let manager = Locked::new(ProbeDesk::new(alloc));
     let (hub, pass) = Hub::new(alloc, BOOT)?;
@@ -54,12 +54,19 @@ fn serve(rt: &HostRuntime, link: ScriptLink) -> Result<Finished<ScriptLink>, Fai
 #[test]
 fn a_call_is_answered_and_the_group_is_retired(rt: HostRuntime) -> Result<(), Fail> {
     let alloc = rt.alloc();
-    let done = serve(&rt, link(alloc, steps(alloc, &[BIND, OPEN])?))?;
+    let done = serve(&rt, alloc, link(alloc, steps(alloc, &[BIND, OPEN])?))?;
+    let Finished {
+        link,
+        pass: _,
+        joined,
+        ending,
+        retired,
+    } = done;
     let mut wanted = octets(alloc, ACK)?;
     wanted.append(octets(alloc, OPENED)?.as_slice())?;
-    assert_eq!(rt; done.link.written().as_slice(), wanted.as_slice());
-    assert_eq!(rt; (done.joined, done.ending), (Some((1, 1)), Ending::Closed));
-    assert_eq!(rt; done.retired, Some(Retired { group: 1 }));
+    assert_eq!(rt; link.written().as_slice(), wanted.as_slice());
+    assert_eq!(rt; (joined, ending), (Some((1, 1)), Ending::Closed));
+    assert_eq!(rt; retired, Some(Retired { group: 1 }));
     Ok(())
 }
 
@@ -68,12 +75,16 @@ fn ten_octets_of_a_further_pdu_are_cut(rt: HostRuntime) -> Result<(), Fail> {
     let alloc = rt.alloc();
     let mut all = steps(alloc, &[BIND])?;
     all.push(LinkStep::Give(octets(alloc, "05000003 10000000 1c00")?))?;
-    let done = serve(&rt, link(alloc, all))?;
-    assert_eq!(rt;
-        done.link.written().as_slice(),
-        octets(alloc, ACK)?.as_slice()
-    );
-    assert_eq!(rt; (done.joined, done.ending), (Some((1, 1)), Ending::Cut(10)));
+    let done = serve(&rt, alloc, link(alloc, all))?;
+    let Finished {
+        link,
+        pass: _,
+        joined,
+        ending,
+        retired: _,
+    } = done;
+    assert_eq!(rt; link.written().as_slice(), octets(alloc, ACK)?.as_slice());
+    assert_eq!(rt; (joined, ending), (Some((1, 1)), Ending::Cut(10)));
     Ok(())
 }
 
@@ -84,8 +95,15 @@ fn a_link_that_fails_at_once_joins_no_group(rt: HostRuntime) -> Result<(), Fail>
     failing.push(1)?;
     let steps = steps(alloc, &[BIND])?;
     let link = ScriptLink::new(alloc, steps, 7, failing, Items::new(alloc));
-    let done = serve(&rt, link)?;
-    assert_eq!(rt; (done.joined, done.ending), (None, Ending::LinkFault));
-    assert_eq!(rt; done.retired, None);
+    let done = serve(&rt, alloc, link)?;
+    let Finished {
+        link: _,
+        pass: _,
+        joined,
+        ending,
+        retired,
+    } = done;
+    assert_eq!(rt; (joined, ending), (None, Ending::LinkFault));
+    assert_eq!(rt; retired, None);
     Ok(())
 }
