@@ -48,7 +48,7 @@ fn serve<R: Wait>(rt: &R, alloc: Global, link: ScriptLink) -> Result<Finished<Sc
     let served = probe_alone(alloc)?;
     let manager = Locked::new(ProbeDesk::new(alloc));
     let (hub, pass) = Hub::new(alloc, BOOT)?;
-    Ok(serve_connection(rt, alloc, &served, &manager, &hub, pass, link))
+    Ok(serve_connection(rt, alloc, &hub, pass, link, &served, &manager))
 }
 
 #[test]

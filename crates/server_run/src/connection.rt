@@ -98,19 +98,19 @@ fn finish<R: Wait, K: Link, M: Manager>(
 pub fn serve_connection<R: Wait, K: Link, M: Manager>(
     rt: &R,
     alloc: Global,
-    served: &Served,
-    manager: &M,
     hub: &Hub,
     pass: Pass,
     link: K,
+    table: &Served,
+    manager: &M,
 ) -> Finished<K>
     requires pass { IsPassOf hub.now pass }
     requires open { (K.shows link).closed ≡ false }
-    requires served { M.tables manager.now ≡ tables_in served.now }
+    requires table { M.tables manager.now ≡ tables_in table.now }
     ensures pass { IsPassOf hub.now result.pass }
     ensures finishes { Finishes K.shows (M.may manager.now) (M.tables manager.now) hub.now.boot pass (K.shows link) result }
 {
-    let ids = match served.ids(alloc) {
+    let ids = match table.ids(alloc) {
         Ok(ids) => ids,
         Err(_) => return unserved(manager, hub, pass, link),
     };
@@ -121,7 +121,7 @@ pub fn serve_connection<R: Wait, K: Link, M: Manager>(
     match enter(rt, hub, manager, wire, pass) {
         Entered::Joined(line) => {
             let mut line = line;
-            let why = serve_calls(rt, alloc, served, manager, hub, &mut line);
+            let why = serve_calls(rt, alloc, table, manager, hub, &mut line);
             return finish(rt, hub, manager, line, why);
         }
         Entered::Stopped(line, why) => return finish(rt, hub, manager, line, why),
