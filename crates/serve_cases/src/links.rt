@@ -1,4 +1,5 @@
 //! Links in memory, and the octets on them.
+ghost use Rattle.std.specs.Prelude.{◌≡◌, false};
 
 use rpc_base::{Items, NoMemory, Octets};
 use rpc_outside::{LinkStep, LinkSteps, ScriptLink};
@@ -27,6 +28,8 @@ pub fn steps(alloc: Global, texts: &[&str]) -> Result<LinkSteps, NoMemory> {
 }
 
 /// A new link to a peer with these steps.
-pub fn link(alloc: Global, steps: LinkSteps) -> ScriptLink {
+pub fn link(alloc: Global, steps: LinkSteps) -> ScriptLink
+    ensures { result.closed ≡ false }
+{
     ScriptLink::new(alloc, steps, 7, Items::new(alloc), Items::new(alloc))
 }
