@@ -1,10 +1,10 @@
 -- A number and what stands behind its mark.
-use Rattle.std.proofs.Common.{◌≡◌, ◌≢◌, ℕ, ◌+◌, ◌%◌, ◌<◌, ◌≤◌, ◌^◌, List, [], ◌∷◌, ◌++◌, length, refl, ap, sym, ◌∙◌, subst, arith, All, decimal, ◌⊎◌, inl, inr, Option, Some, None}
+use Rattle.std.proofs.Common.{◌≡◌, ℕ, ◌+◌, ◌%◌, ◌<◌, ◌≤◌, ◌^◌, List, [], ◌∷◌, ◌++◌, refl, ap, ap₂, sym, ◌∙◌, arith, All, decimal, ◌⊎◌, inl, inr}
 use Rattle.std.proofs.lemmas.List.Elements.{All-cons, All-nil, All-append}
-use Rattle.std.proofs.lemmas.Fmt.{decimal_by_steps}
-use Rattle.rpc_words.specs.Reads.{HasNo, Reads}
+use Rattle.std.proofs.lemmas.Fmt.{decimal_by_steps, decimal_injective}
+use Rattle.rpc_words.specs.Reads.{HasNo}
 use Rattle.rpc_words.proofs.Cuts.{same_cut, no_cut}
-use Rattle.address_text.specs.Texts.{Host, address_text, host_text, AreNumbers, FitsHost, Three, FitsThree, three_text}
+use Rattle.address_text.specs.Texts.{Host, address_text, host_text, FitsHost, Three, FitsThree, tail_text, three_text, two_text}
 
 abbrev AreDigits : List ℕ → Type 0
 AreDigits w = All (λ b. 48 ≤ b × b < 58) w
@@ -56,3 +56,44 @@ begins_with (a ∷ b ∷ c ∷ d ∷ e ∷ more) port fits = absurd (let e = fit
 
 pub begins : (x : Host) → FitsHost x → Begins x
 begins x fits = begins_with x.0 x.1 fits
+
+-- ---- two addresses of one text
+
+one_number : (a b : ℕ) → a < 2 ^ 64 → b < 2 ^ 64 → decimal a ≡ decimal b → a ≡ b
+one_number a b low less e = decimal_injective a b low less e
+
+-- a number and what stands behind its mark
+one_part : (c a b : ℕ) (more rest : List ℕ) → (c < 48 ⊎ 58 ≤ c) → a < 2 ^ 8 → b < 2 ^ 8 → decimal a ++ (c ∷ more) ≡ decimal b ++ (c ∷ rest) → (a ≡ b) × (more ≡ rest)
+one_part c a b more rest mark small few e =
+    let same = parts c a more (decimal b) rest mark small (no_mark c b mark few) e in
+    (one_number a b (omega arith) (omega arith) same.0, same.1)
+
+one_by : (ns : List ℕ) (port : ℕ) (ms : List ℕ) (other : ℕ) → FitsHost (ns, port) → FitsHost (ms, other) → host_text (ns, port) ≡ host_text (ms, other) → (ns ≡ ms) × (port ≡ other)
+one_by (a ∷ b ∷ c ∷ d ∷ []) port (p ∷ q ∷ r ∷ s ∷ []) other fits also e =
+    let n = fits.1 in
+    let m = also.1 in
+    let first = one_part 46 a p (three_text (b, (c, (d, port)))) (three_text (q, (r, (s, other)))) (inl (omega arith)) n.0 m.0 (sym (whole a b c d port) ∙ e ∙ whole p q r s other) in
+    let second = one_part 46 b q (two_text (c, (d, port))) (two_text (r, (s, other))) (inl (omega arith)) n.1.0 m.1.0 first.1 in
+    let third = one_part 46 c r (tail_text (d, port)) (tail_text (s, other)) (inl (omega arith)) n.1.1.0 m.1.1.0 second.1 in
+    let fourth = one_part 58 d s (decimal port) (decimal other) (inr (omega arith)) n.1.1.1.0 m.1.1.1.0 third.1 in
+    let last = one_number port other (omega (arith, fits.2)) (omega (arith, also.2)) fourth.1 in
+    (same_four a b c d p q r s first.0 second.0 third.0 fourth.0, last)
+  where
+    same_four : (a b c d p q r s : ℕ) → a ≡ p → b ≡ q → c ≡ r → d ≡ s → a ∷ b ∷ c ∷ d ∷ [] ≡ p ∷ q ∷ r ∷ s ∷ []
+    same_four a b c d p q r s e f g h = cc
+one_by [] port ms other fits also e = absurd (let n = fits.0 in omega arith)
+one_by (a ∷ []) port ms other fits also e = absurd (let n = fits.0 in omega arith)
+one_by (a ∷ b ∷ []) port ms other fits also e = absurd (let n = fits.0 in omega arith)
+one_by (a ∷ b ∷ c ∷ []) port ms other fits also e = absurd (let n = fits.0 in omega arith)
+one_by (a ∷ b ∷ c ∷ d ∷ x ∷ more) port ms other fits also e = absurd (let n = fits.0 in omega arith)
+one_by (a ∷ b ∷ c ∷ d ∷ []) port [] other fits also e = absurd (let n = also.0 in omega arith)
+one_by (a ∷ b ∷ c ∷ d ∷ []) port (p ∷ []) other fits also e = absurd (let n = also.0 in omega arith)
+one_by (a ∷ b ∷ c ∷ d ∷ []) port (p ∷ q ∷ []) other fits also e = absurd (let n = also.0 in omega arith)
+one_by (a ∷ b ∷ c ∷ d ∷ []) port (p ∷ q ∷ r ∷ []) other fits also e = absurd (let n = also.0 in omega arith)
+one_by (a ∷ b ∷ c ∷ d ∷ []) port (p ∷ q ∷ r ∷ s ∷ x ∷ more) other fits also e = absurd (let n = also.0 in omega arith)
+
+abbrev host : List ℕ → ℕ → Host
+host numbers port = (numbers, port)
+
+pub one_host : (x y : Host) → FitsHost x → FitsHost y → host_text x ≡ host_text y → x ≡ y
+one_host x y fits also e = let same = one_by x.0 x.1 y.0 y.1 fits also e in ap₂ host same.0 same.1

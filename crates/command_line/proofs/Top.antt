@@ -1,32 +1,25 @@
 -- What `clap` makes of the words of the program.
-use Rattle.std.proofs.Common.{◌≡◌, ◌∙◌, ◌==◌, ℕ, arith, length, true, false, List, [], ◌∷◌, refl, sym, subst, ap, ap₂, Option, Some, None, codes, inl, inr, ◌⊎◌, true≢false, is_some}
-use Rattle.std.specs.List.{AllByRecursion}
+use Rattle.std.proofs.Common.{◌≡◌, ◌∙◌, ◌&&◌, Bool, true, false, List, [], ◌∷◌, refl, sym, subst, ap, ap₂, Option, Some, codes, cond, fold, is_some, option_map, inl, inr, ◌⊎◌}
+use Rattle.std.specs.List.{AllByRecursion, find}
+use Rattle.std.specs.Option.{option_map_or}
 use Rattle.std.specs.Str.{IsUtf8, bytes_eq}
-use Rattle.std.proofs.lemmas.Bool.{cases_Bool, eqb-false}
-use Rattle.std.proofs.lemmas.Slice.Eq.{bytes_eq-Decides}
 use Rattle.clap.specs.Kinds.{Kinds, or_else}
-use Rattle.clap.specs.Faults.{check_fault, defaults_fault, entered_fault, fault_of, flags_fault, level_fault, settle_fault, turn_fault, walk_fault}
-use Rattle.clap.specs.Simple.{App, Shape, built, entered, names_of, subcommand_of}
-use Rattle.clap.specs.Walk.{Names, Row, Text, Walk, finished, nothing_held, rows_after, settled, walk, walk_from, walked}
+use Rattle.clap.specs.Faults.{check_fault, defaults_fault, entered_fault, fault_of, flags_fault, level_fault, other_fault, settle_fault, step_fault, turn_fault, walk_fault}
+use Rattle.clap.specs.Simple.{App, Shape, built, built_leaf, entered, inherited, label_of, names_of, rows_at, subcommand_of}
+use Rattle.clap.specs.Walk.{Names, Row, Text, Walk, after_step, answers_to, finished, idle, nothing_held, rows_after, settled, subcommand_met, subcommand_or_other, walk, walk_from, walked}
 use Rattle.clap.specs.declared.error.kind.ErrorKind.{ErrorKind}
-use Rattle.clap.specs.declared.error.kind.ErrorKind.TheVariants.{UnknownArgument, InvalidSubcommand, MissingSubcommand}
+use Rattle.clap.specs.declared.error.kind.ErrorKind.TheVariants.{DisplayHelp, InvalidSubcommand, MissingSubcommand, UnknownArgument}
 use Rattle.clap.proofs.WalkLemmas.{walk_stopped}
 use Rattle.clap.proofs.FaultLemmas.{stopped_fault}
-use Rattle.command_line.specs.Asks.{IsLine, Line, file_line, load_line, replay_line}
-use Rattle.command_line.specs.Usage.{program}
+use Rattle.command_line.specs.Asks.{IsLine, Line}
+use Rattle.command_line.specs.Usage.{Command, commands, program, told}
+use Rattle.command_line.proofs.Commands.{In, NoneOf, OptionsFound, command_at, none_is, one_command, options_found, sound, words_apart}
+use Rattle.command_line.proofs.Lines.{Given, IsOf, head_is, line_of_fits, line_said, line_with, no_line, options_of, said_line}
+use Rattle.command_line.proofs.Reading.{AreFound, Reading, reading, stands, wish}
+use Rattle.command_line.proofs.Rules.{built_is, leaf}
+use Rattle.command_line.proofs.Stages.{start}
+use Rattle.command_line.proofs.Walks.{faults}
 use Rattle.command_line.proofs.WordKinds.{IsLong, IsShort, IsOperand, Kind, kind_of_word}
-use Rattle.command_line.proofs.Walks.{Reading, faults, rows}
-use Rattle.command_line.proofs.Wants.{Wants}
-use Rattle.command_line.proofs.Gives.{Gives}
-use Rattle.command_line.proofs.Operands as operands
-use Rattle.command_line.proofs.Operands.{AreFound, stands, wish}
-use Rattle.command_line.proofs.FileCommand as file
-use Rattle.command_line.proofs.LoadCommand as load
-use Rattle.command_line.proofs.ReplayCommand as replay
-use Rattle.command_line.proofs.ReplayWalk as replay_walk
-use Rattle.command_line.proofs.Forms as forms
-use Rattle.command_line.proofs.Forms.{Form, Holds, said}
-use Rattle.command_line.proofs.Lines.{given_said, head_is, no_line, operand_line, replay_said, said_given, said_replay}
 
 -- the program as it is built, and the names of its commands
 abbrev whole : App
@@ -35,19 +28,23 @@ whole = built program
 abbrev names : Names
 names = names_of whole
 
--- The words are of one form, and `clap` finds it.
+-- The words are a line of one command, and `clap` finds it.
 pub record IsAsked (words : List Text) : Type 0 where
-  pub form : Form
-  pub asks : IsLine words (said form)
-  pub only : (other : Form) → IsLine words (said other) → said other ≡ said form
+  pub command : Command
+  pub among : In command commands
+  pub line : Line
+  pub is_of : IsOf command line
+  pub asks : IsLine words line
+  pub only : (d : Command) (other : Line) → In d commands → IsOf d other → IsLine words other → other ≡ line
   pub passes : fault_of program words ≡ []
   pub rows : List Row
-  pub found : subcommand_of program words ≡ Some ((said form).word, rows)
-  pub holds : Holds form rows
+  pub found : subcommand_of program words ≡ Some (command.word, rows)
+  pub operands : AreFound command.operands line.operands rows
+  pub options : OptionsFound command.options line.options rows
 
 -- They are of none, and `clap` refuses them.
 pub record IsNoCommand (words : List Text) : Type 0 where
-  pub nothing : (form : Form) → IsLine words (said form) → ⊥
+  pub nothing : (d : Command) (other : Line) → In d commands → IsOf d other → IsLine words other → ⊥
   pub kind : ErrorKind
   pub kinds : Kinds
   pub fails : fault_of program words ≡ kind ∷ kinds
@@ -69,286 +66,145 @@ faults_after w = or_else (entered_fault whole w.stopped)
 fault_by : (words : List Text) (f : Kinds) (w : Walk) → walk_fault whole.top names (walk_from nothing_held) words ≡ f → walk whole.top.rules names nothing_held words ≡ w → fault_of program words ≡ or_else f (faults_after w)
 fault_by words f w fault is = ap₂ (λ x v. or_else x (faults_after v)) fault is
 
--- A command of the program: the words behind its word are left to it.
-record IsCommand (name : Text) (leaf : Shape) : Type 0 where
-  left : (rest : List Text) → walk whole.top.rules names nothing_held (name ∷ rest) ≡ stopped_at name rest
-  above : (rest : List Text) → walk_fault whole.top names (walk_from nothing_held) (name ∷ rest) ≡ []
-  below : (rest : List Text) (f : Kinds) → level_fault leaf [] nothing_held rest false [] ≡ f → faults_after (stopped_at name rest) ≡ or_else f []
-  enters : (rest : List Text) → entered whole (Some (name, rest)) ≡ Some (name, rows_after leaf.rules [] rest)
+-- A command of the program is met by its word.
+record IsCommand (d : Command) : Type 0 where
+  met : subcommand_met names idle d.word ≡ Some d.word
+  found : find (λ s. answers_to d.word (label_of s)) whole.subs ≡ Some (built_leaf (inherited program.top (told d)))
 
-replay_command : IsCommand (codes "replay") replay_walk.leaf
-unfolding walked walk_fault defaults_fault
-replay_command = record {
-  left = λ rest. sym (walk_stopped whole.top.rules names (walk_from nothing_held) (codes "replay") [] rest);
-  above = λ rest. stopped_fault whole.top names (walk_from nothing_held) (codes "replay", []) rest;
-  below = λ rest f e. ap (λ x. or_else x []) e;
-  enters = λ rest. refl;
-}
+is_command : (d : Command) → In d commands → IsCommand d
+is_command d (inl e) = subst IsCommand (sym e) (record { met = refl; found = refl })
+is_command d (inr (inl e)) = subst IsCommand (sym e) (record { met = refl; found = refl })
+is_command d (inr (inr (inl e))) = subst IsCommand (sym e) (record { met = refl; found = refl })
+is_command d (inr (inr (inr (inl e)))) = subst IsCommand (sym e) (record { met = refl; found = refl })
+is_command d (inr (inr (inr (inr (inl e))))) = subst IsCommand (sym e) (record { met = refl; found = refl })
+is_command d (inr (inr (inr (inr (inr (inl e)))))) = subst IsCommand (sym e) (record { met = refl; found = refl })
+is_command d (inr (inr (inr (inr (inr (inr e)))))) = absurd e
 
-idl_command : IsCommand (codes "idl") (file.leaf (codes "idl"))
-unfolding walked walk_fault defaults_fault
-idl_command = record {
-  left = λ rest. sym (walk_stopped whole.top.rules names (walk_from nothing_held) (codes "idl") [] rest);
-  above = λ rest. stopped_fault whole.top names (walk_from nothing_held) (codes "idl", []) rest;
-  below = λ rest f e. ap (λ x. or_else x []) e;
-  enters = λ rest. refl;
-}
+module _ (d : Command) (among : In d commands) where
+  -- the words behind its word are left to it
+  first_step : walked whole.top.rules names (walk_from nothing_held) d.word ≡ stopped_at d.word []
+  unfolding walked
+  first_step =
+      ap (λ o. after_step whole.top.rules d.word (walk_from nothing_held) (subcommand_or_other whole.top.rules o idle 1 d.word nothing_held).0 (subcommand_or_other whole.top.rules o idle 1 d.word nothing_held).1)
+      (is_command d among).met
 
-audit_command : IsCommand (codes "audit") (file.leaf (codes "audit"))
-unfolding walked walk_fault defaults_fault
-audit_command = record {
-  left = λ rest. sym (walk_stopped whole.top.rules names (walk_from nothing_held) (codes "audit") [] rest);
-  above = λ rest. stopped_fault whole.top names (walk_from nothing_held) (codes "audit", []) rest;
-  below = λ rest f e. ap (λ x. or_else x []) e;
-  enters = λ rest. refl;
-}
+  left : (rest : List Text) → walk whole.top.rules names nothing_held (d.word ∷ rest) ≡ stopped_at d.word rest
+  left rest = ap (λ w. fold (walked whole.top.rules names) w rest) first_step ∙ sym (walk_stopped whole.top.rules names (walk_from nothing_held) d.word [] rest)
 
-load_command : IsCommand (codes "load") load.leaf
-unfolding walked walk_fault defaults_fault
-load_command = record {
-  left = λ rest. sym (walk_stopped whole.top.rules names (walk_from nothing_held) (codes "load") [] rest);
-  above = λ rest. stopped_fault whole.top names (walk_from nothing_held) (codes "load", []) rest;
-  below = λ rest f e. ap (λ x. or_else x []) e;
-  enters = λ rest. refl;
-}
+  no_help : (b : Bool) → cond (b && false) (DisplayHelp ∷ InvalidSubcommand ∷ []) [] ≡ []
+  no_help true = refl
+  no_help false = refl
 
-fault_is : (name : Text) (leaf : Shape) (rest : List Text) (f : Kinds) → IsCommand name leaf → level_fault leaf [] nothing_held rest false [] ≡ f → fault_of program (name ∷ rest) ≡ or_else f []
-fault_is name leaf rest f c e = fault_by (name ∷ rest) [] (stopped_at name rest) (c.above rest) (c.left rest) ∙ c.below rest f e
+  turn : turn_fault whole.top names (walk_from nothing_held) d.word ≡ []
+  turn =
+      ap (λ o. or_else (other_fault whole.top o d.word nothing_held) (step_fault whole.top 1 (subcommand_or_other whole.top.rules o idle 1 d.word nothing_held).0 (subcommand_or_other whole.top.rules o idle 1 d.word nothing_held).1))
+      (is_command d among).met
+      ∙ ap (λ k. or_else k []) (no_help (bytes_eq d.word (codes "help")))
 
-entered_is : (name : Text) (leaf : Shape) (rest : List Text) → IsCommand name leaf → subcommand_of program (name ∷ rest) ≡ Some (name, rows_after leaf.rules [] rest)
-entered_is name leaf rest c = ap (λ (w : Walk). entered whole w.stopped) (c.left rest) ∙ c.enters rest
+  above : (rest : List Text) → walk_fault whole.top names (walk_from nothing_held) (d.word ∷ rest) ≡ []
+  unfolding walk_fault
+  above rest = ap₂ (λ k w. or_else k (walk_fault whole.top names w rest)) turn first_step ∙ stopped_fault whole.top names (walk_from nothing_held) (d.word, []) rest
 
--- the first octet of a word
-abbrev first_octet : Text → ℕ
-first_octet [] = 0
-first_octet (c ∷ cs) = c
+  is_leaf : Some (built_leaf (inherited program.top (told d))) ≡ Some (leaf d)
+  is_leaf = ap (λ s. Some s) (built_is d (sound d among).few)
 
-differs : (a b : Text) → (first_octet a == first_octet b) ≡ false → a ≡ b → ⊥
-differs a b d e = absurd (eqb-false (first_octet a) (first_octet b) d (ap first_octet e))
+  abbrev below_by : List Text → Option Shape → Kinds
+  below_by rest o = or_else (option_map_or (λ s. level_fault s [] nothing_held rest false []) o [])
+      (or_else (settle_fault whole.top.rules whole.top.args_override_self nothing_held)
+      (or_else (defaults_fault (settled whole.top.rules nothing_held).rows whole.top.rules) (check_fault whole.top (finished whole.top.rules nothing_held) (is_some (option_map (λ s. rows_at s rest) o)))))
 
--- ---- `replay`
+  nothing_more : (rest : List Text) → below_by rest (Some (leaf d)) ≡ or_else (level_fault (leaf d) [] nothing_held rest false []) []
+  unfolding defaults_fault
+  nothing_more rest = refl
 
--- the words behind that of a command are of no other's form
-other_form : (name : Text) (rest : List Text) (form : Form) → (first_octet name == first_octet (said form).word) ≡ false → IsLine (name ∷ rest) (said form) → ⊥
-other_form name rest form d l = differs name (said form).word d (head_is name rest (said form) l)
+  below : (rest : List Text) → faults_after (stopped_at d.word rest) ≡ or_else (level_fault (leaf d) [] nothing_held rest false []) []
+  below rest = ap (below_by rest) ((is_command d among).found ∙ is_leaf) ∙ nothing_more rest
 
-replay_only : (rest : List Text) (file : Text) (idl : Option Text) → ((f : Text) (i : Option Text) → Wants None None rest f i → (f ≡ file) × (i ≡ idl)) → (form : Form) → IsLine (codes "replay" ∷ rest) (said form) → said form ≡ replay_line file idl
-replay_only rest file idl only (forms.replay f i) l = let same = only f i (said_replay (codes "replay") rest f i l) in ap₂ replay_line same.0 same.1
-replay_only rest file idl only (forms.idl f) l = absurd (other_form (codes "replay") rest (forms.idl f) refl l)
-replay_only rest file idl only (forms.audit f) l = absurd (other_form (codes "replay") rest (forms.audit f) refl l)
-replay_only rest file idl only (forms.load n m) l = absurd (other_form (codes "replay") rest (forms.load n m) refl l)
+  fault_is : (rest : List Text) (f : Kinds) → faults (leaf d) (stands d (start d) false) rest ≡ f → fault_of program (d.word ∷ rest) ≡ or_else f []
+  fault_is rest f e = fault_by (d.word ∷ rest) [] (stopped_at d.word rest) (above rest) (left rest) ∙ below rest ∙ ap (λ k. or_else k []) e
 
-replay_nothing : (rest : List Text) → ((f : Text) (i : Option Text) → Wants None None rest f i → ⊥) → (form : Form) → IsLine (codes "replay" ∷ rest) (said form) → ⊥
-replay_nothing rest never (forms.replay f i) l = never f i (said_replay (codes "replay") rest f i l)
-replay_nothing rest never (forms.idl f) l = other_form (codes "replay") rest (forms.idl f) refl l
-replay_nothing rest never (forms.audit f) l = other_form (codes "replay") rest (forms.audit f) refl l
-replay_nothing rest never (forms.load n m) l = other_form (codes "replay") rest (forms.load n m) refl l
+  entered_is : (rest : List Text) → subcommand_of program (d.word ∷ rest) ≡ Some (d.word, rows_after (leaf d).rules [] rest)
+  entered_is rest = ap (λ (w : Walk). entered whole w.stopped) (left rest) ∙ ap (option_map (λ s. rows_at s rest)) ((is_command d among).found ∙ is_leaf)
 
-replay_read : (rest : List Text) → Reading replay_walk.leaf (replay_walk.stands replay_walk.start false) rest (replay.wish replay_walk.start rest) → Outcome (codes "replay" ∷ rest)
-replay_read rest (inl t) = inl (record {
-  form = forms.replay t.file t.idl;
-  asks = replay_said rest t.file t.idl t.asks;
-  only = replay_only rest t.file t.idl t.only;
-  passes = fault_is (codes "replay") replay_walk.leaf rest [] replay_command t.passes;
-  rows = rows_after replay_walk.leaf.rules [] rest;
-  found = entered_is (codes "replay") replay_walk.leaf rest replay_command;
-  holds = (t.file_row, t.idl_row);
-})
-replay_read rest (inr r) = inr (record {
-  nothing = replay_nothing rest r.never;
-  kind = r.kind;
-  kinds = r.kinds;
-  fails = fault_is (codes "replay") replay_walk.leaf rest (r.kind ∷ r.kinds) replay_command r.fails;
-})
+  -- ---- what the words behind it say
 
--- ---- a command with operands alone
+  line_same : (l m : Line) → l.word ≡ m.word → l.operands ≡ m.operands → l.options ≡ m.options → l ≡ m
+  line_same l m e f g = ap₂ (line_by l.word) f g ∙ ap (λ w. line_by w m.operands m.options) e
+    where
+      line_by : Text → List Text → Given → Line
+      line_by word operands options = record { word = word; operands = operands; options = options }
 
-abbrev Given : ℕ → List Text → List Text → Type 0
-Given count rest ops = Gives [] rest ops × (length ops ≡ count)
+  command_is : (rest : List Text) (c : Command) (other : Line) → In c commands → IsOf c other → IsLine (d.word ∷ rest) other → c ≡ d
+  command_is rest c other i of l = one_command commands c d words_apart i among (sym of.word ∙ sym (head_is d.word rest other l))
 
-abbrev OnlyGiven : ℕ → List Text → List Text → Type 0
-OnlyGiven count rest ops = (other : List Text) → Given count rest other → other ≡ ops
-
-abbrev NoneGiven : ℕ → List Text → Type 0
-NoneGiven count rest = (ops : List Text) → Given count rest ops → ⊥
-
-idl_only : (rest : List Text) (file : Text) → OnlyGiven 1 rest (file ∷ []) → (form : Form) → IsLine (codes "idl" ∷ rest) (said form) → said form ≡ file_line (codes "idl") file
-idl_only rest file only (forms.replay f i) l = absurd (other_form (codes "idl") rest (forms.replay f i) refl l)
-idl_only rest file only (forms.idl f) l = ap (operand_line (codes "idl")) (only (f ∷ []) (said_given (codes "idl") (codes "idl") rest (f ∷ []) l, refl))
-idl_only rest file only (forms.audit f) l = absurd (other_form (codes "idl") rest (forms.audit f) refl l)
-idl_only rest file only (forms.load n m) l = absurd (other_form (codes "idl") rest (forms.load n m) refl l)
-
-idl_nothing : (rest : List Text) → NoneGiven 1 rest → (form : Form) → IsLine (codes "idl" ∷ rest) (said form) → ⊥
-idl_nothing rest never (forms.replay f i) l = other_form (codes "idl") rest (forms.replay f i) refl l
-idl_nothing rest never (forms.idl f) l = never (f ∷ []) (said_given (codes "idl") (codes "idl") rest (f ∷ []) l, refl)
-idl_nothing rest never (forms.audit f) l = other_form (codes "idl") rest (forms.audit f) refl l
-idl_nothing rest never (forms.load n m) l = other_form (codes "idl") rest (forms.load n m) refl l
-
-idl_taken : (rest ops : List Text) → Given 1 rest ops → OnlyGiven 1 rest ops → faults (file.leaf (codes "idl")) (stands file.held [] false) rest ≡ []
-    → AreFound file.ids ops (rows (file.leaf (codes "idl")) (stands file.held [] false) rest) → Outcome (codes "idl" ∷ rest)
-idl_taken rest [] given only passes found = absurd (omega (arith, given.1))
-idl_taken rest (f ∷ []) given only passes found = inl (record {
-  form = forms.idl f;
-  asks = given_said (codes "idl") rest (f ∷ []) given.0;
-  only = idl_only rest f only;
-  passes = fault_is (codes "idl") (file.leaf (codes "idl")) rest [] idl_command passes;
-  rows = rows_after (file.leaf (codes "idl")).rules [] rest;
-  found = entered_is (codes "idl") (file.leaf (codes "idl")) rest idl_command;
-  holds = found.0;
-})
-idl_taken rest (f ∷ g ∷ more) given only passes found = absurd (omega (arith, given.1))
-
-idl_read : (rest : List Text) → operands.Reading (file.leaf (codes "idl")) file.ids (stands file.held [] false) rest (wish (file.leaf (codes "idl")) file.ids file.held (file.takes_file (codes "idl")) [] rest) → Outcome (codes "idl" ∷ rest)
-idl_read rest (inl t) = idl_taken rest t.ops t.asks t.only t.passes t.found
-idl_read rest (inr r) = inr (record {
-  nothing = idl_nothing rest r.never;
-  kind = r.kind;
-  kinds = r.kinds;
-  fails = fault_is (codes "idl") (file.leaf (codes "idl")) rest (r.kind ∷ r.kinds) idl_command r.fails;
-})
-
-audit_only : (rest : List Text) (file : Text) → OnlyGiven 1 rest (file ∷ []) → (form : Form) → IsLine (codes "audit" ∷ rest) (said form) → said form ≡ file_line (codes "audit") file
-audit_only rest file only (forms.replay f i) l = absurd (other_form (codes "audit") rest (forms.replay f i) refl l)
-audit_only rest file only (forms.idl f) l = absurd (other_form (codes "audit") rest (forms.idl f) refl l)
-audit_only rest file only (forms.audit f) l = ap (operand_line (codes "audit")) (only (f ∷ []) (said_given (codes "audit") (codes "audit") rest (f ∷ []) l, refl))
-audit_only rest file only (forms.load n m) l = absurd (other_form (codes "audit") rest (forms.load n m) refl l)
-
-audit_nothing : (rest : List Text) → NoneGiven 1 rest → (form : Form) → IsLine (codes "audit" ∷ rest) (said form) → ⊥
-audit_nothing rest never (forms.replay f i) l = other_form (codes "audit") rest (forms.replay f i) refl l
-audit_nothing rest never (forms.idl f) l = other_form (codes "audit") rest (forms.idl f) refl l
-audit_nothing rest never (forms.audit f) l = never (f ∷ []) (said_given (codes "audit") (codes "audit") rest (f ∷ []) l, refl)
-audit_nothing rest never (forms.load n m) l = other_form (codes "audit") rest (forms.load n m) refl l
-
-audit_taken : (rest ops : List Text) → Given 1 rest ops → OnlyGiven 1 rest ops → faults (file.leaf (codes "audit")) (stands file.held [] false) rest ≡ []
-    → AreFound file.ids ops (rows (file.leaf (codes "audit")) (stands file.held [] false) rest) → Outcome (codes "audit" ∷ rest)
-audit_taken rest [] given only passes found = absurd (omega (arith, given.1))
-audit_taken rest (f ∷ []) given only passes found = inl (record {
-  form = forms.audit f;
-  asks = given_said (codes "audit") rest (f ∷ []) given.0;
-  only = audit_only rest f only;
-  passes = fault_is (codes "audit") (file.leaf (codes "audit")) rest [] audit_command passes;
-  rows = rows_after (file.leaf (codes "audit")).rules [] rest;
-  found = entered_is (codes "audit") (file.leaf (codes "audit")) rest audit_command;
-  holds = found.0;
-})
-audit_taken rest (f ∷ g ∷ more) given only passes found = absurd (omega (arith, given.1))
-
-audit_read : (rest : List Text) → operands.Reading (file.leaf (codes "audit")) file.ids (stands file.held [] false) rest (wish (file.leaf (codes "audit")) file.ids file.held (file.takes_file (codes "audit")) [] rest) → Outcome (codes "audit" ∷ rest)
-audit_read rest (inl t) = audit_taken rest t.ops t.asks t.only t.passes t.found
-audit_read rest (inr r) = inr (record {
-  nothing = audit_nothing rest r.never;
-  kind = r.kind;
-  kinds = r.kinds;
-  fails = fault_is (codes "audit") (file.leaf (codes "audit")) rest (r.kind ∷ r.kinds) audit_command r.fails;
-})
-
-load_only : (rest : List Text) (number steps : Text) → OnlyGiven 2 rest (number ∷ steps ∷ []) → (form : Form) → IsLine (codes "load" ∷ rest) (said form) → said form ≡ load_line number steps
-load_only rest number steps only (forms.replay f i) l = absurd (other_form (codes "load") rest (forms.replay f i) refl l)
-load_only rest number steps only (forms.idl f) l = absurd (other_form (codes "load") rest (forms.idl f) refl l)
-load_only rest number steps only (forms.audit f) l = absurd (other_form (codes "load") rest (forms.audit f) refl l)
-load_only rest number steps only (forms.load n m) l = ap (operand_line (codes "load")) (only (n ∷ m ∷ []) (said_given (codes "load") (codes "load") rest (n ∷ m ∷ []) l, refl))
-
-load_nothing : (rest : List Text) → NoneGiven 2 rest → (form : Form) → IsLine (codes "load" ∷ rest) (said form) → ⊥
-load_nothing rest never (forms.replay f i) l = other_form (codes "load") rest (forms.replay f i) refl l
-load_nothing rest never (forms.idl f) l = other_form (codes "load") rest (forms.idl f) refl l
-load_nothing rest never (forms.audit f) l = other_form (codes "load") rest (forms.audit f) refl l
-load_nothing rest never (forms.load n m) l = never (n ∷ m ∷ []) (said_given (codes "load") (codes "load") rest (n ∷ m ∷ []) l, refl)
-
-load_taken : (rest ops : List Text) → Given 2 rest ops → OnlyGiven 2 rest ops → faults load.leaf (stands load.held [] false) rest ≡ [] → AreFound load.ids ops (rows load.leaf (stands load.held [] false) rest)
-    → Outcome (codes "load" ∷ rest)
-load_taken rest [] given only passes found = absurd (omega (arith, given.1))
-load_taken rest (n ∷ []) given only passes found = absurd (omega (arith, given.1))
-load_taken rest (n ∷ m ∷ []) given only passes found = inl (record {
-  form = forms.load n m;
-  asks = given_said (codes "load") rest (n ∷ m ∷ []) given.0;
-  only = load_only rest n m only;
-  passes = fault_is (codes "load") load.leaf rest [] load_command passes;
-  rows = rows_after load.leaf.rules [] rest;
-  found = entered_is (codes "load") load.leaf rest load_command;
-  holds = (found.0, found.1.0);
-})
-load_taken rest (n ∷ m ∷ x ∷ more) given only passes found = absurd (omega (arith, given.1))
-
-load_read : (rest : List Text) → operands.Reading load.leaf load.ids (stands load.held [] false) rest (wish load.leaf load.ids load.held load.takes_numbers [] rest) → Outcome (codes "load" ∷ rest)
-load_read rest (inl t) = load_taken rest t.ops t.asks t.only t.passes t.found
-load_read rest (inr r) = inr (record {
-  nothing = load_nothing rest r.never;
-  kind = r.kind;
-  kinds = r.kinds;
-  fails = fault_is (codes "load") load.leaf rest (r.kind ∷ r.kinds) load_command r.fails;
-})
+  read_so : (rest : List Text) → Reading d (stands d (start d) false) rest (wish d (start d) rest) → Outcome (d.word ∷ rest)
+  read_so rest (inl t) = inl (record {
+    command = d;
+    among = among;
+    line = line_with d t.ops t.opts;
+    is_of = line_of_fits d (sound d among) t.ops t.opts t.fits;
+    asks = line_said d (sound d among) rest t.ops t.opts t.fits t.asks;
+    only = λ c other i of l.
+        let said = said_line d (sound d among) d.word rest other (subst (λ x. IsOf x other) (command_is rest c other i of l) of) l in
+        let same = t.only other.operands said.opts said.fits said.says in
+        line_same other (line_with d t.ops t.opts) (sym (head_is d.word rest other l)) same.0 (sym said.options ∙ ap (options_of d.options) same.1);
+    passes = fault_is rest [] t.passes;
+    rows = rows_after (leaf d).rules [] rest;
+    found = entered_is rest;
+    operands = t.operands;
+    options = options_found d.options t.opts (rows_after (leaf d).rules [] rest) t.options;
+  })
+  read_so rest (inr r) = inr (record {
+    nothing = λ c other i of l.
+        let said = said_line d (sound d among) d.word rest other (subst (λ x. IsOf x other) (command_is rest c other i of l) of) l in
+        r.never other.operands said.opts said.fits said.says;
+    kind = r.fails.kind;
+    kinds = r.fails.kinds;
+    fails = fault_is rest (r.fails.kind ∷ r.fails.kinds) r.fails.is;
+  })
 
 -- ---- a first word that is no command
 
-record IsOther (word : Text) : Type 0 where
-  replay : bytes_eq (codes "replay") word ≡ false
-  idl : bytes_eq (codes "idl") word ≡ false
-  audit : bytes_eq (codes "audit") word ≡ false
-  load : bytes_eq (codes "load") word ≡ false
-
-not_word : (name word : Text) (rest : List Text) (line : Line) → line.word ≡ name → bytes_eq name word ≡ false → IsLine (word ∷ rest) line → ⊥
-not_word name word rest line e n l = true≢false (sym ((bytes_eq-Decides name word).1 (sym (head_is word rest line l ∙ e))) ∙ n)
-
-asks_nothing : (word : Text) (rest : List Text) → IsOther word → (form : Form) → IsLine (word ∷ rest) (said form) → ⊥
-asks_nothing word rest n (forms.replay f i) l = not_word (codes "replay") word rest (replay_line f i) refl n.replay l
-asks_nothing word rest n (forms.idl f) l = not_word (codes "idl") word rest (file_line (codes "idl") f) refl n.idl l
-asks_nothing word rest n (forms.audit f) l = not_word (codes "audit") word rest (file_line (codes "audit") f) refl n.audit l
-asks_nothing word rest n (forms.load a b) l = not_word (codes "load") word rest (load_line a b) refl n.load l
+asks_nothing : (word : Text) (rest : List Text) → NoneOf word commands → (d : Command) (other : Line) → In d commands → IsOf d other → IsLine (word ∷ rest) other → ⊥
+asks_nothing word rest n d other i of l = none_is word commands d n i (sym of.word ∙ sym (head_is word rest other l))
 
 stops : (word : Text) (rest : List Text) (k : ErrorKind) (ks : Kinds) → turn_fault whole.top names (walk_from nothing_held) word ≡ k ∷ ks → fault_of program (word ∷ rest) ≡ k ∷ ks
 unfolding walk_fault
 stops word rest k ks e = fault_by (word ∷ rest) (k ∷ ks) (walk whole.top.rules names nothing_held (word ∷ rest)) (ap (λ x. or_else x (walk_fault whole.top names (walked whole.top.rules names (walk_from nothing_held) word) rest)) e) refl
 
-other_read : (word : Text) (rest : List Text) (ks : Kinds) → IsOther word → turn_fault whole.top names (walk_from nothing_held) word ≡ UnknownArgument ∷ ks → Outcome (word ∷ rest)
+other_read : (word : Text) (rest : List Text) (ks : Kinds) → NoneOf word commands → turn_fault whole.top names (walk_from nothing_held) word ≡ UnknownArgument ∷ ks → Outcome (word ∷ rest)
 other_read word rest ks n e = inr (record { nothing = asks_nothing word rest n; kind = UnknownArgument; kinds = ks; fails = stops word rest UnknownArgument ks e })
 
-long_turn : (word : Text) → IsOther word → IsLong word → turn_fault whole.top names (walk_from nothing_held) word ≡ UnknownArgument ∷ []
-long_turn word n o = rw (n.replay, n.idl, n.audit, n.load, o.dashes, o.long) refl
+long_turn : (word : Text) → NoneOf word commands → IsLong word → turn_fault whole.top names (walk_from nothing_held) word ≡ UnknownArgument ∷ []
+long_turn word n o = rw (n.0, n.1.0, n.1.1.0, n.1.1.1.0, n.1.1.1.1.0, n.1.1.1.1.1.0, o.dashes, o.long) refl
 
-short_turn : (word : Text) → IsOther word → IsShort word → turn_fault whole.top names (walk_from nothing_held) word ≡ UnknownArgument ∷ []
+short_turn : (word : Text) → NoneOf word commands → IsShort word → turn_fault whole.top names (walk_from nothing_held) word ≡ UnknownArgument ∷ []
 unfolding flags_fault
-short_turn word n o = rw (n.replay, n.idl, n.audit, n.load, o.dashes, o.long, o.short, o.is_first) refl
+short_turn word n o = rw (n.0, n.1.0, n.1.1.0, n.1.1.1.0, n.1.1.1.1.0, n.1.1.1.1.1.0, o.dashes, o.long, o.short, o.is_first) refl
 
-operand_turn : (word : Text) → IsOther word → IsOperand word → turn_fault whole.top names (walk_from nothing_held) word ≡ UnknownArgument ∷ InvalidSubcommand ∷ []
-operand_turn word n o = rw (n.replay, n.idl, n.audit, n.load, o.dashes, o.long, o.short) refl
+operand_turn : (word : Text) → NoneOf word commands → IsOperand word → turn_fault whole.top names (walk_from nothing_held) word ≡ UnknownArgument ∷ InvalidSubcommand ∷ []
+operand_turn word n o = rw (n.0, n.1.0, n.1.1.0, n.1.1.1.0, n.1.1.1.1.0, n.1.1.1.1.1.0, o.dashes, o.long, o.short) refl
 
-dashes_read : (rest : List Text) → IsOther (codes "--") → Outcome (codes "--" ∷ rest)
+dashes_read : (rest : List Text) → NoneOf (codes "--") commands → Outcome (codes "--" ∷ rest)
 unfolding walked walk_fault defaults_fault
 dashes_read [] n = inr (record { nothing = asks_nothing (codes "--") [] n; kind = MissingSubcommand; kinds = []; fails = refl })
 dashes_read (x ∷ xs) n = inr (record { nothing = asks_nothing (codes "--") (x ∷ xs) n; kind = UnknownArgument; kinds = InvalidSubcommand ∷ []; fails = refl })
 
-kind_read : (word : Text) (rest : List Text) → IsOther word → Kind word → Outcome (word ∷ rest)
-kind_read word rest n (inl d) = subst (λ x. Outcome (x ∷ rest)) (sym d) (dashes_read rest (record { replay = refl; idl = refl; audit = refl; load = refl }))
+kind_read : (word : Text) (rest : List Text) → NoneOf word commands → Kind word → Outcome (word ∷ rest)
+kind_read word rest n (inl d) = subst (λ x. NoneOf x commands → Outcome (x ∷ rest)) (sym d) (dashes_read rest) n
 kind_read word rest n (inr (inl l)) = other_read word rest [] n (long_turn word n l)
 kind_read word rest n (inr (inr (inl s))) = other_read word rest [] n (short_turn word n s)
 kind_read word rest n (inr (inr (inr o))) = other_read word rest (InvalidSubcommand ∷ []) n (operand_turn word n o)
 
 -- ---- any words
 
-same_text : (a b : Text) → bytes_eq a b ≡ true → a ≡ b
-same_text a b e = (bytes_eq-Decides a b).0 e
-
 first_read : (word : Text) (rest : List Text) → AllByRecursion IsUtf8 (word ∷ rest) → Outcome (word ∷ rest)
-first_read word rest u =
-    elim (cases_Bool (bytes_eq (codes "replay") word)) [
-      | inl e ↦ subst (λ x. Outcome (x ∷ rest)) (same_text (codes "replay") word e) (replay_read rest (replay.reading rest replay_walk.start u.1))
-      | inr r ↦ elim (cases_Bool (bytes_eq (codes "idl") word)) [
-        | inl e ↦ subst (λ x. Outcome (x ∷ rest)) (same_text (codes "idl") word e) (idl_read rest (file_reading (codes "idl") rest u.1))
-        | inr i ↦ elim (cases_Bool (bytes_eq (codes "audit") word)) [
-          | inl e ↦ subst (λ x. Outcome (x ∷ rest)) (same_text (codes "audit") word e) (audit_read rest (file_reading (codes "audit") rest u.1))
-          | inr a ↦ elim (cases_Bool (bytes_eq (codes "load") word)) [
-            | inl e ↦ subst (λ x. Outcome (x ∷ rest)) (same_text (codes "load") word e) (load_read rest (operands.reading load.leaf load.ids load.held load.takes_numbers rest u.1 [] (omega arith)))
-            | inr l ↦ kind_read word rest (record { replay = r; idl = i; audit = a; load = l }) (kind_of_word word u.0)
-          ]
-        ]
-      ]
-    ]
-  where
-    file_reading : (name : Text) (words : List Text) → AllByRecursion IsUtf8 words
-        → operands.Reading (file.leaf name) file.ids (stands file.held [] false) words (wish (file.leaf name) file.ids file.held (file.takes_file name) [] words)
-    file_reading name words v = operands.reading (file.leaf name) file.ids file.held (file.takes_file name) words v [] (omega arith)
+first_read word rest u = elim (command_at word commands) [
+  | inl c ↦ subst (λ x. Outcome (x ∷ rest)) c.is (read_so c.command c.among rest (reading c.command (sound c.command c.among) rest (start c.command) u.1))
+  | inr n ↦ kind_read word rest n (kind_of_word word u.0)
+]
 
 pub outcome : (words : List Text) → AllByRecursion IsUtf8 words → Outcome words
 unfolding walk_fault defaults_fault
-outcome [] u = inr (record { nothing = λ form l. no_line (said form) l; kind = MissingSubcommand; kinds = []; fails = refl })
+outcome [] u = inr (record { nothing = λ d other i of l. no_line other l; kind = MissingSubcommand; kinds = []; fails = refl })
 outcome (word ∷ rest) u = first_read word rest u

@@ -1,14 +1,21 @@
 -- How `clap` walks over the words of a command that has no command below it.
-use Rattle.std.proofs.Common.{◌≡◌, ◌∙◌, ℕ, Bool, false, List, [], ◌∷◌, ap, ap₂, Option, Some, None, fold, codes, inl, inr, ◌⊎◌}
+use Rattle.std.proofs.Common.{◌≡◌, ◌∙◌, ℕ, Bool, false, List, [], ◌∷◌, ap, ap₂, Option, None, fold}
 use Rattle.clap.specs.Kinds.{Kinds, or_else}
 use Rattle.clap.specs.Faults.{check_fault, defaults_fault, settle_fault, turn_fault, walk_fault}
 use Rattle.clap.specs.Simple.{Shape}
-use Rattle.clap.specs.Walk.{Held, Row, Text, Walk, finished, first_of, idle, settled, walked}
+use Rattle.clap.specs.Walk.{Held, Row, Text, Waiting, Walk, finished, idle, settled, walked}
 use Rattle.clap.specs.declared.error.kind.ErrorKind.{ErrorKind}
 
--- the walk between two words: what is held, the place of the next operand, whether `--` was met
+-- what is held: rows, and what waits to be used
+abbrev pub held : List Row → Option (Text × List Text) → Held
+held rows pending = record { rows = rows; pending = pending; skip = 0 }
+
+-- the walk between two words: what is held, what waits for a value, the place of the next operand, whether `--` was met
+abbrev pub waits : Held → Waiting → ℕ → Bool → Walk
+waits held waiting place trailing = record { held = held; waiting = waiting; position = place; is_trailing = trailing; stopped = None }
+
 abbrev pub at : Held → ℕ → Bool → Walk
-at held position trailing = record { held = held; waiting = idle; position = position; is_trailing = trailing; stopped = None }
+at held place trailing = waits held idle place trailing
 
 -- the faults behind a walk in which nothing fails, and what it found
 abbrev pub faults_after : Shape → Held → Kinds
@@ -35,7 +42,7 @@ on_faults s w v word rest passes is =
 pub on_rows : (s : Shape) (w v : Walk) (word : Text) (rest : List Text) → walked s.rules [] w word ≡ v → rows s w (word ∷ rest) ≡ rows s v rest
 on_rows s w v word rest is = ap (λ x. rows s x rest) is
 
-pub stop : (s : Shape) (w : Walk) (word : Text) (rest : List Text) (k : ErrorKind) (ks : Kinds) → turn_fault s [] w word ≡ k ∷ ks → faults s w (word ∷ rest) ≡ k ∷ ks
+stop : (s : Shape) (w : Walk) (word : Text) (rest : List Text) (k : ErrorKind) (ks : Kinds) → turn_fault s [] w word ≡ k ∷ ks → faults s w (word ∷ rest) ≡ k ∷ ks
 unfolding walk_fault
 stop s w word rest k ks e = ap (λ x. or_else (or_else x (walk_fault s [] (walked s.rules [] w word) rest)) (faults_after s (end_of s w (word ∷ rest)).held)) e
 
@@ -44,48 +51,19 @@ pub at_end : (s : Shape) (w : Walk) (f : Kinds) → faults_after s w.held ≡ f 
 unfolding walk_fault
 at_end s w f e = e
 
--- ---- all words
+-- ---- a walk that fails
 
--- what words must say of a file and an option
-abbrev pub Wish : Type 1
-Wish = Text → Option Text → Type 0
-
--- They say one thing, and `clap` finds it.
-pub record IsTaken (s : Shape) (w : Walk) (words : List Text) (wish : Wish) : Type 0 where
-  pub file : Text
-  pub idl : Option Text
-  pub asks : wish file idl
-  pub only : (other : Text) (value : Option Text) → wish other value → (other ≡ file) × (value ≡ idl)
-  pub passes : faults s w words ≡ []
-  pub file_row : first_of (codes "FILE") (rows s w words) ≡ Some file
-  pub idl_row : first_of (codes "idl") (rows s w words) ≡ idl
-
--- They say none, and `clap` refuses them.
-pub record IsRefused (s : Shape) (w : Walk) (words : List Text) (wish : Wish) : Type 0 where
-  pub never : (file : Text) (idl : Option Text) → wish file idl → ⊥
+-- There is a fault.
+pub record Fails (ks : Kinds) : Type 0 where
   pub kind : ErrorKind
   pub kinds : Kinds
-  pub fails : faults s w words ≡ kind ∷ kinds
+  pub is : ks ≡ kind ∷ kinds
 
-abbrev pub Reading : Shape → Walk → List Text → Wish → Type 0
-Reading s w words wish = IsTaken s w words wish ⊎ IsRefused s w words wish
+pub stops : (s : Shape) (w : Walk) (word : Text) (rest : List Text) (k : ErrorKind) (ks : Kinds) → turn_fault s [] w word ≡ k ∷ ks → Fails (faults s w (word ∷ rest))
+stops s w word rest k ks e = record { kind = k; kinds = ks; is = stop s w word rest k ks e }
 
--- one word more, in which nothing fails
-pub carried : (s : Shape) (w v : Walk) (word : Text) (rest : List Text) (wish later : Wish) → turn_fault s [] w word ≡ [] → walked s.rules [] w word ≡ v
-    → ((file : Text) (idl : Option Text) → later file idl → wish file idl) → ((file : Text) (idl : Option Text) → wish file idl → later file idl)
-    → Reading s v rest later → Reading s w (word ∷ rest) wish
-carried s w v word rest wish later passes is back on (inl t) = inl (record {
-  file = t.file;
-  idl = t.idl;
-  asks = back t.file t.idl t.asks;
-  only = λ other value asks. t.only other value (on other value asks);
-  passes = on_faults s w v word rest passes is ∙ t.passes;
-  file_row = ap (first_of (codes "FILE")) (on_rows s w v word rest is) ∙ t.file_row;
-  idl_row = ap (first_of (codes "idl")) (on_rows s w v word rest is) ∙ t.idl_row;
-})
-carried s w v word rest wish later passes is back on (inr r) = inr (record {
-  never = λ file idl asks. r.never file idl (on file idl asks);
-  kind = r.kind;
-  kinds = r.kinds;
-  fails = on_faults s w v word rest passes is ∙ r.fails;
-})
+pub passed : (s : Shape) (w v : Walk) (word : Text) (rest : List Text) → turn_fault s [] w word ≡ [] → walked s.rules [] w word ≡ v → Fails (faults s v rest) → Fails (faults s w (word ∷ rest))
+passed s w v word rest t is f = record { kind = f.kind; kinds = f.kinds; is = on_faults s w v word rest t is ∙ f.is }
+
+pub ends_so : (s : Shape) (w : Walk) (k : ErrorKind) (ks : Kinds) → faults_after s w.held ≡ k ∷ ks → Fails (faults s w [])
+ends_so s w k ks e = record { kind = k; kinds = ks; is = at_end s w (k ∷ ks) e }

@@ -1,8 +1,9 @@
 -- What the words of the program ask.
 use Rattle.std.specs.Prelude.{◌≡◌, ◌==◌, ◌<◌, ◌≤◌, ◌^◌, ℕ, Bool, false, List, [], ◌∷◌, ◌++◌, map, flat_map, Option, Some, None, MatchOption, option_map, option_to_list, unwrap_or, codes, decimal, IsPermutation, ⊤}
 use Rattle.std.specs.List.{AllByRecursion}
+use Rattle.address_text.specs.Texts.{FitsHost, address_text}
 use Rattle.command_line.specs.declared.command.Asked.{Asked}
-use Rattle.command_line.specs.declared.command.Asked.TheVariants.{Replay, Idl, Audit, Load}
+use Rattle.command_line.specs.declared.command.Asked.TheVariants.{Replay, Idl, Audit, Load, Serve, Call}
 
 abbrev pub Text : Type 0
 Text = List ℕ
@@ -75,16 +76,28 @@ file_line word file = record { word = word; operands = file ∷ []; options = []
 abbrev pub load_line : Text → Text → Line
 load_line number steps = record { word = codes "load"; operands = number ∷ steps ∷ []; options = [] }
 
--- what the program can be asked: numbers are decimal
+-- `serve ADDRESS --connections N [--idl FILE]`, and `call ADDRESS IDL SCRIPT`
+abbrev pub serve_line : Text → Text → Option Text → Line
+serve_line address connections idl =
+    record { word = codes "serve"; operands = address ∷ []; options = (codes "connections", Some connections) ∷ (codes "idl", idl) ∷ [] }
+
+abbrev pub call_line : Text → Text → Text → Line
+call_line address idl script = record { word = codes "call"; operands = address ∷ idl ∷ script ∷ []; options = [] }
+
+-- what the program can be asked: numbers are decimal, addresses are four numbers and a port
 abbrev pub line_of : Asked → Line
 line_of (Replay file idl) = replay_line file.now (option_map (λ text. text.now) idl)
 line_of (Idl file) = file_line (codes "idl") file.now
 line_of (Audit file) = file_line (codes "audit") file.now
 line_of (Load number steps) = load_line (decimal number) (decimal steps)
+line_of (Serve ip port connections idl) = serve_line (address_text ip port) (decimal connections) (option_map (λ text. text.now) idl)
+line_of (Call ip port idl script) = call_line (address_text ip port) idl.now script.now
 
 -- and within their ranges
 abbrev pub IsInRange : Asked → Type 0
 IsInRange (Load number steps) = (number < 2 ^ 64) × (steps ≤ 100000)
+IsInRange (Serve ip port connections idl) = FitsHost (ip, port) × (1 ≤ connections) × (connections ≤ 1000000)
+IsInRange (Call ip port idl script) = FitsHost (ip, port)
 IsInRange _ = ⊤
 
 -- the words ask for it

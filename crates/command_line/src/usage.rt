@@ -9,7 +9,7 @@ use std::alloc::{AllocError, Global};
 
 /// A command that takes a file.
 fn of_file<'a>(alloc: Global, name: &'a str) -> Result<Command<'a>, AllocError>
-    ensures shape { IfOk result (λ c. shape_of c ≡ spec.of_file name.entry.now) }
+    ensures shape { IfOk result (λ c. shape_of c ≡ spec.told (spec.of_file name.entry.now)) }
     ensures local { IfOk result (λ c. (out-Command c).has_globals ≡ false) }
 {
     Command::new(alloc, name).arg(Arg::new(alloc, "FILE").required(true))
@@ -17,7 +17,7 @@ fn of_file<'a>(alloc: Global, name: &'a str) -> Result<Command<'a>, AllocError>
 
 /// The command `replay`, which takes an interface text too.
 fn replay<'a>(alloc: Global) -> Result<Command<'a>, AllocError>
-    ensures shape { IfOk result (λ c. shape_of c ≡ spec.replay) }
+    ensures shape { IfOk result (λ c. shape_of c ≡ spec.told spec.replay) }
     ensures local { IfOk result (λ c. (out-Command c).has_globals ≡ false) }
 {
     of_file(alloc, "replay")?.arg(Arg::new(alloc, "idl").long("idl"))
@@ -25,12 +25,35 @@ fn replay<'a>(alloc: Global) -> Result<Command<'a>, AllocError>
 
 /// The command `load`.
 fn load<'a>(alloc: Global) -> Result<Command<'a>, AllocError>
-    ensures shape { IfOk result (λ c. shape_of c ≡ spec.load) }
+    ensures shape { IfOk result (λ c. shape_of c ≡ spec.told spec.load) }
     ensures local { IfOk result (λ c. (out-Command c).has_globals ≡ false) }
 {
     Command::new(alloc, "load")
         .arg(Arg::new(alloc, "NUMBER").required(true))?
         .arg(Arg::new(alloc, "N").required(true))
+}
+
+/// The command `serve`, which must be told how many connections it serves.
+fn serve<'a>(alloc: Global) -> Result<Command<'a>, AllocError>
+    ensures shape { IfOk result (λ c. shape_of c ≡ spec.told spec.serve) }
+    ensures local { IfOk result (λ c. (out-Command c).has_globals ≡ false) }
+{
+    let connections = Arg::new(alloc, "connections").long("connections");
+    Command::new(alloc, "serve")
+        .arg(Arg::new(alloc, "ADDRESS").required(true))?
+        .arg(connections.required(true))?
+        .arg(Arg::new(alloc, "idl").long("idl"))
+}
+
+/// The command `call`.
+fn call<'a>(alloc: Global) -> Result<Command<'a>, AllocError>
+    ensures shape { IfOk result (λ c. shape_of c ≡ spec.told spec.call) }
+    ensures local { IfOk result (λ c. (out-Command c).has_globals ≡ false) }
+{
+    Command::new(alloc, "call")
+        .arg(Arg::new(alloc, "ADDRESS").required(true))?
+        .arg(Arg::new(alloc, "IDL").required(true))?
+        .arg(Arg::new(alloc, "SCRIPT").required(true))
 }
 
 /// The program and its commands. No word asks for help or for a version.
@@ -45,5 +68,7 @@ pub fn program<'a>(alloc: Global) -> Result<Command<'a>, AllocError>
         .subcommand(replay(alloc)?)?
         .subcommand(of_file(alloc, "idl")?)?
         .subcommand(of_file(alloc, "audit")?)?
-        .subcommand(load(alloc)?)
+        .subcommand(load(alloc)?)?
+        .subcommand(serve(alloc)?)?
+        .subcommand(call(alloc)?)
 }

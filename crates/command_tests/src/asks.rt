@@ -46,8 +46,52 @@ fn put_asked(alloc: Global, asked: Option<Asked<'_>>, into: &mut Vec<u8>) -> Res
             put(b" ", into)?;
             put_decimal(alloc, u64::from(steps), into)
         }
+        Some(
+            Asked::Serve {
+                ip,
+                port,
+                connections,
+                idl,
+            },
+        ) => {
+            put_address(alloc, b"serve", ip, port, into)?;
+            put(b" ", into)?;
+            put_decimal(alloc, u64::from(connections), into)?;
+            match idl {
+                Some(idl) => put_file(b" idl", idl, into),
+                None => Ok(()),
+            }
+        }
+        Some(
+            Asked::Call {
+                ip,
+                port,
+                idl,
+                script,
+            },
+        ) => {
+            put_address(alloc, b"call", ip, port, into)?;
+            put_file(b" idl", idl, into)?;
+            put_file(b" script", script, into)
+        }
         None => put(b"nothing", into),
     }
+}
+
+fn put_address(
+    alloc: Global,
+    word: &[u8],
+    ip: [u8; 4],
+    port: u16,
+    into: &mut Vec<u8>,
+) -> Result<(), NoMemory> {
+    put(word, into)?;
+    for number in ip {
+        put(b" ", into)?;
+        put_decimal(alloc, u64::from(number), into)?;
+    }
+    put(b" ", into)?;
+    put_decimal(alloc, u64::from(port), into)
 }
 
 fn put_file(word: &[u8], file: &str, into: &mut Vec<u8>) -> Result<(), NoMemory> {
@@ -158,6 +202,63 @@ asks|idl f --idl i|nothing
 asks|idl idl|idl [idl]
 asks|audit f --idl=i|nothing
 asks|replay replay --idl replay|replay [replay] idl [replay]
+asks|serve --connections 1 127.0.0.1:5000|serve 127 0 0 1 5000 1
+asks|serve 127.0.0.1:5000|nothing
+asks|serve 127.0.0.1:5000 --connections 2|serve 127 0 0 1 5000 2
+asks|serve --connections=1 127.0.0.1:5000|serve 127 0 0 1 5000 1
+asks|serve 127.0.0.1:5000 --connections 3 --idl i|serve 127 0 0 1 5000 3 idl [i]
+asks|serve --idl i 127.0.0.1:5000 --connections 3|serve 127 0 0 1 5000 3 idl [i]
+asks|serve --idl=i --connections=3 -- 127.0.0.1:5000|serve 127 0 0 1 5000 3 idl [i]
+asks|serve --connections 3 --idl= 127.0.0.1:5000|serve 127 0 0 1 5000 3 idl []
+asks|serve 0.0.0.0:0 --connections 1000000|serve 0 0 0 0 0 1000000
+asks|serve 255.255.255.255:65535 --connections 1|serve 255 255 255 255 65535 1
+asks|serve|nothing
+asks|serve --connections 1|nothing
+asks|serve --idl i 127.0.0.1:5000|nothing
+asks|serve 127.0.0.1:5000 --connections|nothing
+asks|serve --connections 127.0.0.1:5000|nothing
+asks|serve 127.0.0.1:5000 --connections 1 --connections 1|nothing
+asks|serve --connections=1 --connections=2 127.0.0.1:5000|nothing
+asks|serve 127.0.0.1:5000 --idl i --idl i --connections 1|nothing
+asks|serve 127.0.0.1:5000 --idl i --connections 1 --idl=j|nothing
+asks|serve 127.0.0.1:5000 --connections --idl i|nothing
+asks|serve 127.0.0.1:5000 --idl --connections 1|nothing
+asks|serve 127.0.0.1:5000 -- --connections 1|nothing
+asks|serve 127.0.0.1:5000 127.0.0.1:5001 --connections 1|nothing
+asks|serve 127.0.0.1:5000 --connection 1|nothing
+asks|serve 127.0.0.1:5000 -c 1|nothing
+asks|serve 127.0.0.1:5000 --connections 1 --other 2|nothing
+asks|serve 127.0.0.1:5000 --connections 0|nothing
+asks|serve 127.0.0.1:5000 --connections 1000001|nothing
+asks|serve 127.0.0.1:5000 --connections 01|nothing
+asks|serve 127.0.0.1:5000 --connections +1|nothing
+asks|serve 127.0.0.1:5000 --connections -1|nothing
+asks|serve 127.0.0.1:5000 --connections=-1|nothing
+asks|serve 127.0.0.1:5000 --connections=|nothing
+asks|serve 127.0.0.1:5000 --connections 4294967297|nothing
+asks|serve 127.0.0.1 --connections 1|nothing
+asks|serve 127.0.0.1: --connections 1|nothing
+asks|serve 127.0.0.1:65536 --connections 1|nothing
+asks|serve 127.0.0.256:1 --connections 1|nothing
+asks|serve 127.0.0.01:1 --connections 1|nothing
+asks|serve localhost:1 --connections 1|nothing
+asks|serve 127.0.0.1:0x10 --connections 1|nothing
+asks|serve [::1]:1 --connections 1|nothing
+asks|call 127.0.0.1:5000 i s|call 127 0 0 1 5000 idl [i] script [s]
+asks|call 1.2.3.4:5 i -|call 1 2 3 4 5 idl [i] script [-]
+asks|call -- 1.2.3.4:5 -i --s|call 1 2 3 4 5 idl [-i] script [--s]
+asks|call 1.2.3.4:5 i -- s|call 1 2 3 4 5 idl [i] script [s]
+asks|call|nothing
+asks|call 1.2.3.4:5|nothing
+asks|call 1.2.3.4:5 i|nothing
+asks|call 1.2.3.4:5 i s s|nothing
+asks|call i s 1.2.3.4:5|nothing
+asks|call 1.2.3.4 i s|nothing
+asks|call 1.2.3.4:65536 i s|nothing
+asks|call 01.2.3.4:5 i s|nothing
+asks|call 1.2.3.4:5 --idl i s|nothing
+asks|call 1.2.3.4:5 i s --idl=i|nothing
+asks|call 1.2.3.4:5 i --s|nothing
 asks|help|nothing
 asks|--help|nothing
 asks|-h|nothing

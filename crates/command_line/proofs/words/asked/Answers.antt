@@ -1,23 +1,26 @@
 use Rattle.std.proofs.Common.{◌∙◌, map, string_bytes}
 use Rattle.clap.specs.Simple.{app_of}
-use Rattle.command_line.proofs.Answered.{reads_all, refused, taken}
+use Rattle.command_line.proofs.Answered.{refused, taken}
 use Rattle.command_line.proofs.Found.{all_utf8}
 use Rattle.command_line.proofs.words.asked.Goals as goal
 
 pub returns-in-Ok-clause-asked : goal.returns-in-Ok-clause-asked
 returns-in-Ok-clause-asked c =
-    (taken (map string_bytes c.args.words.now) (app_of c.in_ok-program.field-0) c.in-Ok.matches c.found.result (all_utf8 c.args.words.now)
-    c.in_ok-program.ensures.app c.in-Ok.ensures.matches c.in-Ok.ensures.kinds (reads_all c.in-Ok.matches c.found.result c.found.ensures.replay c.found.ensures.idl c.found.ensures.audit c.found.ensures.load)).asked
+    let found = c.found.ensures in
+    (taken c.in-Ok.matches c.found.result (record { replays = found.replay; idls = found.idl; audits = found.audit; loads = found.load; serves = found.serve; calls = found.call }) (map string_bytes c.args.words.now)
+    (app_of c.in_ok-program.field-0) (all_utf8 c.args.words.now) c.in_ok-program.ensures.app c.in-Ok.ensures.matches c.in-Ok.ensures.kinds).asked
 
 pub returns-in-Ok-clause-alone : goal.returns-in-Ok-clause-alone
 returns-in-Ok-clause-alone c =
-    (taken (map string_bytes c.args.words.now) (app_of c.in_ok-program.field-0) c.in-Ok.matches c.found.result (all_utf8 c.args.words.now)
-    c.in_ok-program.ensures.app c.in-Ok.ensures.matches c.in-Ok.ensures.kinds (reads_all c.in-Ok.matches c.found.result c.found.ensures.replay c.found.ensures.idl c.found.ensures.audit c.found.ensures.load)).alone
+    let found = c.found.ensures in
+    (taken c.in-Ok.matches c.found.result (record { replays = found.replay; idls = found.idl; audits = found.audit; loads = found.load; serves = found.serve; calls = found.call }) (map string_bytes c.args.words.now)
+    (app_of c.in_ok-program.field-0) (all_utf8 c.args.words.now) c.in_ok-program.ensures.app c.in-Ok.ensures.matches c.in-Ok.ensures.kinds).alone
 
 pub returns-in-Ok-clause-nothing : goal.returns-in-Ok-clause-nothing
 returns-in-Ok-clause-nothing c =
-    (taken (map string_bytes c.args.words.now) (app_of c.in_ok-program.field-0) c.in-Ok.matches c.found.result (all_utf8 c.args.words.now)
-    c.in_ok-program.ensures.app c.in-Ok.ensures.matches c.in-Ok.ensures.kinds (reads_all c.in-Ok.matches c.found.result c.found.ensures.replay c.found.ensures.idl c.found.ensures.audit c.found.ensures.load)).nothing
+    let found = c.found.ensures in
+    (taken c.in-Ok.matches c.found.result (record { replays = found.replay; idls = found.idl; audits = found.audit; loads = found.load; serves = found.serve; calls = found.call }) (map string_bytes c.args.words.now)
+    (app_of c.in_ok-program.field-0) (all_utf8 c.args.words.now) c.in_ok-program.ensures.app c.in-Ok.ensures.matches c.in-Ok.ensures.kinds).nothing
 
 pub returns : goal.returns
 returns c = record {
