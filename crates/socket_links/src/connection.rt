@@ -13,8 +13,11 @@ use std::net::Shutdown;
 /// How many turns a put waits at most.
 const MOST_TURNS: u32 = 6_000;
 
-/// How many turns a peer that goes on sending is read from at most, once the connection is to end.
+/// How many turns a peer is waited for at most, once the connection is to end.
 const LAST_TURNS: u32 = 200;
+
+/// How often a peer that goes on sending is read from at most, once the connection is to end.
+const LAST_READS: u32 = 16_384;
 
 /// A connected socket, and what waits for it. It waits until octets come, but for a put that doesn't
 /// find room.

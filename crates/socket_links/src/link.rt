@@ -8,7 +8,8 @@ use rpc_outside::{Link, Taken};
 
 /// A link over a TCP socket. A take waits at most 10 milliseconds for octets; a put waits for room in
 /// turns of that length, at most 6,000 of them, and then fails. A close tells the peer that no more
-/// comes, and reads and drops for at most two seconds what it still sends.
+/// comes, and reads and drops what it still sends until it ends: for two seconds of waiting and 64 MiB
+/// at most.
 #[derive(Drop)]
 pub struct SocketLink {
     connection: Option<Connection>,
