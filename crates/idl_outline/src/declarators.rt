@@ -1,37 +1,21 @@
 //! What attributes and declarators declare.
-ghost use Rattle.std.specs.Prelude.{◌≡◌, ◌==◌, not, reverse, IfOk, OnOk, MatchOption, ◌∷◌, []};
-ghost use Rattle.idl_tree.specs.declared.leaf.Dtor.{Dtor};
+ghost use Rattle.std.specs.Prelude.{◌≡◌, reverse, IfOk, OnOk, MatchOption, ◌∷◌, []};
+ghost use Rattle.idl_forms.specs.Forms.{attrs_form};
 ghost use Rattle.idl_outline.specs.Names as spec;
-ghost use Rattle.idl_outline.specs.Outline.{by_value, all_pointed, alone, before_declarators, result_setting, size_of, array_past, size_past, sizes_past, field_of, types_past, result_dtor};
+ghost use Rattle.idl_outline.specs.Outline.{result_setting};
+ghost use Rattle.idl_outline.specs.Parts as parts;
+ghost use Rattle.idl_outline.specs.Types as types;
 
-use crate::classes::{class_at, or_class};
 use crate::event::{Event, Tag};
-use crate::field::{
-    Attribute, Attributes, Bare, Declared, Extent, Field, Mark, NameRef, Place, Size,
-};
-use crate::names::copy_name;
+use crate::field::{Attribute, Attributes, Bare, Declared, Field, Mark, NameRef, Size};
 use crate::outline::Outline;
 use crate::setting::Setting;
 use crate::ty::{Core, DataType, Layer};
-use crate::types::{declared_type, extent_of};
-use idl_tree::{ArraySize, Dtor, Ident, Pk, SizeRef};
+use crate::types::declared_type;
+use idl_names::{Place, all_pointed, copy_name, extent_of, outer_class, says_handle};
+use idl_tree::{ArraySize, Attr, Dtor, Pk, SizeRef};
 use rpc_base::{Items, NoMemory};
 use std::alloc::Global;
-
-fn pointer_of(mark: &Mark) -> Option<Pk>
-    ensures { result ≡ spec.pointer_of mark.now }
-{
-    match mark {
-        Mark::Pointer(class) => Some(*class),
-        _ => None,
-    }
-}
-
-fn is_handle_word(mark: &Mark) -> bool
-    ensures { result ≡ spec.is_handle_word mark.now }
-{
-    matches!(mark, Mark::Handle)
-}
 
 fn tag_of(mark: &Mark) -> Option<Tag>
     ensures { result ≡ spec.tag_of mark.now }
@@ -43,27 +27,6 @@ fn tag_of(mark: &Mark) -> Option<Tag>
         }),
         _ => None,
     }
-}
-
-fn pointer_given(attributes: &[Attribute]) -> Option<Pk>
-    ensures { result ≡ spec.pointer_given attributes.now }
-{
-    for attribute in attributes {
-        let class = pointer_of(&attribute.mark);
-        if class.is_some() {
-            return class;
-        }
-    }
-    None
-}
-
-/// Whether a word for context handles stands in the list.
-pub fn has_handle_word(attributes: &[Attribute]) -> bool
-    ensures { result ≡ spec.has_handle_word attributes.now }
-{
-    attributes
-        .iter()
-        .any(|attribute| is_handle_word(&attribute.mark))
 }
 
 fn first_tag(attributes: &[Attribute]) -> Option<Tag>
@@ -105,7 +68,7 @@ fn declared(
     ensures { IfOk result (λ d. d ≡ spec.declared outline.now handle class ty dtor.now) }
 {
     let name = copy_name(alloc, &dtor.name)?;
-    let extent = extent_of(outline, &dtor.array);
+    let extent = extent_of(outline.constants(), &dtor.array);
     Ok(Declared {
         name,
         stars: dtor.stars,
@@ -134,21 +97,22 @@ fn each_declared(
 fn declared_all(
     alloc: Global,
     outline: &Outline,
-    place: Place,
     default: Pk,
-    attributes: &[Attribute],
+    place: Place,
+    attrs: &[Attr],
     ty: DataType,
     dtors: &[Dtor],
 ) -> Result<Items<Declared>, NoMemory>
-    ensures { IfOk result (λ ds. ds ≡ spec.declared_all outline.now place default attributes.now ty dtors.now) }
+    ensures { IfOk result (λ ds. ds ≡ spec.declared_all outline.now place default (attrs_form attrs.now) ty dtors.now) }
 {
-    let handle = is_typedef(place) && has_handle_word(attributes);
-    let class = or_class(pointer_given(attributes), class_at(default, place));
+    let handle = is_typedef(place) && says_handle(attrs);
+    let class = outer_class(default, place, attrs);
     each_declared(alloc, outline, handle, class, ty, dtors)
 }
 
-/// The field of a spec, its attributes and its declarators. The class of a pointer is that of the
-/// list's first pointer attribute, else `ref` for a parameter's own pointers, else `default`.
+/// The field of a spec, its attributes and its declarators. `attrs`: these attributes in the tree. The
+/// class of a pointer is that of the list's first pointer attribute, else `ref` for a parameter's own
+/// pointers, else `default`.
 ///
 /// # Errors
 ///
@@ -158,22 +122,15 @@ pub fn field_with(
     outline: &Outline,
     default: Pk,
     place: Place,
+    attrs: &[Attr],
     attributes: Attributes,
     ty: DataType,
     bare: Bare,
     dtors: &[Dtor],
 ) -> Result<Field, NoMemory>
-    ensures { IfOk result (λ f. f ≡ field_of default place attributes ty bare dtors.now outline.now) }
+    ensures { IfOk result (λ f. f ≡ parts.field_of default place (attrs_form attrs.now) attributes ty bare dtors.now outline.now) }
 {
-    let declared = declared_all(
-        alloc,
-        outline,
-        place,
-        default,
-        attributes.as_slice(),
-        ty,
-        dtors,
-    )?;
+    let declared = declared_all(alloc, outline, default, place, attrs, ty, dtors)?;
     Ok(Field {
         place,
         attributes,
@@ -184,7 +141,7 @@ pub fn field_with(
 }
 
 fn open_core(core: Core) -> bool
-    ensures { result ≡ spec.open_core core }
+    ensures { result ≡ types.open_core core }
 {
     match core {
         Core::Struct { open } => open,
@@ -193,7 +150,7 @@ fn open_core(core: Core) -> bool
 }
 
 fn is_open(ty: DataType) -> bool
-    ensures { result ≡ spec.is_open ty }
+    ensures { result ≡ types.is_open ty }
 {
     match ty.outer {
         None => open_core(ty.core),
@@ -237,23 +194,9 @@ pub fn ends_open(fields: &[Field]) -> bool
     }
 }
 
-/// Whether a declarator has no star.
-pub fn any_by_value(dtors: &[Dtor]) -> bool
-    ensures { result ≡ by_value dtors.now }
-{
-    dtors.iter().any(|dtor| dtor.stars == 0)
-}
-
-/// Whether each declarator has a star.
-pub fn all_pointed(dtors: &[Dtor]) -> bool
-    ensures { result ≡ all_pointed dtors.now }
-{
-    !any_by_value(dtors)
-}
-
 /// The setting of a spec that no declarator follows. `given`: the tag from its attributes.
 pub fn setting_alone(default: Pk, given: Tag) -> Setting
-    ensures { result ≡ alone default given }
+    ensures { result ≡ parts.alone default given }
 {
     Setting {
         default,
@@ -270,7 +213,7 @@ pub fn setting_of(
     void_allowed: bool,
     attributes: &[Attribute],
 ) -> Setting
-    ensures { result ≡ before_declarators default dtors.now void_allowed (spec.tag_given attributes.now) }
+    ensures { result ≡ parts.before_declarators default dtors.now void_allowed (spec.tag_given attributes.now) }
 {
     Setting {
         default,
@@ -298,7 +241,7 @@ pub fn setting_of_result(default: Pk, attributes: &[Attribute]) -> Setting
 ///
 /// `NoMemory` where there is no memory for a name.
 pub fn size(alloc: Global, size: &SizeRef) -> Result<Size, NoMemory>
-    ensures { IfOk result (λ s. s ≡ size_of size.now) }
+    ensures { IfOk result (λ s. s ≡ parts.size_of size.now) }
 {
     match size {
         SizeRef::Number(number) => Ok(Size::Number(number.value)),
@@ -310,7 +253,7 @@ pub fn size(alloc: Global, size: &SizeRef) -> Result<Size, NoMemory>
 }
 
 fn array_used(alloc: Global, size: &ArraySize, outline: &mut Outline) -> Result<(), NoMemory>
-    ensures { OnOk result (outline.new ≡ array_past size.now outline.old) }
+    ensures { OnOk result (outline.new ≡ parts.array_past size.now outline.old) }
 {
     match size {
         ArraySize::Named(name) => {
@@ -333,7 +276,7 @@ pub fn size_used(
     array: &Option<ArraySize>,
     outline: &mut Outline,
 ) -> Result<(), NoMemory>
-    ensures { OnOk result (outline.new ≡ size_past array.now outline.old) }
+    ensures { OnOk result (outline.new ≡ parts.size_past array.now outline.old) }
 {
     match array {
         None => Ok(()),
@@ -347,7 +290,7 @@ pub fn size_used(
 ///
 /// `NoMemory` where there is no memory for a name or an event.
 pub fn sizes_used(alloc: Global, dtors: &[Dtor], outline: &mut Outline) -> Result<(), NoMemory>
-    ensures { OnOk result (outline.new ≡ sizes_past dtors.now outline.old) }
+    ensures { OnOk result (outline.new ≡ parts.sizes_past dtors.now outline.old) }
 {
     for dtor in dtors {
         size_used(alloc, &dtor.array, outline)?;

@@ -1,6 +1,7 @@
 //! What one spec declares: its attributes, its type and its declarators.
 
 use crate::ty::DataType;
+use idl_names::{Extent, Place};
 use idl_tree::{Ident, Num, Pk};
 use rpc_base::Items;
 
@@ -50,16 +51,6 @@ pub struct Attribute {
 /// The attributes of one list.
 pub type Attributes = Items<Attribute>;
 
-/// Whether a declarator is an array, and of what size.
-#[derive(Clone, Copy, PartialEq, Eq)]
-pub enum Extent {
-    Single,
-    /// `[]` or `[*]`.
-    Open,
-    /// The size; None where it is a name that isn't declared.
-    Fixed(Option<Num>),
-}
-
 /// What a declarator declares.
 #[derive(Drop)]
 pub struct Declared {
@@ -68,19 +59,6 @@ pub struct Declared {
     pub extent: Extent,
     /// The type of what it declares.
     pub ty: DataType,
-}
-
-/// Where a spec and its declarators stand.
-#[derive(Clone, Copy, PartialEq, Eq)]
-pub enum Place {
-    Typedef,
-    /// A declaration without a declarator, or the spec of a union's switch.
-    Alone,
-    /// The result of an operation, whose name is the declarator.
-    Operation,
-    Parameter,
-    Member,
-    Arm,
 }
 
 /// Whether a spec is itself a union without a switch, and where its tag is, if it has one.

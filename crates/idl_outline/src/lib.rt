@@ -3,27 +3,22 @@
 //! interfaces speaks of an outline.
 #![tactic(auto)]
 
-mod classes;
 mod declarators;
-mod entries;
 mod event;
 mod field;
-mod names;
+mod known;
 mod outline;
 mod setting;
 mod ty;
 mod types;
 
-pub use classes::{class_at, or_class, pointer_default};
 pub use declarators::{
-    all_pointed, any_by_value, ends_open, field_with, has_handle_word, setting_alone, setting_of,
-    setting_of_result, size, size_used, sizes_used, tag_given,
+    ends_open, field_with, setting_alone, setting_of, setting_of_result, size, size_used,
+    sizes_used, tag_given,
 };
 pub use event::{Event, Events, Label, Labels, Tag};
-pub use field::{
-    Attribute, Attributes, Bare, Declared, Extent, Field, Fields, Mark, NameRef, Place, Size,
-};
-pub use names::{copy_name, is_name};
+pub use field::{Attribute, Attributes, Bare, Declared, Field, Fields, Mark, NameRef, Size};
+pub use idl_names::{Extent, Place};
 pub use outline::Outline;
 pub use setting::Setting;
 pub use ty::{Core, DataType, Layer};

@@ -1,11 +1,12 @@
 //! How types are made.
-ghost use Rattle.std.specs.Prelude.{◌≡◌, reverse};
-ghost use Rattle.idl_outline.specs.Names as spec;
+ghost use Rattle.std.specs.Prelude.{◌≡◌};
+ghost use Rattle.idl_outline.specs.Names as names;
+ghost use Rattle.idl_outline.specs.Types as spec;
 
-use crate::field::Extent;
 use crate::outline::Outline;
 use crate::ty::{Core, DataType, Layer};
-use idl_tree::{ArraySize, Base, Ident, Pk};
+use idl_names::Extent;
+use idl_tree::{Base, Ident, Pk};
 
 /// The type without pointers and arrays.
 pub fn bare(core: Core) -> DataType
@@ -83,7 +84,7 @@ pub(crate) fn declared_type(
 
 /// The type that a name stands for; `Core::Unknown` where no event declares it.
 pub fn named_type(outline: &Outline, name: &Ident) -> DataType
-    ensures { result ≡ spec.or_unknown (spec.type_named name.now.text outline.now) }
+    ensures { result ≡ spec.or_unknown (names.type_named name.now.text outline.now) }
 {
     match outline.type_named(name.text.as_slice()) {
         Some(ty) => ty,
@@ -91,49 +92,19 @@ pub fn named_type(outline: &Outline, name: &Ident) -> DataType
     }
 }
 
-fn struct_type(pointed: bool, found: Option<Option<bool>>) -> DataType
-    ensures { result ≡ spec.struct_type pointed found }
+fn struct_type(ends_open: Option<bool>) -> DataType
+    ensures { result ≡ spec.struct_type ends_open }
 {
-    match found {
+    match ends_open {
         None => bare(Core::Unknown),
-        Some(ended) => match ended {
-            None => {
-                if pointed {
-                    bare(Core::Struct { open: false })
-                } else {
-                    bare(Core::Unknown)
-                }
-            }
-            Some(open) => bare(Core::Struct { open }),
-        },
+        Some(open) => bare(Core::Struct { open }),
     }
 }
 
 /// The type that a structure's tag stands for. `pointed`: it stands behind a pointer, as it has to
 /// inside of the structure's own body; `Core::Unknown` elsewhere there, and where no event declares it.
 pub fn tagged_type(outline: &Outline, pointed: bool, tag: &Ident) -> DataType
-    ensures { result ≡ spec.struct_type pointed (spec.struct_named tag.now.text outline.now) }
+    ensures { result ≡ spec.struct_type (names.tag_named pointed tag.now.text outline.now) }
 {
-    struct_type(pointed, outline.struct_named(tag.text.as_slice()))
-}
-
-fn size_extent(outline: &Outline, size: &ArraySize) -> Extent
-    ensures { result ≡ spec.size_extent outline.now size.now }
-{
-    match size {
-        ArraySize::Empty => Extent::Open,
-        ArraySize::Star => Extent::Open,
-        ArraySize::Number(number) => Extent::Fixed(Some(*number)),
-        ArraySize::Named(name) => Extent::Fixed(outline.constant_named(name.text.as_slice())),
-    }
-}
-
-/// Whether a declarator with these brackets, or with none, is an array, and of what size.
-pub(crate) fn extent_of(outline: &Outline, array: &Option<ArraySize>) -> Extent
-    ensures { result ≡ spec.extent_of outline.now array.now }
-{
-    match array {
-        None => Extent::Single,
-        Some(size) => size_extent(outline, size),
-    }
+    struct_type(outline.tag_named(pointed, tag.text.as_slice()))
 }

@@ -7,7 +7,7 @@ use Rattle.idl_outline.specs.declared.event.Label.TheVariants as labels
 use Rattle.idl_outline.specs.declared.field.Attribute.{Attribute}
 use Rattle.idl_rules.specs.declared.again.Key.{Key}
 use Rattle.idl_rules.specs.declared.again.Key.TheVariants as keys
-use Rattle.idl_outline.specs.Names.{value_of}
+use Rattle.idl_names.specs.Declarators.{value_of}
 use Rattle.idl_rules.specs.BadAttribute.{kind_of, file_kind}
 
 abbrev pub number_key : Option Num → Key

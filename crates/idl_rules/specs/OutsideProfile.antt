@@ -11,8 +11,8 @@ use Rattle.idl_tree.specs.declared.leaf.Base.{Base}
 use Rattle.idl_tree.specs.declared.leaf.Base.TheVariants as bases
 use Rattle.idl_outline.specs.declared.field.Size.{Size}
 use Rattle.idl_outline.specs.declared.field.Size.TheVariants as sizes
-use Rattle.idl_outline.specs.declared.field.Extent.{Extent}
-use Rattle.idl_outline.specs.declared.field.Extent.TheVariants as extents
+use Rattle.idl_names.specs.declared.place.Extent.{Extent}
+use Rattle.idl_names.specs.declared.place.Extent.TheVariants as extents
 use Rattle.idl_outline.specs.declared.field.Mark.{Mark}
 use Rattle.idl_outline.specs.declared.field.Mark.TheVariants as marks
 use Rattle.idl_outline.specs.declared.field.Attribute.{Attribute}
@@ -20,7 +20,8 @@ use Rattle.idl_outline.specs.declared.field.Declared.{Declared}
 use Rattle.idl_outline.specs.declared.field.Field.{Field}
 use Rattle.idl_outline.specs.declared.event.Event.{Event}
 use Rattle.idl_outline.specs.declared.event.Event.TheVariants as events
-use Rattle.idl_outline.specs.Names.{value_of, is_operation, is_typedef_event}
+use Rattle.idl_names.specs.Declarators.{value_of}
+use Rattle.idl_outline.specs.Names.{is_operation, is_typedef_event}
 use Rattle.idl_rules.specs.Places.{at_if}
 use Rattle.idl_rules.specs.Types.{is_typedef, is_pointer_layer}
 use Rattle.idl_rules.specs.Numbers.{within, int_holds}

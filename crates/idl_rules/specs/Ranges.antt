@@ -8,7 +8,7 @@ use Rattle.idl_outline.specs.declared.ty.Core.{Core}
 use Rattle.idl_outline.specs.declared.ty.Core.TheVariants as cores
 use Rattle.idl_outline.specs.declared.field.Declared.{Declared}
 use Rattle.idl_outline.specs.declared.field.Field.{Field}
-use Rattle.idl_outline.specs.Names.{value_of}
+use Rattle.idl_names.specs.Declarators.{value_of}
 use Rattle.idl_rules.specs.Numbers.{int_holds}
 use Rattle.idl_rules.specs.Types.{by_value, is_unknown, is_ref_layer, is_parameter}
 

@@ -8,10 +8,10 @@ use Rattle.idl_outline.specs.declared.ty.Core.{Core}
 use Rattle.idl_outline.specs.declared.ty.Core.TheVariants as cores
 use Rattle.idl_outline.specs.declared.ty.Layer.{Layer}
 use Rattle.idl_outline.specs.declared.ty.Layer.TheVariants as layers
-use Rattle.idl_outline.specs.declared.field.Place.{Place}
-use Rattle.idl_outline.specs.declared.field.Place.TheVariants as places
-use Rattle.idl_outline.specs.declared.field.Extent.{Extent}
-use Rattle.idl_outline.specs.declared.field.Extent.TheVariants as extents
+use Rattle.idl_names.specs.declared.place.Place.{Place}
+use Rattle.idl_names.specs.declared.place.Place.TheVariants as places
+use Rattle.idl_names.specs.declared.place.Extent.{Extent}
+use Rattle.idl_names.specs.declared.place.Extent.TheVariants as extents
 use Rattle.idl_outline.specs.declared.field.Mark.{Mark}
 use Rattle.idl_outline.specs.declared.field.Mark.TheVariants as marks
 use Rattle.idl_outline.specs.declared.field.Attribute.{Attribute}

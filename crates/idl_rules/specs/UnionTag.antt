@@ -17,7 +17,7 @@ use Rattle.idl_outline.specs.declared.event.Label.{Label}
 use Rattle.idl_outline.specs.declared.event.Label.TheVariants as labels
 use Rattle.idl_outline.specs.declared.event.Event.{Event}
 use Rattle.idl_outline.specs.declared.event.Event.TheVariants as events
-use Rattle.idl_outline.specs.Names.{value_of}
+use Rattle.idl_names.specs.Declarators.{value_of}
 use Rattle.idl_rules.specs.Numbers.{within, int_holds}
 use Rattle.idl_rules.specs.Places.{at_if, repeats}
 use Rattle.idl_rules.specs.Types.{by_value, is_unknown, is_tag_core, says_switch_type, has}

@@ -1,32 +1,33 @@
 //! The second rule: names that are declared twice.
 ghost use Rattle.std.specs.Prelude.{◌≡◌, ◌++◌, ◌||◌, ℕ, List, map, Some, IfOk, OnOk, bytes_eq};
-ghost use Rattle.idl_outline.specs.Names.{name_in, tag_in, declares, declares_tag};
+ghost use Rattle.idl_outline.specs.Names.{name_in, tag_in, is_declared, is_tag_declared};
 ghost use Rattle.idl_rules.specs.Least.{least};
 ghost use Rattle.idl_rules.specs.Places.{repeats};
 ghost use Rattle.idl_rules.specs.Seen.{has_name};
 ghost use Rattle.idl_rules.specs.Duplicate as spec;
 
 use crate::least::{lesser, place_if};
-use idl_outline::{Declared, Event, Field, Outline, copy_name};
+use idl_names::copy_name;
+use idl_outline::{Declared, Event, Field, Outline};
 use idl_tree::Ident;
 use rpc_base::{Items, NoMemory};
 use std::alloc::Global;
 use std::collections::BTreeSet;
 
 fn declared_again(past: &Outline, name: &Ident) -> Option<usize>
-    ensures { result ≡ least (spec.again declares past.now (Some name.now)) }
+    ensures { result ≡ least (spec.again is_declared past.now (Some name.now)) }
 {
     place_if(past.declares(name.text.as_slice()), name.at)
 }
 
 fn tagged_again(past: &Outline, tag: &Ident) -> Option<usize>
-    ensures { result ≡ least (spec.again declares_tag past.now (Some tag.now)) }
+    ensures { result ≡ least (spec.again is_tag_declared past.now (Some tag.now)) }
 {
     place_if(past.declares_tag(tag.text.as_slice()), tag.at)
 }
 
 fn name_again(past: &Outline, event: &Event) -> Option<usize>
-    ensures { result ≡ least (spec.again declares past.now (name_in event.now)) }
+    ensures { result ≡ least (spec.again is_declared past.now (name_in event.now)) }
 {
     match event {
         Event::Typedef { name, .. } => declared_again(past, name),
@@ -38,7 +39,7 @@ fn name_again(past: &Outline, event: &Event) -> Option<usize>
 }
 
 fn tag_again(past: &Outline, event: &Event) -> Option<usize>
-    ensures { result ≡ least (spec.again declares_tag past.now (tag_in event.now)) }
+    ensures { result ≡ least (spec.again is_tag_declared past.now (tag_in event.now)) }
 {
     match event {
         Event::StructBegins { tag, .. } => tagged_again(past, tag),

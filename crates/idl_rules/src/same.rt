@@ -1,7 +1,7 @@
 //! Which labels and which attributes are of one kind.
 ghost use Rattle.std.specs.Prelude.{◌≡◌};
 ghost use Rattle.idl_forms.specs.Forms.{file_form, file_kind_form};
-ghost use Rattle.idl_outline.specs.Names as names;
+ghost use Rattle.idl_names.specs.Declarators as declarators;
 ghost use Rattle.idl_rules.specs.UnionTag as tags;
 ghost use Rattle.idl_rules.specs.BadAttribute as attributes;
 ghost use Rattle.idl_rules.specs.Keys as keys;
@@ -12,7 +12,7 @@ use idl_tree::{FileAttr, FileAttrKind, Num};
 
 /// The number, with its sign.
 pub fn value_of(number: Num) -> i128
-    ensures { result ≡ names.value_of number }
+    ensures { result ≡ declarators.value_of number }
 {
     let size = i128::from(number.value);
     if number.minus { -size } else { size }

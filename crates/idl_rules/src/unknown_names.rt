@@ -6,18 +6,6 @@ ghost use Rattle.idl_rules.specs.Unknown as spec;
 use crate::least::place_if;
 use idl_outline::{Event, Outline};
 
-fn is_unknown_tag(pointed: bool, found: Option<Option<bool>>) -> bool
-    ensures { result ≡ spec.is_unknown_tag pointed found }
-{
-    match found {
-        None => true,
-        Some(ended) => match ended {
-            None => !pointed,
-            Some(_) => false,
-        },
-    }
-}
-
 /// The place of a name that the event uses and no event before it declares.
 pub fn unknown(past: &Outline, event: &Event) -> Option<usize>
     ensures { result ≡ least (spec.unknown past.now event.now) }
@@ -29,7 +17,7 @@ pub fn unknown(past: &Outline, event: &Event) -> Option<usize>
             name.at,
         ),
         Event::TagUsed { tag, pointed } => place_if(
-            is_unknown_tag(*pointed, past.struct_named(tag.text.as_slice())),
+            past.tag_named(*pointed, tag.text.as_slice()).is_none(),
             tag.at,
         ),
         _ => None,

@@ -1,14 +1,16 @@
 //! Declarations and whole trees.
 ghost use Rattle.std.specs.Prelude.{◌≡◌, map, IfOk, OnOk};
-ghost use Rattle.idl_outline.specs.declared.field.Place.TheVariants as places;
+ghost use Rattle.idl_names.specs.declared.place.Place.TheVariants as places;
 ghost use Rattle.idl_forms.specs.Forms.{spec_form, attrs_form, param_form, decl_kind_form, decl_form, tree_form};
 ghost use Rattle.idl_outline.specs.Outline as outlines;
+ghost use Rattle.idl_outline.specs.Specs as walks;
 
 use crate::specs::{attributes_walked, spec_walked};
 use crate::used::{bare_spec, declared_field};
+use idl_names::{Place, copy_name, pointer_default, says_handle};
 use idl_outline::{
-    Declared, Event, Field, Fields, Outline, Place, copy_name, field_with, has_handle_word,
-    pointer_default, setting_alone, setting_of, setting_of_result, size_used, tag_given,
+    Declared, Event, Field, Fields, Outline, field_with, setting_alone, setting_of,
+    setting_of_result, size_used, tag_given,
 };
 use idl_tree::{Ast, Attr, Decl, DeclKind, Dtor, Ident, ParamNode, Pk, Spec};
 use rpc_base::NoMemory;
@@ -48,7 +50,7 @@ fn typedef_field(
     ensures past { OnOk result (outline.new ≡ outlines.typedef_behind default (attrs_form attrs.now) (spec_form spec.now) dtors.now outline.old) }
 {
     let attributes = attributes_walked(alloc, default, attrs, outline)?;
-    let handle = has_handle_word(attributes.as_slice());
+    let handle = says_handle(attrs);
     let setting = setting_of(default, dtors, handle, attributes.as_slice());
     let ty = spec_walked(alloc, setting, spec, outline)?;
     let bare = bare_spec(spec);
@@ -57,6 +59,7 @@ fn typedef_field(
         outline,
         default,
         Place::Typedef,
+        attrs,
         attributes,
         ty,
         bare,
@@ -97,6 +100,7 @@ fn lone(
         outline,
         default,
         Place::Alone,
+        attrs,
         attributes,
         ty,
         bare,
@@ -111,8 +115,8 @@ fn parameter(
     node: &ParamNode,
     outline: &mut Outline,
 ) -> Result<Field, NoMemory>
-    ensures field { IfOk result (λ f. f ≡ outlines.member_field default places.Parameter (outlines.one_member (param_form node.now)) outline.old) }
-    ensures past { OnOk result (outline.new ≡ outlines.member_past default (outlines.one_member (param_form node.now)) outline.old) }
+    ensures field { IfOk result (λ f. f ≡ walks.member_field default places.Parameter (outlines.one_member (param_form node.now)) outline.old) }
+    ensures past { OnOk result (outline.new ≡ walks.member_past default (outlines.one_member (param_form node.now)) outline.old) }
 {
     let dtors = slice::from_ref(&node.dtor);
     let attributes = attributes_walked(alloc, default, &node.attrs, outline)?;
@@ -123,6 +127,7 @@ fn parameter(
         alloc,
         default,
         Place::Parameter,
+        &node.attrs,
         attributes,
         ty,
         bare,
@@ -175,6 +180,7 @@ fn result_field(
         outline,
         default,
         Place::Operation,
+        attrs,
         attributes,
         ty,
         bare,

@@ -2,17 +2,18 @@
 ghost use Rattle.std.specs.Prelude.{◌≡◌, [], ◌∷◌, ◌++◌, false, IfOk, OnOk};
 ghost use Rattle.idl_outline.specs.declared.ty.Core.TheVariants as cores;
 ghost use Rattle.idl_forms.specs.Forms.{spec_form, kind_form, member_form, members_form, switch_form, arm_form, arms_form, attr_kind_form, attr_form, attrs_form, OfStruct, OfUnion, no_switch, OfSwitchType};
-ghost use Rattle.idl_outline.specs.declared.field.Place.TheVariants as places;
-ghost use Rattle.idl_outline.specs.Names as names;
-ghost use Rattle.idl_outline.specs.Outline as outlines;
+ghost use Rattle.idl_names.specs.declared.place.Place.TheVariants as places;
+ghost use Rattle.idl_outline.specs.Types as types;
+ghost use Rattle.idl_outline.specs.Specs as walks;
 
 use crate::used::{
     bare_spec, declared_field, enumeration, labels_read, labels_used, named, other_tag,
     structure_begins, structure_ends, tag_used, void,
 };
+use idl_names::{Place, copy_name};
 use idl_outline::{
     Attribute, Attributes, Core, DataType, Event, Field, Fields, Labels, Mark, NameRef, Outline,
-    Place, Setting, Tag, bare, copy_name, core_of, field_with, setting_alone, setting_of, size,
+    Setting, Tag, bare, core_of, field_with, setting_alone, setting_of, size,
 };
 use idl_tree::{ArmNode, Attr, AttrKind, Ident, Member, Pk, Spec, SpecKind, Switch};
 use rpc_base::NoMemory;
@@ -26,8 +27,8 @@ pub(crate) fn spec_walked(
     spec: &Spec,
     outline: &mut Outline,
 ) -> Result<DataType, NoMemory>
-    ensures ty { IfOk result (λ t. t ≡ outlines.spec_type setting (spec_form spec.now) outline.old) }
-    ensures past { OnOk result (outline.new ≡ outlines.spec_past setting (spec_form spec.now) outline.old) }
+    ensures ty { IfOk result (λ t. t ≡ walks.spec_type setting (spec_form spec.now) outline.old) }
+    ensures past { OnOk result (outline.new ≡ walks.spec_past setting (spec_form spec.now) outline.old) }
 {
     kind_walked(alloc, setting, spec.at, &spec.what, outline)
 }
@@ -41,8 +42,8 @@ fn kind_walked(
     kind: &SpecKind,
     outline: &mut Outline,
 ) -> Result<DataType, NoMemory>
-    ensures ty { IfOk result (λ t. t ≡ outlines.kind_type setting (kind_form kind.now) outline.old) }
-    ensures past { OnOk result (outline.new ≡ outlines.kind_past setting at (kind_form kind.now) outline.old) }
+    ensures ty { IfOk result (λ t. t ≡ walks.kind_type setting (kind_form kind.now) outline.old) }
+    ensures past { OnOk result (outline.new ≡ walks.kind_past setting at (kind_form kind.now) outline.old) }
 {
     match kind {
         SpecKind::Base(base) => Ok(bare(core_of(*base))),
@@ -75,8 +76,8 @@ fn structure(
     members: &[Member],
     outline: &mut Outline,
 ) -> Result<DataType, NoMemory>
-    ensures ty { IfOk result (λ t. t ≡ outlines.kind_type setting (OfStruct tag.now (members_form members.now)) outline.old) }
-    ensures past { OnOk result (outline.new ≡ outlines.kind_past setting 0 (OfStruct tag.now (members_form members.now)) outline.old) }
+    ensures ty { IfOk result (λ t. t ≡ walks.kind_type setting (OfStruct tag.now (members_form members.now)) outline.old) }
+    ensures past { OnOk result (outline.new ≡ walks.kind_past setting 0 (OfStruct tag.now (members_form members.now)) outline.old) }
 {
     structure_begins(alloc, tag, members, outline)?;
     let fields = members_walked(alloc, setting.default, members, outline)?;
@@ -91,8 +92,8 @@ fn bare_union(
     arms: &[ArmNode],
     outline: &mut Outline,
 ) -> Result<DataType, NoMemory>
-    ensures ty { IfOk result (λ t. t ≡ names.bare (cores.Union false)) }
-    ensures past { OnOk result (outline.new ≡ outlines.kind_past setting 0 (OfUnion tag.now no_switch (arms_form arms.now)) outline.old) }
+    ensures ty { IfOk result (λ t. t ≡ types.bare (cores.Union false)) }
+    ensures past { OnOk result (outline.new ≡ walks.kind_past setting 0 (OfUnion tag.now no_switch (arms_form arms.now)) outline.old) }
 {
     other_tag(alloc, tag, outline)?;
     union_body(alloc, setting.default, setting.given, arms, outline)?;
@@ -106,8 +107,8 @@ fn switch_walked(
     switch: &Switch,
     outline: &mut Outline,
 ) -> Result<Tag, NoMemory>
-    ensures tag { IfOk result (λ t. t ≡ outlines.switch_tag setting (switch_form switch.now) outline.old) }
-    ensures past { OnOk result (outline.new ≡ outlines.switch_past setting (switch_form switch.now) outline.old) }
+    ensures tag { IfOk result (λ t. t ≡ walks.switch_tag setting (switch_form switch.now) outline.old) }
+    ensures past { OnOk result (outline.new ≡ walks.switch_past setting (switch_form switch.now) outline.old) }
 {
     let inner = setting_alone(setting.default, Tag::Missing);
     let spec: &Spec = &switch.spec;
@@ -119,6 +120,7 @@ fn switch_walked(
         outline,
         setting.default,
         Place::Alone,
+        &[],
         none,
         ty,
         bare,
@@ -139,7 +141,7 @@ fn union_body(
     arms: &[ArmNode],
     outline: &mut Outline,
 ) -> Result<(), NoMemory>
-    ensures { OnOk result (outline.new ≡ outlines.union_past default tag (arms_form arms.now) outline.old) }
+    ensures { OnOk result (outline.new ≡ walks.union_past default tag (arms_form arms.now) outline.old) }
 {
     let mut fields = Fields::new(alloc);
     let mut labels = Labels::new(alloc);
@@ -158,9 +160,9 @@ fn arms_walked(
     labels: &mut Labels,
     outline: &mut Outline,
 ) -> Result<(), NoMemory>
-    ensures fields { OnOk result (fields.new ≡ fields.old ++ outlines.arm_fields default (arms_form arms.now) outline.old) }
-    ensures labels { OnOk result (labels.new ≡ labels.old ++ outlines.arm_labels default (arms_form arms.now) outline.old) }
-    ensures past { OnOk result (outline.new ≡ outlines.arms_past default (arms_form arms.now) outline.old) }
+    ensures fields { OnOk result (fields.new ≡ fields.old ++ walks.arm_fields default (arms_form arms.now) outline.old) }
+    ensures labels { OnOk result (labels.new ≡ labels.old ++ walks.arm_labels default (arms_form arms.now) outline.old) }
+    ensures past { OnOk result (outline.new ≡ walks.arms_past default (arms_form arms.now) outline.old) }
 {
     for arm in arms {
         arm_walked(alloc, default, arm, fields, labels, outline)?;
@@ -177,9 +179,9 @@ fn arm_walked(
     labels: &mut Labels,
     outline: &mut Outline,
 ) -> Result<(), NoMemory>
-    ensures fields { OnOk result (fields.new ≡ fields.old ++ outlines.arm_field default (arm_form arm.now) outline.old) }
-    ensures labels { OnOk result (labels.new ≡ labels.old ++ outlines.arm_label (arm_form arm.now) outline.old) }
-    ensures past { OnOk result (outline.new ≡ outlines.arm_past default (arm_form arm.now) outline.old) }
+    ensures fields { OnOk result (fields.new ≡ fields.old ++ walks.arm_field default (arm_form arm.now) outline.old) }
+    ensures labels { OnOk result (labels.new ≡ labels.old ++ walks.arm_label (arm_form arm.now) outline.old) }
+    ensures past { OnOk result (outline.new ≡ walks.arm_past default (arm_form arm.now) outline.old) }
 {
     labels_read(&arm.labels, labels, outline)?;
     labels_used(alloc, &arm.labels, outline)?;
@@ -197,8 +199,8 @@ fn arm_member(
     fields: &mut Fields,
     outline: &mut Outline,
 ) -> Result<(), NoMemory>
-    ensures fields { OnOk result (fields.new ≡ fields.old ++ outlines.member_field default places.Arm (member_form member.now) outline.old ∷ []) }
-    ensures past { OnOk result (outline.new ≡ outlines.member_past default (member_form member.now) outline.old) }
+    ensures fields { OnOk result (fields.new ≡ fields.old ++ walks.member_field default places.Arm (member_form member.now) outline.old ∷ []) }
+    ensures past { OnOk result (outline.new ≡ walks.member_past default (member_form member.now) outline.old) }
 {
     let field = member_walked(alloc, default, Place::Arm, member, outline)?;
     fields.push(field)
@@ -212,8 +214,8 @@ fn members_walked(
     members: &[Member],
     outline: &mut Outline,
 ) -> Result<Fields, NoMemory>
-    ensures fields { IfOk result (λ fs. fs ≡ outlines.member_fields default (members_form members.now) outline.old) }
-    ensures past { OnOk result (outline.new ≡ outlines.members_past default (members_form members.now) outline.old) }
+    ensures fields { IfOk result (λ fs. fs ≡ walks.member_fields default (members_form members.now) outline.old) }
+    ensures past { OnOk result (outline.new ≡ walks.members_past default (members_form members.now) outline.old) }
 {
     let mut fields = Fields::new(alloc);
     for member in members {
@@ -231,8 +233,8 @@ fn member_walked(
     member: &Member,
     outline: &mut Outline,
 ) -> Result<Field, NoMemory>
-    ensures field { IfOk result (λ f. f ≡ outlines.member_field default place (member_form member.now) outline.old) }
-    ensures past { OnOk result (outline.new ≡ outlines.member_past default (member_form member.now) outline.old) }
+    ensures field { IfOk result (λ f. f ≡ walks.member_field default place (member_form member.now) outline.old) }
+    ensures past { OnOk result (outline.new ≡ walks.member_past default (member_form member.now) outline.old) }
 {
     let attributes = attributes_walked(alloc, default, &member.attrs, outline)?;
     let setting = setting_of(default, &member.dtors, false, attributes.as_slice());
@@ -242,6 +244,7 @@ fn member_walked(
         alloc,
         default,
         place,
+        &member.attrs,
         attributes,
         ty,
         bare,
@@ -259,8 +262,8 @@ pub(crate) fn attributes_walked(
     attrs: &[Attr],
     outline: &mut Outline,
 ) -> Result<Attributes, NoMemory>
-    ensures attributes { IfOk result (λ xs. xs ≡ outlines.attributes default (attrs_form attrs.now) outline.old) }
-    ensures past { OnOk result (outline.new ≡ outlines.attrs_past default (attrs_form attrs.now) outline.old) }
+    ensures attributes { IfOk result (λ xs. xs ≡ walks.attributes default (attrs_form attrs.now) outline.old) }
+    ensures past { OnOk result (outline.new ≡ walks.attrs_past default (attrs_form attrs.now) outline.old) }
 {
     let mut attributes = Attributes::new(alloc);
     for attr in attrs {
@@ -277,8 +280,8 @@ fn attribute_walked(
     attr: &Attr,
     outline: &mut Outline,
 ) -> Result<Attribute, NoMemory>
-    ensures attribute { IfOk result (λ a. a ≡ outlines.attribute default (attr_form attr.now) outline.old) }
-    ensures past { OnOk result (outline.new ≡ outlines.attr_past default (attr_form attr.now) outline.old) }
+    ensures attribute { IfOk result (λ a. a ≡ walks.attribute default (attr_form attr.now) outline.old) }
+    ensures past { OnOk result (outline.new ≡ walks.attr_past default (attr_form attr.now) outline.old) }
 {
     let mark = mark_walked(alloc, default, &attr.what, outline)?;
     Ok(Attribute { at: attr.at, mark })
@@ -292,8 +295,8 @@ fn mark_walked(
     kind: &AttrKind,
     outline: &mut Outline,
 ) -> Result<Mark, NoMemory>
-    ensures mark { IfOk result (λ m. m ≡ outlines.mark_of default (attr_kind_form kind.now) outline.old) }
-    ensures past { OnOk result (outline.new ≡ outlines.mark_past default (attr_kind_form kind.now) outline.old) }
+    ensures mark { IfOk result (λ m. m ≡ walks.mark_of default (attr_kind_form kind.now) outline.old) }
+    ensures past { OnOk result (outline.new ≡ walks.mark_past default (attr_kind_form kind.now) outline.old) }
 {
     match kind {
         AttrKind::In => Ok(Mark::In),
@@ -324,8 +327,8 @@ fn switch_type(
     spec: &Spec,
     outline: &mut Outline,
 ) -> Result<Mark, NoMemory>
-    ensures mark { IfOk result (λ m. m ≡ outlines.mark_of default (OfSwitchType (spec_form spec.now)) outline.old) }
-    ensures past { OnOk result (outline.new ≡ outlines.mark_past default (OfSwitchType (spec_form spec.now)) outline.old) }
+    ensures mark { IfOk result (λ m. m ≡ walks.mark_of default (OfSwitchType (spec_form spec.now)) outline.old) }
+    ensures past { OnOk result (outline.new ≡ walks.mark_past default (OfSwitchType (spec_form spec.now)) outline.old) }
 {
     let inner = setting_alone(default, Tag::Missing);
     let ty = spec_walked(alloc, inner, spec, outline)?;

@@ -2,16 +2,19 @@
 ghost use Rattle.std.specs.Prelude.{◌≡◌, ◌∷◌, ◌++◌, length, IfOk, OnOk};
 ghost use Rattle.idl_outline.specs.declared.ty.Core.TheVariants as cores;
 ghost use Rattle.idl_outline.specs.declared.event.Event.TheVariants as events;
-ghost use Rattle.idl_forms.specs.Forms.{spec_form, members_form};
+ghost use Rattle.idl_forms.specs.Forms.{spec_form, members_form, attrs_form};
 ghost use Rattle.idl_outline.specs.Names as names;
-ghost use Rattle.idl_outline.specs.Outline as outlines;
+ghost use Rattle.idl_outline.specs.Types as types;
+ghost use Rattle.idl_outline.specs.Holding as held;
+ghost use Rattle.idl_outline.specs.Parts as parts;
 
 use crate::holding;
+use idl_names::{Place, copy_name, label_number, number_of};
 use idl_outline::{
-    Attributes, Bare, Core, DataType, Event, Field, Fields, Label, Labels, Outline, Place, Setting,
-    bare, copy_name, ends_open, field_with, named_type, sizes_used, tagged_type,
+    Attributes, Bare, Core, DataType, Event, Field, Fields, Label, Labels, Outline, Setting, bare,
+    ends_open, field_with, named_type, sizes_used, tagged_type,
 };
-use idl_tree::{Dtor, Ident, Label as LabelNode, LabelKind, Member, Num, Pk, Spec, SpecKind};
+use idl_tree::{Attr, Dtor, Ident, Label as LabelNode, LabelKind, Member, Pk, Spec, SpecKind};
 use rpc_base::NoMemory;
 use std::alloc::Global;
 
@@ -21,7 +24,7 @@ pub(crate) fn named(
     name: &Ident,
     outline: &mut Outline,
 ) -> Result<DataType, NoMemory>
-    ensures ty { IfOk result (λ t. t ≡ names.or_unknown (names.type_named name.now.text outline.old)) }
+    ensures ty { IfOk result (λ t. t ≡ types.or_unknown (names.type_named name.now.text outline.old)) }
     ensures past { OnOk result (outline.new ≡ events.TypeUsed name.now ∷ outline.old) }
 {
     let ty = named_type(outline, name);
@@ -32,8 +35,8 @@ pub(crate) fn named(
 
 /// The word `void` as a type.
 pub(crate) fn void(setting: Setting, at: usize, outline: &mut Outline) -> Result<DataType, NoMemory>
-    ensures ty { IfOk result (λ t. t ≡ names.bare cores.Void) }
-    ensures past { OnOk result (outline.new ≡ outlines.void_past setting at outline.old) }
+    ensures ty { IfOk result (λ t. t ≡ types.bare cores.Void) }
+    ensures past { OnOk result (outline.new ≡ parts.void_past setting at outline.old) }
 {
     if !setting.void_allowed {
         outline.happen(Event::VoidUsed(at))?;
@@ -48,8 +51,8 @@ pub(crate) fn tag_used(
     tag: &Option<Ident>,
     outline: &mut Outline,
 ) -> Result<DataType, NoMemory>
-    ensures ty { IfOk result (λ t. t ≡ outlines.tag_used_type setting tag.now outline.old) }
-    ensures past { OnOk result (outline.new ≡ outlines.tag_used_past setting tag.now outline.old) }
+    ensures ty { IfOk result (λ t. t ≡ parts.tag_used_type setting tag.now outline.old) }
+    ensures past { OnOk result (outline.new ≡ parts.tag_used_past setting tag.now outline.old) }
 {
     match tag {
         None => Ok(bare(Core::Unknown)),
@@ -72,7 +75,7 @@ pub(crate) fn structure_begins(
     members: &[Member],
     outline: &mut Outline,
 ) -> Result<(), NoMemory>
-    ensures { OnOk result (outline.new ≡ outlines.struct_past tag.now (outlines.tag_holds tag.now (members_form members.now)) outline.old) }
+    ensures { OnOk result (outline.new ≡ parts.struct_past tag.now (held.tag_holds tag.now (members_form members.now)) outline.old) }
 {
     match tag {
         None => Ok(()),
@@ -92,7 +95,7 @@ fn tag_ends(
     outline: &mut Outline,
 ) -> Result<(), NoMemory>
     requires { ends_open ≡ names.ends_open fields }
-    ensures { OnOk result (outline.new ≡ outlines.struct_end tag.now fields outline.old) }
+    ensures { OnOk result (outline.new ≡ parts.struct_end tag.now fields outline.old) }
 {
     outline.happen(Event::Body(fields))?;
     match tag {
@@ -114,8 +117,8 @@ pub(crate) fn structure_ends(
     fields: Fields,
     outline: &mut Outline,
 ) -> Result<DataType, NoMemory>
-    ensures ty { IfOk result (λ t. t ≡ names.bare (cores.Struct (names.ends_open fields))) }
-    ensures past { OnOk result (outline.new ≡ outlines.struct_end tag.now fields outline.old) }
+    ensures ty { IfOk result (λ t. t ≡ types.bare (cores.Struct (names.ends_open fields))) }
+    ensures past { OnOk result (outline.new ≡ parts.struct_end tag.now fields outline.old) }
 {
     let open = ends_open(fields.as_slice());
     tag_ends(alloc, tag, open, fields, outline)?;
@@ -128,7 +131,7 @@ pub(crate) fn other_tag(
     tag: &Option<Ident>,
     outline: &mut Outline,
 ) -> Result<(), NoMemory>
-    ensures { OnOk result (outline.new ≡ outlines.other_tag_past tag.now outline.old) }
+    ensures { OnOk result (outline.new ≡ parts.other_tag_past tag.now outline.old) }
 {
     match tag {
         None => Ok(()),
@@ -140,15 +143,11 @@ pub(crate) fn other_tag(
 }
 
 fn enum_names(alloc: Global, list: &[Ident], outline: &mut Outline) -> Result<(), NoMemory>
-    ensures { OnOk result (outline.new ≡ outlines.names_past 0 list.now outline.old) }
+    ensures { OnOk result (outline.new ≡ parts.names_past 0 list.now outline.old) }
 {
     let mut number = 0u64;
     for name in list {
-        let value = Num {
-            at: name.at,
-            minus: false,
-            value: number,
-        };
+        let value = number_of(name, number);
         let name = copy_name(alloc, name)?;
         outline.happen(Event::EnumName { name, value })?;
         number += 1;
@@ -163,8 +162,8 @@ pub(crate) fn enumeration(
     list: &[Ident],
     outline: &mut Outline,
 ) -> Result<DataType, NoMemory>
-    ensures ty { IfOk result (λ t. t ≡ names.bare (cores.Enum (length list.now))) }
-    ensures past { OnOk result (outline.new ≡ outlines.names_past 0 list.now (outlines.other_tag_past tag.now outline.old)) }
+    ensures ty { IfOk result (λ t. t ≡ types.bare (cores.Enum (length list.now))) }
+    ensures past { OnOk result (outline.new ≡ parts.names_past 0 list.now (parts.other_tag_past tag.now outline.old)) }
 {
     other_tag(alloc, tag, outline)?;
     enum_names(alloc, list, outline)?;
@@ -172,16 +171,16 @@ pub(crate) fn enumeration(
 }
 
 fn label(outline: &Outline, at: usize, kind: &LabelKind) -> Label
-    ensures { result ≡ outlines.label_of outline.now at kind.now }
+    ensures { result ≡ parts.label_of outline.now at kind.now }
 {
     match kind {
         LabelKind::Number(number) => Label::Case {
             at: number.at,
-            value: Some(*number),
+            value: label_number(outline.constants(), kind),
         },
         LabelKind::Named(name) => Label::Case {
             at: name.at,
-            value: outline.constant_named(name.text.as_slice()),
+            value: label_number(outline.constants(), kind),
         },
         LabelKind::Default => Label::Default(at),
     }
@@ -194,7 +193,7 @@ pub(crate) fn labels_read(
     labels: &mut Labels,
     outline: &Outline,
 ) -> Result<(), NoMemory>
-    ensures { OnOk result (labels.new ≡ labels.old ++ outlines.labels_of outline.now list.now) }
+    ensures { OnOk result (labels.new ≡ labels.old ++ parts.labels_of outline.now list.now) }
 {
     for one in list {
         labels.push(label(outline, one.at, &one.what))?;
@@ -203,7 +202,7 @@ pub(crate) fn labels_read(
 }
 
 fn label_used(alloc: Global, kind: &LabelKind, outline: &mut Outline) -> Result<(), NoMemory>
-    ensures { OnOk result (outline.new ≡ outlines.label_past kind.now outline.old) }
+    ensures { OnOk result (outline.new ≡ parts.label_past kind.now outline.old) }
 {
     match kind {
         LabelKind::Number(_) => Ok(()),
@@ -221,7 +220,7 @@ pub(crate) fn labels_used(
     list: &[LabelNode],
     outline: &mut Outline,
 ) -> Result<(), NoMemory>
-    ensures { OnOk result (outline.new ≡ outlines.labels_past list.now outline.old) }
+    ensures { OnOk result (outline.new ≡ parts.labels_past list.now outline.old) }
 {
     for one in list {
         label_used(alloc, &one.what, outline)?;
@@ -230,7 +229,7 @@ pub(crate) fn labels_used(
 }
 
 fn bare_tag(tag: &Option<Ident>) -> Bare
-    ensures { result ≡ outlines.bare_tag tag.now }
+    ensures { result ≡ parts.bare_tag tag.now }
 {
     match tag {
         None => Bare::Tagless,
@@ -241,7 +240,7 @@ fn bare_tag(tag: &Option<Ident>) -> Bare
 /// Whether a spec is itself a union without a switch.
 #[tactic(auto, using(idl_forms::proofs::Layers::kinds))]
 pub(crate) fn bare_spec(spec: &Spec) -> Bare
-    ensures { result ≡ outlines.bare_spec (spec_form spec.now) }
+    ensures { result ≡ parts.bare_spec (spec_form spec.now) }
 {
     match &spec.what {
         SpecKind::Base(_) => Bare::No,
@@ -267,16 +266,19 @@ pub(crate) fn declared_field(
     alloc: Global,
     default: Pk,
     place: Place,
+    attrs: &[Attr],
     attributes: Attributes,
     ty: DataType,
     bare: Bare,
     dtors: &[Dtor],
     outline: &mut Outline,
 ) -> Result<Field, NoMemory>
-    ensures field { IfOk result (λ f. f ≡ outlines.field_of default place attributes ty bare dtors.now outline.old) }
-    ensures past { OnOk result (outline.new ≡ outlines.sizes_past dtors.now outline.old) }
+    ensures field { IfOk result (λ f. f ≡ parts.field_of default place (attrs_form attrs.now) attributes ty bare dtors.now outline.old) }
+    ensures past { OnOk result (outline.new ≡ parts.sizes_past dtors.now outline.old) }
 {
-    let field = field_with(alloc, outline, default, place, attributes, ty, bare, dtors)?;
+    let field = field_with(
+        alloc, outline, default, place, attrs, attributes, ty, bare, dtors,
+    )?;
     sizes_used(alloc, dtors, outline)?;
     Ok(field)
 }

@@ -5,18 +5,18 @@ use Rattle.std.specs.List.{list_any, list_all}
 use Rattle.idl_tree.specs.declared.leaf.Ident.{Ident}
 use Rattle.idl_tree.specs.declared.leaf.Pk.{Pk}
 use Rattle.idl_tree.specs.declared.leaf.Dtor.{Dtor}
-use Rattle.idl_outline.specs.declared.field.Place.TheVariants as places
-use Rattle.idl_outline.specs.Outline.{all_pointed, pointer_default}
+use Rattle.idl_names.specs.declared.place.Place.TheVariants as places
+use Rattle.idl_names.specs.Declarators.{all_pointed}
+use Rattle.idl_names.specs.Attributes.{pointer_default, says, says_handle, is_serialised}
 use Rattle.idl_forms.specs.Forms as idl
 use Rattle.ndr_value.specs.Forms.{Form}
 use Rattle.table_form.specs.declared.operation.HandleUse.{HandleUse}
 use Rattle.table_form.specs.Ordered.{is_below}
 use Rattle.table_form.specs.Tables.{OpForm, IsTable, param_below, result_below, op_below}
-use Rattle.table_scope.specs.declared.symbols.Sort.{Sort}
-use Rattle.table_scope.specs.declared.symbols.Sort.TheVariants as sorts
+use Rattle.table_scope.specs.declared.known.Sort.{Sort}
+use Rattle.table_scope.specs.declared.known.Sort.TheVariants as sorts
 use Rattle.table_scope.specs.declared.said.Terms.{Terms}
 use Rattle.table_scope.specs.Scopes.{Sense, Scope, handle_sense}
-use Rattle.table_scope.specs.Marks.{says, says_handle, is_serialised}
 use Rattle.table_scope.specs.Declarators.{terms, declared}
 use Rattle.table_specs.specs.Specs.{within, attrs_within, spec_at, attrs_at}
 use Rattle.table_laws.specs.Interfaces.{Listed, Draft, is_binding, param_names, param_sense, listed_at, param_at, params_at, sort_result, alone_at, op_of, op_at, typed, typedef_one, typedef_all, typedef_sense, typedef_at, decl_at, decls_at, nothing_declared, declared_in}
@@ -74,8 +74,8 @@ param_sound far k names n p ok room =
     let h = behind_sound far k (not (n.dtor.stars == 0)) as' n.spec p ok (listed_room (is_binding n.spec) (length p.types) (attrs_within as' + within n.spec) far room e) in
     let few = h.0.sound.few in
     let t : Terms = terms k places.Parameter true names as' in
-    let f = declared_fits (length q.1.types) far t q.1.constants q.0.shape n.dtor (reach_not (n.dtor.stars == 0) (length q.1.types) far q.0.shape h.1) (reach_far (not (n.dtor.stars == 0)) (length q.1.types) far few q.0.shape h.1) in
-    (h.0, and_of (is_below far far (declared t q.1.constants q.0.shape n.dtor)) true (fits_more (length q.1.types) far far few (declared t q.1.constants q.0.shape n.dtor) f) refl))
+    let f = declared_fits (length q.1.types) far t q.1.symbols.constants q.0.shape n.dtor (reach_not (n.dtor.stars == 0) (length q.1.types) far q.0.shape h.1) (reach_far (not (n.dtor.stars == 0)) (length q.1.types) far few q.0.shape h.1) in
+    (h.0, and_of (is_below far far (declared t q.1.symbols.constants q.0.shape n.dtor)) true (fits_more (length q.1.types) far far few (declared t q.1.symbols.constants q.0.shape n.dtor) f) refl))
 
 params_sound : (far : ℕ) (k : Pk) (names : List Ident) (ns : List idl.ParamForm) (p : Scope) → Sound far p → length p.types + params_within ns ≤ far → ListedSound far (params_within ns) p (params_at k names ns p)
 params_sound far k names [] p ok room = (record { count = omega arith; sound = ok }, refl)
@@ -162,12 +162,12 @@ typedef_sound : (far : ℕ) (handle serialised : Bool) (t : Terms) (m : Sense) (
     → Goes far 0 p (typedef_all handle serialised t m ds p)
 typedef_sound far handle serialised t m [] p ok here e = record { count = omega arith; sound = ok }
 typedef_sound far true serialised t m (d ∷ ds) p ok here e =
-    let rest = typedef_sound far true serialised t m ds (typedef_one true serialised t m d p) (record { types = ok.types; few = ok.few; named = put_all (SenseFits (length p.types) far) d.name.text (handle_sense p.kinds serialised) p.named refl ok.named; tags = ok.tags })
+    let rest = typedef_sound far true serialised t m ds (typedef_one true serialised t m d p) (record { types = ok.types; few = ok.few; named = put_all (SenseFits (length p.types) far) d.name.text (handle_sense p.kinds serialised) p.symbols.types refl ok.named; tags = ok.tags })
     (λ h. here (or_right (d.stars == 0) (list_any (λ x. x.stars == 0) ds) h)) e in
     record { count = rest.count; sound = rest.sound }
 typedef_sound far false serialised t m (d ∷ ds) p ok here e =
-    let f = declared_fits (length p.types) far t p.constants m.shape d (λ h. here (or_left (d.stars == 0) (list_any (λ x. x.stars == 0) ds) h)) e in
-    let rest = typedef_sound far false serialised t m ds (typedef_one false serialised t m d p) (record { types = ok.types; few = ok.few; named = put_all (SenseFits (length p.types) far) d.name.text (typed t p.constants m d) p.named f ok.named; tags = ok.tags })
+    let f = declared_fits (length p.types) far t p.symbols.constants m.shape d (λ h. here (or_left (d.stars == 0) (list_any (λ x. x.stars == 0) ds) h)) e in
+    let rest = typedef_sound far false serialised t m ds (typedef_one false serialised t m d p) (record { types = ok.types; few = ok.few; named = put_all (SenseFits (length p.types) far) d.name.text (typed t p.symbols.constants m d) p.symbols.types f ok.named; tags = ok.tags })
     (λ h. here (or_right (d.stars == 0) (list_any (λ x. x.stars == 0) ds) h)) e in
     record { count = rest.count; sound = rest.sound }
 

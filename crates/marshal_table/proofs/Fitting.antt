@@ -6,15 +6,16 @@ use Rattle.std.proofs.lemmas.Grind.{common_steps}
 use Rattle.idl_tree.specs.declared.leaf.Pk.{Pk}
 use Rattle.idl_tree.specs.declared.leaf.Pk.TheVariants as pks
 use Rattle.idl_tree.specs.declared.leaf.Dtor.{Dtor}
-use Rattle.idl_outline.specs.declared.field.Extent.{Extent}
-use Rattle.idl_outline.specs.declared.field.Extent.TheVariants as extents
+use Rattle.idl_names.specs.declared.place.Extent.{Extent}
+use Rattle.idl_names.specs.declared.place.Extent.TheVariants as extents
 use Rattle.ndr_value.specs.declared.shape.Count.{Count}
 use Rattle.ndr_value.specs.Forms.{Form, OfBool, OfByte, OfChar, OfInt, OfUint, OfEnum, OfNamed, OfStruct, OfUnion, OfArray, OfText, OfRef, OfUnique, OfFull, OfHandle, Forms, no_form, then_form, Body, empty, holds, ArmForms, no_arm, then_arm}
 use Rattle.table_form.specs.Ordered.{is_below, each_below, arms_below, body_below}
 use Rattle.idl_tree.specs.declared.leaf.Num.{Num}
 use Rattle.table_scope.specs.declared.said.Terms.{Terms}
-use Rattle.table_scope.specs.Scopes.{ByName}
-use Rattle.table_scope.specs.Declarators.{pointer, chain, extent, array, text, outermost, tied, if_tied, by_value, target, shaped, declared}
+use Rattle.idl_names.specs.Symbols.{ByName}
+use Rattle.idl_names.specs.Declarators.{extent_of}
+use Rattle.table_scope.specs.Declarators.{pointer, chain, array, text, outermost, tied, if_tied, by_value, target, shaped, declared}
 use Rattle.table_specs.specs.Specs.{Face, row, arm_row, held}
 
 pub both_of : (a b : Bool) → (a && b) ≡ true → (a ≡ true) × (b ≡ true)
@@ -129,7 +130,7 @@ shaped_any near far t x false m s here e =
 pub declared_fits : (near far : ℕ) (t : Terms) (cs : ByName Num) (s : Form) (d : Dtor) → ((d.stars == 0) ≡ true → is_below near far s ≡ true) → is_below far far s ≡ true
     → is_below near far (declared t cs s d) ≡ true
 declared_fits near far t cs s d here e =
-    if_tied_fits near far t.switch (shaped t (extent cs d.array) d.stars s) (shaped_any near far t (extent cs d.array) (d.stars == 0) (d.stars - 1) s here e)
+    if_tied_fits near far t.switch (shaped t (extent_of cs d.array) d.stars s) (shaped_any near far t (extent_of cs d.array) (d.stars == 0) (d.stars - 1) s here e)
 
 -- ---- rows
 

@@ -1,22 +1,23 @@
 -- What is known at a place fits a table: a type holds types of lesser numbers alone, and names what will be one of the list.
 use Rattle.std.proofs.Common.{◌≡◌, ℕ, ◌+◌, ◌<◌, ◌≤◌, List, [], ◌∷◌, ◌++◌, length, refl, ap, subst, arith, Bool, true, false, Option, None, Some, length-append}
-use Rattle.std.specs.Prelude.{◌==◌, ◌&&◌, not, if◌then◌else◌, bytes_eq}
+use Rattle.std.specs.Prelude.{◌==◌, ◌||◌, ◌&&◌, not, if◌then◌else◌, bytes_eq}
 use Rattle.std.specs.List.{list_any}
 use Rattle.std.specs.Option.{option_or}
 use Rattle.idl_tree.specs.declared.leaf.Ident.{Ident}
 use Rattle.idl_tree.specs.declared.leaf.Pk.{Pk}
 use Rattle.idl_tree.specs.declared.leaf.Base.{Base}
 use Rattle.idl_tree.specs.declared.leaf.Base.TheVariants as bases
-use Rattle.idl_outline.specs.declared.field.Place.TheVariants as places
-use Rattle.idl_outline.specs.Outline.{all_pointed}
+use Rattle.idl_names.specs.declared.place.Place.TheVariants as places
+use Rattle.idl_names.specs.Declarators.{all_pointed}
 use Rattle.idl_forms.specs.Forms as idl
 use Rattle.ndr_value.specs.Forms.{Form, OfNamed, OfStruct, OfUnion}
 use Rattle.table_form.specs.Ordered.{is_body, is_below, arms_below, body_below, ordered_from}
 use Rattle.table_form.specs.Ordered.{is_size as is_number_size}
-use Rattle.table_scope.specs.declared.symbols.Tag.{Tag}
-use Rattle.table_scope.specs.Scopes.{ByName, put, Sense, Scope, nothing, type_named, found_form, tag_form, with_constant, with_names, begun, with_entry, ended}
+use Rattle.idl_names.specs.declared.symbols.Tag.{Tag}
+use Rattle.idl_names.specs.Symbols as names
+use Rattle.idl_names.specs.Symbols.{ByName, Symbols, put, found}
+use Rattle.table_scope.specs.Scopes.{Sense, Scope, type_named, numbered, tag_form, with_constant, begun, with_entry, ended, or_nothing as or_sense}
 use Rattle.table_scope.specs.Declarators.{terms}
-use Rattle.table_scope.specs.Scopes.{or_nothing as or_sense}
 use Rattle.table_specs.specs.Specs.{Face, base_form, row, arm_row, or_nothing, struct_at, union_at, member_names, arm_names, within, kind_within, switch_within, member_within, members_within, arm_within, arms_within, mark_within, attr_within, attrs_within, spec_at, kind_at, switch_at, mark_at, attr_at, attrs_at, member_at, members_at, arm_at, arms_at}
 use Rattle.marshal_table.proofs.Fitting.{both_of, and_of, less_is, fits_more, body_more, all_declared, AllFit, all_more, all_join, row_fits, held_fits, FacesFit, arm_row_fits}
 
@@ -28,18 +29,18 @@ abbrev pub NamedFit : ℕ → ℕ → ByName Sense → Type 0
 NamedFit near far named = (name : List ℕ) → SenseFits near far (named name)
 
 -- a structure whose body has ended is a type; one whose body hasn't will be
-abbrev pub TagFits : ℕ → ℕ → Option Tag → Type 0
+abbrev pub TagFits : ℕ → ℕ → Option (Tag ℕ) → Type 0
 TagFits near far None = Unit {0}
-TagFits near far (Some t) = (t.whole ≡ true → t.number < near) × (t.number < far)
+TagFits near far (Some t) = (t.whole ≡ true → t.known < near) × (t.known < far)
 
-abbrev pub TagsFit : ℕ → ℕ → ByName Tag → Type 0
+abbrev pub TagsFit : ℕ → ℕ → ByName (Tag ℕ) → Type 0
 TagsFit near far tags = (name : List ℕ) → TagFits near far (tags name)
 
 pub record Sound (far : ℕ) (p : Scope) : Type 0 where
   pub types : ordered_from 0 far p.types ≡ true
   pub few : length p.types ≤ far
-  pub named : NamedFit (length p.types) far p.named
-  pub tags : TagsFit (length p.types) far p.tags
+  pub named : NamedFit (length p.types) far p.symbols.types
+  pub tags : TagsFit (length p.types) far p.symbols.tags
 
 -- from p so many types on
 pub record Goes (far n : ℕ) (p q : Scope) : Type 0 where
@@ -104,7 +105,7 @@ sense_more : (near more far : ℕ) → near ≤ more → (o : Option Sense) → 
 sense_more near more far le None h = tt
 sense_more near more far le (Some m) h = fits_more near more far le m.shape h
 
-tag_more : (near more far : ℕ) → near ≤ more → (o : Option Tag) → TagFits near far o → TagFits more far o
+tag_more : (near more far : ℕ) → near ≤ more → (o : Option (Tag ℕ)) → TagFits near far o → TagFits more far o
 tag_more near more far le None h = tt
 tag_more near more far le (Some t) h = (λ w. let n = h.0 w in omega (arith, n, le), h.1)
 
@@ -136,8 +137,8 @@ with_entry_sound far t p ok room b f =
     record {
       types = ordered_more 0 far p.types t ok.types b (subst (λ (n : ℕ). is_below n far t ≡ true) (omega arith) f);
       few = omega (arith, longer, room);
-      named = λ name. sense_more (length p.types) (length (p.types ++ t ∷ [])) far (omega (arith, longer)) (p.named name) (ok.named name);
-      tags = λ name. tag_more (length p.types) (length (p.types ++ t ∷ [])) far (omega (arith, longer)) (p.tags name) (ok.tags name);
+      named = λ name. sense_more (length p.types) (length (p.types ++ t ∷ [])) far (omega (arith, longer)) (p.symbols.types name) (ok.named name);
+      tags = λ name. tag_more (length p.types) (length (p.types ++ t ∷ [])) far (omega (arith, longer)) (p.symbols.tags name) (ok.tags name);
     }
 
 ended_sound : (far : ℕ) (tag : Option Ident) (t : Form) (p : Scope) → Sound far p → length p.types + 1 ≤ far → is_body t ≡ true → is_below (length p.types) far t ≡ true → Goes far 1 p (ended tag t p)
@@ -147,7 +148,7 @@ ended_sound far (Some i) t p ok room b f =
     let longer = one_longer p.types t in
     record {
       count = longer;
-      sound = record { types = e.types; few = e.few; named = e.named; tags = put_all (TagFits (length (p.types ++ t ∷ [])) far) i.text (record { whole = true; number = length p.types }) p.tags (λ w. omega (arith, longer), omega (arith, room)) e.tags };
+      sound = record { types = e.types; few = e.few; named = e.named; tags = put_all (TagFits (length (p.types ++ t ∷ [])) far) i.text (record { whole = true; known = length p.types }) p.symbols.tags (λ w. omega (arith, longer), omega (arith, room)) e.tags };
     }
 
 begun_types : (tag : Option Ident) (n : ℕ) (p : Scope) → (begun tag n p).types ≡ p.types
@@ -156,13 +157,12 @@ begun_types (Some i) n p = refl
 
 begun_sound : (far : ℕ) (tag : Option Ident) (n : ℕ) (p : Scope) → Sound far p → length p.types + n < far → Sound far (begun tag n p)
 begun_sound far None n p ok room = ok
-begun_sound far (Some i) n p ok room = record { types = ok.types; few = ok.few; named = ok.named; tags = put_all (TagFits (length p.types) far) i.text (record { whole = false; number = length p.types + n }) p.tags (λ w. absurd cc, room) ok.tags }
+begun_sound far (Some i) n p ok room = record { types = ok.types; few = ok.few; named = ok.named; tags = put_all (TagFits (length p.types) far) i.text (record { whole = false; known = length p.types + n }) p.symbols.tags (λ w. absurd cc, room) ok.tags }
 
-names_sound : (far n : ℕ) (is : List Ident) (p : Scope) → Sound far p → Goes far 0 p (with_names n is p)
-names_sound far n [] p ok = record { count = omega arith; sound = ok }
+names_sound : (far n : ℕ) (is : List Ident) (p : Scope) → Sound far p → Sound far (record p { symbols = names.with_names n is p.symbols })
+names_sound far n [] p ok = record { types = ok.types; few = ok.few; named = ok.named; tags = ok.tags }
 names_sound far n (i ∷ is) p ok =
-    let rest = names_sound far (n + 1) is (with_constant i (record { at = i.at; minus = false; value = n }) p) (record { types = ok.types; few = ok.few; named = ok.named; tags = ok.tags }) in
-    record { count = rest.count; sound = rest.sound }
+    names_sound far (n + 1) is (with_constant i (names.number_of i n) p) (record { types = ok.types; few = ok.few; named = ok.named; tags = ok.tags })
 
 stays : (far : ℕ) (p : Scope) → Sound far p → Goes far 0 p p
 stays far p ok = record { count = omega arith; sound = ok }
@@ -177,21 +177,21 @@ named_fits : (near far : ℕ) (name : List ℕ) (named : ByName Sense) → Named
 named_fits near far name named h = sense_fits near far (named name) (h name)
 
 found_any : (near far : ℕ) (pointed whole : Bool) (n : ℕ) → (whole ≡ true → n < near) → n < far
-    → is_below (reach pointed near far) far (if whole then OfNamed n None else (if pointed then OfNamed n None else nothing)) ≡ true
+    → is_below (reach pointed near far) far (numbered (if whole || pointed then Some n else None)) ≡ true
 found_any near far true true n here there = less_is n far there
 found_any near far true false n here there = less_is n far there
 found_any near far false true n here there = less_is n near (here refl)
 found_any near far false false n here there = refl
 
-found_fits : (near far : ℕ) (pointed : Bool) (o : Option Tag) → TagFits near far o → is_below (reach pointed near far) far (found_form pointed o) ≡ true
+found_fits : (near far : ℕ) (pointed : Bool) (o : Option (Tag ℕ)) → TagFits near far o → is_below (reach pointed near far) far (numbered (found pointed o)) ≡ true
 found_fits near far true None h = refl
 found_fits near far false None h = refl
-found_fits near far pointed (Some t) h = found_any near far pointed t.whole t.number h.0 h.1
+found_fits near far pointed (Some t) h = found_any near far pointed t.whole t.known h.0 h.1
 
-tag_fits : (near far : ℕ) (pointed : Bool) (tag : Option Ident) (tags : ByName Tag) → TagsFit near far tags → is_below (reach pointed near far) far (tag_form pointed tag tags) ≡ true
-tag_fits near far true None ts h = refl
-tag_fits near far false None ts h = refl
-tag_fits near far pointed (Some i) tags h = found_fits near far pointed (tags i.text) (h i.text)
+tag_fits : (near far : ℕ) (pointed : Bool) (tag : Option Ident) (s : Symbols Sense ℕ) → TagsFit near far s.tags → is_below (reach pointed near far) far (tag_form pointed tag s) ≡ true
+tag_fits near far true None s h = refl
+tag_fits near far false None s h = refl
+tag_fits near far pointed (Some i) s h = found_fits near far pointed (s.tags i.text) (h i.text)
 
 plain_fits : (b : Bool) (near far : ℕ) (s : Form) → ((n : ℕ) → is_below n far s ≡ true) → is_below (reach b near far) far s ≡ true
 plain_fits b near far s h = h (reach b near far)
@@ -237,11 +237,11 @@ mutual
 
   kind_sound : (far : ℕ) (k : Pk) (pointed : Bool) (given : Option Form) (s : idl.KindForm) (p : Scope) → Sound far p → length p.types + kind_within s ≤ far → GivenFits (length p.types) far given → SpecSound far (kind_within s) pointed p (kind_at k pointed given s p)
   kind_sound far k pointed given (idl.OfBase b) p ok room g = (stays far p ok, base_fits (reach pointed (length p.types) far) far b)
-  kind_sound far k pointed given (idl.OfName i) p ok room g = (stays far p ok, reach_fits pointed (length p.types) far ok.few (type_named i.text p.named).shape (named_fits (length p.types) far i.text p.named ok.named))
+  kind_sound far k pointed given (idl.OfName i) p ok room g = (stays far p ok, reach_fits pointed (length p.types) far ok.few (type_named i.text p.symbols.types).shape (named_fits (length p.types) far i.text p.symbols.types ok.named))
   kind_sound far k pointed given idl.OfVoid p ok room g = (stays far p ok, refl)
   kind_sound far k pointed given idl.OfHandle p ok room g = (stays far p ok, refl)
   kind_sound far k pointed given idl.OfStatus p ok room g = (stays far p ok, refl)
-  kind_sound far k pointed given (idl.OfTag tag) p ok room g = (stays far p ok, tag_fits (length p.types) far pointed tag p.tags ok.tags)
+  kind_sound far k pointed given (idl.OfTag tag) p ok room g = (stays far p ok, tag_fits (length p.types) far pointed tag p.symbols ok.tags)
   kind_sound far k pointed given (idl.OfStruct tag ms) p ok room g =
       let same = ap (λ (ts : List Form). length ts) (begun_types tag (members_within ms) p) in
       let inside = members_sound far k (member_names ms) ms (begun tag (members_within ms) p) (begun_sound far tag (members_within ms) p ok (omega (arith, room))) (omega (arith, same, room)) in
@@ -256,7 +256,7 @@ mutual
       (record { count = omega (arith, before, count); sound = inside.0.sound })
       (fits_more (length (switch_at k given s p).1.types) (length (arms_at k (arm_names arms) arms (switch_at k given s p).1).1.types) far (omega (arith, count)) (switch_at k given s p).0 t.1)
       inside.1 room
-  kind_sound far k pointed given (idl.OfEnum tag names) p ok room g = (names_sound far 0 names p ok, refl)
+  kind_sound far k pointed given (idl.OfEnum tag list) p ok room g = (record { count = omega arith; sound = names_sound far 0 list p ok }, refl)
 
   switch_sound : (far : ℕ) (k : Pk) (given : Option Form) (s : idl.SwitchForm) (p : Scope) → Sound far p → length p.types + switch_within s ≤ far → GivenFits (length p.types) far given
       → Goes far (switch_within s) p (switch_at k given s p).1 × (is_below (length (switch_at k given s p).1.types) far (switch_at k given s p).0 ≡ true)
@@ -305,7 +305,7 @@ mutual
       let few = behind.0.sound.few in
       let q : Sense × Scope = spec_at k (all_pointed ds) (attrs_at k as' p).0 s (attrs_at k as' p).1 in (
         record { count = omega (arith, before, count); sound = behind.0.sound },
-        all_declared (length q.1.types) far (terms k places.Member false names as') q.1.constants q.0.shape ds
+        all_declared (length q.1.types) far (terms k places.Member false names as') q.1.symbols.constants q.0.shape ds
             (reach_not (list_any (λ d. d.stars == 0) ds) (length q.1.types) far q.0.shape behind.1)
             (reach_far (all_pointed ds) (length q.1.types) far few q.0.shape behind.1),
       )

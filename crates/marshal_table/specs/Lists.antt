@@ -1,7 +1,7 @@
 -- Lists that grow while an interface is gone through, as the definitions see them.
 use Rattle.std.specs.Prelude.{map}
 use Rattle.table_form.specs.Tables.{param_form, op_form}
-use Rattle.table_scope.specs.declared.symbols.Symbols.{Symbols}
+use Rattle.table_scope.specs.declared.known.Known.{Known}
 use Rattle.table_scope.specs.Scopes.{scope}
 use Rattle.table_laws.specs.Interfaces.{Listed, Draft}
 use Rattle.marshal_table.specs.declared.listing.Listing.{Listing}
@@ -12,5 +12,5 @@ abbrev pub listing : Listing → Listed
 listing l = (map param_form l.params.items, l.uses)
 
 -- what is declared so far
-abbrev pub draft : Symbols → Operations → Draft
+abbrev pub draft : Known → Operations → Draft
 draft k o = record { scope = scope k; ops = map op_form o.ops.items; uses = o.uses.items }

@@ -1,7 +1,7 @@
 //! Declarations, and the interface's own attributes.
 ghost use Rattle.std.specs.Prelude.{◌≡◌, [], map, false, IfOk, OnOk};
 ghost use Rattle.idl_forms.specs.Forms.{spec_form, attrs_form, decl_kind_form, decl_form, file_kind_form, file_form};
-ghost use Rattle.idl_outline.specs.declared.field.Place.TheVariants as places;
+ghost use Rattle.idl_names.specs.declared.place.Place.TheVariants as places;
 ghost use Rattle.table_scope.specs.Scopes.{sense, scope};
 ghost use Rattle.table_scope.specs.Declarators as declarators;
 ghost use Rattle.name_map.specs.Named.{at_name};
@@ -10,7 +10,7 @@ ghost use Rattle.marshal_table.specs.Lists as lists;
 
 use crate::listing::Operations;
 use crate::operations::{alone, operation};
-use idl_outline::{Place, all_pointed};
+use idl_names::{Place, all_pointed, is_serialised, says_handle};
 use idl_tree::{
     ArraySize, Attr, Decl, DeclKind, Dtor, FileAttr, FileAttrKind, Ident, Num, Pk, Spec,
 };
@@ -18,8 +18,7 @@ use name_map::Names;
 use rpc_base::{NoMemory, SyntaxId};
 use std::alloc::Global;
 use table_scope::{
-    Meaning, Sort, Symbols, Terms, declared, in_16, is_serialised, says_handle, terms,
-    with_constant, with_handle, with_type,
+    Known, Meaning, Sort, Terms, declared, in_16, terms, with_constant, with_handle, with_type,
 };
 use table_specs::{attrs_tag, spec_meaning};
 use uuid::Uuid;
@@ -63,7 +62,7 @@ fn typed(
 fn typedef_one(
     dtor: &Dtor,
     alloc: Global,
-    known: &mut Symbols,
+    known: &mut Known,
     handle: bool,
     serialised: bool,
     terms: &Terms,
@@ -74,14 +73,14 @@ fn typedef_one(
     if handle {
         return with_handle(known, alloc, &dtor.name, serialised);
     }
-    let own = typed(alloc, terms, &known.constants, meaning, dtor)?;
+    let own = typed(alloc, terms, &known.symbols.constants, meaning, dtor)?;
     with_type(known, alloc, &dtor.name, own)
 }
 
 fn typedef_all(
     dtors: &[Dtor],
     alloc: Global,
-    known: &mut Symbols,
+    known: &mut Known,
     handle: bool,
     serialised: bool,
     terms: &Terms,
@@ -101,7 +100,7 @@ fn typedef_meaning(
     of: &Spec,
     dtors: &[Dtor],
     alloc: Global,
-    known: &mut Symbols,
+    known: &mut Known,
     default: Pk,
 ) -> Result<Meaning, NoMemory>
     ensures value { IfOk result (λ m. sense m ≡ (spec.typedef_sense default (attrs_form attrs.now) (spec_form of.now) dtors.now (scope known.old)).0) }
@@ -125,7 +124,7 @@ fn typedef(
     of: &Spec,
     dtors: &[Dtor],
     alloc: Global,
-    known: &mut Symbols,
+    known: &mut Known,
     default: Pk,
 ) -> Result<(), NoMemory>
     ensures { OnOk result (scope known.new ≡ spec.typedef_at default (attrs_form attrs.now) (spec_form of.now) dtors.now (scope known.old)) }
@@ -141,7 +140,7 @@ fn lone(
     attrs: &[Attr],
     of: &Spec,
     alloc: Global,
-    known: &mut Symbols,
+    known: &mut Known,
     default: Pk,
 ) -> Result<(), NoMemory>
     ensures { OnOk result (scope known.new ≡ spec.lone_at default (attrs_form attrs.now) (spec_form of.now) (scope known.old)) }
@@ -154,7 +153,7 @@ fn declaration(
     kind: &DeclKind,
     alloc: Global,
     default: Pk,
-    known: &mut Symbols,
+    known: &mut Known,
     into: &mut Operations,
 ) -> Result<(), NoMemory>
     ensures { OnOk result (lists.draft known.new into.new ≡ spec.decl_at default (decl_kind_form kind.now) (lists.draft known.old into.old)) }
@@ -186,7 +185,7 @@ pub fn declarations(
     list: &[Decl],
     alloc: Global,
     default: Pk,
-    known: &mut Symbols,
+    known: &mut Known,
     into: &mut Operations,
 ) -> Result<(), NoMemory>
     ensures { OnOk result (lists.draft known.new into.new ≡ spec.decls_at default (map decl_form list.now) (lists.draft known.old into.old)) }

@@ -10,12 +10,13 @@ ghost use Rattle.marshal_table.specs.Lists as lists;
 
 use crate::listing::{Listing, Operations};
 use crate::params::{param_names, params};
+use idl_names::says_maybe;
 use idl_tree::{Attr, Ident, ParamNode, Pk, Spec};
 use ndr_value::Shape;
 use rpc_base::NoMemory;
 use std::alloc::Global;
 use table_form::{HandleUses, Op, Params};
-use table_scope::{Meaning, Sort, Symbols, says_maybe};
+use table_scope::{Known, Meaning, Sort};
 use table_specs::{attrs_tag, spec_meaning};
 
 fn result_of(sort: Sort, shape: Shape) -> Option<Shape>
@@ -88,7 +89,7 @@ pub fn alone(
     attrs: &[Attr],
     of: &Spec,
     alloc: Global,
-    known: &mut Symbols,
+    known: &mut Known,
     default: Pk,
 ) -> Result<Meaning, NoMemory>
     ensures value { IfOk result (λ m. sense m ≡ (spec.alone_at default (attrs_form attrs.now) (spec_form of.now) (scope known.old)).0) }
@@ -102,7 +103,7 @@ pub fn alone(
 fn listed(
     nodes: &[ParamNode],
     alloc: Global,
-    known: &mut Symbols,
+    known: &mut Known,
     default: Pk,
 ) -> Result<Listing, NoMemory>
     ensures value { IfOk result (λ l. lists.listing l ≡ (spec.params_at default (spec.param_names (map idl.param_form nodes.now)) (map idl.param_form nodes.now) (scope known.old)).0) }
@@ -119,7 +120,7 @@ fn add_with(
     attrs: &[Attr],
     meaning: Meaning,
     all: Listing,
-    known: &Symbols,
+    known: &Known,
     into: &mut Operations,
 ) -> Result<(), NoMemory>
     ensures { OnOk result (lists.draft known.now into.new ≡ spec.op_with name.now.text (attrs_form attrs.now) (sense meaning) (lists.listing all, scope known.now) (lists.draft known.now into.old)) }
@@ -141,7 +142,7 @@ pub fn operation(
     nodes: &[ParamNode],
     alloc: Global,
     default: Pk,
-    known: &mut Symbols,
+    known: &mut Known,
     into: &mut Operations,
 ) -> Result<(), NoMemory>
     ensures { OnOk result (lists.draft known.new into.new ≡ spec.op_at default (attrs_form attrs.now) (spec_form of.now) name.now (map idl.param_form nodes.now) (lists.draft known.old into.old)) }

@@ -5,23 +5,23 @@ ghost use Rattle.ndr_value.specs.Forms.{form};
 ghost use Rattle.table_form.specs.Tables.{result_form, param_form};
 ghost use Rattle.idl_forms.specs.Forms as idl;
 ghost use Rattle.idl_forms.specs.Forms.{spec_form, kind_form, attrs_form};
-ghost use Rattle.idl_outline.specs.declared.field.Place.TheVariants as places;
+ghost use Rattle.idl_names.specs.declared.place.Place.TheVariants as places;
 ghost use Rattle.table_scope.specs.Scopes.{sense, scope};
 ghost use Rattle.table_scope.specs.Declarators as declarators;
-ghost use Rattle.table_scope.specs.Marks as marks;
+ghost use Rattle.idl_names.specs.Attributes as attributes;
 ghost use Rattle.name_map.specs.Named.{at_name};
 ghost use Rattle.table_laws.specs.Interfaces as spec;
 ghost use Rattle.marshal_table.specs.Lists as lists;
 
 use crate::listing::Listing;
-use idl_outline::{Place, copy_name};
+use idl_names::{Place, copy_name, says_in, says_out};
 use idl_tree::{Attr, Dtor, Ident, Num, ParamNode, Pk, Spec, SpecKind};
 use name_map::Names;
 use ndr_value::Shape;
 use rpc_base::NoMemory;
 use std::alloc::Global;
 use table_form::{HandleUse, HandleUses, Param, Params};
-use table_scope::{Meaning, Sort, Symbols, declared, range, says_in, says_out, terms};
+use table_scope::{Known, Meaning, Sort, declared, range, terms};
 use table_specs::{attrs_tag, spec_meaning};
 
 fn is_binding_kind(kind: &SpecKind) -> bool
@@ -89,7 +89,7 @@ fn add_param(params: &mut Params, param: Param) -> Result<(), NoMemory>
 fn param_meaning(
     node: &ParamNode,
     alloc: Global,
-    known: &mut Symbols,
+    known: &mut Known,
     default: Pk,
 ) -> Result<Meaning, NoMemory>
     ensures value { IfOk result (λ m. sense m ≡ (spec.param_sense default (idl.param_form node.now) (scope known.old)).0) }
@@ -110,7 +110,7 @@ fn one_param(
     constants: &Names<Num>,
     shape: &Shape,
 ) -> Result<Param, NoMemory>
-    ensures { IfOk result (λ p. param_form p ≡ record { shape = declarators.declared (declarators.terms default places.Parameter true names.now (attrs_form attrs.now)) (at_name constants.now) (form shape.now) dtor.now; inward = marks.says marks.says_in (attrs_form attrs.now); outward = marks.says marks.says_out (attrs_form attrs.now); range = marks.given marks.range_in (attrs_form attrs.now) }) }
+    ensures { IfOk result (λ p. param_form p ≡ record { shape = declarators.declared (declarators.terms default places.Parameter true names.now (attrs_form attrs.now)) (at_name constants.now) (form shape.now) dtor.now; inward = attributes.says attributes.says_in (attrs_form attrs.now); outward = attributes.says attributes.says_out (attrs_form attrs.now); range = attributes.given declarators.range_in (attrs_form attrs.now) }) }
 {
     let terms = terms(attrs, default, Place::Parameter, true, names)?;
     let shape = declared(alloc, &terms, constants, shape, dtor)?;
@@ -129,7 +129,7 @@ fn one_param(
 fn add_listed(
     node: &ParamNode,
     alloc: Global,
-    known: &Symbols,
+    known: &Known,
     default: Pk,
     names: &[Ident],
     meaning: &Meaning,
@@ -137,7 +137,7 @@ fn add_listed(
 ) -> Result<(), NoMemory>
     ensures { OnOk result (lists.listing into.new ≡ spec.joined (lists.listing into.old) (spec.listed_at default names.now (attrs_form node.now.attrs.items) node.now.dtor (sense meaning.now, scope known.now)).0) }
 {
-    let constants = &known.constants;
+    let constants = &known.symbols.constants;
     let shape = &meaning.shape;
     let param = one_param(
         alloc,
@@ -157,7 +157,7 @@ fn add_listed(
 fn param(
     node: &ParamNode,
     alloc: Global,
-    known: &mut Symbols,
+    known: &mut Known,
     default: Pk,
     names: &[Ident],
     into: &mut Listing,
@@ -181,7 +181,7 @@ fn param(
 pub fn params(
     nodes: &[ParamNode],
     alloc: Global,
-    known: &mut Symbols,
+    known: &mut Known,
     default: Pk,
     names: &[Ident],
 ) -> Result<Listing, NoMemory>

@@ -5,7 +5,7 @@ ghost use Rattle.table_laws.specs.Interfaces as spec;
 
 use crate::interface::{declarations, syntax_of};
 use crate::listing::Operations;
-use idl_outline::pointer_default;
+use idl_names::pointer_default;
 use idl_tree::Ast;
 use rpc_base::NoMemory;
 use std::alloc::Global;

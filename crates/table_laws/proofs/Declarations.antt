@@ -13,13 +13,18 @@ use Rattle.idl_tree.specs.declared.declaration.Ast.{Ast}
 use Rattle.idl_outline.specs.declared.ty.DataType.{DataType}
 use Rattle.idl_outline.specs.declared.ty.Core.TheVariants as cores
 use Rattle.idl_outline.specs.declared.field.NameRef.{NameRef}
-use Rattle.idl_outline.specs.declared.field.Place.TheVariants as places
+use Rattle.idl_names.specs.declared.place.Place.TheVariants as places
 use Rattle.idl_outline.specs.declared.field.Field.{Field}
 use Rattle.idl_outline.specs.declared.event.Event.TheVariants as events
 use Rattle.idl_outline.specs.declared.setting.Setting.{Setting}
 use Rattle.idl_forms.specs.Forms as idl
-use Rattle.idl_outline.specs.Names.{Past, constant_named, bare, has_handle_word, tag_given, pointer_given, class_at, or_class, extent_of, each_declared}
-use Rattle.idl_outline.specs.Outline.{before_declarators, all_pointed, size_past, mark_of, attributes, mark_past, attrs_past, spec_past, spec_type, member_past, member_field, one_member, types_past, typedef_setting, typedef_behind, typedef_field, typedef_past, lone_setting, lone_behind, params_past, param_fields, result_setting, result_past, result_field, op_past, decl_past, decls_past, pointer_default, outline}
+use Rattle.idl_outline.specs.Names.{Past, constants_of, constant_named, tag_given, each_declared}
+use Rattle.idl_outline.specs.Types.{bare}
+use Rattle.idl_names.specs.Attributes.{outer_class, pointer_default, says, says_handle, is_serialised}
+use Rattle.idl_names.specs.Declarators.{extent_of, all_pointed}
+use Rattle.idl_outline.specs.Parts.{before_declarators, size_past}
+use Rattle.idl_outline.specs.Specs.{mark_of, attributes, mark_past, attrs_past, spec_past, spec_type, member_past, member_field}
+use Rattle.idl_outline.specs.Outline.{one_member, types_past, typedef_setting, typedef_behind, typedef_field, typedef_past, lone_setting, lone_behind, params_past, param_fields, result_setting, result_past, result_field, op_past, decl_past, decls_past, outline}
 use Rattle.idl_rules.specs.declared.asked.Asked.{Asked}
 use Rattle.idl_rules.specs.declared.asked.Asked.TheVariants as asks
 use Rattle.idl_rules.specs.Places.{at_if, gathered, repeats}
@@ -28,8 +33,8 @@ use Rattle.idl_rules.specs.BadAttribute as bad
 use Rattle.idl_rules.specs.SizeName as size
 use Rattle.idl_rules.specs.Broken.{NoneBroken}
 use Rattle.ndr_value.specs.Forms.{Form}
-use Rattle.table_scope.specs.Scopes.{ByName, Sense, Scope, nothing_known}
-use Rattle.table_scope.specs.Marks.{says, says_handle, is_serialised}
+use Rattle.idl_names.specs.Symbols.{ByName}
+use Rattle.table_scope.specs.Scopes.{Sense, Scope, nothing_known}
 use Rattle.table_scope.specs.Declarators.{terms}
 use Rattle.table_specs.specs.Specs.{spec_at, attrs_at}
 use Rattle.table_laws.specs.Interfaces.{Draft, is_binding, listed_name, param_names, param_sense, listed_at, param_at, params_at, alone_at, typedef_sense, decl_at, nothing_declared, first_in, uuid_in}
@@ -37,7 +42,7 @@ use Rattle.table_laws.specs.Stands.{is_among, counts_stand, dtors_stand, spec_st
 use Rattle.table_laws.proofs.Quiet.{types_behind, spec_quiet, params_quiet}
 use Rattle.table_laws.proofs.Listed.{nil_left, nil_right, none_among, typedef_behind_is, lone_quiet, result_quiet, params_behind}
 use Rattle.table_laws.proofs.Handles.{as_core}
-use Rattle.table_laws.proofs.Known.{Agree, still, sizes_agree, constant_agrees, spec_agrees, attrs_agree, types_agree}
+use Rattle.table_laws.proofs.Known.{Agree, sizes_agree, constant_agrees, spec_agrees, attrs_agree, types_agree}
 use Rattle.table_laws.proofs.Said.{there, both, most_said, string_said, Offered, counts_found, is_constant, are_constants, dtors_found}
 use Rattle.table_laws.proofs.Standing.{Kept, kept_tail, kept_before, size_found, or_last, offer_names, left_among, right_among, Fits, fits, AllFit, first_fits, others_fit, spec_stand, attrs_stand_all, member_stand}
 
@@ -62,12 +67,12 @@ types_found word class ty past constants (d ∷ ds) p h c =
 typedef_stand : (k : Pk) (as' : idl.AttrForms) (s : idl.SpecForm) (ds : List Dtor) (p : Past) (q : Scope) → Agree p q → Kept (typedef_past k as' s ds p) → member_stands k [] (idl.a_member as' s ds) q ≡ true
 typedef_stand k as' s ds p q h c =
     let r : Past = attrs_past k as' p in
-    let g : Setting = typedef_setting k (attributes k as' p) ds in
+    let g : Setting = typedef_setting k as' (attributes k as' p) ds in
     let z : Past = typedef_behind k as' s ds p in
     let f : Field = typedef_field k as' s ds p in
     let all : Past = types_past ds f.declared z in
-    let word : Bool = has_handle_word (attributes k as' p) in
-    let class : Pk = or_class (pointer_given (attributes k as' p)) (class_at k places.Typedef) in
+    let word : Bool = says says_handle as' in
+    let class : Pk = outer_class k places.Typedef as' in
     let marks : Option Form × Scope = attrs_at k as' q in
     let behind : Sense × Scope = spec_at k (all_pointed ds) marks.0 s marks.1 in
     let here : Agree r marks.1 = attrs_agree k k as' p q h in
@@ -77,20 +82,19 @@ typedef_stand k as' s ds p q h c =
     let fit : Fits [] false f = fits [] false f (nil_left (bad.field_places f false) (gathered bad.bad_attribute all) c.attributes) (nil_left (size.field_places [] f) (gathered size.size_name all) c.sizes) in
     both (attrs_stand k as' q) _ (attrs_stand_all k k as' p q h of_attrs)
     (both (spec_stands k (all_pointed ds) marks.0 s marks.1) _ (spec_stand g k marks.0 s r marks.1 here of_spec)
-    (both (counts_stand [] as') (dtors_stand behind.1.constants as' ds) (counts_found k [] f [] as' p (λ asked n e. absurd cc) fit.sizes)
-    (dtors_found f as' false z word class (spec_type g s r) behind.1.constants ds (most_said k as' p, string_said k as' p) fit.declared
-    (types_found word class (spec_type g s r) z behind.1.constants ds z (spec_agrees g k (all_pointed ds) marks.0 s r marks.1 here).constants types))))
+    (both (counts_stand [] as') (dtors_stand behind.1.symbols.constants as' ds) (counts_found k [] f [] as' p (λ asked n e. absurd cc) fit.sizes)
+    (dtors_found f as' false z word class (spec_type g s r) behind.1.symbols.constants ds (most_said k as' p, string_said k as' p) fit.declared
+    (types_found word class (spec_type g s r) z behind.1.symbols.constants ds z (spec_agrees g k (all_pointed ds) marks.0 s r marks.1 here).constants types))))
 
 typedef_agrees : (k : Pk) (as' : idl.AttrForms) (s : idl.SpecForm) (ds : List Dtor) (d : Draft) (p : Past) → Agree p d.scope → Agree (typedef_past k as' s ds p) (decl_at k (idl.OfTypedef as' s ds) d).scope
 typedef_agrees k as' s ds d p h =
     let r : Past = attrs_past k as' p in
-    let g : Setting = typedef_setting k (attributes k as' p) ds in
+    let g : Setting = typedef_setting k as' (attributes k as' p) ds in
     let z : Past = typedef_behind k as' s ds p in
     let marks : Option Form × Scope = attrs_at k as' d.scope in
     let m : Sense × Scope = typedef_sense k as' s ds d.scope in
-    still (events.Single _) _ _ (λ name. refl) (λ name. refl) (λ name. refl)
-    (types_agree (says says_handle as') (is_serialised as') _ (terms k places.Typedef false [] as') m.0 _ _ z ds z m.1
-    (spec_agrees g k (all_pointed ds) marks.0 s r marks.1 (attrs_agree k k as' p d.scope h)))
+    types_agree (says says_handle as') (is_serialised as') (says says_handle as') (terms k places.Typedef false [] as') m.0 (outer_class k places.Typedef as') (spec_type g s r) z ds z m.1
+    (spec_agrees g k (all_pointed ds) marks.0 s r marks.1 (attrs_agree k k as' p d.scope h))
 
 -- ---- a spec without a declarator, or that of an operation's result
 
@@ -157,7 +161,7 @@ param_any k names n list more p q false e h f =
     let marks : Option Form × Scope = attrs_at k n.attrs q in
     let g : Setting = before_declarators k (n.dtor ∷ []) false (tag_given (attributes k n.attrs p)) in
     let r : Past = attrs_past k n.attrs p in
-    sizes_agree (n.dtor ∷ []) (spec_past g n.spec r) _ (spec_agrees g k (not (n.dtor.stars == 0)) marks.0 n.spec r marks.1 (attrs_agree k k n.attrs p q h))
+    sizes_agree (n.dtor ∷ []) (spec_past g n.spec r) (param_sense k n q).1 (spec_agrees g k (not (n.dtor.stars == 0)) marks.0 n.spec r marks.1 (attrs_agree k k n.attrs p q h))
 
 pub param_agrees : (k : Pk) (names : List Ident) (n : idl.ParamForm) (list : List Field) (more : Bool) (p : Past) (q : Scope) → Agree p q → Fits list more (member_field k places.Parameter (one_member n) p)
     → Agree (member_past k (one_member n) p) (param_at k names n q).1
@@ -197,7 +201,7 @@ never true false false x y e f = refl
 
 no_offer : (k : Pk) (as' : idl.AttrForms) (at : ℕ) (d : Dtor) (p : Past) (asked : Asked) (f : Field) (n : NameRef) → size.offers asked f n (member_field k places.Parameter (idl.a_member as' (idl.a_spec at idl.OfHandle) (d ∷ [])) p) ≡ false
 no_offer k as' at d p asked f n =
-    let core = as_core (or_class (pointer_given (attributes k as' p)) (class_at k places.Parameter)) d.stars (extent_of (attrs_past k as' p) d.array) (bare cores.HandleT) in
+    let core = as_core (outer_class k places.Parameter as') d.stars (extent_of (constants_of (attrs_past k as' p)) d.array) (bare cores.HandleT) in
     never (bytes_eq d.name.text n.name.text) _ _ _ _ (ap is_unknown core) (ap (is_asked asked) core ∙ not_asked asked)
 
 opposite : false ≡ true → ⊥
@@ -246,10 +250,10 @@ op_stand k as' s name void ns d p h c =
     let z : Scope = (alone_at k as' s d.scope).1 in
     let inside : Kept all = kept_tail (events.Call result ps) all c in
     let before : Kept r = kept_tail (events.Operation name) r (kept_before q all (params_quiet k ns q).behind inside) in
-    let here : Agree q z = still (events.Operation name) r z (λ x. refl) (λ x. refl) (λ x. refl) (spec_agrees g k false marks.0 s (attrs_past k as' p) marks.1 (attrs_agree k k as' p d.scope h)) in
+    let here : Agree q z = (spec_agrees g k false marks.0 s (attrs_past k as' p) marks.1 (attrs_agree k k as' p d.scope h)) in
     let fit : AllFit ps ps = call_fits result ps all c in (
       both (alone_stands k as' s d.scope) (params_stand k (param_names ns) ns z) (alone_stand g k as' s p d.scope refl h before) (params_stand_all k (param_names ns) ps ns q z here inside (λ f asked n e. params_offer k ns q asked f n e) fit),
-      still (events.Call result ps) all _ (λ x. refl) (λ x. refl) (λ x. refl) (params_agree k (param_names ns) ps ns q z here fit),
+      (params_agree k (param_names ns) ps ns q z here fit),
     )
 
 -- ---- declarations
@@ -261,7 +265,7 @@ decl_stand k (idl.OfLone as' s) d p h c =
     let g : Setting = lone_setting k (attributes k as' p) in
     let marks : Option Form × Scope = attrs_at k as' d.scope in (
       alone_stand g k as' s p d.scope refl h (kept_tail (events.Single _) (lone_behind k as' s p) c),
-      still (events.Single _) _ _ (λ x. refl) (λ x. refl) (λ x. refl) (spec_agrees g k false marks.0 s (attrs_past k as' p) marks.1 (attrs_agree k k as' p d.scope h)),
+      (spec_agrees g k false marks.0 s (attrs_past k as' p) marks.1 (attrs_agree k k as' p d.scope h)),
     )
 decl_stand k (idl.OfOp as' s name void ps) d p h c = op_stand k as' s name void ps d p h c
 

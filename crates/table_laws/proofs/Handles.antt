@@ -1,8 +1,7 @@
 -- Each handle of an operation of an interface that keeps the rules is in its table.
 use Rattle.std.proofs.Common.{◌≡◌, ℕ, ◌+◌, ◌<◌, ◌≤◌, List, [], ◌∷◌, ◌++◌, take, length, Bool, true, false, cond, Option, None, Some, refl, ap, subst, sym, ◌∙◌, arith, append_assoc, append-nil, length-append}
-use Rattle.std.specs.Prelude.{◌==◌, ◌||◌, not, nat_lt, bytes_eq, slice_get, if◌then◌else◌}
+use Rattle.std.specs.Prelude.{◌==◌, not, nat_lt, bytes_eq, slice_get, if◌then◌else◌}
 use Rattle.std.specs.List.{count_by, filter}
-use Rattle.std.specs.Option.{option_or}
 use Rattle.std.proofs.lemmas.List.Sums.{length-filter, sum_by-cons, sum_by-append}
 use Rattle.idl_tree.specs.declared.leaf.Ident.{Ident}
 use Rattle.idl_tree.specs.declared.leaf.Pk.{Pk}
@@ -10,16 +9,20 @@ use Rattle.idl_tree.specs.declared.leaf.ArraySize.{ArraySize}
 use Rattle.idl_tree.specs.declared.leaf.Dtor.{Dtor}
 use Rattle.idl_tree.specs.declared.declaration.Ast.{Ast}
 use Rattle.idl_outline.specs.declared.ty.DataType.{DataType}
-use Rattle.idl_outline.specs.declared.field.Extent.{Extent}
-use Rattle.idl_outline.specs.declared.field.Extent.TheVariants as extents
-use Rattle.idl_outline.specs.declared.field.Place.TheVariants as places
+use Rattle.idl_names.specs.declared.place.Extent.{Extent}
+use Rattle.idl_names.specs.declared.place.Extent.TheVariants as extents
+use Rattle.idl_names.specs.declared.place.Place.TheVariants as places
 use Rattle.idl_outline.specs.declared.field.Declared.{Declared}
 use Rattle.idl_outline.specs.declared.event.Event.TheVariants as events
 use Rattle.idl_outline.specs.declared.setting.Setting.{Setting}
 use Rattle.idl_forms.specs.Forms as idl
-use Rattle.idl_outline.specs.Names.{Past, is_operation, declared_as, extent_of, is_handle_word, has_handle_word, each_declared, pointer_given, class_at, or_class, tag_given}
-use Rattle.idl_outline.specs.Names.{type_named as outline_type, or_unknown, declared as outline_declared}
-use Rattle.idl_outline.specs.Outline.{before_declarators, all_pointed, size_past, mark_of, attributes, attr_past, attrs_past, spec_past, spec_type, member_past, member_field, one_member, param_fields, typedef_setting, typedef_behind, typedef_past, types_past, lone_past, result_past, op_past, decl_past, decls_past, pointer_default, outline}
+use Rattle.idl_outline.specs.Names.{Past, constants_of, is_operation, each_declared, tag_given, type_named as outline_type, declared as outline_declared}
+use Rattle.idl_outline.specs.Types.{declared_as, or_unknown}
+use Rattle.idl_names.specs.Declarators.{extent_of, all_pointed}
+use Rattle.idl_names.specs.Attributes.{outer_class, pointer_default, says, says_in, says_out, says_handle, is_serialised}
+use Rattle.idl_outline.specs.Parts.{before_declarators, size_past}
+use Rattle.idl_outline.specs.Specs.{attributes, attrs_past, spec_past, spec_type, member_past, member_field}
+use Rattle.idl_outline.specs.Outline.{one_member, param_fields, typedef_setting, typedef_behind, typedef_past, types_past, lone_past, result_past, op_past, decl_past, decls_past, outline}
 use Rattle.idl_rules.specs.Places.{gathered}
 use Rattle.idl_rules.specs.Types.{is_context_handle}
 use Rattle.idl_rules.specs.TooManyHandles.{is_handle as is_handle_declared, declared_of, handles, place_if, too_many_handles}
@@ -27,11 +30,11 @@ use Rattle.idl_rules.specs.Broken.{NoneBroken}
 use Rattle.ndr_value.specs.Forms.{Form}
 use Rattle.table_form.specs.declared.operation.HandleUse.{HandleUse}
 use Rattle.table_form.specs.Tables.{TableForm}
-use Rattle.table_scope.specs.declared.symbols.Sort.{Sort}
-use Rattle.table_scope.specs.declared.symbols.Sort.TheVariants as sorts
+use Rattle.idl_names.specs.Symbols.{Symbols, number_of, with_constant, with_names}
+use Rattle.table_scope.specs.declared.known.Sort.{Sort}
+use Rattle.table_scope.specs.declared.known.Sort.TheVariants as sorts
 use Rattle.table_scope.specs.declared.said.Terms.{Terms}
-use Rattle.table_scope.specs.Scopes.{Sense, Scope, type_named, or_nothing, with_names, begun, ended}
-use Rattle.table_scope.specs.Marks.{says, says_in, says_out, says_handle, is_serialised}
+use Rattle.table_scope.specs.Scopes.{Sense, Scope, type_named, or_nothing, begun, ended}
 use Rattle.table_scope.specs.Declarators.{terms}
 use Rattle.table_specs.specs.Specs.{members_within, member_names, arm_names, spec_at, kind_at, switch_at, mark_at, attr_at, attrs_at, member_at, members_at, arm_at, arms_at}
 use Rattle.table_laws.specs.Interfaces.{Listed, Draft, is_binding, param_names, handle_use, param_sense, listed_at, param_at, params_at, alone_at, op_at, bare_sort, typed, typedef_one, typedef_all, typedef_sense, typedef_at, decl_at, decls_at, nothing_declared, tabled}
@@ -41,23 +44,23 @@ use Rattle.table_laws.proofs.Listed.{less_is, nil_right, nil_left, none_among, C
 
 -- ---- specs, attributes, members and arms declare no name of a type
 
-names_named : (n : ℕ) (is : List Ident) (q : Scope) → (with_names n is q).named ≡ q.named
-names_named n [] q = refl
-names_named n (i ∷ is) q = names_named (n + 1) is _
+names_named : (n : ℕ) (is : List Ident) (s : Symbols Sense ℕ) → (with_names n is s).types ≡ s.types
+names_named n [] s = refl
+names_named n (i ∷ is) s = names_named (n + 1) is (with_constant i (number_of i n) s)
 
-begun_named : (tag : Option Ident) (n : ℕ) (q : Scope) → (begun tag n q).named ≡ q.named
+begun_named : (tag : Option Ident) (n : ℕ) (q : Scope) → (begun tag n q).symbols.types ≡ q.symbols.types
 begun_named None n q = refl
 begun_named (Some i) n q = refl
 
-ended_named : (tag : Option Ident) (t : Form) (q : Scope) → (ended tag t q).named ≡ q.named
+ended_named : (tag : Option Ident) (t : Form) (q : Scope) → (ended tag t q).symbols.types ≡ q.symbols.types
 ended_named None t q = refl
 ended_named (Some i) t q = refl
 
 mutual
-  pub spec_named : (k : Pk) (pointed : Bool) (given : Option Form) (s : idl.SpecForm) (q : Scope) → (spec_at k pointed given s q).1.named ≡ q.named
+  pub spec_named : (k : Pk) (pointed : Bool) (given : Option Form) (s : idl.SpecForm) (q : Scope) → (spec_at k pointed given s q).1.symbols.types ≡ q.symbols.types
   spec_named k pointed given (idl.a_spec at what) q = kind_named k pointed given what q
 
-  kind_named : (k : Pk) (pointed : Bool) (given : Option Form) (s : idl.KindForm) (q : Scope) → (kind_at k pointed given s q).1.named ≡ q.named
+  kind_named : (k : Pk) (pointed : Bool) (given : Option Form) (s : idl.KindForm) (q : Scope) → (kind_at k pointed given s q).1.symbols.types ≡ q.symbols.types
   kind_named k pointed given (idl.OfBase b) q = refl
   kind_named k pointed given (idl.OfName i) q = refl
   kind_named k pointed given idl.OfVoid q = refl
@@ -68,13 +71,13 @@ mutual
       ended_named tag _ (members_at k (member_names ms) ms (begun tag (members_within ms) q)).1
       ∙ (members_named k (member_names ms) ms (begun tag (members_within ms) q) ∙ begun_named tag (members_within ms) q)
   kind_named k pointed given (idl.OfUnion tag s arms) q = arms_named k (arm_names arms) arms (switch_at k given s q).1 ∙ switch_named k given s q
-  kind_named k pointed given (idl.OfEnum tag names) q = names_named 0 names q
+  kind_named k pointed given (idl.OfEnum tag names) q = names_named 0 names q.symbols
 
-  switch_named : (k : Pk) (given : Option Form) (s : idl.SwitchForm) (q : Scope) → (switch_at k given s q).1.named ≡ q.named
+  switch_named : (k : Pk) (given : Option Form) (s : idl.SwitchForm) (q : Scope) → (switch_at k given s q).1.symbols.types ≡ q.symbols.types
   switch_named k given idl.no_switch q = refl
   switch_named k given (idl.a_switch s i body) q = spec_named k false None s q
 
-  mark_named : (k : Pk) (m : idl.AttrKindForm) (q : Scope) → (mark_at k m q).1.named ≡ q.named
+  mark_named : (k : Pk) (m : idl.AttrKindForm) (q : Scope) → (mark_at k m q).1.symbols.types ≡ q.symbols.types
   mark_named k idl.OfIn q = refl
   mark_named k idl.OfOut q = refl
   mark_named k (idl.OfPointer c) q = refl
@@ -91,25 +94,25 @@ mutual
   mark_named k (idl.OfRange low high) q = refl
   mark_named k (idl.OfSwitchType s) q = spec_named k false None s q
 
-  attr_named : (k : Pk) (a : idl.AttrForm) (q : Scope) → (attr_at k a q).1.named ≡ q.named
+  attr_named : (k : Pk) (a : idl.AttrForm) (q : Scope) → (attr_at k a q).1.symbols.types ≡ q.symbols.types
   attr_named k (idl.an_attr at m) q = mark_named k m q
 
-  pub attrs_named : (k : Pk) (as' : idl.AttrForms) (q : Scope) → (attrs_at k as' q).1.named ≡ q.named
+  pub attrs_named : (k : Pk) (as' : idl.AttrForms) (q : Scope) → (attrs_at k as' q).1.symbols.types ≡ q.symbols.types
   attrs_named k idl.no_attr q = refl
   attrs_named k (idl.then_attr a rest) q = attrs_named k rest (attr_at k a q).1 ∙ attr_named k a q
 
-  member_named : (k : Pk) (names : List Ident) (m : idl.MemberForm) (q : Scope) → (member_at k names m q).1.named ≡ q.named
+  member_named : (k : Pk) (names : List Ident) (m : idl.MemberForm) (q : Scope) → (member_at k names m q).1.symbols.types ≡ q.symbols.types
   member_named k names (idl.a_member as' s ds) q = spec_named k (all_pointed ds) (attrs_at k as' q).0 s (attrs_at k as' q).1 ∙ attrs_named k as' q
 
-  members_named : (k : Pk) (names : List Ident) (ms : idl.MemberForms) (q : Scope) → (members_at k names ms q).1.named ≡ q.named
+  members_named : (k : Pk) (names : List Ident) (ms : idl.MemberForms) (q : Scope) → (members_at k names ms q).1.symbols.types ≡ q.symbols.types
   members_named k names idl.no_member q = refl
   members_named k names (idl.then_member m ms) q = members_named k names ms (member_at k names m q).1 ∙ member_named k names m q
 
-  arm_named : (k : Pk) (names : List Ident) (a : idl.ArmForm) (q : Scope) → (arm_at k names a q).1.named ≡ q.named
+  arm_named : (k : Pk) (names : List Ident) (a : idl.ArmForm) (q : Scope) → (arm_at k names a q).1.symbols.types ≡ q.symbols.types
   arm_named k names (idl.member_arm ls m) q = member_named k names m q
   arm_named k names (idl.empty_arm ls) q = refl
 
-  arms_named : (k : Pk) (names : List Ident) (as' : idl.ArmForms) (q : Scope) → (arms_at k names as' q).1.named ≡ q.named
+  arms_named : (k : Pk) (names : List Ident) (as' : idl.ArmForms) (q : Scope) → (arms_at k names as' q).1.symbols.types ≡ q.symbols.types
   arms_named k names idl.no_arm q = refl
   arms_named k names (idl.then_arm a rest) q = arms_named k names rest (arm_at k names a q).1 ∙ arm_named k names a q
 
@@ -123,9 +126,9 @@ is_handle_sort sorts.HandleT = false
 is_handle_sort (sorts.Handle kind serialised) = true
 
 abbrev Agree : Past → Scope → Type 0
-Agree p q = (name : List ℕ) → is_handle_sort (type_named name q.named).sort ≡ true → is_context_handle (or_unknown (outline_type name p)).core ≡ true
+Agree p q = (name : List ℕ) → is_handle_sort (type_named name q.symbols.types).sort ≡ true → is_context_handle (or_unknown (outline_type name p)).core ≡ true
 
-agree_on : (p r : Past) (q z : Scope) → Agree p q → ((name : List ℕ) → outline_type name r ≡ outline_type name p) → z.named ≡ q.named → Agree r z
+agree_on : (p r : Past) (q z : Scope) → Agree p q → ((name : List ℕ) → outline_type name r ≡ outline_type name p) → z.symbols.types ≡ q.symbols.types → Agree r z
 agree_on p r q z h types named name e =
     ap (λ (o : Option DataType). is_context_handle (or_unknown o).core) (types name)
     ∙ h name (ap (λ (ns : List ℕ → Option Sense). is_handle_sort (type_named name ns).sort) (sym named) ∙ e)
@@ -162,7 +165,7 @@ handle_le i o (sorts.Handle kind serialised) b h = let one : cond b 1 0 ≡ 1 = 
 
 pub record Uses (m : ℕ) (q : Scope) (x : Listed × Scope) : Type 0 where
   few : length x.0.1 ≤ m
-  named : x.1.named ≡ q.named
+  named : x.1.symbols.types ≡ q.symbols.types
 
 uses_any : (b : Bool) (m : ℕ) (q : Scope) (x : Listed × Scope) → Uses m q x → Uses m q (if b then (([], []), q) else x)
 uses_any true m q x h = record { few = omega arith; named = refl }
@@ -193,11 +196,11 @@ param_uses k names n p q h =
     let t : DataType = spec_type g s behind in
     let pointed : Bool = not (n.dtor.stars == 0) in
     let inside : Agree behind marks.1 = agree_on p behind q marks.1 h (attrs_quiet k as' p).types (attrs_named k as' q) in
-    let core = as_core (or_class (pointer_given (attributes k as' p)) (class_at k places.Parameter)) n.dtor.stars (extent_of (spec_past g s behind) n.dtor.array) t in
-    let ty : DataType = declared_as (or_class (pointer_given (attributes k as' p)) (class_at k places.Parameter)) n.dtor.stars (extent_of (spec_past g s behind) n.dtor.array) t in
+    let core = as_core (outer_class k places.Parameter as') n.dtor.stars (extent_of (constants_of (spec_past g s behind)) n.dtor.array) t in
+    let ty : DataType = declared_as (outer_class k places.Parameter as') n.dtor.stars (extent_of (constants_of (spec_past g s behind)) n.dtor.array) t in
     let le = handle_le (says says_in as') (says says_out as') (spec_at k pointed marks.0 s marks.1).0.sort (is_context_handle ty.core) (λ e. ap is_context_handle core ∙ spec_agrees g k pointed marks.0 s behind marks.1 inside e) in
     uses_any (is_binding s) _ q (listed_at k names as' n.dtor (param_sense k n q)) (record {
-      few = count_one (outline_declared (spec_past g s behind) false (or_class (pointer_given (attributes k as' p)) (class_at k places.Parameter)) t n.dtor) (length (handle_use (says says_in as') (says says_out as') (spec_at k pointed marks.0 s marks.1).0.sort)) le;
+      few = count_one (outline_declared (spec_past g s behind) false (outer_class k places.Parameter as') t n.dtor) (length (handle_use (says says_in as') (says says_out as') (spec_at k pointed marks.0 s marks.1).0.sort)) le;
       named = spec_named k pointed marks.0 s marks.1 ∙ attrs_named k as' q;
     })
 
@@ -262,7 +265,7 @@ op_adds k as' s name ns d p h counted few c c6 =
     let q : Past = events.Operation name ∷ result_past k as' s p in
     let marks : Option Form × Scope = attrs_at k as' d.scope in
     let z : Scope = (alone_at k as' s d.scope).1 in
-    let named : z.named ≡ d.scope.named = spec_named k false marks.0 s marks.1 ∙ attrs_named k as' d.scope in
+    let named : z.symbols.types ≡ d.scope.symbols.types = spec_named k false marks.0 s marks.1 ∙ attrs_named k as' d.scope in
     let ps = params_uses k (param_names ns) ns q z (agree_on p q d.scope z h (result_quiet k as' s p).types named) in
     let us : List HandleUse = (params_at k (param_names ns) ns z).0.1 in
     let counts = length-filter is_handle_declared (declared_of (param_fields k ns q)) in
@@ -276,44 +279,23 @@ op_adds k as' s name ns d p h counted few c c6 =
 
 -- ---- typedefs
 
-word_is : (k : Pk) (m : idl.AttrKindForm) (p : Past) → is_handle_word (mark_of k m p) ≡ says_handle m
-word_is k idl.OfIn p = refl
-word_is k idl.OfOut p = refl
-word_is k (idl.OfPointer c) p = refl
-word_is k idl.OfText p = refl
-word_is k idl.OfIdempotent p = refl
-word_is k idl.OfMaybe p = refl
-word_is k idl.OfContext p = refl
-word_is k idl.OfSerialize p = refl
-word_is k idl.OfNoserialize p = refl
-word_is k (idl.OfSizeIs r) p = refl
-word_is k (idl.OfMaxIs r) p = refl
-word_is k (idl.OfLengthIs r) p = refl
-word_is k (idl.OfSwitchIs star i) p = refl
-word_is k (idl.OfRange low high) p = refl
-word_is k (idl.OfSwitchType s) p = refl
-
-pub words_are : (k : Pk) (as' : idl.AttrForms) (p : Past) → has_handle_word (attributes k as' p) ≡ says says_handle as'
-words_are k idl.no_attr p = refl
-words_are k (idl.then_attr (idl.an_attr at m) rest) p = λ j. word_is k m p j || words_are k rest (attr_past k (idl.an_attr at m) p) j
-
 sort_handle : (b : Bool) (o : Option ArraySize) (s : Sort) → is_handle_sort (if b then bare_sort o s else sorts.Value) ≡ true → is_handle_sort s ≡ true
 sort_handle true None s e = e
 sort_handle true (Some size) s e = absurd cc
 sort_handle false o s e = absurd cc
 
 step_any : (b : Bool) (m : Sense) (o : Option Sense) (ty : DataType) (u : Option DataType) → (is_handle_sort m.sort ≡ true → is_context_handle ty.core ≡ true) → (is_handle_sort (or_nothing o).sort ≡ true → is_context_handle (or_unknown u).core ≡ true)
-    → is_handle_sort (or_nothing (if b then Some m else o)).sort ≡ true → is_context_handle (or_unknown (option_or (if b then Some ty else None) u)).core ≡ true
+    → is_handle_sort (or_nothing (if b then Some m else o)).sort ≡ true → is_context_handle (or_unknown (if b then Some ty else u)).core ≡ true
 step_any true m o ty u f g e = f e
 step_any false m o ty u f g e = g e
 
 one_agrees : (handle serialised : Bool) (t : Terms) (m : Sense) (class : Pk) (ty : DataType) (past : Past) (d : Dtor) (p : Past) (q : Scope) → Agree p q → (is_handle_sort m.sort ≡ true → is_context_handle ty.core ≡ true)
     → Agree (events.Typedef d.name (outline_declared past handle class ty d).ty ∷ size_past d.array p) (typedef_one handle serialised t m d q)
 one_agrees true serialised t m class ty past d p q h f name e =
-    step_any (bytes_eq d.name.text name) _ (q.named name) _ (outline_type name (size_past d.array p)) (λ is. refl) (agree_on p (size_past d.array p) q q h (size_quiet d.array p).types refl name) e
+    step_any (bytes_eq d.name.text name) _ (q.symbols.types name) _ (outline_type name (size_past d.array p)) (λ is. refl) (agree_on p (size_past d.array p) q q h (size_quiet d.array p).types refl name) e
 one_agrees false serialised t m class ty past d p q h f name e =
-    step_any (bytes_eq d.name.text name) (typed t q.constants m d) (q.named name) (declared_as class d.stars (extent_of past d.array) ty) (outline_type name (size_past d.array p))
-    (λ is. ap is_context_handle (as_core class d.stars (extent_of past d.array) ty) ∙ f (sort_handle (d.stars == 0) d.array m.sort is))
+    step_any (bytes_eq d.name.text name) (typed t q.symbols.constants m d) (q.symbols.types name) (declared_as class d.stars (extent_of (constants_of past) d.array) ty) (outline_type name (size_past d.array p))
+    (λ is. ap is_context_handle (as_core class d.stars (extent_of (constants_of past) d.array) ty) ∙ f (sort_handle (d.stars == 0) d.array m.sort is))
     (agree_on p (size_past d.array p) q q h (size_quiet d.array p).types refl name) e
 
 types_agree : (handle serialised : Bool) (t : Terms) (m : Sense) (class : Pk) (ty : DataType) (past : Past) (ds : List Dtor) (p : Past) (q : Scope) → Agree p q → (is_handle_sort m.sort ≡ true → is_context_handle ty.core ≡ true)
@@ -327,17 +309,15 @@ typedef_agrees : (k : Pk) (as' : idl.AttrForms) (s : idl.SpecForm) (ds : List Dt
 typedef_agrees k as' s ds p q h =
     let marks : Option Form × Scope = attrs_at k as' q in
     let r : Past = attrs_past k as' p in
-    let g : Setting = typedef_setting k (attributes k as' p) ds in
+    let g : Setting = typedef_setting k as' (attributes k as' p) ds in
     let z : Past = typedef_behind k as' s ds p in
     let m : Sense × Scope = typedef_sense k as' s ds q in
     let ty : DataType = spec_type g s r in
-    let class : Pk = or_class (pointer_given (attributes k as' p)) (class_at k places.Typedef) in
+    let class : Pk = outer_class k places.Typedef as' in
     let before : Agree r marks.1 = agree_on p r q marks.1 h (attrs_quiet k as' p).types (attrs_named k as' q) in
     let behind : Agree z m.1 = agree_on r z marks.1 m.1 before (spec_quiet g s r).types (spec_named k (all_pointed ds) marks.0 s marks.1) in
     let of_spec = spec_agrees g k (all_pointed ds) marks.0 s r marks.1 before in
-    subst (λ (b : Bool). Agree (types_past ds (each_declared z b class ty ds) z) (typedef_all (says says_handle as') (is_serialised as') (terms k places.Typedef false [] as') m.0 ds m.1))
-    (sym (words_are k as' p))
-    (types_agree (says says_handle as') (is_serialised as') (terms k places.Typedef false [] as') m.0 class ty z ds z m.1 behind of_spec)
+    types_agree (says says_handle as') (is_serialised as') (terms k places.Typedef false [] as') m.0 class ty z ds z m.1 behind of_spec
 
 -- ---- declarations
 

@@ -1,8 +1,7 @@
 -- At each place of a text rules and tables know the same names: of types, of constants with their numbers, and of structures with
 -- whether their bodies have ended.
-use Rattle.std.proofs.Common.{◌≡◌, ℕ, ◌+◌, List, [], ◌∷◌, Bool, true, false, Option, None, Some, refl, ap, sym, ◌∙◌}
+use Rattle.std.proofs.Common.{◌≡◌, ℕ, ◌+◌, List, [], ◌∷◌, Bool, true, false, Option, None, Some, refl, ap}
 use Rattle.std.specs.Prelude.{if◌then◌else◌, is_some, bytes_eq}
-use Rattle.std.specs.Option.{option_or}
 use Rattle.idl_tree.specs.declared.leaf.Ident.{Ident}
 use Rattle.idl_tree.specs.declared.leaf.Num.{Num}
 use Rattle.idl_tree.specs.declared.leaf.Pk.{Pk}
@@ -15,47 +14,55 @@ use Rattle.idl_tree.specs.declared.spec.LabelKind.{LabelKind}
 use Rattle.idl_tree.specs.declared.spec.LabelKind.TheVariants as label_kinds
 use Rattle.idl_outline.specs.declared.ty.DataType.{DataType}
 use Rattle.idl_outline.specs.declared.field.Field.{Field}
-use Rattle.idl_outline.specs.declared.event.Event.{Event}
 use Rattle.idl_outline.specs.declared.event.Event.TheVariants as events
 use Rattle.idl_outline.specs.declared.setting.Setting.{Setting}
 use Rattle.idl_forms.specs.Forms as idl
-use Rattle.idl_outline.specs.Names.{Past, type_in, constant_in, struct_in, type_named, constant_named, struct_named, tag_given, each_declared, ends_open}
-use Rattle.idl_outline.specs.Outline.{before_declarators, size_past, array_past, sizes_past, label_past, labels_past, tag_used_past, other_tag_past, names_past, struct_past, struct_end, tag_holds, attributes, spec_past, kind_past, switch_past, mark_past, attr_past, attrs_past, member_past, members_past, member_fields, arm_past, arms_past, types_past}
+use Rattle.idl_outline.specs.Names.{Past, symbols_of, tag_given, each_declared}
+use Rattle.idl_outline.specs.Parts.{before_declarators, size_past, array_past, sizes_past, label_past, labels_past, tag_used_past, other_tag_past, names_past, struct_past, struct_end}
+use Rattle.idl_outline.specs.Holding.{tag_holds}
+use Rattle.idl_outline.specs.Specs.{attributes, spec_past, kind_past, switch_past, mark_past, attr_past, attrs_past, member_past, members_past, member_fields, arm_past, arms_past}
+use Rattle.idl_outline.specs.Outline.{types_past}
 use Rattle.ndr_value.specs.Forms.{Form}
-use Rattle.table_scope.specs.declared.symbols.Tag.{Tag}
+use Rattle.idl_names.specs.declared.symbols.Tag.{Tag}
 use Rattle.table_scope.specs.declared.said.Terms.{Terms}
-use Rattle.table_scope.specs.Scopes.{Sense, Scope, with_constant, with_names, begun, ended}
+use Rattle.idl_names.specs.Declarators.{all_pointed}
+use Rattle.idl_names.specs.Symbols.{Symbols, number_of, with_type, with_constant, with_tag, with_names}
+use Rattle.table_scope.specs.Scopes as scopes
+use Rattle.table_scope.specs.Scopes.{Sense, Scope, begun, ended}
 use Rattle.table_specs.specs.Specs.{members_within, member_names, arm_names, spec_at, kind_at, switch_at, mark_at, attr_at, attrs_at, member_at, members_at, arm_at, arms_at}
 use Rattle.table_laws.specs.Interfaces.{typedef_one, typedef_all}
-use Rattle.table_laws.specs.Alike.{whole_of, ended_of}
+use Rattle.table_laws.specs.Alike.{whole_of}
 
-pub record Agree (p : Past) (q : Scope) : Type 0 where
-  pub types : (name : List ℕ) → is_some (q.named name) ≡ is_some (type_named name p)
-  pub constants : (name : List ℕ) → q.constants name ≡ constant_named name p
-  pub tags : (name : List ℕ) → whole_of (q.tags name) ≡ ended_of (struct_named name p)
+pub record Alike (s : Symbols DataType Bool) (t : Symbols Sense ℕ) : Type 0 where
+  pub types : (name : List ℕ) → is_some (t.types name) ≡ is_some (s.types name)
+  pub constants : (name : List ℕ) → t.constants name ≡ s.constants name
+  pub tags : (name : List ℕ) → whole_of (t.tags name) ≡ whole_of (s.tags name)
 
--- an event that declares no type, constant or structure
-pub still : (e : Event) (p : Past) (q : Scope) → ((name : List ℕ) → type_in name e ≡ None) → ((name : List ℕ) → constant_in name e ≡ None) → ((name : List ℕ) → struct_in name e ≡ None) → Agree p q → Agree (e ∷ p) q
-still e p q t c s h =
-    record {
-      types = λ name. h.types name ∙ ap (λ (o : Option DataType). is_some (option_or o (type_named name p))) (sym (t name));
-      constants = λ name. h.constants name ∙ ap (λ (o : Option Num). option_or o (constant_named name p)) (sym (c name));
-      tags = λ name. h.tags name ∙ ap (λ (o : Option (Option Bool)). ended_of (option_or o (struct_named name p))) (sym (s name));
-    }
+abbrev pub Agree : Past → Scope → Type 0
+Agree p q = Alike (symbols_of p) q.symbols
 
--- ---- what a name is put to
+-- ---- one name more
 
-put_type : {X Y : Type 0} (b : Bool) (x : X) (y : Y) (o : Option X) (u : Option Y) → is_some o ≡ is_some u → is_some (if b then Some x else o) ≡ is_some (option_or (if b then Some y else None) u)
+put_type : {X Y : Type 0} (b : Bool) (x : X) (y : Y) (o : Option X) (u : Option Y) → is_some o ≡ is_some u → is_some (if b then Some x else o) ≡ is_some (if b then Some y else u)
 put_type true x y o u e = refl
 put_type false x y o u e = e
 
-put_constant : (b : Bool) (n : Num) (o u : Option Num) → o ≡ u → (if b then Some n else o) ≡ option_or (if b then Some n else None) u
+put_constant : (b : Bool) (n : Num) (o u : Option Num) → o ≡ u → (if b then Some n else o) ≡ (if b then Some n else u)
 put_constant true n o u e = refl
 put_constant false n o u e = e
 
-put_tag : (b : Bool) (t : Tag) (s : Option Bool) (o : Option Tag) (u : Option (Option Bool)) → Some t.whole ≡ ended_of (Some s) → whole_of o ≡ ended_of u → whole_of (if b then Some t else o) ≡ ended_of (option_or (if b then Some s else None) u)
-put_tag true t s o u e f = e
+put_tag : (b : Bool) (t : Tag ℕ) (s : Tag Bool) (o : Option (Tag ℕ)) (u : Option (Tag Bool)) → t.whole ≡ s.whole → whole_of o ≡ whole_of u → whole_of (if b then Some t else o) ≡ whole_of (if b then Some s else u)
+put_tag true t s o u e f = ap Some e
 put_tag false t s o u e f = f
+
+alike_type : (i : Ident) (x : DataType) (y : Sense) (s : Symbols DataType Bool) (t : Symbols Sense ℕ) → Alike s t → Alike (with_type i x s) (with_type i y t)
+alike_type i x y s t h = record { types = λ name. put_type (bytes_eq i.text name) y x (t.types name) (s.types name) (h.types name); constants = h.constants; tags = h.tags }
+
+alike_constant : (i : Ident) (n : Num) (s : Symbols DataType Bool) (t : Symbols Sense ℕ) → Alike s t → Alike (with_constant i n s) (with_constant i n t)
+alike_constant i n s t h = record { types = h.types; constants = λ name. put_constant (bytes_eq i.text name) n (t.constants name) (s.constants name) (h.constants name); tags = h.tags }
+
+alike_tag : (i : Ident) (x : Tag Bool) (y : Tag ℕ) (s : Symbols DataType Bool) (t : Symbols Sense ℕ) → y.whole ≡ x.whole → Alike s t → Alike (with_tag i x s) (with_tag i y t)
+alike_tag i x y s t e h = record { types = h.types; constants = h.constants; tags = λ name. put_tag (bytes_eq i.text name) y x (t.tags name) (s.tags name) e (h.tags name) }
 
 -- ---- small parts
 
@@ -63,7 +70,7 @@ array_agrees : (s : ArraySize) (p : Past) (q : Scope) → Agree p q → Agree (a
 array_agrees sizes.Empty p q h = h
 array_agrees sizes.Star p q h = h
 array_agrees (sizes.Number n) p q h = h
-array_agrees (sizes.Named i) p q h = still (events.ConstantUsed i) p q (λ name. refl) (λ name. refl) (λ name. refl) h
+array_agrees (sizes.Named i) p q h = h
 
 pub size_agrees : (o : Option ArraySize) (p : Past) (q : Scope) → Agree p q → Agree (size_past o p) q
 size_agrees None p q h = h
@@ -75,7 +82,7 @@ sizes_agree (d ∷ ds) p q h = sizes_agree ds (size_past d.array p) q (size_agre
 
 pub label_agrees : (l : LabelKind) (p : Past) (q : Scope) → Agree p q → Agree (label_past l p) q
 label_agrees (label_kinds.Number n) p q h = h
-label_agrees (label_kinds.Named i) p q h = still (events.ConstantUsed i) p q (λ name. refl) (λ name. refl) (λ name. refl) h
+label_agrees (label_kinds.Named i) p q h = h
 label_agrees label_kinds.Default p q h = h
 
 pub labels_agree : (ls : List LabelNode) (p : Past) (q : Scope) → Agree p q → Agree (labels_past ls p) q
@@ -84,51 +91,32 @@ labels_agree (l ∷ ls) p q h = labels_agree ls (label_past l.what p) q (label_a
 
 void_agrees : (b : Bool) (at : ℕ) (p : Past) (q : Scope) → Agree p q → Agree (if b then p else events.VoidUsed at ∷ p) q
 void_agrees true at p q h = h
-void_agrees false at p q h = still (events.VoidUsed at) p q (λ name. refl) (λ name. refl) (λ name. refl) h
+void_agrees false at p q h = h
 
 used_agrees : (g : Setting) (tag : Option Ident) (p : Past) (q : Scope) → Agree p q → Agree (tag_used_past g tag p) q
 used_agrees g None p q h = h
-used_agrees g (Some i) p q h = still (events.TagUsed i g.pointed) p q (λ name. refl) (λ name. refl) (λ name. refl) h
+used_agrees g (Some i) p q h = h
 
 pub other_agrees : (tag : Option Ident) (p : Past) (q : Scope) → Agree p q → Agree (other_tag_past tag p) q
 other_agrees None p q h = h
-other_agrees (Some i) p q h = still (events.OtherTag i) p q (λ name. refl) (λ name. refl) (λ name. refl) h
+other_agrees (Some i) p q h = h
 
-names_agree : (n : ℕ) (is : List Ident) (p : Past) (q : Scope) → Agree p q → Agree (names_past n is p) (with_names n is q)
-names_agree n [] p q h = h
-names_agree n (i ∷ is) p q h =
-    let v : Num = record { at = i.at; minus = false; value = n } in
-    names_agree (n + 1) is (events.EnumName i v ∷ p) (with_constant i v q) (record {
-      types = h.types;
-      constants = λ name. put_constant (bytes_eq i.text name) v (q.constants name) (constant_named name p) (h.constants name);
-      tags = h.tags;
-    })
+names_agree : (n : ℕ) (is : List Ident) (p : Past) (t : Symbols Sense ℕ) → Alike (symbols_of p) t → Alike (symbols_of (names_past n is p)) (with_names n is t)
+names_agree n [] p t h = h
+names_agree n (i ∷ is) p t h =
+    let v : Num = number_of i n in
+    names_agree (n + 1) is (events.EnumName i v ∷ p) (with_constant i v t) (alike_constant i v (symbols_of p) t h)
 
-pub constant_agrees : (base : Base) (i : Ident) (n : Num) (p : Past) (q : Scope) → Agree p q → Agree (events.Constant base i n ∷ p) (with_constant i n q)
-constant_agrees base i n p q h =
-    record {
-      types = h.types;
-      constants = λ name. put_constant (bytes_eq i.text name) n (q.constants name) (constant_named name p) (h.constants name);
-      tags = h.tags;
-    }
+pub constant_agrees : (base : Base) (i : Ident) (n : Num) (p : Past) (q : Scope) → Agree p q → Agree (events.Constant base i n ∷ p) (scopes.with_constant i n q)
+constant_agrees base i n p q h = alike_constant i n (symbols_of p) q.symbols h
 
 pub begun_agrees : (tag : Option Ident) (itself : Bool) (n : ℕ) (p : Past) (q : Scope) → Agree p q → Agree (struct_past tag itself p) (begun tag n q)
 begun_agrees None itself n p q h = h
-begun_agrees (Some i) itself n p q h =
-    record {
-      types = h.types;
-      constants = h.constants;
-      tags = λ name. put_tag (bytes_eq i.text name) _ None (q.tags name) (struct_named name p) refl (h.tags name);
-    }
+begun_agrees (Some i) itself n p q h = alike_tag i _ _ (symbols_of p) q.symbols refl h
 
 ended_agrees : (tag : Option Ident) (fs : List Field) (t : Form) (p : Past) (q : Scope) → Agree p q → Agree (struct_end tag fs p) (ended tag t q)
-ended_agrees None fs t p q h = record { types = h.types; constants = h.constants; tags = h.tags }
-ended_agrees (Some i) fs t p q h =
-    record {
-      types = h.types;
-      constants = h.constants;
-      tags = λ name. put_tag (bytes_eq i.text name) _ (Some (ends_open fs)) (q.tags name) (struct_named name p) refl (h.tags name);
-    }
+ended_agrees None fs t p q h = h
+ended_agrees (Some i) fs t p q h = alike_tag i _ _ (symbols_of p) q.symbols refl h
 
 -- ---- specs, attributes and what they hold
 
@@ -138,7 +126,7 @@ mutual
 
   kind_agrees : (g : Setting) (at : ℕ) (k : Pk) (pointed : Bool) (given : Option Form) (s : idl.KindForm) (p : Past) (q : Scope) → Agree p q → Agree (kind_past g at s p) (kind_at k pointed given s q).1
   kind_agrees g at k pointed given (idl.OfBase b) p q h = h
-  kind_agrees g at k pointed given (idl.OfName i) p q h = still (events.TypeUsed i) p q (λ name. refl) (λ name. refl) (λ name. refl) h
+  kind_agrees g at k pointed given (idl.OfName i) p q h = h
   kind_agrees g at k pointed given idl.OfVoid p q h = void_agrees g.void_allowed at p q h
   kind_agrees g at k pointed given idl.OfHandle p q h = h
   kind_agrees g at k pointed given idl.OfStatus p q h = h
@@ -150,13 +138,12 @@ mutual
       (members_agree g.default k (member_names ms) ms r z (begun_agrees tag (tag_holds tag ms) (members_within ms) p q h))
   kind_agrees g at k pointed given (idl.OfUnion tag s arms) p q h =
       let r : Past = switch_past g s (other_tag_past tag p) in
-      let inside = arms_agree g.default k (arm_names arms) arms r (switch_at k given s q).1 (switch_agrees g k given s (other_tag_past tag p) q (other_agrees tag p q h)) in
-      record { types = inside.types; constants = inside.constants; tags = inside.tags }
-  kind_agrees g at k pointed given (idl.OfEnum tag names) p q h = names_agree 0 names (other_tag_past tag p) q (other_agrees tag p q h)
+      arms_agree g.default k (arm_names arms) arms r (switch_at k given s q).1 (switch_agrees g k given s (other_tag_past tag p) q (other_agrees tag p q h))
+  kind_agrees g at k pointed given (idl.OfEnum tag names) p q h = names_agree 0 names (other_tag_past tag p) q.symbols (other_agrees tag p q h)
 
   pub switch_agrees : (g : Setting) (k : Pk) (given : Option Form) (s : idl.SwitchForm) (p : Past) (q : Scope) → Agree p q → Agree (switch_past g s p) (switch_at k given s q).1
   switch_agrees g k given idl.no_switch p q h = h
-  switch_agrees g k given (idl.a_switch s i body) p q h = still (events.Single _) _ _ (λ name. refl) (λ name. refl) (λ name. refl) (spec_agrees _ k false None s p q h)
+  switch_agrees g k given (idl.a_switch s i body) p q h = spec_agrees _ k false None s p q h
 
   mark_agrees : (default : Pk) (k : Pk) (m : idl.AttrKindForm) (p : Past) (q : Scope) → Agree p q → Agree (mark_past default m p) (mark_at k m q).1
   mark_agrees default k idl.OfIn p q h = h
@@ -186,7 +173,7 @@ mutual
   member_agrees default k names (idl.a_member as' s ds) p q h =
       let g : Setting = before_declarators default ds false (tag_given (attributes default as' p)) in
       let marks : Option Form × Scope = attrs_at k as' q in
-      sizes_agree ds (spec_past g s (attrs_past default as' p)) _ (spec_agrees g k _ marks.0 s (attrs_past default as' p) marks.1 (attrs_agree default k as' p q h))
+      sizes_agree ds (spec_past g s (attrs_past default as' p)) (spec_at k (all_pointed ds) marks.0 s marks.1).1 (spec_agrees g k (all_pointed ds) marks.0 s (attrs_past default as' p) marks.1 (attrs_agree default k as' p q h))
 
   pub members_agree : (default : Pk) (k : Pk) (names : List Ident) (ms : idl.MemberForms) (p : Past) (q : Scope) → Agree p q → Agree (members_past default ms p) (members_at k names ms q).1
   members_agree default k names idl.no_member p q h = h
@@ -203,12 +190,8 @@ mutual
 -- ---- declarators of typedefs
 
 one_agrees : (handle serialised word : Bool) (t : Terms) (m : Sense) (class : Pk) (ty : DataType) (past : Past) (d : Dtor) (u : DataType) (p : Past) (q : Scope) → Agree p q → Agree (events.Typedef d.name u ∷ size_past d.array p) (typedef_one handle serialised t m d q)
-one_agrees true serialised word t m class ty past d u p q h =
-    let behind : Agree (size_past d.array p) q = size_agrees d.array p q h in
-    record { types = λ name. put_type (bytes_eq d.name.text name) _ u (q.named name) (type_named name (size_past d.array p)) (behind.types name); constants = behind.constants; tags = behind.tags }
-one_agrees false serialised word t m class ty past d u p q h =
-    let behind : Agree (size_past d.array p) q = size_agrees d.array p q h in
-    record { types = λ name. put_type (bytes_eq d.name.text name) _ u (q.named name) (type_named name (size_past d.array p)) (behind.types name); constants = behind.constants; tags = behind.tags }
+one_agrees true serialised word t m class ty past d u p q h = alike_type d.name u _ (symbols_of (size_past d.array p)) q.symbols (size_agrees d.array p q h)
+one_agrees false serialised word t m class ty past d u p q h = alike_type d.name u _ (symbols_of (size_past d.array p)) q.symbols (size_agrees d.array p q h)
 
 pub types_agree : (handle serialised word : Bool) (t : Terms) (m : Sense) (class : Pk) (ty : DataType) (past : Past) (ds : List Dtor) (p : Past) (q : Scope) → Agree p q
     → Agree (types_past ds (each_declared past word class ty ds) p) (typedef_all handle serialised t m ds q)

@@ -12,7 +12,9 @@ use Rattle.idl_outline.specs.declared.event.Event.{Event}
 use Rattle.idl_outline.specs.declared.event.Event.TheVariants as events
 use Rattle.idl_forms.specs.Forms as idl
 use Rattle.idl_outline.specs.Names.{Past, is_operation}
-use Rattle.idl_outline.specs.Outline.{attrs_past, pointer_default, typedef_behind, typedef_field, typedef_past, types_past, lone_past, result_past, params_past, op_past, decl_past, decls_past, outline}
+use Rattle.idl_outline.specs.Specs.{attrs_past}
+use Rattle.idl_names.specs.Attributes.{pointer_default}
+use Rattle.idl_outline.specs.Outline.{typedef_behind, typedef_field, typedef_past, types_past, lone_past, result_past, params_past, op_past, decl_past, decls_past, outline}
 use Rattle.idl_rules.specs.Places.{Among, at_if, gathered}
 use Rattle.idl_rules.specs.OutsideProfile.{outside_profile}
 use Rattle.idl_rules.specs.Broken.{NoneBroken}

@@ -17,7 +17,10 @@ use Rattle.idl_outline.specs.declared.event.Event.TheVariants as events
 use Rattle.idl_outline.specs.declared.setting.Setting.{Setting}
 use Rattle.idl_forms.specs.Forms as idl
 use Rattle.idl_outline.specs.Names.{Past, is_operation, type_named, tag_given}
-use Rattle.idl_outline.specs.Outline.{before_declarators, size_past, array_past, sizes_past, label_past, labels_past, tag_used_past, other_tag_past, names_past, struct_past, struct_end, tag_holds, attributes, spec_past, kind_past, switch_past, mark_past, attr_past, attrs_past, member_past, members_past, member_fields, arm_past, arms_past, types_past, one_member, params_past}
+use Rattle.idl_outline.specs.Parts.{before_declarators, size_past, array_past, sizes_past, label_past, labels_past, tag_used_past, other_tag_past, names_past, struct_past, struct_end}
+use Rattle.idl_outline.specs.Holding.{tag_holds}
+use Rattle.idl_outline.specs.Specs.{attributes, spec_past, kind_past, switch_past, mark_past, attr_past, attrs_past, member_past, members_past, member_fields, arm_past, arms_past}
+use Rattle.idl_outline.specs.Outline.{types_past, one_member, params_past}
 
 -- the later past has the earlier one behind further events, none of which declares an operation
 pub record Behind (p q : Past) : Type 0 where

@@ -1,26 +1,29 @@
 -- Behind each declaration rules and tables resolve alike.
-use Rattle.std.proofs.Common.{◌≡◌, ℕ, List, [], ◌∷◌, ◌++◌, Bool, true, false, Option, None, Some, refl, ap, sym, subst, ◌∙◌}
+use Rattle.std.proofs.Common.{◌≡◌, ℕ, List, [], ◌∷◌, ◌++◌, Bool, true, false, Option, Some, refl, ap, sym, subst, ◌∙◌}
 use Rattle.std.proofs.Math.Bool.{or-false}
 use Rattle.std.specs.Prelude.{◌==◌, ◌||◌, ◌&&◌, not, bytes_eq, if◌then◌else◌}
 use Rattle.std.specs.List.{list_all, flat_map}
-use Rattle.std.specs.Option.{option_or}
 use Rattle.idl_tree.specs.declared.leaf.Ident.{Ident}
 use Rattle.idl_tree.specs.declared.leaf.Num.{Num}
 use Rattle.idl_tree.specs.declared.leaf.Pk.{Pk}
 use Rattle.idl_tree.specs.declared.leaf.Dtor.{Dtor}
 use Rattle.idl_outline.specs.declared.ty.DataType.{DataType}
 use Rattle.idl_outline.specs.declared.ty.Core.TheVariants as cores
-use Rattle.idl_outline.specs.declared.field.Extent.{Extent}
-use Rattle.idl_outline.specs.declared.field.Extent.TheVariants as extents
-use Rattle.idl_outline.specs.declared.field.Place.TheVariants as places
+use Rattle.idl_names.specs.declared.place.Extent.{Extent}
+use Rattle.idl_names.specs.declared.place.Extent.TheVariants as extents
+use Rattle.idl_names.specs.declared.place.Place.TheVariants as places
 use Rattle.idl_outline.specs.declared.field.Declared.{Declared}
 use Rattle.idl_outline.specs.declared.field.Field.{Field}
 use Rattle.idl_outline.specs.declared.event.Event.TheVariants as events
 use Rattle.idl_outline.specs.declared.setting.Setting.{Setting}
 use Rattle.idl_forms.specs.Forms as idl
-use Rattle.idl_outline.specs.Names.{Past, bare, type_named, constant_named, pointer_of, pointer_given, class_at, or_class, declared_as, extent_of, each_declared, has_handle_word, tag_given}
-use Rattle.idl_outline.specs.Names.{declared as outline_declared}
-use Rattle.idl_outline.specs.Outline.{all_pointed, before_declarators, size_past, mark_of, attributes, mark_past, attr_past, attrs_past, spec_past, spec_type, types_past, typedef_setting, typedef_behind, typedef_field, typedef_past, lone_past, op_past, decl_past, decls_past, pointer_default, one_member, member_past, member_field, params_past, param_fields, result_setting, result_past, result_field}
+use Rattle.idl_outline.specs.Names.{Past, symbols_of, constants_of, type_named, constant_named, each_declared, tag_given, declared as outline_declared}
+use Rattle.idl_outline.specs.Types.{bare, declared_as}
+use Rattle.idl_names.specs.Attributes.{outer_class, pointer_default, says, says_string, says_handle, is_serialised}
+use Rattle.idl_names.specs.Declarators.{extent_of, all_pointed}
+use Rattle.idl_outline.specs.Parts.{before_declarators, size_past}
+use Rattle.idl_outline.specs.Specs.{mark_of, attributes, mark_past, attrs_past, spec_past, spec_type, member_past, member_field}
+use Rattle.idl_outline.specs.Outline.{types_past, typedef_setting, typedef_behind, typedef_field, typedef_past, lone_past, op_past, decl_past, decls_past, one_member, params_past, param_fields, result_setting, result_past, result_field}
 use Rattle.idl_rules.specs.Places.{at_if, gathered}
 use Rattle.idl_outline.specs.declared.field.Mark.TheVariants as marks
 use Rattle.idl_rules.specs.Types.{is_single, is_parameter}
@@ -29,7 +32,6 @@ use Rattle.idl_rules.specs.SizeName as size
 use Rattle.ndr_value.specs.Forms.{Form}
 use Rattle.table_scope.specs.declared.said.Terms.{Terms}
 use Rattle.table_scope.specs.Scopes.{Sense, Scope, handle_sense}
-use Rattle.table_scope.specs.Marks.{given, says, says_string, says_handle, is_serialised, pointer_in}
 use Rattle.table_scope.specs.Declarators.{terms, declared}
 use Rattle.table_specs.specs.Specs.{spec_at, attrs_at}
 use Rattle.table_laws.specs.Interfaces.{Listed, Draft, is_binding, param_names, param_sense, listed_at, param_at, params_at, alone_at, typed, typedef_one, typedef_all, typedef_sense, decl_at, decls_at, nothing_declared}
@@ -37,35 +39,14 @@ use Rattle.table_form.specs.Tables.{ParamForm}
 use Rattle.table_laws.specs.Alike.{suits, types_suit, ResolveAlike, NamesResolveAlike, all_suit, listed_in, all_listed, decl_suits, decls_suit, OperationsSuit}
 use Rattle.table_laws.proofs.Quiet.{size_quiet, member_quiet, spec_quiet, attrs_quiet}
 use Rattle.table_laws.proofs.Listed.{nil_left, nil_right, lone_quiet, result_quiet, params_behind}
-use Rattle.table_laws.proofs.Handles.{words_are, attrs_named, spec_named}
-use Rattle.table_laws.proofs.Known.{Agree, still, spec_agrees, attrs_agree}
+use Rattle.table_laws.proofs.Handles.{attrs_named, spec_named}
+use Rattle.table_laws.proofs.Known.{Agree, spec_agrees, attrs_agree}
 use Rattle.table_laws.proofs.Said.{both, first_of_both, second_of_both}
 use Rattle.table_laws.proofs.Standing.{Kept, Fits, fits, AllFit, first_fits, others_fit}
 use Rattle.table_laws.proofs.Suits.{is_char_type, TextFits, declared_suits, spec_suits}
 use Rattle.table_laws.proofs.Declarations.{param_agrees, call_fits, decl_stand, decls_kept, kept_tree, nothing_agrees}
 
 -- ---- what attributes say
-
-class_is : (k : Pk) (m : idl.AttrKindForm) (p : Past) → pointer_of (mark_of k m p) ≡ pointer_in m
-class_is k idl.OfIn p = refl
-class_is k idl.OfOut p = refl
-class_is k (idl.OfPointer c) p = refl
-class_is k idl.OfText p = refl
-class_is k idl.OfIdempotent p = refl
-class_is k idl.OfMaybe p = refl
-class_is k idl.OfContext p = refl
-class_is k idl.OfSerialize p = refl
-class_is k idl.OfNoserialize p = refl
-class_is k (idl.OfSizeIs r) p = refl
-class_is k (idl.OfMaxIs r) p = refl
-class_is k (idl.OfLengthIs r) p = refl
-class_is k (idl.OfSwitchIs star i) p = refl
-class_is k (idl.OfRange low high) p = refl
-class_is k (idl.OfSwitchType s) p = refl
-
-class_said : (k : Pk) (as' : idl.AttrForms) (p : Past) → pointer_given (attributes k as' p) ≡ given pointer_in as'
-class_said k idl.no_attr p = refl
-class_said k (idl.then_attr (idl.an_attr at m) rest) p = λ j. option_or (class_is k m p j) (class_said k rest (attr_past k (idl.an_attr at m) p) j)
 
 meant_is : (b x : Bool) (at : ℕ) → at_if (not b || x) at ≡ [] → b ≡ true
 meant_is true x at e = refl
@@ -89,49 +70,49 @@ not_bare n x e zero_is single =
 
 -- ---- a typedef
 
-step_suits : (b : Bool) (t : DataType) (m : Sense) (o : Option DataType) (u : Option Sense) → suits t m.shape ≡ true → types_suit o u ≡ true → types_suit (option_or (if b then Some t else None) o) (if b then Some m else u) ≡ true
+step_suits : (b : Bool) (t : DataType) (m : Sense) (o : Option DataType) (u : Option Sense) → suits t m.shape ≡ true → types_suit o u ≡ true → types_suit (if b then Some t else o) (if b then Some m else u) ≡ true
 step_suits true t m o u e f = e
 step_suits false t m o u e f = f
 
 -- what string needs of each declarator
 abbrev AllText : Terms → DataType → Past → List Dtor → Type 0
 AllText t u past [] = Unit {0}
-AllText t u past (d ∷ ds) = TextFits t u (extent_of past d.array) d.stars × AllText t u past ds
+AllText t u past (d ∷ ds) = TextFits t u (extent_of (constants_of past) d.array) d.stars × AllText t u past ds
 
 all_text : (t : Terms) (u : DataType) (past : Past) (handle : Bool) (class : Pk) (ds : List Dtor) → (t.text ≡ true → (is_char_type u ≡ true) × (list_all bad.has_star_or_array (each_declared past handle class u ds) ≡ true)) → AllText t u past ds
 all_text t u past handle class [] h = tt
 all_text t u past handle class (d ∷ ds) h =
-    let x : Extent = extent_of past d.array in (
+    let x : Extent = extent_of (constants_of past) d.array in (
       λ said. ((h said).0, not_bare d.stars x (first_of_both (not (d.stars == 0) || not (is_single x)) (list_all bad.has_star_or_array (each_declared past handle class u ds)) (h said).1)),
       all_text t u past handle class ds (λ said. ((h said).0, second_of_both (not (d.stars == 0) || not (is_single x)) (list_all bad.has_star_or_array (each_declared past handle class u ds)) (h said).1)),
     )
 
 -- each name of a type stands for a shape that suits it
 abbrev Typed : Past → Scope → Type 0
-Typed p q = (name : List ℕ) → types_suit (type_named name p) (q.named name) ≡ true
+Typed p q = (name : List ℕ) → types_suit (type_named name p) (q.symbols.types name) ≡ true
 
-typed_on : (p r : Past) (q z : Scope) → Typed p q → ((name : List ℕ) → type_named name r ≡ type_named name p) → z.named ≡ q.named → Typed r z
+typed_on : (p r : Past) (q z : Scope) → Typed p q → ((name : List ℕ) → type_named name r ≡ type_named name p) → z.symbols.types ≡ q.symbols.types → Typed r z
 typed_on p r q z h types named name =
-    ap (λ (o : Option DataType). types_suit o (z.named name)) (types name) ∙ (ap (λ (ns : List ℕ → Option Sense). types_suit (type_named name p) (ns name)) named ∙ h name)
+    ap (λ (o : Option DataType). types_suit o (z.symbols.types name)) (types name) ∙ (ap (λ (ns : List ℕ → Option Sense). types_suit (type_named name p) (ns name)) named ∙ h name)
 
 abbrev IsTyped : Bool → DataType → Sense → Terms → Past → List Dtor → Type 0
 IsTyped handle u m t past ds = handle ≡ false → (suits u m.shape ≡ true) × AllText t u past ds
 
-one_typed : (handle serialised : Bool) (t : Terms) (m : Sense) (u : DataType) (past : Past) (d : Dtor) (ds : List Dtor) (p : Past) (q : Scope) → Typed p q → ((name : List ℕ) → q.constants name ≡ constant_named name past) → IsTyped handle u m t past (d ∷ ds)
+one_typed : (handle serialised : Bool) (t : Terms) (m : Sense) (u : DataType) (past : Past) (d : Dtor) (ds : List Dtor) (p : Past) (q : Scope) → Typed p q → ((name : List ℕ) → q.symbols.constants name ≡ constant_named name past) → IsTyped handle u m t past (d ∷ ds)
     → Typed (events.Typedef d.name (outline_declared past handle t.outer u d).ty ∷ size_past d.array p) (typedef_one handle serialised t m d q)
 one_typed true serialised t m u past d ds p q h c f name =
-    step_suits (bytes_eq d.name.text name) (bare cores.ContextHandle) (handle_sense q.kinds serialised) (type_named name (size_past d.array p)) (q.named name) refl
-    (ap (λ (o : Option DataType). types_suit o (q.named name)) ((size_quiet d.array p).types name) ∙ h name)
+    step_suits (bytes_eq d.name.text name) (bare cores.ContextHandle) (handle_sense q.kinds serialised) (type_named name (size_past d.array p)) (q.symbols.types name) refl
+    (ap (λ (o : Option DataType). types_suit o (q.symbols.types name)) ((size_quiet d.array p).types name) ∙ h name)
 one_typed false serialised t m u past d ds p q h c f name =
-    step_suits (bytes_eq d.name.text name) (declared_as t.outer d.stars (extent_of past d.array) u) (typed t q.constants m d) (type_named name (size_past d.array p)) (q.named name)
-    (declared_suits past t q.constants u m.shape d c (f refl).1.0 (f refl).0)
-    (ap (λ (o : Option DataType). types_suit o (q.named name)) ((size_quiet d.array p).types name) ∙ h name)
+    step_suits (bytes_eq d.name.text name) (declared_as t.outer d.stars (extent_of (constants_of past) d.array) u) (typed t q.symbols.constants m d) (type_named name (size_past d.array p)) (q.symbols.types name)
+    (declared_suits past t q.symbols.constants u m.shape d c (f refl).1.0 (f refl).0)
+    (ap (λ (o : Option DataType). types_suit o (q.symbols.types name)) ((size_quiet d.array p).types name) ∙ h name)
 
-one_constants : (handle serialised : Bool) (t : Terms) (m : Sense) (d : Dtor) (q : Scope) → (typedef_one handle serialised t m d q).constants ≡ q.constants
+one_constants : (handle serialised : Bool) (t : Terms) (m : Sense) (d : Dtor) (q : Scope) → (typedef_one handle serialised t m d q).symbols.constants ≡ q.symbols.constants
 one_constants true serialised t m d q = refl
 one_constants false serialised t m d q = refl
 
-types_typed : (handle serialised : Bool) (t : Terms) (m : Sense) (u : DataType) (past : Past) (ds : List Dtor) (p : Past) (q : Scope) → Typed p q → ((name : List ℕ) → q.constants name ≡ constant_named name past) → IsTyped handle u m t past ds
+types_typed : (handle serialised : Bool) (t : Terms) (m : Sense) (u : DataType) (past : Past) (ds : List Dtor) (p : Past) (q : Scope) → Typed p q → ((name : List ℕ) → q.symbols.constants name ≡ constant_named name past) → IsTyped handle u m t past ds
     → Typed (types_past ds (each_declared past handle t.outer u ds) p) (typedef_all handle serialised t m ds q)
 types_typed handle serialised t m u past [] p q h c f = h
 types_typed handle serialised t m u past (d ∷ ds) p q h c f =
@@ -144,7 +125,7 @@ typedef_typed : (k : Pk) (as' : idl.AttrForms) (s : idl.SpecForm) (ds : List Dto
 typedef_typed k as' s ds d p a h c =
     let q : Scope = d.scope in
     let r : Past = attrs_past k as' p in
-    let g : Setting = typedef_setting k (attributes k as' p) ds in
+    let g : Setting = typedef_setting k as' (attributes k as' p) ds in
     let z : Past = typedef_behind k as' s ds p in
     let f : Field = typedef_field k as' s ds p in
     let marks : Option Form × Scope = attrs_at k as' q in
@@ -158,39 +139,35 @@ typedef_typed k as' s ds d p a h c =
     let there : Agree z m.1 = spec_agrees g k (all_pointed ds) marks.0 s r marks.1 here in
     let all : Past = types_past ds f.declared z in
     let fit : Fits [] false f = fits [] false f (nil_left (bad.field_places f false) (gathered bad.bad_attribute all) c.attributes) (nil_left (size.field_places [] f) (gathered size.size_name all) c.sizes) in
-    let class_of = ap {B = Pk} (λ (o : Option Pk). or_class o (class_at k places.Typedef)) (class_said k as' p) in
-    let word_of = words_are k as' p in
     let texts = λ (said : says says_string as' ≡ true). text_meant k f as' p fit.attributes said in
     let is_typed : IsTyped handle u m.0 t z ds =
     λ is. (
       spec_suits g k marks.0 s r marks.1 (record { types = before; constants = here.constants; structures = here.tags }),
-      all_text t u z (has_handle_word (attributes k as' p)) (or_class (pointer_given (attributes k as' p)) (class_at k places.Typedef)) ds (λ said. (
+      all_text t u z (says says_handle as') (outer_class k places.Typedef as') ds (λ said. (
         first_of_both (is_char_type u) _ (second_of_both (bad.has_declarator f) _ (texts said)),
         second_of_both (is_char_type u) _ (second_of_both (bad.has_declarator f) _ (texts said)),
       )),
     ) in
-    subst (λ (b : Bool). Typed (types_past ds (each_declared z b (or_class (pointer_given (attributes k as' p)) (class_at k places.Typedef)) u ds) z) (typedef_all handle (is_serialised as') t m.0 ds m.1)) (sym word_of)
-    (subst (λ (x : Pk). Typed (types_past ds (each_declared z handle x u ds) z) (typedef_all handle (is_serialised as') t m.0 ds m.1)) (sym class_of)
-    (types_typed handle (is_serialised as') t m.0 u z ds z m.1 behind there.constants is_typed))
+    types_typed handle (is_serialised as') t m.0 u z ds z m.1 behind there.constants is_typed
 
 -- ---- parameters declare no name of a type
 
-either_named : (b : Bool) (q : Scope) (x : Listed × Scope) → x.1.named ≡ q.named → (if b then (([], []), q) else x).1.named ≡ q.named
+either_named : (b : Bool) (q : Scope) (x : Listed × Scope) → x.1.symbols.types ≡ q.symbols.types → (if b then (([], []), q) else x).1.symbols.types ≡ q.symbols.types
 either_named true q x e = refl
 either_named false q x e = e
 
-param_named : (k : Pk) (names : List Ident) (n : idl.ParamForm) (q : Scope) → (param_at k names n q).1.named ≡ q.named
+param_named : (k : Pk) (names : List Ident) (n : idl.ParamForm) (q : Scope) → (param_at k names n q).1.symbols.types ≡ q.symbols.types
 param_named k names n q =
     let marks : Option Form × Scope = attrs_at k n.attrs q in
     either_named (is_binding n.spec) q (listed_at k names n.attrs n.dtor (param_sense k n q)) (spec_named k (not (n.dtor.stars == 0)) marks.0 n.spec marks.1 ∙ attrs_named k n.attrs q)
 
-params_named : (k : Pk) (names : List Ident) (ns : List idl.ParamForm) (q : Scope) → (params_at k names ns q).1.named ≡ q.named
+params_named : (k : Pk) (names : List Ident) (ns : List idl.ParamForm) (q : Scope) → (params_at k names ns q).1.symbols.types ≡ q.symbols.types
 params_named k names [] q = refl
 params_named k names (n ∷ ns) q = params_named k names ns (param_at k names n q).1 ∙ param_named k names n q
 
 -- ---- declarations
 
-alone_named : (k : Pk) (as' : idl.AttrForms) (s : idl.SpecForm) (q : Scope) → (alone_at k as' s q).1.named ≡ q.named
+alone_named : (k : Pk) (as' : idl.AttrForms) (s : idl.SpecForm) (q : Scope) → (alone_at k as' s q).1.symbols.types ≡ q.symbols.types
 alone_named k as' s q = spec_named k false (attrs_at k as' q).0 s (attrs_at k as' q).1 ∙ attrs_named k as' q
 
 decl_typed : (k : Pk) (x : idl.DeclKindForm) (d : Draft) (p : Past) → Agree p d.scope → Typed p d.scope → Kept (decl_past k x p) → Typed (decl_past k x p) (decl_at k x d).scope
@@ -201,7 +178,7 @@ decl_typed k (idl.OfOp as' s name void ns) d p a h c =
     typed_on p (op_past k as' s name ns p) d.scope (params_at k (param_names ns) ns (alone_at k as' s d.scope).1).1 h
     (λ x. (params_behind k as' s name ns p).types x ∙ (result_quiet k as' s p).types x) (params_named k (param_names ns) ns (alone_at k as' s d.scope).1 ∙ alone_named k as' s d.scope)
 
-resolved : (k : Pk) (before after : List idl.DeclForm) (d : Draft) (p : Past) → Agree p d.scope → Typed p d.scope → Kept (decls_past k (before ++ after) p) → ResolveAlike (decls_past k before p) (decls_at k before d).scope
+resolved : (k : Pk) (before after : List idl.DeclForm) (d : Draft) (p : Past) → Agree p d.scope → Typed p d.scope → Kept (decls_past k (before ++ after) p) → ResolveAlike (symbols_of (decls_past k before p)) (decls_at k before d).scope.symbols
 resolved k [] after d p a h c = record { types = h; constants = a.constants; structures = a.tags }
 resolved k (x ∷ xs) after d p a h c =
     let here : Kept (decl_past k x.what p) = decls_kept k (xs ++ after) (decl_past k x.what p) c in
@@ -231,7 +208,7 @@ field_text k t f as' p past handle class ds said_is declared_is places_are =
       ap (λ (xs : List Declared). list_all bad.has_star_or_array xs) (sym declared_is) ∙ second_of_both (is_char_type f.spec) (list_all bad.has_star_or_array f.declared) text,
     ))
 
-param_suits : (k : Pk) (names : List Ident) (n : idl.ParamForm) (list : List Field) (more : Bool) (p : Past) (q : Scope) → ResolveAlike p q → Agree p q → Fits list more (member_field k places.Parameter (one_member n) p)
+param_suits : (k : Pk) (names : List Ident) (n : idl.ParamForm) (list : List Field) (more : Bool) (p : Past) (q : Scope) → ResolveAlike (symbols_of p) q.symbols → Agree p q → Fits list more (member_field k places.Parameter (one_member n) p)
     → all_suit (listed_in k n p) (param_at k names n q).0.0 ≡ true
 param_suits k names n list more p q h a f =
     let as' : idl.AttrForms = n.attrs in
@@ -248,15 +225,14 @@ param_suits k names n list more p q h a f =
     let before : Typed r marks.1 = typed_on p r q marks.1 h.types (attrs_quiet k as' p).types (attrs_named k as' q) in
     let here : Agree r marks.1 = attrs_agree k k as' p q a in
     let there : Agree z m.1 = spec_agrees g k pointed marks.0 n.spec r marks.1 here in
-    let class_of = ap {B = Pk} (λ (o : Option Pk). or_class o (class_at k places.Parameter)) (class_said k as' p) in
     let pointed_is : all_pointed (d ∷ []) ≡ pointed = (λ j. not (or-false (d.stars == 0) j)) in
     let of_spec : suits u m.0.shape ≡ true =
     subst (λ (b : Bool). suits u (spec_at k b marks.0 n.spec marks.1).0.shape ≡ true) pointed_is (spec_suits g k marks.0 n.spec r marks.1 (record { types = before; constants = here.constants; structures = here.tags })) in
-    let text = field_text k t field as' p z false (or_class (pointer_given (attributes k as' p)) (class_at k places.Parameter)) (d ∷ []) refl refl f.attributes in
-    let one : suits (declared_as t.outer d.stars (extent_of z d.array) u) (declared t m.1.constants m.0.shape d) ≡ true = declared_suits z t m.1.constants u m.0.shape d there.constants text.0 of_spec in
+    let text = field_text k t field as' p z false (outer_class k places.Parameter as') (d ∷ []) refl refl f.attributes in
+    let one : suits (declared_as t.outer d.stars (extent_of (constants_of z) d.array) u) (declared t m.1.symbols.constants m.0.shape d) ≡ true = declared_suits z t m.1.symbols.constants u m.0.shape d there.constants text.0 of_spec in
     listed_suits (is_binding n.spec) field.declared (listed_at k names as' d m) q
-    (both (suits (declared_as (or_class (pointer_given (attributes k as' p)) (class_at k places.Parameter)) d.stars (extent_of z d.array) u) (declared t m.1.constants m.0.shape d)) true
-    (subst (λ (x : Pk). suits (declared_as x d.stars (extent_of z d.array) u) (declared t m.1.constants m.0.shape d) ≡ true) (sym class_of) one) refl)
+    (both (suits (declared_as (outer_class k places.Parameter as') d.stars (extent_of (constants_of z) d.array) u) (declared t m.1.symbols.constants m.0.shape d)) true
+    one refl)
 
 params_suit : (k : Pk) (names : List Ident) (list : List Field) (ns : List idl.ParamForm) (p : Past) (q : Scope) → Typed p q → Agree p q → AllFit list (param_fields k ns p)
     → all_suit (all_listed k ns p) (params_at k names ns q).0.0 ≡ true
@@ -283,7 +259,7 @@ op_suits k as' s name void ns d p a h c =
     let z : Scope = (alone_at k as' s d.scope).1 in
     let here : Agree r marks.1 = attrs_agree k k as' p d.scope a in
     let before : Typed r marks.1 = typed_on p r d.scope marks.1 h (attrs_quiet k as' p).types (attrs_named k as' d.scope) in
-    let inside : Agree q z = still (events.Operation name) (result_past k as' s p) z (λ x. refl) (λ x. refl) (λ x. refl) (spec_agrees g k false marks.0 s r marks.1 here) in
+    let inside : Agree q z = (spec_agrees g k false marks.0 s r marks.1 here) in
     both (suits result.spec (alone_at k as' s d.scope).0.shape) (all_suit (all_listed k ns q) (params_at k (param_names ns) ns z).0.0)
     (spec_suits g k marks.0 s r marks.1 (record { types = before; constants = here.constants; structures = here.tags }))
     (params_suit k (param_names ns) ps ns q z (typed_on p q d.scope z h (result_quiet k as' s p).types (alone_named k as' s d.scope)) inside (call_fits result ps (params_past k ns q) c))

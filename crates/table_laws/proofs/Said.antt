@@ -14,9 +14,10 @@ use Rattle.idl_outline.specs.declared.ty.DataType.{DataType}
 use Rattle.idl_outline.specs.declared.field.NameRef.{NameRef}
 use Rattle.idl_outline.specs.declared.field.Declared.{Declared}
 use Rattle.idl_outline.specs.declared.field.Field.{Field}
-use Rattle.idl_outline.specs.Names.{Past, extent_of, each_declared}
-use Rattle.idl_outline.specs.Names.{declared as outline_declared}
-use Rattle.idl_outline.specs.Outline.{size_of, mark_of, attributes, attr_past}
+use Rattle.idl_outline.specs.Names.{Past, constants_of, each_declared, declared as outline_declared}
+use Rattle.idl_names.specs.Declarators.{extent_of}
+use Rattle.idl_outline.specs.Parts.{size_of}
+use Rattle.idl_outline.specs.Specs.{mark_of, attributes, attr_past}
 use Rattle.idl_forms.specs.Forms as idl
 use Rattle.idl_rules.specs.declared.asked.Asked.{Asked}
 use Rattle.idl_rules.specs.declared.asked.Asked.TheVariants as asks
@@ -24,8 +25,8 @@ use Rattle.idl_rules.specs.Places.{at_if}
 use Rattle.idl_rules.specs.Types.{is_open_extent, is_parameter, says_string as rule_string, says_most as rule_most}
 use Rattle.idl_rules.specs.BadAttribute as bad
 use Rattle.idl_rules.specs.SizeName as size
-use Rattle.table_scope.specs.Scopes.{ByName}
-use Rattle.table_scope.specs.Marks.{says, says_string}
+use Rattle.idl_names.specs.Symbols.{ByName}
+use Rattle.idl_names.specs.Attributes.{says, says_string}
 use Rattle.table_laws.specs.Stands.{is_among, ref_stands, count_stands, counts_stand, says_most, is_sized, array_stands, dtors_stand}
 use Rattle.table_laws.proofs.Listed.{nil_left, nil_right}
 
@@ -157,7 +158,7 @@ open_sized : (b c : Bool) → (true && (not b || c)) ≡ false → b ≡ true
 open_sized true c e = refl
 open_sized false c e = absurd cc
 
-array_found : (past : Past) (constants : ByName Num) (o : Option ArraySize) (sized other : Bool) → (is_open_extent (extent_of past o) && (not sized || other)) ≡ false → is_constant constants o ≡ true
+array_found : (past : Past) (constants : ByName Num) (o : Option ArraySize) (sized other : Bool) → (is_open_extent (extent_of (constants_of past) o) && (not sized || other)) ≡ false → is_constant constants o ≡ true
     → array_stands sized constants o ≡ true
 array_found past constants None sized other e c = refl
 array_found past constants (Some sizes.Empty) sized other e c = open_sized sized other e

@@ -1,6 +1,6 @@
 -- Each name of an interface that keeps the rules stands for something where its table reads it.
 use Rattle.std.proofs.Common.{◌≡◌, ℕ, List, [], ◌∷◌, ◌++◌, Bool, true, false, Option, None, Some, refl, ap, sym, subst, ◌∙◌}
-use Rattle.std.specs.Prelude.{◌||◌, ◌&&◌, is_some, is_none, bytes_eq}
+use Rattle.std.specs.Prelude.{◌||◌, ◌&&◌, is_some, is_none, bytes_eq, if◌then◌else◌}
 use Rattle.std.specs.List.{list_any, flat_map}
 use Rattle.std.proofs.lemmas.List.Folds.{list_any-append}
 use Rattle.idl_tree.specs.declared.leaf.Ident.{Ident}
@@ -14,29 +14,34 @@ use Rattle.idl_tree.specs.declared.spec.LabelKind.{LabelKind}
 use Rattle.idl_tree.specs.declared.spec.LabelKind.TheVariants as label_kinds
 use Rattle.idl_outline.specs.declared.ty.DataType.{DataType}
 use Rattle.idl_outline.specs.declared.field.NameRef.{NameRef}
-use Rattle.idl_outline.specs.declared.field.Place.{Place}
-use Rattle.idl_outline.specs.declared.field.Place.TheVariants as places
+use Rattle.idl_names.specs.declared.place.Place.{Place}
+use Rattle.idl_names.specs.declared.place.Place.TheVariants as places
 use Rattle.idl_outline.specs.declared.field.Field.{Field}
 use Rattle.idl_outline.specs.declared.event.Tag.TheVariants as given_tags
 use Rattle.idl_outline.specs.declared.event.Event.{Event}
 use Rattle.idl_outline.specs.declared.event.Event.TheVariants as events
 use Rattle.idl_outline.specs.declared.setting.Setting.{Setting}
 use Rattle.idl_forms.specs.Forms as idl
-use Rattle.idl_outline.specs.Names.{Past, type_named, constant_named, struct_named, has_handle_word, is_typedef, tag_given, pointer_given, class_at, or_class, each_declared}
-use Rattle.idl_outline.specs.Outline.{before_declarators, alone, all_pointed, size_past, sizes_past, label_past, labels_past, tag_used_past, other_tag_past, struct_past, struct_end, tag_holds, attributes, spec_past, spec_type, switch_past, attr_past, attrs_past, member_past, members_past, member_field, member_fields, arm_past, arms_past, arm_field, arm_fields}
+use Rattle.idl_outline.specs.Names.{Past, symbols_of, type_named, constant_named, is_typedef, tag_given, each_declared}
+use Rattle.idl_names.specs.Attributes.{outer_class, says, says_handle}
+use Rattle.idl_outline.specs.Parts.{before_declarators, alone, size_past, sizes_past, label_past, labels_past, tag_used_past, other_tag_past, struct_past, struct_end}
+use Rattle.idl_names.specs.Declarators.{all_pointed}
+use Rattle.idl_outline.specs.Holding.{tag_holds}
+use Rattle.idl_outline.specs.Specs.{attributes, spec_past, spec_type, switch_past, attr_past, attrs_past, member_past, members_past, member_field, member_fields, arm_past, arms_past, arm_field, arm_fields}
 use Rattle.idl_rules.specs.declared.asked.Asked.{Asked}
 use Rattle.idl_rules.specs.Places.{at_if, gathered}
-use Rattle.idl_rules.specs.Unknown.{unknown, is_unknown_tag}
+use Rattle.idl_rules.specs.Unknown.{unknown}
 use Rattle.idl_rules.specs.BadAttribute as bad
 use Rattle.idl_rules.specs.SizeName as size
 use Rattle.ndr_value.specs.Forms.{Form}
-use Rattle.table_scope.specs.declared.symbols.Tag.{Tag}
-use Rattle.table_scope.specs.Scopes.{ByName, Sense, Scope, begun}
+use Rattle.idl_names.specs.declared.symbols.Tag.{Tag}
+use Rattle.idl_names.specs.Symbols.{ByName, found}
+use Rattle.table_scope.specs.Scopes.{Sense, Scope, begun}
 use Rattle.table_specs.specs.Specs.{dtor_names, names_of, member_names, members_within, arm_dtors, arm_names, spec_at, switch_at, attr_at, attrs_at, member_at, arm_at}
-use Rattle.table_laws.specs.Stands.{is_known, tag_stands, label_stands, labels_stand, is_among, counts_stand, dtors_stand, spec_stands, switch_stands, mark_stands, attr_stands, attrs_stand, member_stands, members_stand, arm_stands, arms_stand}
+use Rattle.table_laws.specs.Stands.{tag_stands, label_stands, labels_stand, is_among, counts_stand, dtors_stand, spec_stands, switch_stands, mark_stands, attr_stands, attrs_stand, member_stands, members_stand, arm_stands, arms_stand}
 use Rattle.table_laws.proofs.Quiet.{Behind, sizes_quiet, labels_quiet, spec_quiet, attrs_quiet, member_quiet, members_quiet, arms_quiet}
 use Rattle.table_laws.proofs.Listed.{nil_left, nil_right}
-use Rattle.table_laws.specs.Alike.{whole_of, ended_of}
+use Rattle.table_laws.specs.Alike.{whole_of}
 use Rattle.table_laws.proofs.Known.{Agree, size_agrees, label_agrees, labels_agree, other_agrees, begun_agrees, spec_agrees, switch_agrees, attr_agrees, attrs_agree, member_agrees, arm_agrees}
 use Rattle.table_laws.proofs.Said.{both, first_of_both, any_more, most_said, string_said, Offered, counts_found, is_constant, are_constants, dtors_found}
 
@@ -68,10 +73,6 @@ known_there : {X : Type 0} (o : Option X) (at : ℕ) (xs : List ℕ) → at_if (
 known_there None at xs e = absurd cc
 known_there (Some x) at xs e = refl
 
-or_true : (b : Bool) → (b || true) ≡ true
-or_true true = refl
-or_true false = refl
-
 or_first : (a b : Bool) → a ≡ true → (a || b) ≡ true
 or_first true b e = refl
 or_first false b e = absurd cc
@@ -84,30 +85,29 @@ alone_true : (b : Bool) → (b || false) ≡ true → b ≡ true
 alone_true true e = refl
 alone_true false e = absurd cc
 
-abbrev some_flag : Option Bool → Bool
-some_flag None = true
-some_flag (Some b) = b
+abbrev flag : Option Bool → Bool
+flag None = false
+flag (Some b) = b
 
-inside_known : (o : Option Tag) → whole_of o ≡ Some false → is_known true o ≡ true
-inside_known None e = absurd cc
-inside_known (Some t) e = or_true t.whole
+some_found : {X Y : Type 0} (here there : Bool) (x : X) (y : Y) (at : ℕ) (xs : List ℕ) → here ≡ there → at_if (is_none (if there then Some y else None)) at ++ xs ≡ [] → is_some (if here then Some x else None) ≡ true
+some_found true there x y at xs e f = refl
+some_found false true x y at xs e f = absurd cc
+some_found false false x y at xs e f = absurd cc
 
-tag_known : (pointed : Bool) (o : Option Tag) (u : Option (Option Bool)) (at : ℕ) (xs : List ℕ) → whole_of o ≡ ended_of u → at_if (is_unknown_tag pointed u) at ++ xs ≡ [] → is_known pointed o ≡ true
+tag_known : (pointed : Bool) (o : Option (Tag ℕ)) (u : Option (Tag Bool)) (at : ℕ) (xs : List ℕ) → whole_of o ≡ whole_of u → at_if (is_none (found pointed u)) at ++ xs ≡ [] → is_some (found pointed o) ≡ true
 tag_known pointed o None at xs e f = absurd cc
-tag_known true o (Some None) at xs e f = inside_known o e
-tag_known false o (Some None) at xs e f = absurd cc
-tag_known pointed None (Some (Some b)) at xs e f = absurd cc
-tag_known pointed (Some t) (Some (Some b)) at xs e f = or_first t.whole pointed (ap some_flag e)
+tag_known pointed None (Some u) at xs e f = absurd cc
+tag_known pointed (Some t) (Some u) at xs e f = some_found (t.whole || pointed) (u.whole || pointed) t.known u.known at xs (ap (λ (x : Option Bool). flag x || pointed) e) f
 
-label_found : (l : LabelKind) (p : Past) (q : Scope) → Agree p q → Kept (label_past l p) → label_stands q.constants l ≡ true
+label_found : (l : LabelKind) (p : Past) (q : Scope) → Agree p q → Kept (label_past l p) → label_stands q.symbols.constants l ≡ true
 label_found (label_kinds.Number n) p q h c = refl
 label_found (label_kinds.Named i) p q h c = ap {B = Bool} (λ (o : Option Num). is_some o) (h.constants i.text) ∙ known_there (constant_named i.text p) i.at (gathered unknown p) c.unknown
 label_found label_kinds.Default p q h c = refl
 
-labels_found : (ls : List LabelNode) (p : Past) (q : Scope) → Agree p q → Kept (labels_past ls p) → labels_stand q.constants ls ≡ true
+labels_found : (ls : List LabelNode) (p : Past) (q : Scope) → Agree p q → Kept (labels_past ls p) → labels_stand q.symbols.constants ls ≡ true
 labels_found [] p q h c = refl
 labels_found (l ∷ ls) p q h c =
-    both (label_stands q.constants l.what) (labels_stand q.constants ls)
+    both (label_stands q.symbols.constants l.what) (labels_stand q.symbols.constants ls)
     (label_found l.what p q h (kept_before (label_past l.what p) (labels_past ls (label_past l.what p)) (labels_quiet ls (label_past l.what p)).behind c))
     (labels_found ls (label_past l.what p) q (label_agrees l.what p q h) c)
 
@@ -118,11 +118,11 @@ size_found (Some sizes.Star) p constants h c = refl
 size_found (Some (sizes.Number n)) p constants h c = refl
 size_found (Some (sizes.Named i)) p constants h c = ap {B = Bool} (λ (o : Option Num). is_some o) (h i.text) ∙ known_there (constant_named i.text p) i.at (gathered unknown p) c.unknown
 
-sizes_found : (ds : List Dtor) (p : Past) (q : Scope) → Agree p q → Kept (sizes_past ds p) → are_constants q.constants ds ≡ true
+sizes_found : (ds : List Dtor) (p : Past) (q : Scope) → Agree p q → Kept (sizes_past ds p) → are_constants q.symbols.constants ds ≡ true
 sizes_found [] p q h c = refl
 sizes_found (d ∷ ds) p q h c =
-    both (is_constant q.constants d.array) (are_constants q.constants ds)
-    (size_found d.array p q.constants h.constants (kept_before (size_past d.array p) (sizes_past ds (size_past d.array p)) (sizes_quiet ds (size_past d.array p)).behind c))
+    both (is_constant q.symbols.constants d.array) (are_constants q.symbols.constants ds)
+    (size_found d.array p q.symbols.constants h.constants (kept_before (size_past d.array p) (sizes_past ds (size_past d.array p)) (sizes_quiet ds (size_past d.array p)).behind c))
     (sizes_found ds (size_past d.array p) q (size_agrees d.array p q h) c)
 
 -- ---- what a list of fields offers
@@ -147,7 +147,7 @@ pub field_among : (k : Pk) (place : Place) (m : idl.MemberForm) (p : Past) (n : 
 field_among k place (idl.a_member as' s ds) p n =
     let r : Past = attrs_past k as' p in
     let g : Setting = before_declarators k ds false (tag_given (attributes k as' p)) in
-    declared_among (spec_past g s r) (is_typedef place && has_handle_word (attributes k as' p)) (or_class (pointer_given (attributes k as' p)) (class_at k place)) (spec_type g s r) ds n
+    declared_among (spec_past g s r) (is_typedef place && says says_handle as') (outer_class k place as') (spec_type g s r) ds n
 
 among_append : (xs ys : List Ident) (i : Ident) → is_among (xs ++ ys) i ≡ (is_among xs i || is_among ys i)
 among_append xs ys i = list_any-append (λ x. bytes_eq x.text i.text) xs ys
@@ -219,9 +219,9 @@ ended_kept (Some i) fs p c = kept_tail (events.StructEnds i _) (events.Body fs �
 
 -- ---- specs, attributes and what they hold
 
-used_stands : (g : Setting) (tag : Option Ident) (p : Past) (q : Scope) → Agree p q → Kept (tag_used_past g tag p) → tag_stands g.pointed tag q.tags ≡ true
+used_stands : (g : Setting) (tag : Option Ident) (p : Past) (q : Scope) → Agree p q → Kept (tag_used_past g tag p) → tag_stands g.pointed tag q.symbols ≡ true
 used_stands g None p q h c = refl
-used_stands g (Some i) p q h c = tag_known g.pointed (q.tags i.text) (struct_named i.text p) i.at (gathered unknown p) (h.tags i.text) c.unknown
+used_stands g (Some i) p q h c = tag_known g.pointed (q.symbols.tags i.text) ((symbols_of p).tags i.text) i.at (gathered unknown p) (h.tags i.text) c.unknown
 
 mutual
   pub spec_stand : (g : Setting) (k : Pk) (given : Option Form) (s : idl.SpecForm) (p : Past) (q : Scope) → Agree p q → Kept (spec_past g s p) → spec_stands k g.pointed given s q ≡ true
@@ -296,8 +296,8 @@ mutual
       let field : Field = member_field default place (idl.a_member as' s ds) p in
       both (attrs_stand k as' q) _ (attrs_stand_all default k as' p q h of_attrs)
       (both (spec_stands k (all_pointed ds) marks.0 s marks.1) _ (spec_stand g k marks.0 s r marks.1 here of_spec)
-      (both (counts_stand names as') (dtors_stand behind.1.constants as' ds) (counts_found default list field names as' p o f.sizes)
-      (dtors_found field as' more z (is_typedef place && has_handle_word (attributes default as' p)) (or_class (pointer_given (attributes default as' p)) (class_at default place)) (spec_type g s r) behind.1.constants ds (most_said default as' p, string_said default as' p) f.declared
+      (both (counts_stand names as') (dtors_stand behind.1.symbols.constants as' ds) (counts_found default list field names as' p o f.sizes)
+      (dtors_found field as' more z (is_typedef place && says says_handle as') (outer_class default place as') (spec_type g s r) behind.1.symbols.constants ds (most_said default as' p, string_said default as' p) f.declared
       (sizes_found ds z behind.1 (spec_agrees g k (all_pointed ds) marks.0 s r marks.1 here) c))))
 
   members_stand_all : (default k : Pk) (list : List Field) (names : List Ident) (ms : idl.MemberForms) (p : Past) (q : Scope) → Agree p q → Kept (members_past default ms p)
@@ -317,7 +317,7 @@ mutual
   arm_stand default k list rest names (idl.member_arm ls m) p q h c o f =
       let r : Past = labels_past ls p in
       let field : Field = member_field default places.Arm m r in
-      both (labels_stand q.constants ls) (member_stands k names m q)
+      both (labels_stand q.symbols.constants ls) (member_stands k names m q)
       (labels_found ls p q h (kept_before r (member_past default m r) (member_quiet default m r).behind c))
       (member_stand default k places.Arm (field ∷ []) (bad.is_more rest) names m r q (labels_agree ls p q h) c
       (offered_by (field ∷ []) field names (λ n e. o n.name (sym (field_among default places.Arm m r n) ∙ alone_true (names_it n field) e))) (arm_fits default list m rest r f))

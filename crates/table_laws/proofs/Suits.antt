@@ -9,40 +9,38 @@ use Rattle.idl_tree.specs.declared.leaf.Pk.TheVariants as pks
 use Rattle.idl_tree.specs.declared.leaf.Base.{Base}
 use Rattle.idl_tree.specs.declared.leaf.Base.TheVariants as bases
 use Rattle.idl_tree.specs.declared.leaf.ArraySize.{ArraySize}
-use Rattle.idl_tree.specs.declared.leaf.ArraySize.TheVariants as sizes
 use Rattle.idl_tree.specs.declared.leaf.Dtor.{Dtor}
 use Rattle.idl_outline.specs.declared.ty.DataType.{DataType}
 use Rattle.idl_outline.specs.declared.ty.Core.{Core}
 use Rattle.idl_outline.specs.declared.ty.Core.TheVariants as cores
 use Rattle.idl_outline.specs.declared.ty.Layer.{Layer}
 use Rattle.idl_outline.specs.declared.ty.Layer.TheVariants as layers
-use Rattle.idl_outline.specs.declared.field.Extent.{Extent}
-use Rattle.idl_outline.specs.declared.field.Extent.TheVariants as extents
+use Rattle.idl_names.specs.declared.place.Extent.{Extent}
+use Rattle.idl_names.specs.declared.place.Extent.TheVariants as extents
 use Rattle.idl_outline.specs.declared.setting.Setting.{Setting}
 use Rattle.idl_forms.specs.Forms as idl
-use Rattle.idl_outline.specs.Names.{Past, bare, core_of, type_named, constant_named, struct_named, or_unknown, struct_type, declared_as, extent_of}
-use Rattle.idl_outline.specs.Outline.{tag_used_type, spec_type}
+use Rattle.idl_outline.specs.Names.{Past, symbols_of, constants_of, type_named, constant_named}
+use Rattle.idl_outline.specs.Types.{bare, core_of, or_unknown, struct_type, declared_as}
+use Rattle.idl_names.specs.Declarators.{extent_of}
+use Rattle.idl_outline.specs.Parts.{tag_used_type}
+use Rattle.idl_outline.specs.Specs.{spec_type}
 use Rattle.idl_rules.specs.Types.{by_value, is_unknown, is_char}
 use Rattle.ndr_value.specs.declared.shape.Count.{Count}
 use Rattle.ndr_value.specs.Forms.{Form, OfBool, OfByte, OfChar, OfInt, OfUint, OfEnum, OfNamed, OfStruct, OfUnion, OfArray, OfText, OfRef, OfUnique, OfFull, OfHandle}
 use Rattle.table_form.specs.Aligned.{octets_of}
-use Rattle.table_scope.specs.declared.symbols.Tag.{Tag}
+use Rattle.idl_names.specs.declared.symbols.Tag.{Tag}
 use Rattle.table_scope.specs.declared.said.Terms.{Terms}
-use Rattle.table_scope.specs.Scopes.{ByName, Sense, Scope, nothing, or_nothing, found_form, tag_form}
-use Rattle.table_scope.specs.Declarators.{pointer, chain, extent, or_none, open_kind, fixed_kind, bound, array, text, outermost, tied, if_tied, target, shaped, declared}
-use Rattle.table_scope.specs.Declarators.{by_value as shape_by_value}
+use Rattle.idl_names.specs.Symbols.{ByName, found}
+use Rattle.table_scope.specs.Scopes.{Sense, Scope, numbered, or_nothing, tag_form}
+use Rattle.table_scope.specs.Declarators.{pointer, chain, or_none, open_kind, fixed_kind, bound, array, text, outermost, tied, if_tied, target, shaped, declared, by_value as shape_by_value}
 use Rattle.table_specs.specs.Specs.{base_form, spec_at}
-use Rattle.table_laws.specs.Alike.{bottom, is_kind, is_fixed, is_pointer, is_array, is_value, is_layer, suits, types_suit, whole_of, ended_of, ResolveAlike}
+use Rattle.table_laws.specs.Alike.{bottom, is_kind, is_fixed, is_pointer, is_array, is_value, is_layer, suits, types_suit, whole_of, ResolveAlike}
 use Rattle.table_laws.proofs.Said.{both, first_of_both, second_of_both}
 
 -- ---- extents
 
-extent_is : (past : Past) (cs : ByName Num) (o : Option ArraySize) → ((name : List ℕ) → cs name ≡ constant_named name past) → extent cs o ≡ extent_of past o
-extent_is past cs None h = refl
-extent_is past cs (Some sizes.Empty) h = refl
-extent_is past cs (Some sizes.Star) h = refl
-extent_is past cs (Some (sizes.Number n)) h = refl
-extent_is past cs (Some (sizes.Named i)) h = ap extents.Fixed (h i.text)
+extent_is : (past : Past) (cs : ByName Num) (o : Option ArraySize) → ((name : List ℕ) → cs name ≡ constant_named name past) → extent_of cs o ≡ extent_of (constants_of past) o
+extent_is past cs o h = λ j. extent_of (λ name. h name j) o
 
 -- ---- what names a union's tag is no part of what suits
 
@@ -199,12 +197,12 @@ shaped_any t u x n m s true is h e = value_suits t u x n s t.text is (λ said. (
 shaped_any t u x n m s false is h e =
     pointed_suits t u x n m (target t s) is (target_kind u s t.text (λ said. (h said).0) (second_of_both (is_layer u.outer s) (is_kind u.core (bottom s)) e))
 
-pub declared_suits : (past : Past) (t : Terms) (cs : ByName Num) (u : DataType) (s : Form) (d : Dtor) → ((name : List ℕ) → cs name ≡ constant_named name past) → TextFits t u (extent_of past d.array) d.stars → suits u s ≡ true
-    → suits (declared_as t.outer d.stars (extent_of past d.array) u) (declared t cs s d) ≡ true
+pub declared_suits : (past : Past) (t : Terms) (cs : ByName Num) (u : DataType) (s : Form) (d : Dtor) → ((name : List ℕ) → cs name ≡ constant_named name past) → TextFits t u (extent_of (constants_of past) d.array) d.stars → suits u s ≡ true
+    → suits (declared_as t.outer d.stars (extent_of (constants_of past) d.array) u) (declared t cs s d) ≡ true
 declared_suits past t cs u s d h fits e =
-    subst (λ (x : Extent). suits (declared_as t.outer d.stars (extent_of past d.array) u) (if_tied t.switch (shaped t x d.stars s)) ≡ true) (sym (extent_is past cs d.array h))
-    (if_tied_suits t.switch (declared_as t.outer d.stars (extent_of past d.array) u) (shaped t (extent_of past d.array) d.stars s)
-    (shaped_any t u (extent_of past d.array) d.stars (d.stars - 1) s (d.stars == 0) refl fits e))
+    subst (λ (x : Extent). suits (declared_as t.outer d.stars (extent_of (constants_of past) d.array) u) (if_tied t.switch (shaped t x d.stars s)) ≡ true) (sym (extent_is past cs d.array h))
+    (if_tied_suits t.switch (declared_as t.outer d.stars (extent_of (constants_of past) d.array) u) (shaped t (extent_of (constants_of past) d.array) d.stars s)
+    (shaped_any t u (extent_of (constants_of past) d.array) d.stars (d.stars - 1) s (d.stars == 0) refl fits e))
 
 -- ---- a spec
 
@@ -228,28 +226,29 @@ named_suits (Some t) None e = absurd cc
 named_suits (Some t) (Some m) e = e
 
 -- a structure that is known stands behind its number
-known_suits : (pointed whole : Bool) (number : ℕ) (u : Option (Option Bool)) → Some whole ≡ ended_of u → suits (struct_type pointed u) (if whole then OfNamed number None else (if pointed then OfNamed number None else nothing)) ≡ true
-known_suits pointed whole number None e = absurd cc
-known_suits true true number (Some None) e = refl
-known_suits true false number (Some None) e = refl
-known_suits false true number (Some None) e = refl
-known_suits false false number (Some None) e = refl
-known_suits pointed true number (Some (Some ends)) e = refl
-known_suits pointed false number (Some (Some ends)) e = absurd cc
+known_suits : (here there : Bool) (number : ℕ) (ends : Bool) → here ≡ there → suits (struct_type (if there then Some ends else None)) (numbered (if here then Some number else None)) ≡ true
+known_suits true true number ends e = refl
+known_suits true false number ends e = absurd cc
+known_suits false true number ends e = absurd cc
+known_suits false false number ends e = refl
 
-found_suits : (pointed : Bool) (o : Option Tag) (u : Option (Option Bool)) → whole_of o ≡ ended_of u → suits (struct_type pointed u) (found_form pointed o) ≡ true
+abbrev flag : Option Bool → Bool
+flag None = false
+flag (Some b) = b
+
+found_suits : (pointed : Bool) (o : Option (Tag ℕ)) (u : Option (Tag Bool)) → whole_of o ≡ whole_of u → suits (struct_type (found pointed u)) (numbered (found pointed o)) ≡ true
 found_suits pointed None None e = refl
-found_suits pointed None (Some None) e = absurd cc
-found_suits pointed None (Some (Some ends)) e = absurd cc
-found_suits pointed (Some t) u e = known_suits pointed t.whole t.number u e
+found_suits pointed None (Some u) e = absurd cc
+found_suits pointed (Some t) None e = absurd cc
+found_suits pointed (Some t) (Some u) e = known_suits (t.whole || pointed) (u.whole || pointed) t.known u.known (ap (λ (o : Option Bool). flag o || pointed) e)
 
-tag_suits : (g : Setting) (tag : Option Ident) (p : Past) (q : Scope) → ResolveAlike p q → suits (tag_used_type g tag p) (tag_form g.pointed tag q.tags) ≡ true
+tag_suits : (g : Setting) (tag : Option Ident) (p : Past) (q : Scope) → ResolveAlike (symbols_of p) q.symbols → suits (tag_used_type g tag p) (tag_form g.pointed tag q.symbols) ≡ true
 tag_suits g None p q h = refl
-tag_suits g (Some i) p q h = found_suits g.pointed (q.tags i.text) (struct_named i.text p) (h.structures i.text)
+tag_suits g (Some i) p q h = found_suits g.pointed (q.symbols.tags i.text) ((symbols_of p).tags i.text) (h.structures i.text)
 
-pub spec_suits : (g : Setting) (k : Pk) (given : Option Form) (s : idl.SpecForm) (p : Past) (q : Scope) → ResolveAlike p q → suits (spec_type g s p) (spec_at k g.pointed given s q).0.shape ≡ true
+pub spec_suits : (g : Setting) (k : Pk) (given : Option Form) (s : idl.SpecForm) (p : Past) (q : Scope) → ResolveAlike (symbols_of p) q.symbols → suits (spec_type g s p) (spec_at k g.pointed given s q).0.shape ≡ true
 spec_suits g k given (idl.a_spec at (idl.OfBase b)) p q h = base_suits b
-spec_suits g k given (idl.a_spec at (idl.OfName i)) p q h = named_suits (type_named i.text p) (q.named i.text) (h.types i.text)
+spec_suits g k given (idl.a_spec at (idl.OfName i)) p q h = named_suits (type_named i.text p) (q.symbols.types i.text) (h.types i.text)
 spec_suits g k given (idl.a_spec at idl.OfVoid) p q h = refl
 spec_suits g k given (idl.a_spec at idl.OfHandle) p q h = refl
 spec_suits g k given (idl.a_spec at idl.OfStatus) p q h = refl

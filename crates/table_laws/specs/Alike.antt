@@ -9,11 +9,13 @@ use Rattle.idl_outline.specs.declared.ty.Core.{Core}
 use Rattle.idl_outline.specs.declared.ty.Core.TheVariants as cores
 use Rattle.idl_outline.specs.declared.ty.Layer.{Layer}
 use Rattle.idl_outline.specs.declared.ty.Layer.TheVariants as layers
-use Rattle.idl_outline.specs.declared.field.Place.TheVariants as places
+use Rattle.idl_names.specs.declared.place.Place.TheVariants as places
 use Rattle.idl_outline.specs.declared.field.Declared.{Declared}
 use Rattle.idl_outline.specs.declared.event.Event.TheVariants as events
-use Rattle.idl_outline.specs.Names.{Past, type_named, constant_named, struct_named}
-use Rattle.idl_outline.specs.Outline.{member_past, member_field, one_member, result_past, result_field, decl_past, decls_past, pointer_default}
+use Rattle.idl_outline.specs.Names.{Past, symbols_of}
+use Rattle.idl_outline.specs.Specs.{member_past, member_field}
+use Rattle.idl_outline.specs.Outline.{one_member, result_past, result_field, decl_past, decls_past}
+use Rattle.idl_names.specs.Attributes.{pointer_default}
 use Rattle.idl_forms.specs.Forms as idl
 use Rattle.idl_rules.specs.Broken.{NoneBroken}
 use Rattle.ndr_value.specs.declared.shape.ArrayKind.{ArrayKind}
@@ -21,8 +23,9 @@ use Rattle.ndr_value.specs.declared.shape.ArrayKind.TheVariants.{Fixed, Varying}
 use Rattle.ndr_value.specs.Forms.{Form, OfBool, OfByte, OfChar, OfInt, OfUint, OfEnum, OfNamed, OfArray, OfText, OfRef, OfUnique, OfFull, OfHandle}
 use Rattle.table_form.specs.Aligned.{octets_of}
 use Rattle.table_form.specs.Tables.{ParamForm}
-use Rattle.table_scope.specs.declared.symbols.Tag.{Tag}
-use Rattle.table_scope.specs.Scopes.{Sense, Scope}
+use Rattle.idl_names.specs.declared.symbols.Tag.{Tag}
+use Rattle.idl_names.specs.Symbols.{Symbols}
+use Rattle.table_scope.specs.Scopes.{Sense}
 use Rattle.table_laws.specs.Interfaces.{Draft, is_binding, param_names, params_at, alone_at, decl_at, decls_at, nothing_declared}
 
 -- ---- a type and a shape
@@ -97,26 +100,21 @@ types_suit (Some t) (Some m) = suits t m.shape
 types_suit _ _ = false
 
 -- whether a structure's body has ended
-abbrev pub whole_of : Option Tag → Option Bool
+abbrev pub whole_of : {G : Type 0} → Option (Tag G) → Option Bool
 whole_of None = None
 whole_of (Some t) = Some t.whole
 
-abbrev pub ended_of : Option (Option Bool) → Option Bool
-ended_of None = None
-ended_of (Some None) = Some false
-ended_of (Some (Some ends)) = Some true
-
 -- each name of a type, a constant or a structure stands for the same to the rules and in the table
-pub record ResolveAlike (p : Past) (q : Scope) : Type 0 where
-  pub types : (name : List ℕ) → types_suit (type_named name p) (q.named name) ≡ true
-  pub constants : (name : List ℕ) → q.constants name ≡ constant_named name p
-  pub structures : (name : List ℕ) → whole_of (q.tags name) ≡ ended_of (struct_named name p)
+pub record ResolveAlike (s : Symbols DataType Bool) (t : Symbols Sense ℕ) : Type 0 where
+  pub types : (name : List ℕ) → types_suit (s.types name) (t.types name) ≡ true
+  pub constants : (name : List ℕ) → t.constants name ≡ s.constants name
+  pub structures : (name : List ℕ) → whole_of (t.tags name) ≡ whole_of (s.tags name)
 
 -- behind each of the first declarations of a tree
 abbrev pub NamesResolveAlike : Type 0
 NamesResolveAlike =
     (tree : Ast) → NoneBroken tree → (before after : List idl.DeclForm) → (idl.tree_form tree).decls ≡ before ++ after
-    → ResolveAlike (decls_past (pointer_default (idl.tree_form tree).attributes) before []) (decls_at (pointer_default (idl.tree_form tree).attributes) before nothing_declared).scope
+    → ResolveAlike (symbols_of (decls_past (pointer_default (idl.tree_form tree).attributes) before [])) (decls_at (pointer_default (idl.tree_form tree).attributes) before nothing_declared).scope.symbols
 
 -- ---- parameters and results
 

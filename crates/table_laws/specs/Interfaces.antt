@@ -10,18 +10,19 @@ use Rattle.idl_tree.specs.declared.leaf.Pk.{Pk}
 use Rattle.idl_tree.specs.declared.leaf.ArraySize.{ArraySize}
 use Rattle.idl_tree.specs.declared.leaf.Dtor.{Dtor}
 use Rattle.idl_tree.specs.declared.declaration.Ast.{Ast}
-use Rattle.idl_outline.specs.declared.field.Place.TheVariants as places
-use Rattle.idl_outline.specs.Outline.{all_pointed, pointer_default}
+use Rattle.idl_names.specs.declared.place.Place.TheVariants as places
+use Rattle.idl_names.specs.Declarators.{all_pointed}
+use Rattle.idl_names.specs.Attributes.{pointer_default, given, says, says_in, says_out, says_maybe, says_handle, is_serialised}
 use Rattle.idl_forms.specs.Forms as idl
 use Rattle.ndr_value.specs.Forms.{Form}
 use Rattle.table_form.specs.declared.operation.HandleUse.{HandleUse}
 use Rattle.table_form.specs.Tables.{ParamForm, OpForm, TableForm}
-use Rattle.table_scope.specs.declared.symbols.Sort.{Sort}
-use Rattle.table_scope.specs.declared.symbols.Sort.TheVariants as sorts
+use Rattle.table_scope.specs.declared.known.Sort.{Sort}
+use Rattle.table_scope.specs.declared.known.Sort.TheVariants as sorts
 use Rattle.table_scope.specs.declared.said.Terms.{Terms}
-use Rattle.table_scope.specs.Marks.{given, range_in, says, says_in, says_out, says_maybe, says_handle, is_serialised}
-use Rattle.table_scope.specs.Scopes.{ByName, Sense, Scope, nothing_known, with_type, with_handle, with_constant}
-use Rattle.table_scope.specs.Declarators.{terms, declared}
+use Rattle.idl_names.specs.Symbols.{ByName}
+use Rattle.table_scope.specs.Scopes.{Sense, Scope, nothing_known, with_type, with_handle, with_constant}
+use Rattle.table_scope.specs.Declarators.{range_in, terms, declared}
 use Rattle.table_specs.specs.Specs.{spec_at, attrs_at}
 
 -- ---- parameters. handle_t is not listed, and has no index
@@ -60,7 +61,7 @@ param_sense default n p =
 
 abbrev pub one_param : Pk → List Ident → idl.AttrForms → Dtor → Sense × Scope → ParamForm
 one_param default names as' d behind =
-    record { shape = declared (terms default places.Parameter true names as') behind.1.constants behind.0.shape d; inward = says says_in as'; outward = says says_out as'; range = given range_in as' }
+    record { shape = declared (terms default places.Parameter true names as') behind.1.symbols.constants behind.0.shape d; inward = says says_in as'; outward = says says_out as'; range = given range_in as' }
 
 abbrev pub listed_at : Pk → List Ident → idl.AttrForms → Dtor → Sense × Scope → Listed × Scope
 listed_at default names as' d behind =
@@ -133,7 +134,7 @@ typed t constants m d = record { shape = declared t constants m.shape d; sort = 
 
 -- a declarator of a typedef; handle: a word for context handles stands there
 abbrev pub typedef_one : Bool → Bool → Terms → Sense → Dtor → Scope → Scope
-typedef_one handle serialised t m d p = if handle then with_handle d.name serialised p else with_type d.name (typed t p.constants m d) p
+typedef_one handle serialised t m d p = if handle then with_handle d.name serialised p else with_type d.name (typed t p.symbols.constants m d) p
 
 abbrev pub typedef_all : Bool → Bool → Terms → Sense → List Dtor → Scope → Scope
 typedef_all handle serialised t m [] p = p

@@ -1,7 +1,7 @@
 -- Each name that the table of a tree reads stands for something, so that nothing stands in for it: a type, a tag and a constant are
 -- declared before, as one of that kind; a size or a switch is a parameter or a member of the same list; each conformant array that
 -- is no string has a size; and the interface has a uuid. X_stands says so of all that an X holds, at the scope before it.
-use Rattle.std.specs.Prelude.{◌≡◌, ◌==◌, Bool, true, false, ◌&&◌, ◌||◌, List, [], ◌∷◌, Option, Some, None, is_some, bytes_eq}
+use Rattle.std.specs.Prelude.{◌≡◌, ℕ, ◌==◌, Bool, true, false, ◌&&◌, ◌||◌, List, [], ◌∷◌, Option, Some, None, is_some, bytes_eq}
 use Rattle.std.specs.List.{list_any, list_all}
 use Rattle.idl_tree.specs.declared.leaf.Ident.{Ident}
 use Rattle.idl_tree.specs.declared.leaf.Num.{Num}
@@ -15,26 +15,21 @@ use Rattle.idl_tree.specs.declared.spec.Label.{Label}
 use Rattle.idl_tree.specs.declared.spec.LabelKind.{LabelKind}
 use Rattle.idl_tree.specs.declared.spec.LabelKind.TheVariants as labels
 use Rattle.idl_tree.specs.declared.declaration.Ast.{Ast}
-use Rattle.idl_outline.specs.Outline.{all_pointed, pointer_default}
+use Rattle.idl_names.specs.Declarators.{all_pointed}
+use Rattle.idl_names.specs.Attributes.{pointer_default, says, says_string}
 use Rattle.idl_forms.specs.Forms as idl
 use Rattle.ndr_value.specs.Forms.{Form}
-use Rattle.table_scope.specs.declared.symbols.Tag.{Tag}
-use Rattle.table_scope.specs.Scopes.{ByName, Scope, begun}
-use Rattle.table_scope.specs.Marks.{says, says_string}
+use Rattle.idl_names.specs.Symbols.{ByName, Symbols, tag_named}
+use Rattle.table_scope.specs.Scopes.{Sense, Scope, begun}
 use Rattle.table_specs.specs.Specs.{member_names, members_within, arm_names, spec_at, switch_at, attr_at, attrs_at, member_at, arm_at}
 use Rattle.table_laws.specs.Interfaces.{Draft, is_binding, param_names, param_at, alone_at, decl_at, nothing_declared, first_in, uuid_in}
 
 -- ---- names
 
--- inside of its body a structure is known behind a pointer alone
-abbrev pub is_known : Bool → Option Tag → Bool
-is_known pointed None = false
-is_known pointed (Some t) = t.whole || pointed
-
 -- a structure with neither tag nor members has no name; no text has one
-abbrev pub tag_stands : Bool → Option Ident → ByName Tag → Bool
-tag_stands pointed None tags = true
-tag_stands pointed (Some i) tags = is_known pointed (tags i.text)
+abbrev pub tag_stands : Bool → Option Ident → Symbols Sense ℕ → Bool
+tag_stands pointed None s = true
+tag_stands pointed (Some i) s = is_some (tag_named pointed i.text s)
 
 abbrev pub label_stands : ByName Num → LabelKind → Bool
 label_stands constants (labels.Named i) = is_some (constants i.text)
@@ -93,8 +88,8 @@ abbrev mutual
   spec_stands default pointed given (idl.a_spec at k) p = kind_stands default pointed given k p
 
   pub kind_stands : Pk → Bool → Option Form → idl.KindForm → Scope → Bool
-  kind_stands default pointed given (idl.OfName i) p = is_some (p.named i.text)
-  kind_stands default pointed given (idl.OfTag tag) p = tag_stands pointed tag p.tags
+  kind_stands default pointed given (idl.OfName i) p = is_some (p.symbols.types i.text)
+  kind_stands default pointed given (idl.OfTag tag) p = tag_stands pointed tag p.symbols
   kind_stands default pointed given (idl.OfStruct tag ms) p = members_stand default (member_names ms) ms (begun tag (members_within ms) p)
   kind_stands default pointed given (idl.OfUnion tag s arms) p = switch_stands default s p && arms_stand default (arm_names arms) arms (switch_at default given s p).1
   kind_stands default pointed given _ p = true
@@ -118,15 +113,15 @@ abbrev mutual
   member_stands default names (idl.a_member as' s ds) p =
       let marks : Option Form × Scope = attrs_at default as' p in
       attrs_stand default as' p && (spec_stands default (all_pointed ds) marks.0 s marks.1
-      && (counts_stand names as' && dtors_stand (spec_at default (all_pointed ds) marks.0 s marks.1).1.constants as' ds))
+      && (counts_stand names as' && dtors_stand (spec_at default (all_pointed ds) marks.0 s marks.1).1.symbols.constants as' ds))
 
   pub members_stand : Pk → List Ident → idl.MemberForms → Scope → Bool
   members_stand default names idl.no_member p = true
   members_stand default names (idl.then_member m ms) p = member_stands default names m p && members_stand default names ms (member_at default names m p).1
 
   pub arm_stands : Pk → List Ident → idl.ArmForm → Scope → Bool
-  arm_stands default names (idl.member_arm ls m) p = labels_stand p.constants ls && member_stands default names m p
-  arm_stands default names (idl.empty_arm ls) p = labels_stand p.constants ls
+  arm_stands default names (idl.member_arm ls m) p = labels_stand p.symbols.constants ls && member_stands default names m p
+  arm_stands default names (idl.empty_arm ls) p = labels_stand p.symbols.constants ls
 
   pub arms_stand : Pk → List Ident → idl.ArmForms → Scope → Bool
   arms_stand default names idl.no_arm p = true

@@ -2,7 +2,7 @@
 use Rattle.std.specs.Prelude.{◌≡◌, ℕ, List, [], ◌∷◌, ◌++◌, map}
 use Rattle.idl_tree.specs.declared.declaration.Ast.{Ast}
 use Rattle.idl_tree.specs.declared.leaf.Pk.{Pk}
-use Rattle.idl_outline.specs.Outline.{pointer_default}
+use Rattle.idl_names.specs.Attributes.{pointer_default}
 use Rattle.idl_forms.specs.Forms as idl
 use Rattle.table_form.specs.declared.operation.HandleUse.{HandleUse}
 use Rattle.table_form.specs.Tables.{OpForm, TableForm}

@@ -1,2 +1,2 @@
 pub mod Pointers
-pub mod Puts
+pub mod Senses

@@ -7,21 +7,20 @@ use Rattle.idl_tree.specs.declared.leaf.Pk.TheVariants as pks
 use Rattle.idl_tree.specs.declared.leaf.Dtor.{Dtor}
 use Rattle.idl_tree.specs.declared.leaf.SizeRef.{SizeRef}
 use Rattle.idl_tree.specs.declared.leaf.SizeRef.TheVariants as refs
-use Rattle.idl_tree.specs.declared.leaf.ArraySize.{ArraySize}
-use Rattle.idl_tree.specs.declared.leaf.ArraySize.TheVariants as sizes
-use Rattle.idl_outline.specs.declared.field.Extent.{Extent}
-use Rattle.idl_outline.specs.declared.field.Extent.TheVariants as extents
-use Rattle.idl_outline.specs.declared.field.Place.{Place}
-use Rattle.idl_outline.specs.Names.{class_at, or_class}
-use Rattle.idl_forms.specs.Forms.{AttrKindForm, OfSizeIs, OfMaxIs, OfLengthIs, OfSwitchIs, AttrForms}
+use Rattle.idl_forms.specs.Forms.{AttrKindForm, OfSizeIs, OfMaxIs, OfLengthIs, OfSwitchIs, OfRange, AttrForms}
+use Rattle.idl_names.specs.declared.place.Extent.{Extent}
+use Rattle.idl_names.specs.declared.place.Extent.TheVariants as extents
+use Rattle.idl_names.specs.declared.place.Place.{Place}
+use Rattle.idl_names.specs.Symbols.{ByName}
+use Rattle.idl_names.specs.Attributes.{given, says, says_string, pointer_in, or_class, outer_class}
+use Rattle.idl_names.specs.Declarators.{value_of, extent_of}
 use Rattle.ndr_value.specs.declared.shape.ArrayKind.{ArrayKind}
 use Rattle.ndr_value.specs.declared.shape.ArrayKind.TheVariants.{Fixed, Varying, Conformant, ConformantVarying}
 use Rattle.ndr_value.specs.declared.shape.Count.{Count}
 use Rattle.ndr_value.specs.declared.shape.Count.TheVariants as counts
 use Rattle.ndr_value.specs.Forms.{Form, OfNamed, OfArray, OfText, OfRef, OfUnique, OfFull}
+use Rattle.table_form.specs.declared.operation.Bounds.{Bounds}
 use Rattle.table_scope.specs.declared.said.Terms.{Terms}
-use Rattle.table_scope.specs.Marks.{given, says, says_string, pointer_in}
-use Rattle.table_scope.specs.Scopes.{ByName}
 
 -- ---- counts: they name a parameter, or a member of the same body, by its index
 
@@ -51,12 +50,17 @@ abbrev pub switch_in : Bool → List Ident → AttrKindForm → Option Count
 switch_in parameters names (OfSwitchIs star i) = Some (named_count parameters names 0 star i)
 switch_in parameters names _ = None
 
--- what attributes say of the declarators behind them: parameters, or the members of one body, with the names of all of these. The
--- outermost pointer of a parameter is ref, where no attribute gives a class; all other pointers have the class of the interface
+-- the numbers that a parameter may be
+abbrev pub range_in : AttrKindForm → Option Bounds
+range_in (OfRange low high) = Some (record { low = value_of low; high = value_of high })
+range_in _ = None
+
+-- what attributes say of the declarators behind them: parameters, or the members of one body, with the names of all of these. Pointers
+-- behind others have the class of the interface
 abbrev pub terms : Pk → Place → Bool → List Ident → AttrForms → Terms
 terms default place parameters names as' = record {
   inner = default;
-  outer = or_class (given pointer_in as') (class_at default place);
+  outer = outer_class default place as';
   element = or_class (given pointer_in as') default;
   text = says says_string as';
   most = given (most_in parameters names) as';
@@ -80,16 +84,6 @@ abbrev pub pointers : Pk → Pk → ℕ → Form → Form
 pointers inner outer n s = if n == 0 then s else pointer outer (chain inner (n - 1) s)
 
 -- ---- arrays and texts
-
-abbrev pub size_extent : ByName Num → ArraySize → Extent
-size_extent constants sizes.Empty = extents.Open
-size_extent constants sizes.Star = extents.Open
-size_extent constants (sizes.Number n) = extents.Fixed (Some n)
-size_extent constants (sizes.Named i) = extents.Fixed (constants i.text)
-
-abbrev pub extent : ByName Num → Option ArraySize → Extent
-extent constants None = extents.Single
-extent constants (Some size) = size_extent constants size
 
 abbrev pub bound : Option Num → ℕ
 bound None = 0
@@ -149,4 +143,4 @@ abbrev pub shaped : Terms → Extent → ℕ → Form → Form
 shaped t e n s = if n == 0 then by_value t e s else array t e (pointers t.inner (outermost t e) n (target t s))
 
 abbrev pub declared : Terms → ByName Num → Form → Dtor → Form
-declared t constants s d = if_tied t.switch (shaped t (extent constants d.array) d.stars s)
+declared t constants s d = if_tied t.switch (shaped t (extent_of constants d.array) d.stars s)

@@ -1,3 +1,2 @@
 pub mod Scopes
-pub mod Marks
 pub mod Declarators

@@ -1,16 +1,16 @@
 -- What is known at a place of an interface's text: the structures and unions whose bodies have ended, in the order in which they
--- end, and what names stand for. A name stands for what its newest declaration of that kind declares. Where a rule of the interface
--- is broken, a name may stand for nothing.
-use Rattle.std.specs.Prelude.{ℕ, ◌+◌, ℤ, pos, neg_ℤ, Bool, true, false, List, [], ◌∷◌, ◌++◌, length, Option, Some, None, if◌then◌else◌, bytes_eq}
+-- end, and what names stand for. Where a rule of the interface is broken, a name may stand for nothing.
+use Rattle.std.specs.Prelude.{ℕ, ◌+◌, Bool, true, false, List, [], ◌∷◌, ◌++◌, length, Option, Some, None}
 use Rattle.idl_tree.specs.declared.leaf.Ident.{Ident}
 use Rattle.idl_tree.specs.declared.leaf.Num.{Num}
-use Rattle.name_map.specs.Named.{at_name}
+use Rattle.idl_names.specs.declared.symbols.Tag.{Tag}
+use Rattle.idl_names.specs.Symbols as names
+use Rattle.idl_names.specs.Symbols.{ByName, Symbols, symbols}
 use Rattle.ndr_value.specs.Forms.{Form, OfUint, OfNamed, OfStruct, OfHandle, no_form, form, types_of}
-use Rattle.table_scope.specs.declared.symbols.Sort.{Sort}
-use Rattle.table_scope.specs.declared.symbols.Sort.TheVariants as sorts
-use Rattle.table_scope.specs.declared.symbols.Meaning.{Meaning}
-use Rattle.table_scope.specs.declared.symbols.Tag.{Tag}
-use Rattle.table_scope.specs.declared.symbols.Symbols.{Symbols}
+use Rattle.table_scope.specs.declared.known.Sort.{Sort}
+use Rattle.table_scope.specs.declared.known.Sort.TheVariants as sorts
+use Rattle.table_scope.specs.declared.known.Meaning.{Meaning}
+use Rattle.table_scope.specs.declared.known.Known.{Known}
 
 -- ---- what specs stand for
 
@@ -37,23 +37,15 @@ shapeless sort = record { shape = nothing; sort = sort }
 abbrev pub handle_sense : ℕ → Bool → Sense
 handle_sense kind serialised = record { shape = OfHandle kind; sort = sorts.Handle kind serialised }
 
--- what stands at each name
-abbrev pub ByName : Type 0 → Type 0
-ByName X = List ℕ → Option X
-
-abbrev pub put : {X : Type 0} → List ℕ → X → ByName X → ByName X
-put name x named = λ other. if bytes_eq name other then Some x else named other
-
 pub record Scope : Type 0 where
   pub types : List Form
   -- how many types of context handles there are
   pub kinds : ℕ
-  pub named : ByName Sense
-  pub constants : ByName Num
-  pub tags : ByName Tag
+  -- of a structure, its number among the types is known
+  pub symbols : Symbols Sense ℕ
 
 abbrev pub nothing_known : Scope
-nothing_known = record { types = []; kinds = 0; named = λ name. None; constants = λ name. None; tags = λ name. None }
+nothing_known = record { types = []; kinds = 0; symbols = names.no_symbols }
 
 -- ---- the same of what the code keeps
 
@@ -64,8 +56,11 @@ abbrev pub sense_at : Option Meaning → Option Sense
 sense_at None = None
 sense_at (Some m) = Some (sense m)
 
-abbrev pub scope : Symbols → Scope
-scope k = record { types = types_of k.types.items; kinds = k.kinds; named = λ name. sense_at (at_name k.named name); constants = λ name. at_name k.constants name; tags = λ name. at_name k.tags name }
+abbrev pub senses : Symbols Meaning ℕ → Symbols Sense ℕ
+senses s = record { types = λ name. sense_at (s.types name); constants = s.constants; tags = s.tags }
+
+abbrev pub scope : Known → Scope
+scope k = record { types = types_of k.types.items; kinds = k.kinds; symbols = senses (symbols k.symbols) }
 
 -- ---- what names stand for
 
@@ -76,39 +71,38 @@ or_nothing (Some m) = m
 abbrev pub type_named : List ℕ → ByName Sense → Sense
 type_named name named = or_nothing (named name)
 
--- inside of its body a structure is known behind a pointer alone
-abbrev pub found_form : Bool → Option Tag → Form
-found_form pointed None = nothing
-found_form pointed (Some t) = if t.whole then OfNamed t.number None else (if pointed then OfNamed t.number None else nothing)
+abbrev pub numbered : Option ℕ → Form
+numbered None = nothing
+numbered (Some number) = OfNamed number None
 
-abbrev pub tag_form : Bool → Option Ident → ByName Tag → Form
-tag_form pointed None tags = nothing
-tag_form pointed (Some i) tags = found_form pointed (tags i.text)
+-- pointed: the tag stands behind a pointer
+abbrev pub tag_form : Bool → Option Ident → Symbols Sense ℕ → Form
+tag_form pointed None s = nothing
+tag_form pointed (Some i) s = numbered (names.tag_named pointed i.text s)
 
 -- ---- what declarations add
 
 abbrev pub with_type : Ident → Sense → Scope → Scope
-with_type i m s = record s { named = put i.text m s.named }
+with_type i m s = record s { symbols = names.with_type i m s.symbols }
 
 -- a type of context handles more
 abbrev pub with_handle : Ident → Bool → Scope → Scope
 with_handle i serialised s = record (with_type i (handle_sense s.kinds serialised) s) { kinds = s.kinds + 1 }
 
 abbrev pub with_constant : Ident → Num → Scope → Scope
-with_constant i n s = record s { constants = put i.text n s.constants }
+with_constant i n s = record s { symbols = names.with_constant i n s.symbols }
 
--- the names of an enumeration stand for the numbers from n on
-abbrev pub with_names : ℕ → List Ident → Scope → Scope
-with_names n [] s = s
-with_names n (i ∷ is) s = with_names (n + 1) is (with_constant i (record { at = i.at; minus = false; value = n }) s)
+-- the names of an enumeration
+abbrev pub with_names : List Ident → Scope → Scope
+with_names is s = record s { symbols = names.with_names 0 is s.symbols }
 
-abbrev pub with_tag : Ident → Tag → Scope → Scope
-with_tag i t s = record s { tags = put i.text t s.tags }
+abbrev pub with_tag : Ident → Tag ℕ → Scope → Scope
+with_tag i t s = record s { symbols = names.with_tag i t s.symbols }
 
 -- a structure's body begins, which has so many structures and unions within
 abbrev pub begun : Option Ident → ℕ → Scope → Scope
 begun None within s = s
-begun (Some i) within s = with_tag i (record { whole = false; number = length s.types + within }) s
+begun (Some i) within s = with_tag i (record { whole = false; known = length s.types + within }) s
 
 -- a structure's or union's body has ended: its number is that of the types before it
 abbrev pub with_entry : Form → Scope → Scope
@@ -116,4 +110,4 @@ with_entry t s = record s { types = s.types ++ t ∷ [] }
 
 abbrev pub ended : Option Ident → Form → Scope → Scope
 ended None t s = with_entry t s
-ended (Some i) t s = with_tag i (record { whole = true; number = length s.types }) (with_entry t s)
+ended (Some i) t s = with_tag i (record { whole = true; known = length s.types }) (with_entry t s)

@@ -1,6 +1,6 @@
 //! Counts, which name a parameter or a member by its index.
 ghost use Rattle.std.specs.Prelude.{◌≡◌, ◌+◌, ◌≤◌, length, IfOk};
-ghost use Rattle.idl_outline.specs.Names.{value_of};
+ghost use Rattle.idl_names.specs.Declarators.{value_of};
 ghost use Rattle.table_scope.specs.Declarators as spec;
 
 use idl_tree::{Ident, Num, SizeRef};

@@ -1,5 +1,5 @@
 //! The shape of what a declarator declares.
-ghost use Rattle.std.specs.Prelude.{◌≡◌, ◌∷◌, [], map, not, IfOk};
+ghost use Rattle.std.specs.Prelude.{◌≡◌, IfOk};
 ghost use Rattle.ndr_value.specs.Forms.{form};
 ghost use Rattle.idl_forms.specs.Forms.{attrs_form};
 ghost use Rattle.name_map.specs.Named.{at_name};
@@ -8,9 +8,8 @@ ghost use Rattle.table_scope.specs.Declarators as spec;
 use crate::counts::in_32;
 use crate::marks;
 use crate::said::Terms;
-use crate::scope::constant_named;
-use idl_outline::{Extent, Place, class_at, or_class};
-use idl_tree::{ArraySize, Attr, Dtor, Ident, Num, Pk};
+use idl_names::{Extent, Place, extent_of, or_class, outer_class, pointer_given, says_string};
+use idl_tree::{Attr, Dtor, Ident, Num, Pk};
 use name_map::Names;
 use ndr_value::{ArrayKind, Count, Shape, copy_shape};
 use rpc_base::NoMemory;
@@ -33,15 +32,14 @@ pub fn terms(
 ) -> Result<Terms, NoMemory>
     ensures { IfOk result (λ t. t ≡ spec.terms default place parameters names.now (attrs_form attrs.now)) }
 {
-    let class = marks::pointer(attrs);
-    let text = marks::says_string(attrs);
+    let text = says_string(attrs);
     let most = marks::most(attrs, parameters, names)?;
     let travel = marks::travel(attrs, parameters, names)?;
     let switch = marks::switch(attrs, parameters, names)?;
     Ok(Terms {
         inner: default,
-        outer: or_class(class, class_at(default, place)),
-        element: or_class(class, default),
+        outer: outer_class(default, place, attrs),
+        element: or_class(pointer_given(attrs), default),
         text,
         most,
         travel,
@@ -86,26 +84,6 @@ fn pointers(
     }
     let behind = chain(alloc, inner, stars - 1, shape)?;
     pointer(alloc, outer, behind)
-}
-
-fn size_extent(constants: &Names<Num>, size: &ArraySize) -> Extent
-    ensures { result ≡ spec.size_extent (at_name constants.now) size.now }
-{
-    match size {
-        ArraySize::Empty => Extent::Open,
-        ArraySize::Star => Extent::Open,
-        ArraySize::Number(number) => Extent::Fixed(Some(*number)),
-        ArraySize::Named(name) => Extent::Fixed(constant_named(constants, name.text.as_slice())),
-    }
-}
-
-fn extent(constants: &Names<Num>, array: &Option<ArraySize>) -> Extent
-    ensures { result ≡ spec.extent (at_name constants.now) array.now }
-{
-    match array {
-        None => Extent::Single,
-        Some(size) => size_extent(constants, size),
-    }
 }
 
 // A size that isn't declared or is negative is refused.
@@ -264,7 +242,7 @@ pub fn declared(
     if dtor.stars > usize::from(MOST_LEVELS) {
         return Err(NoMemory);
     }
-    let extent = extent(constants, &dtor.array);
+    let extent = extent_of(constants, &dtor.array);
     let shape = shaped(alloc, terms, extent, dtor.stars, shape)?;
     if !has_few_levels(&shape, &[]) {
         return Err(NoMemory);

@@ -4,17 +4,17 @@
 
 mod counts;
 mod declarators;
+mod known;
 mod marks;
 mod said;
 mod scope;
-mod symbols;
 
 pub use counts::{in_16, signed_64};
 pub use declarators::{declared, terms};
-pub use marks::{is_serialised, range, says_handle, says_in, says_maybe, says_out};
+pub use known::{Known, Meaning, Sort};
+pub use marks::range;
 pub use said::Terms;
 pub use scope::{
-    add, begun, constant_named, ended, nothing, nothing_known, struct_shape, tag_shape, type_named,
-    union_shape, valued, with_constant, with_handle, with_names, with_type,
+    add, begun, ended, nothing, nothing_known, struct_shape, tag_shape, type_named, union_shape,
+    valued, with_constant, with_handle, with_names, with_type,
 };
-pub use symbols::{Meaning, Sort, Symbols, Tag};

@@ -1,14 +1,13 @@
 //! What names stand for, and what declarations add.
-ghost use Rattle.std.specs.Prelude.{◌≡◌, ◌+◌, ◌∷◌, [], length, map, IfOk, OnOk, None, Some};
+ghost use Rattle.std.specs.Prelude.{◌≡◌, ◌+◌, length, IfOk, OnOk};
 ghost use Rattle.ndr_value.specs.Forms.{form, forms, arms_of, types_of, OfStruct, OfUnion};
-ghost use Rattle.name_map.specs.Named.{at_name};
 ghost use Rattle.table_scope.specs.Scopes as spec;
 ghost use Rattle.table_scope.specs.Scopes.{sense, scope, handle_sense};
 
 use crate::counts::in_16;
-use crate::symbols::{Meaning, Sort, Symbols, Tag};
+use crate::known::{Known, Meaning, Sort};
+use idl_names::{SymbolTable, Tag};
 use idl_tree::{Ident, Num};
-use name_map::{Names, named, put};
 use ndr_value::{Arms, Shape, Shapes, copy_shape};
 use rpc_base::NoMemory;
 use std::alloc::Global;
@@ -51,27 +50,20 @@ pub fn add(a: usize, b: usize) -> Result<usize, NoMemory>
 
 // ---- what declarations add
 
-fn key_of(alloc: Global, name: &Ident) -> Result<Vec<u8>, NoMemory>
-    ensures { IfOk result (λ key. key.items ≡ name.now.text) }
-{
-    Ok(name.text.copy(alloc)?.into_vec())
-}
-
 /// The name of a type.
 ///
 /// # Errors
 ///
 /// `NoMemory` where there is no memory for it, as for each of these.
 pub fn with_type(
-    known: &mut Symbols,
+    known: &mut Known,
     alloc: Global,
     name: &Ident,
     meaning: Meaning,
 ) -> Result<(), NoMemory>
     ensures { OnOk result (scope known.new ≡ spec.with_type name.now (sense meaning) (scope known.old)) }
 {
-    let key = key_of(alloc, name)?;
-    put(&mut known.named, key, meaning)?;
+    known.symbols.with_type(alloc, name, meaning)?;
     Ok(())
 }
 
@@ -88,7 +80,7 @@ fn handle_meaning(kinds: usize, serialised: bool) -> Result<Meaning, NoMemory>
 
 /// The name of a type of context handles.
 pub fn with_handle(
-    known: &mut Symbols,
+    known: &mut Known,
     alloc: Global,
     name: &Ident,
     serialised: bool,
@@ -104,46 +96,35 @@ pub fn with_handle(
 
 /// The name of a constant.
 pub fn with_constant(
-    known: &mut Symbols,
+    known: &mut Known,
     alloc: Global,
     name: &Ident,
     value: Num,
 ) -> Result<(), NoMemory>
     ensures { OnOk result (scope known.new ≡ spec.with_constant name.now value (scope known.old)) }
 {
-    let key = key_of(alloc, name)?;
-    put(&mut known.constants, key, value)?;
+    known.symbols.with_constant(alloc, name, value)?;
     Ok(())
 }
 
 /// The names of an enumeration.
-pub fn with_names(known: &mut Symbols, alloc: Global, names: &[Ident]) -> Result<(), NoMemory>
-    ensures { OnOk result (scope known.new ≡ spec.with_names 0 names.now (scope known.old)) }
+#[tactic(auto, using(crate::proofs::Senses::behind))]
+pub fn with_names(known: &mut Known, alloc: Global, names: &[Ident]) -> Result<(), NoMemory>
+    ensures { OnOk result (scope known.new ≡ spec.with_names names.now (scope known.old)) }
 {
-    let mut number = 0;
-    for name in names {
-        let value = Num {
-            at: name.at,
-            minus: false,
-            value: number,
-        };
-        with_constant(known, alloc, name, value)?;
-        number += 1;
-    }
-    Ok(())
+    known.symbols.with_names(alloc, names)
 }
 
 // A structure's tag.
-fn with_tag(known: &mut Symbols, alloc: Global, name: &Ident, tag: Tag) -> Result<(), NoMemory>
+fn with_tag(known: &mut Known, alloc: Global, name: &Ident, tag: Tag<usize>) -> Result<(), NoMemory>
     ensures { OnOk result (scope known.new ≡ spec.with_tag name.now tag (scope known.old)) }
 {
-    let key = key_of(alloc, name)?;
-    put(&mut known.tags, key, tag)?;
+    known.symbols.with_tag(alloc, name, tag)?;
     Ok(())
 }
 
 // The number of the next type.
-fn next_number(known: &Symbols) -> usize
+fn next_number(known: &Known) -> usize
     ensures { result ≡ length (scope known.now).types }
 {
     known.types.len()
@@ -151,7 +132,7 @@ fn next_number(known: &Symbols) -> usize
 
 /// The tag of a structure whose body begins, with so many structures and unions within.
 pub fn begun(
-    known: &mut Symbols,
+    known: &mut Known,
     alloc: Global,
     tag: &Option<Ident>,
     within: usize,
@@ -162,14 +143,17 @@ pub fn begun(
         None => Ok(()),
         Some(name) => {
             let number = add(next_number(known), within)?;
-            let whole = false;
-            with_tag(known, alloc, name, Tag { whole, number })
+            let tag = Tag {
+                whole: false,
+                known: number,
+            };
+            with_tag(known, alloc, name, tag)
         }
     }
 }
 
 // A type.
-fn with_entry(known: &mut Symbols, entry: Shape) -> Result<(), NoMemory>
+fn with_entry(known: &mut Known, entry: Shape) -> Result<(), NoMemory>
     ensures { OnOk result (scope known.new ≡ spec.with_entry (form entry) (scope known.old)) }
 {
     known.types.push(entry)?;
@@ -178,7 +162,7 @@ fn with_entry(known: &mut Symbols, entry: Shape) -> Result<(), NoMemory>
 
 /// A structure or union whose body has ended.
 pub fn ended(
-    known: &mut Symbols,
+    known: &mut Known,
     alloc: Global,
     tag: &Option<Ident>,
     entry: Shape,
@@ -190,32 +174,16 @@ pub fn ended(
     match tag {
         None => Ok(()),
         Some(name) => {
-            let whole = true;
-            with_tag(known, alloc, name, Tag { whole, number })
+            let tag = Tag {
+                whole: true,
+                known: number,
+            };
+            with_tag(known, alloc, name, tag)
         }
     }
 }
 
 // ---- what names stand for
-
-/// The number that a name stands for.
-pub fn constant_named(constants: &Names<Num>, text: &[u8]) -> Option<Num>
-    ensures { result ≡ at_name constants.now text.now }
-{
-    match named(constants, text) {
-        None => None,
-        Some(number) => Some(*number),
-    }
-}
-
-fn tag_named(tags: &Names<Tag>, text: &[u8]) -> Option<Tag>
-    ensures { result ≡ at_name tags.now text.now }
-{
-    match named(tags, text) {
-        None => None,
-        Some(tag) => Some(*tag),
-    }
-}
 
 fn copy_meaning(alloc: Global, meaning: &Meaning) -> Result<Meaning, NoMemory>
     ensures { IfOk result (λ copy. sense copy ≡ sense meaning.now) }
@@ -242,49 +210,44 @@ pub fn valued(shape: Shape) -> Meaning
 /// # Errors
 ///
 /// `NoMemory` where there is no memory for a copy of it.
-pub fn type_named(known: &Symbols, alloc: Global, name: &Ident) -> Result<Meaning, NoMemory>
-    ensures { IfOk result (λ m. sense m ≡ spec.type_named name.now.text (scope known.now).named) }
+pub fn type_named(known: &Known, alloc: Global, name: &Ident) -> Result<Meaning, NoMemory>
+    ensures { IfOk result (λ m. sense m ≡ spec.type_named name.now.text (scope known.now).symbols.types) }
 {
-    match named(&known.named, name.text.as_slice()) {
+    match known.symbols.type_named(name.text.as_slice()) {
         None => Ok(valued(nothing(alloc))),
         Some(meaning) => copy_meaning(alloc, meaning),
     }
 }
 
-fn found_shape(alloc: Global, pointed: bool, found: Option<Tag>) -> Shape
-    ensures { form result ≡ spec.found_form pointed found }
+fn numbered(alloc: Global, number: Option<usize>) -> Shape
+    ensures { form result ≡ spec.numbered number }
 {
-    match found {
+    match number {
         None => nothing(alloc),
-        Some(tag) => {
-            if tag.whole || pointed {
-                Shape::Named(tag.number, None)
-            } else {
-                nothing(alloc)
-            }
-        }
+        Some(number) => Shape::Named(number, None),
     }
 }
 
 /// What a structure's tag stands for. `pointed`: it stands behind a pointer.
-pub fn tag_shape(known: &Symbols, alloc: Global, pointed: bool, tag: &Option<Ident>) -> Shape
-    ensures { form result ≡ spec.tag_form pointed tag.now (scope known.now).tags }
+pub fn tag_shape(known: &Known, alloc: Global, pointed: bool, tag: &Option<Ident>) -> Shape
+    ensures { form result ≡ spec.tag_form pointed tag.now (scope known.now).symbols }
 {
     match tag {
         None => nothing(alloc),
-        Some(name) => found_shape(alloc, pointed, tag_named(&known.tags, name.text.as_slice())),
+        Some(name) => numbered(
+            alloc,
+            known.symbols.tag_named(pointed, name.text.as_slice()),
+        ),
     }
 }
 
 /// Nothing is known. It takes no memory.
-pub fn nothing_known(alloc: Global) -> Symbols
+pub fn nothing_known(alloc: Global) -> Known
     ensures { scope result ≡ spec.nothing_known }
 {
-    Symbols {
+    Known {
         types: Vec::new(alloc),
         kinds: 0,
-        named: Names::new(alloc),
-        constants: Names::new(alloc),
-        tags: Names::new(alloc),
+        symbols: SymbolTable::new(alloc),
     }
 }

@@ -1,3 +1,4 @@
 pub mod Layers
+pub mod Members
 pub mod Rows
 pub mod Same

@@ -6,7 +6,8 @@ use Rattle.idl_forms.specs.Forms.{SpecForm}
 use Rattle.ndr_value.specs.Forms.{Form}
 use Rattle.idl_tree.specs.declared.leaf.Num.{Num}
 use Rattle.table_scope.specs.declared.said.Terms.{Terms}
-use Rattle.table_scope.specs.Scopes.{ByName, Scope}
+use Rattle.idl_names.specs.Symbols.{ByName}
+use Rattle.table_scope.specs.Scopes.{Scope}
 use Rattle.table_scope.specs.Declarators.{declared}
 use Rattle.table_specs.specs.Specs.{spec_at}
 

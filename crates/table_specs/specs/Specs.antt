@@ -11,15 +11,15 @@ use Rattle.idl_tree.specs.declared.leaf.Dtor.{Dtor}
 use Rattle.idl_tree.specs.declared.spec.Label.{Label}
 use Rattle.idl_tree.specs.declared.spec.LabelKind.{LabelKind}
 use Rattle.idl_tree.specs.declared.spec.LabelKind.TheVariants as labels
-use Rattle.idl_outline.specs.declared.field.Place.TheVariants as places
-use Rattle.idl_outline.specs.Names.{value_of}
-use Rattle.idl_outline.specs.Outline.{all_pointed}
+use Rattle.idl_names.specs.declared.place.Place.TheVariants as places
+use Rattle.idl_names.specs.Declarators.{value_of, all_pointed, label_number}
 use Rattle.idl_forms.specs.Forms as idl
 use Rattle.ndr_value.specs.Forms.{Form, OfBool, OfByte, OfChar, OfInt, OfUint, OfEnum, OfNamed, OfStruct, OfUnion, Forms, no_form, then_form, Body, empty, holds, ArmForms}
 use Rattle.ndr_value.specs.Forms.{no_arm as no_arm_form, then_arm as then_arm_form}
 use Rattle.table_form.specs.Aligned.{octets_of}
-use Rattle.table_scope.specs.declared.symbols.Sort.TheVariants as sorts
-use Rattle.table_scope.specs.Scopes.{ByName, Sense, Scope, nothing, valued, status_sense, shapeless, type_named, tag_form, with_names, begun, ended}
+use Rattle.table_scope.specs.declared.known.Sort.TheVariants as sorts
+use Rattle.idl_names.specs.Symbols.{ByName}
+use Rattle.table_scope.specs.Scopes.{Sense, Scope, nothing, valued, status_sense, shapeless, type_named, tag_form, with_names, begun, ended}
 use Rattle.table_scope.specs.Declarators.{terms, declared}
 
 -- ---- small parts
@@ -54,11 +54,6 @@ or_nothing None = nothing
 or_nothing (Some s) = s
 
 -- ---- labels
-
-abbrev pub label_number : ByName Num → LabelKind → Option Num
-label_number constants (labels.Number n) = Some n
-label_number constants (labels.Named i) = constants i.text
-label_number constants labels.Default = None
 
 abbrev pub if_case : Option Num → List ℤ
 if_case None = []
@@ -149,7 +144,7 @@ abbrev pub enum_sense : List Ident → Sense
 enum_sense names = valued (OfEnum (length names))
 
 abbrev pub enum_past : List Ident → Scope → Scope
-enum_past names p = with_names 0 names p
+enum_past names p = with_names names p
 
 -- ---- specs. default: the pointer class of the interface; pointed: each declarator of the spec has a star; given: the form of its
 -- switch_type
@@ -160,11 +155,11 @@ abbrev mutual
 
   pub kind_at : Pk → Bool → Option Form → idl.KindForm → Scope → Sense × Scope
   kind_at default pointed given (idl.OfBase b) p = (valued (base_form b), p)
-  kind_at default pointed given (idl.OfName i) p = (type_named i.text p.named, p)
+  kind_at default pointed given (idl.OfName i) p = (type_named i.text p.symbols.types, p)
   kind_at default pointed given idl.OfVoid p = (shapeless sorts.Void, p)
   kind_at default pointed given idl.OfHandle p = (shapeless sorts.HandleT, p)
   kind_at default pointed given idl.OfStatus p = (status_sense, p)
-  kind_at default pointed given (idl.OfTag tag) p = (valued (tag_form pointed tag p.tags), p)
+  kind_at default pointed given (idl.OfTag tag) p = (valued (tag_form pointed tag p.symbols), p)
   kind_at default pointed given (idl.OfStruct tag ms) p = struct_at tag (members_at default (member_names ms) ms (begun tag (members_within ms) p))
   kind_at default pointed given (idl.OfUnion tag s arms) p =
       union_at (switch_at default given s p).0 (arms_at default (arm_names arms) arms (switch_at default given s p).1)
@@ -193,7 +188,7 @@ abbrev mutual
   member_at default names (idl.a_member as' s ds) p =
       let marks : Option Form × Scope = attrs_at default as' p in
       let behind : Sense × Scope = spec_at default (all_pointed ds) marks.0 s marks.1 in
-      (map (declared (terms default places.Member false names as') behind.1.constants behind.0.shape) ds, behind.1)
+      (map (declared (terms default places.Member false names as') behind.1.symbols.constants behind.0.shape) ds, behind.1)
 
   pub members_at : Pk → List Ident → idl.MemberForms → Scope → List Form × Scope
   members_at default names idl.no_member p = ([], p)
@@ -202,8 +197,8 @@ abbrev mutual
 
   pub arm_at : Pk → List Ident → idl.ArmForm → Scope → Face × Scope
   arm_at default names (idl.member_arm ls m) p =
-      ((cases p.constants ls, has_default ls, held (member_at default names m p).0), (member_at default names m p).1)
-  arm_at default names (idl.empty_arm ls) p = ((cases p.constants ls, has_default ls, empty), p)
+      ((cases p.symbols.constants ls, has_default ls, held (member_at default names m p).0), (member_at default names m p).1)
+  arm_at default names (idl.empty_arm ls) p = ((cases p.symbols.constants ls, has_default ls, empty), p)
 
   pub arms_at : Pk → List Ident → idl.ArmForms → Scope → List Face × Scope
   arms_at default names idl.no_arm p = ([], p)

@@ -4,33 +4,25 @@ ghost use Rattle.std.specs.List.{list_any};
 ghost use Rattle.ndr_value.specs.Forms.{form, body, OfStruct};
 ghost use Rattle.name_map.specs.Named.{at_name};
 ghost use Rattle.table_specs.specs.Specs as spec;
+ghost use Rattle.idl_names.specs.Declarators.{label_number};
 
-use idl_tree::{Ident, Label, LabelKind, Num};
+use idl_names::label_number;
+use idl_tree::{Label, LabelKind, Num};
 use name_map::Names;
 use ndr_value::{Cases, Shape, Shapes};
 use rpc_base::NoMemory;
 use std::alloc::Global;
-use table_scope::{constant_named, signed_64, struct_shape};
+use table_scope::{signed_64, struct_shape};
 
 // A constant that isn't declared is refused.
-fn constant(constants: &Names<Num>, name: &Ident) -> Result<Option<Num>, NoMemory>
-    ensures { IfOk result (λ n. n ≡ at_name constants.now name.now.text) }
+fn case_number(constants: &Names<Num>, kind: &LabelKind) -> Result<Option<Num>, NoMemory>
+    ensures { IfOk result (λ n. n ≡ label_number (at_name constants.now) kind.now) }
 {
-    let value = constant_named(constants, name.text.as_slice());
-    if value.is_none() {
+    let number = label_number(constants, kind);
+    if number.is_none() && !is_default(kind) {
         return Err(NoMemory);
     }
-    Ok(value)
-}
-
-fn label_number(constants: &Names<Num>, kind: &LabelKind) -> Result<Option<Num>, NoMemory>
-    ensures { IfOk result (λ n. n ≡ spec.label_number (at_name constants.now) kind.now) }
-{
-    match kind {
-        LabelKind::Number(number) => Ok(Some(*number)),
-        LabelKind::Named(name) => constant(constants, name),
-        LabelKind::Default => Ok(None),
-    }
+    Ok(number)
 }
 
 fn add_case(all: &mut Cases, number: Option<Num>) -> Result<(), NoMemory>
@@ -53,7 +45,7 @@ pub fn cases(alloc: Global, constants: &Names<Num>, labels: &[Label]) -> Result<
 {
     let mut all = Cases::new(alloc);
     for label in labels {
-        add_case(&mut all, label_number(constants, &label.what)?)?;
+        add_case(&mut all, case_number(constants, &label.what)?)?;
     }
     Ok(all)
 }

@@ -3,7 +3,7 @@ ghost use Rattle.std.specs.Prelude.{◌≡◌, ◌+◌, ◌++◌, map, OnOk, IfO
 ghost use Rattle.idl_forms.specs.Forms.{spec_form, kind_form, member_form, members_form, switch_form, arm_form, arms_form, attr_kind_form, attr_form, attrs_form};
 ghost use Rattle.table_specs.specs.Specs as spec;
 
-use idl_outline::copy_name;
+use idl_names::copy_name;
 use idl_tree::{ArmNode, Attr, AttrKind, Dtor, Ident, Member, Spec, SpecKind, Switch};
 use rpc_base::NoMemory;
 use std::alloc::Global;
@@ -100,25 +100,13 @@ fn attrs_within(attrs: &[Attr]) -> Result<usize, NoMemory>
 }
 
 #[cycle(within)]
+#[tactic(auto, using(idl_forms::proofs::Layers::marks))]
 fn mark_within(kind: &AttrKind) -> Result<usize, NoMemory>
     ensures { IfOk result (λ n. n ≡ spec.mark_within (attr_kind_form kind.now)) }
 {
     match kind {
         AttrKind::SwitchType(of) => spec_within(of),
-        AttrKind::In
-        | AttrKind::Out
-        | AttrKind::Pointer(_)
-        | AttrKind::Text
-        | AttrKind::Idempotent
-        | AttrKind::Maybe
-        | AttrKind::Handle
-        | AttrKind::HandleSerialize
-        | AttrKind::HandleNoserialize
-        | AttrKind::SizeIs(_)
-        | AttrKind::MaxIs(_)
-        | AttrKind::LengthIs(_)
-        | AttrKind::SwitchIs { .. }
-        | AttrKind::Range(..) => Ok(0),
+        _ => Ok(0),
     }
 }
 

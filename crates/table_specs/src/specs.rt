@@ -11,7 +11,7 @@ ghost use Rattle.table_specs.specs.Specs as spec;
 
 use crate::labels::{cases, has_default, held, struct_entry};
 use crate::names::{arm_names, member_names, members_within};
-use idl_outline::{Place, all_pointed};
+use idl_names::{Place, all_pointed};
 use idl_tree::{
     ArmNode, Attr, AttrKind, Base, Dtor, Ident, Member, Num, Pk, Spec, SpecKind, Switch,
 };
@@ -21,7 +21,7 @@ use rpc_base::NoMemory;
 use std::alloc::Global;
 use table_form::octets;
 use table_scope::{
-    Meaning, Sort, Symbols, Terms, begun, declared, ended, in_16, nothing, tag_shape, terms,
+    Known, Meaning, Sort, Terms, begun, declared, ended, in_16, nothing, tag_shape, terms,
     type_named, union_shape, valued, with_names,
 };
 
@@ -69,7 +69,7 @@ fn union_entry(tag: Box<Shape>, arms: Arms) -> Shape
 }
 
 // The type that has just ended.
-fn newest(known: &Symbols) -> Meaning
+fn newest(known: &Known) -> Meaning
     ensures { sense result ≡ spec.numbered (scope known.now) }
 {
     valued(Shape::Named(known.types.len(), None))
@@ -112,7 +112,7 @@ fn first_of(tag: Option<Shape>, next: Option<Shape>) -> Option<Shape>
 }
 
 // An enumeration of these names.
-fn enumeration(known: &mut Symbols, alloc: Global, names: &[Ident]) -> Result<Meaning, NoMemory>
+fn enumeration(known: &mut Known, alloc: Global, names: &[Ident]) -> Result<Meaning, NoMemory>
     ensures value { IfOk result (λ m. sense m ≡ spec.enum_sense names.now) }
     ensures past { OnOk result (scope known.new ≡ spec.enum_past names.now (scope known.old)) }
 {
@@ -130,7 +130,7 @@ fn enumeration(known: &mut Symbols, alloc: Global, names: &[Ident]) -> Result<Me
 pub fn spec_meaning(
     of: &Spec,
     alloc: Global,
-    known: &mut Symbols,
+    known: &mut Known,
     default: Pk,
     pointed: bool,
     given: &Option<Shape>,
@@ -145,7 +145,7 @@ pub fn spec_meaning(
 fn kind_meaning(
     kind: &SpecKind,
     alloc: Global,
-    known: &mut Symbols,
+    known: &mut Known,
     default: Pk,
     pointed: bool,
     given: &Option<Shape>,
@@ -186,7 +186,7 @@ fn kind_meaning(
 fn structure(
     list: &[Member],
     alloc: Global,
-    known: &mut Symbols,
+    known: &mut Known,
     default: Pk,
     tag: &Option<Ident>,
 ) -> Result<Meaning, NoMemory>
@@ -207,7 +207,7 @@ fn structure(
 fn union_meaning(
     list: &[ArmNode],
     alloc: Global,
-    known: &mut Symbols,
+    known: &mut Known,
     default: Pk,
     tag: Shape,
 ) -> Result<Meaning, NoMemory>
@@ -224,12 +224,7 @@ fn union_meaning(
 
 // The type of the tag that a union's switch names.
 #[cycle(specs)]
-fn switch_tag(
-    by: &Switch,
-    alloc: Global,
-    known: &mut Symbols,
-    default: Pk,
-) -> Result<Shape, NoMemory>
+fn switch_tag(by: &Switch, alloc: Global, known: &mut Known, default: Pk) -> Result<Shape, NoMemory>
     ensures value { IfOk result (λ s. form s ≡ (spec.switch_at default None (switch_form by.now) (scope known.old)).0) }
     ensures past { OnOk result (scope known.new ≡ (spec.switch_at default None (switch_form by.now) (scope known.old)).1) }
 {
@@ -247,7 +242,7 @@ fn switch_tag(
 pub fn attrs_tag(
     list: &[Attr],
     alloc: Global,
-    known: &mut Symbols,
+    known: &mut Known,
     default: Pk,
 ) -> Result<Option<Shape>, NoMemory>
     ensures value { IfOk result (λ o. result_form o ≡ (spec.attrs_at default (attrs_form list.now) (scope known.old)).0) }
@@ -265,7 +260,7 @@ pub fn attrs_tag(
 fn attr_tag(
     attr: &Attr,
     alloc: Global,
-    known: &mut Symbols,
+    known: &mut Known,
     default: Pk,
 ) -> Result<Option<Shape>, NoMemory>
     ensures value { IfOk result (λ o. result_form o ≡ (spec.attr_at default (attr_form attr.now) (scope known.old)).0) }
@@ -275,10 +270,11 @@ fn attr_tag(
 }
 
 #[cycle(specs)]
+#[tactic(auto, using(idl_forms::proofs::Layers::marks))]
 fn mark_tag(
     kind: &AttrKind,
     alloc: Global,
-    known: &mut Symbols,
+    known: &mut Known,
     default: Pk,
 ) -> Result<Option<Shape>, NoMemory>
     ensures value { IfOk result (λ o. result_form o ≡ (spec.mark_at default (attr_kind_form kind.now) (scope known.old)).0) }
@@ -289,20 +285,7 @@ fn mark_tag(
             let meaning = spec_meaning(of, alloc, known, default, false, &None)?;
             Ok(Some(meaning.shape))
         }
-        AttrKind::In
-        | AttrKind::Out
-        | AttrKind::Pointer(_)
-        | AttrKind::Text
-        | AttrKind::Idempotent
-        | AttrKind::Maybe
-        | AttrKind::Handle
-        | AttrKind::HandleSerialize
-        | AttrKind::HandleNoserialize
-        | AttrKind::SizeIs(_)
-        | AttrKind::MaxIs(_)
-        | AttrKind::LengthIs(_)
-        | AttrKind::SwitchIs { .. }
-        | AttrKind::Range(..) => Ok(None),
+        _ => Ok(None),
     }
 }
 
@@ -311,7 +294,7 @@ fn mark_tag(
 fn member_shapes(
     member: &Member,
     alloc: Global,
-    known: &mut Symbols,
+    known: &mut Known,
     default: Pk,
     names: &[Ident],
     into: &mut Shapes,
@@ -323,7 +306,7 @@ fn member_shapes(
     let pointed = all_pointed(&member.dtors);
     let meaning = spec_meaning(&member.spec, alloc, known, default, pointed, &tag)?;
     let terms = terms(&member.attrs, default, Place::Member, false, names)?;
-    let constants = &known.constants;
+    let constants = &known.symbols.constants;
     each_declared(
         alloc,
         &terms,
@@ -338,7 +321,7 @@ fn member_shapes(
 fn members_shapes(
     list: &[Member],
     alloc: Global,
-    known: &mut Symbols,
+    known: &mut Known,
     default: Pk,
     names: &[Ident],
 ) -> Result<Shapes, NoMemory>
@@ -356,7 +339,7 @@ fn members_shapes(
 fn arms_of(
     list: &[ArmNode],
     alloc: Global,
-    known: &mut Symbols,
+    known: &mut Known,
     default: Pk,
     names: &[Ident],
 ) -> Result<Arms, NoMemory>
@@ -374,14 +357,14 @@ fn arms_of(
 fn arm_of(
     node: &ArmNode,
     alloc: Global,
-    known: &mut Symbols,
+    known: &mut Known,
     default: Pk,
     names: &[Ident],
 ) -> Result<Arm, NoMemory>
     ensures value { IfOk result (λ a. face a ≡ (spec.arm_at default names.now (arm_form node.now) (scope known.old)).0) }
     ensures past { OnOk result (scope known.new ≡ (spec.arm_at default names.now (arm_form node.now) (scope known.old)).1) }
 {
-    let cases = cases(alloc, &known.constants, &node.labels)?;
+    let cases = cases(alloc, &known.symbols.constants, &node.labels)?;
     let is_default = has_default(&node.labels);
     match &node.member {
         None => Ok(Arm {
@@ -404,7 +387,7 @@ fn arm_of(
 fn arm_shape(
     member: &Member,
     alloc: Global,
-    known: &mut Symbols,
+    known: &mut Known,
     default: Pk,
     names: &[Ident],
 ) -> Result<Option<Shape>, NoMemory>

@@ -1,5 +1,5 @@
 use Rattle.std.proofs.Common.{◌≡◌, drop}
-use Rattle.idl_outline.specs.Outline.{sizes_past}
+use Rattle.idl_outline.specs.Parts.{sizes_past}
 use Rattle.idl_outline.proofs.declarators.sizes_used.Given as goal
 
 abbrev pub invariant-loop-dtor : goal.invariant-loop-dtor

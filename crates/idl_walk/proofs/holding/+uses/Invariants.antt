@@ -1,6 +1,6 @@
 use Rattle.std.proofs.Common.{◌≡◌, drop}
 use Rattle.idl_forms.specs.Forms.{members_form, arms_form, attrs_form}
-use Rattle.idl_outline.specs.Outline.{members_use, arms_use, attrs_use}
+use Rattle.idl_outline.specs.Holding.{members_use, arms_use, attrs_use}
 use Rattle.idl_walk.proofs.holding.+uses.Given as goal
 
 -- what is left decides

@@ -1,6 +1,6 @@
 use Rattle.std.proofs.Common.{◌≡◌, ◌++◌, drop}
 use Rattle.idl_forms.specs.Forms.{members_form, arms_form, attrs_form}
-use Rattle.idl_outline.specs.Outline.{member_fields, members_past, arm_fields, arm_labels, arms_past, attributes, attrs_past}
+use Rattle.idl_outline.specs.Specs.{member_fields, members_past, arm_fields, arm_labels, arms_past, attributes, attrs_past}
 use Rattle.idl_walk.proofs.specs.+walk.Given as goal
 
 -- what is left goes on from what was walked

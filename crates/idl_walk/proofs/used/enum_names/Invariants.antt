@@ -1,5 +1,5 @@
 use Rattle.std.proofs.Common.{◌≡◌, drop}
-use Rattle.idl_outline.specs.Outline.{names_past}
+use Rattle.idl_outline.specs.Parts.{names_past}
 use Rattle.idl_walk.proofs.used.enum_names.Given as goal
 
 abbrev pub invariant-loop-name : goal.invariant-loop-name

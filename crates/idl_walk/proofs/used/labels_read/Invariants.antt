@@ -1,5 +1,5 @@
 use Rattle.std.proofs.Common.{◌≡◌, ◌++◌, drop}
-use Rattle.idl_outline.specs.Outline.{labels_of}
+use Rattle.idl_outline.specs.Parts.{labels_of}
 use Rattle.idl_walk.proofs.used.labels_read.Given as goal
 
 abbrev pub invariant-loop-one : goal.invariant-loop-one

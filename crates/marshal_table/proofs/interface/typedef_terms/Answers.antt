@@ -1,7 +1,7 @@
 use Rattle.std.proofs.Common.{◌≡◌, List, [], subst, false}
 use Rattle.std.specs.Prelude.{IfOk}
 use Rattle.idl_tree.specs.declared.leaf.Ident.{Ident}
-use Rattle.idl_outline.specs.declared.field.Place.TheVariants as places
+use Rattle.idl_names.specs.declared.place.Place.TheVariants as places
 use Rattle.idl_forms.specs.Forms.{attrs_form}
 use Rattle.table_scope.specs.Declarators.{terms}
 use Rattle.marshal_table.proofs.interface.typedef_terms.Goals as goal

@@ -2,7 +2,7 @@ use Rattle.std.proofs.Common.{◌≡◌, List, [], map, ap, ◌∙◌}
 use Rattle.idl_tree.specs.declared.declaration.Decl.{Decl}
 use Rattle.idl_tree.specs.declared.file.FileAttr.{FileAttr}
 use Rattle.idl_forms.specs.Forms.{file_form, decl_form, tree_form}
-use Rattle.idl_outline.specs.Outline.{pointer_default}
+use Rattle.idl_names.specs.Attributes.{pointer_default}
 use Rattle.table_form.specs.declared.operation.HandleUse.{HandleUse}
 use Rattle.table_form.specs.declared.operation.Op.{Op}
 use Rattle.table_form.specs.Tables.{op_form}

@@ -1,6 +1,6 @@
 use Rattle.std.proofs.Common.{◌≡◌, drop}
 use Rattle.idl_forms.specs.Forms.{attrs_form}
-use Rattle.table_scope.specs.Marks.{given}
+use Rattle.idl_names.specs.Attributes.{given}
 use Rattle.table_scope.specs.Declarators.{most_in}
 use Rattle.table_scope.proofs.marks.most.Given as goal
 

@@ -1,6 +1,7 @@
 use Rattle.std.proofs.Common.{◌≡◌, drop}
 use Rattle.idl_forms.specs.Forms.{attrs_form}
-use Rattle.table_scope.specs.Marks.{given, range_in}
+use Rattle.idl_names.specs.Attributes.{given}
+use Rattle.table_scope.specs.Declarators.{range_in}
 use Rattle.table_scope.proofs.marks.range.Given as goal
 
 -- what is left of the attributes has the answer

@@ -1,15 +1,16 @@
 use Rattle.std.proofs.Common.{◌≡◌, ◌++◌, map, IfOk, OnOk, None, Option, List, sym, subst, ap, ◌∙◌, false}
 use Rattle.idl_tree.specs.declared.spec.Attr.{Attr}
 use Rattle.idl_tree.specs.declared.spec.AttrKind.TheViews as views
-use Rattle.idl_outline.specs.declared.field.Place.TheVariants as places
-use Rattle.idl_outline.specs.Outline.{all_pointed}
-use Rattle.idl_forms.specs.Forms.{KindForm, spec_form, switch_form, arms_form, attrs_form}
+use Rattle.idl_names.specs.declared.place.Place.TheVariants as places
+use Rattle.idl_names.specs.Declarators.{all_pointed}
+use Rattle.idl_forms.specs.Forms.{KindForm, spec_form, switch_form, arms_form, attrs_form, members_form}
 use Rattle.ndr_value.specs.Forms.{Form, form}
 use Rattle.table_form.specs.Tables.{result_form}
 use Rattle.name_map.specs.Named.{at_name}
 use Rattle.table_scope.specs.Scopes.{Sense, Scope, sense, scope}
 use Rattle.table_scope.specs.Declarators.{terms}
-use Rattle.table_specs.specs.Specs.{kind_at, spec_at, switch_at, union_at, arms_at, arm_names, attrs_at, or_nothing}
+use Rattle.table_specs.specs.Specs.{kind_at, spec_at, switch_at, union_at, arms_at, arm_names, attrs_at, members_at, or_nothing}
+use Rattle.table_specs.proofs.Members.{members_step}
 use Rattle.table_specs.proofs.Layers.{is_struct, is_bare_union, is_union}
 use Rattle.table_specs.proofs.Same.{same_declared, same_spec}
 use Rattle.table_specs.proofs.specs.+specs.Goals as goal
@@ -77,10 +78,17 @@ member_shapes-returns-clause-value t c =
     let same = same_spec c.args.default c.all_pointed-pointed.result (all_pointed (views.out-Member c.args.member.now).dtors.items) (result_form c.in_ok-tag.tag) marks.0 (spec_form (views.out-Member c.args.member.now).spec) (scope c.attrs_tag.new.known) marks.1
     (c.all_pointed-pointed.ensures ∙ ap all_pointed c.deref-2.ensures.value) (c.in_ok-tag.ensures.value ∙ ap (λ (x : Option Form × Scope). x.0) first_is) (c.in_ok-tag.ensures.past ∙ ap (λ (x : Option Form × Scope). x.1) first_is) in
     let shape_is : form c.in_ok-meaning.meaning.shape ≡ behind.0.shape = ap (λ (m : Sense). m.shape) (c.in_ok-meaning.ensures.value ∙ ap (λ (x : Sense × Scope). x.0) same) in
-    let constants_are : at_name c.spec_meaning.new.known.constants ≡ behind.1.constants =
-    ap (λ (p : Scope). p.constants) (c.in_ok-meaning.ensures.past ∙ ap (λ (x : Sense × Scope). x.1) same) in
+    let constants_are : at_name c.spec_meaning.new.known.symbols.constants ≡ behind.1.symbols.constants =
+    ap (λ (p : Scope). p.symbols.constants) (c.in_ok-meaning.ensures.past ∙ ap (λ (x : Sense × Scope). x.1) same) in
     let terms_are : c.in_ok-terms.terms ≡ terms c.args.default places.Member false c.args.names.now (attrs_form as') =
     c.in_ok-terms.ensures ∙ ap (λ (x : List Attr). terms c.args.default places.Member false c.args.names.now (attrs_form x)) c.deref-3.ensures.value in
-    let e = same_declared c.in_ok-terms.terms (terms c.args.default places.Member false c.args.names.now (attrs_form as')) (at_name c.spec_meaning.new.known.constants) behind.1.constants (form c.in_ok-meaning.meaning.shape) behind.0.shape c.deref-4.result.now (views.out-Member c.args.member.now).dtors.items
+    let e = same_declared c.in_ok-terms.terms (terms c.args.default places.Member false c.args.names.now (attrs_form as')) (at_name c.spec_meaning.new.known.symbols.constants) behind.1.symbols.constants (form c.in_ok-meaning.meaning.shape) behind.0.shape c.deref-4.result.now (views.out-Member c.args.member.now).dtors.items
     terms_are constants_are shape_is c.deref-4.ensures.value in
     subst (λ (x : List Form). OnOk c.each_declared.result (map form c.each_declared.new.into.items ≡ map form c.args.into.now.items ++ x)) e c.each_declared.ensures
+
+pub members_shapes-loop-member-preserved : goal.members_shapes-loop-member-preserved
+members_shapes-loop-member-preserved t c =
+    let step = members_step c.args.default c.args.names.now c.args.list.now c.loop-member.member-index c.member-item.result (map form c.loop-member.all.items) (map form c.member_shapes.new.into.items) (scope c.loop-member.known) (scope c.member_shapes.new.known)
+    (members_at c.args.default c.args.names.now (members_form c.args.list.now) (scope c.args.known.now)) c.loop-member-test.true c.member-item.is c.loop-member.invariant.value c.loop-member.invariant.past
+    c.in_ok-member_shapes.ensures.value c.in_ok-member_shapes.ensures.past in
+    record { value = step.0; past = step.1 }

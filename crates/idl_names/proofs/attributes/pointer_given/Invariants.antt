@@ -1,0 +1,8 @@
+use Rattle.std.proofs.Common.{◌≡◌, drop}
+use Rattle.idl_forms.specs.Forms.{attrs_form}
+use Rattle.idl_names.specs.Attributes.{given, pointer_in}
+use Rattle.idl_names.proofs.attributes.pointer_given.Given as goal
+
+-- what is left of the attributes has the answer
+abbrev pub invariant-loop-attr : goal.invariant-loop-attr
+invariant-loop-attr l = given pointer_in (attrs_form (drop l.attr-index l.attrs)) ≡ given pointer_in (attrs_form l.attrs)

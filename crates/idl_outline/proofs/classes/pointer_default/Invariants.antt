@@ -1,7 +1,0 @@
-use Rattle.std.proofs.Common.{◌≡◌, map, drop}
-use Rattle.idl_forms.specs.Forms.{file_form}
-use Rattle.idl_outline.specs.Outline.{pointer_default}
-use Rattle.idl_outline.proofs.classes.pointer_default.Given as goal
-
-abbrev pub invariant-loop-attribute : goal.invariant-loop-attribute
-invariant-loop-attribute l = pointer_default (map file_form (drop l.attribute-index l.attributes)) ≡ pointer_default (map file_form l.attributes)
