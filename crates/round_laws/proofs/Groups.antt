@@ -7,20 +7,18 @@ use Rattle.rpc_outside.specs.Doors.{DoorShown}
 use Rattle.turn_lock.specs.Histories.{StartsWith}
 use Rattle.handle_model.specs.declared.entry.Entry.{Entry}
 use Rattle.handle_model.specs.declared.entry.Entry.TheVariants.{Join, Leave}
-use Rattle.handle_model.specs.History.{IsSound}
 use Rattle.handle_model.specs.Journal.{joins, leaves, is_shut}
 use Rattle.table_form.specs.Tables.{TableForm}
 use Rattle.manager_api.specs.Answers.{Ans}
 use Rattle.manager_api.specs.Calls.{Call}
 use Rattle.hub_story.specs.declared.item.Item.{Item}
-use Rattle.hub_story.specs.Histories.{past_in, home_of}
+use Rattle.hub_story.specs.Histories.{past_in, home_of, IsStory}
 use Rattle.hub_story.specs.Passes.{Seen}
 use Rattle.hub_story.proofs.ItemLemmas.{past-append}
 use Rattle.group_hub.specs.declared.hub.Hub.{Hub}
 use Rattle.group_hub.specs.declared.pass.Pass.{Pass}
 use Rattle.group_hub.specs.Shards.{shard_of}
-use Rattle.group_hub.specs.Passes.{at_shard, IsPassOf}
-use Rattle.group_hub.proofs.ListLemmas.{some_item}
+use Rattle.group_hub.specs.Passes.{at_shard}
 use Rattle.conn_turns.specs.Tales.{whole, of_conn}
 use Rattle.server_ends.specs.Finishes.{AsMember, FinishesAs}
 use Rattle.server_rounds.specs.declared.settled.Settled.{Settled}
@@ -31,18 +29,11 @@ use Rattle.server_rounds.specs.Rounds.{IsRound, passes}
 use Rattle.round_laws.specs.Endings.{HasConn, IsThere, GroupsEnd}
 use Rattle.round_laws.proofs.Endings.{IsOver, group_ended}
 
--- ---- the journals of a pass of the hub
-
-abbrev journal_of : ℕ → Pass → List Entry
-journal_of g p = past_in g (at_shard p (shard_of g)).log
-
 low_shard : (g : ℕ) → shard_of g < 16
 low_shard g = omega arith
 
-sound_in : (h : Hub) (p : Pass) (g : ℕ) → IsPassOf h p → IsSound (whole (home_of h.boot g) (journal_of g p))
-sound_in h p g of =
-    let l = some_item h.shards.items (shard_of g) (subst (λ n. shard_of g < n) (sym h.whole.count) (low_shard g)) in
-    (of.each (shard_of g) l.0 (low_shard g) l.1).story.sound g
+abbrev journal_of : ℕ → Pass → List Entry
+journal_of g p = past_in g (at_shard p (shard_of g)).log
 
 -- ---- a connection of the round
 
@@ -95,12 +86,13 @@ module _ {K : Type 0} (shows : K → Shown) (may : Call → Bool → Ans → Typ
   conn_over p q g c (x ∷ xs) s f (inl is) = over_then g c (at_shard x.pass.value (shard_of g)).log (at_shard q (shard_of g)).log f.0 (settled_over p g c x s.0 is)
   conn_over p q g c (x ∷ xs) s f (inr has) = conn_over p q g c xs s.1 f.1 has
 
-  ended : (p : Pass) (a b : DoorShown K) (most : ℕ) (r : Round K) → IsPassOf h r.pass → IsRound shows may tables h p a most r b → (g c : ℕ)
-      → list_any (joins c) (journal_of g r.pass) ≡ true → ((d : ℕ) → IsThere (whole (home_of h.boot g) (journal_of g r.pass)) d → HasConn g d r.finished.items)
-      → list_any is_shut (journal_of g r.pass) ≡ true
-  ended p a b most r of round g c joined all =
-      group_ended (home_of h.boot g) (journal_of g r.pass) c (sound_in h r.pass g of) joined
-      (λ d there. conn_over p r.pass g d r.finished.items round.settled (round.takes.theirs (shard_of g) (low_shard g)) (all d there))
+  ended : (p : Pass) (a b : DoorShown K) (most : ℕ) (r : Round K) → IsRound shows may tables h p a most r b → (g c : ℕ) (log : List Item)
+      → StartsWith log (at_shard r.pass (shard_of g)).log → IsStory h.boot (shard_of g) log → list_any (joins c) (past_in g log) ≡ true
+      → ((d : ℕ) → IsThere (whole (home_of h.boot g) (past_in g log)) d → HasConn g d r.finished.items) → list_any is_shut (past_in g log) ≡ true
+  ended p a b most r round g c log starts story joined all =
+      group_ended (home_of h.boot g) (past_in g log) c (story.sound g) joined
+      (λ d there. over_then g d (at_shard r.pass (shard_of g)).log log starts
+      (conn_over p r.pass g d r.finished.items round.settled (round.takes.theirs (shard_of g) (low_shard g)) (all d there)))
 
 pub groups_end : {S K : Type 0} (shows : K → Shown) (may : S → Call → Bool → Ans → Type 0) (tables : S → List TableForm) → GroupsEnd shows may tables
-groups_end shows may tables = λ service h p a b most r of round g c joined all. ended shows (may service) (tables service) h p a b most r of round g c joined all
+groups_end shows may tables = λ service h p a b most r round g c log starts story joined all. ended shows (may service) (tables service) h p a b most r round g c log starts story joined all

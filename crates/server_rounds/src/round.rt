@@ -11,6 +11,8 @@ ghost use Rattle.server_rounds.specs.Serving.{IsServing, Keeps, links_of, Goes};
 use crate::service::Service;
 use crate::serving::Serving;
 use crate::settled::Settled;
+use call_stats::Tally;
+use counted_links::CountLink;
 use group_hub::{Hub, Pass};
 use rpc_base::OutFault;
 use rpc_outside::{Door, Link};
@@ -41,7 +43,7 @@ pub struct Round<K> {
     pub stop: Stop,
 }
 
-impl<S: Service, K: Link> Serving<S, K> {
+impl<S: Service, K: Link> Serving<S, CountLink<K>> {
     /// Serves the next connection that comes to the door, or says why there is none.
     fn accept_next<R: Wait + Threads + Send + Sync + Copy + 'static, D: Door<Link = K>>(
         &mut self,
@@ -50,6 +52,7 @@ impl<S: Service, K: Link> Serving<S, K> {
         service: &Arc<S, Global>,
         hub: &Arc<Hub, Global>,
         door: &mut D,
+        tally: &Arc<Tally, Global>,
     ) -> Option<Stop>
     where
         S: Send + Sync + Drop + 'static,
@@ -60,12 +63,12 @@ impl<S: Service, K: Link> Serving<S, K> {
         ensures keeps { Keeps self.old self.new }
         ensures goes { Goes (D.shows door.old) (links_of self.old) result (D.shows door.new) (links_of self.new) }
     {
-        let Ok(over) = self.make_room(alloc) else {
+        let (Ok(over), Ok(sums)) = (self.make_room(alloc), Arc::try_clone(tally)) else {
             return Some(Stop::Memory);
         };
         match door.next() {
             Ok(Some(link)) => {
-                self.start(rt, service, hub, over, link);
+                self.start(rt, service, hub, over, CountLink::new(link, sums));
                 None
             }
             Ok(None) => Some(Stop::DoorClosed),
@@ -84,6 +87,7 @@ impl<S: Service, K: Link> Serving<S, K> {
         hub: &Arc<Hub, Global>,
         door: &mut D,
         most: u32,
+        tally: &Arc<Tally, Global>,
     ) -> Stop
     where
         S: Send + Sync + Drop + 'static,
@@ -98,14 +102,16 @@ impl<S: Service, K: Link> Serving<S, K> {
     {
         for count in 0..most {
             self.sweep(&rt, alloc, &**hub, count);
-            match self.accept_next(rt, alloc, service, hub, door) {
+            match self.accept_next(rt, alloc, service, hub, door, tally) {
                 Some(stop) => return stop,
                 None => {}
             }
         }
         Stop::Done
     }
+}
 
+impl<S: Service, K: Link> Serving<S, K> {
     /// Waits until all of them are over.
     #[tactic(auto, using(crate::proofs::Servings::settled_all, crate::proofs::Servings::takes_all))]
     fn settle_all<R: Threads>(mut self, rt: &R, hub: &Hub, stop: Stop) -> Round<K>
@@ -129,7 +135,8 @@ impl<S: Service, K: Link> Serving<S, K> {
 }
 
 /// Serves up to so many connections that come to the door, each in a thread of its own, and waits until all of them are
-/// over. Where no thread can be started for one, this thread serves it. The pass is of the hub.
+/// over. Where no thread can be started for one, this thread serves it. Each link counts the packets on it, and adds them
+/// to the tally too. The pass is of the hub.
 pub fn serve<R, S, D>(
     rt: R,
     alloc: Global,
@@ -138,7 +145,8 @@ pub fn serve<R, S, D>(
     pass: Pass,
     door: &mut D,
     most: u32,
-) -> Round<D::Link>
+    tally: &Arc<Tally, Global>,
+) -> Round<CountLink<D::Link>>
 where
     R: Wait + Threads + Send + Sync + Copy + 'static,
     S: Service + Send + Sync + Drop + 'static,
@@ -149,6 +157,6 @@ where
     ensures round { IsRound D.Link.shows (S.may (arc_value service.now)) (S.tables (arc_value service.now)) (arc_value hub.now) pass (D.shows door.old) most result (D.shows door.new) }
 {
     let mut serving = Serving::new(alloc, &**service, &**hub, pass);
-    let stop = serving.accept_all(rt, alloc, service, hub, door, most);
+    let stop = serving.accept_all(rt, alloc, service, hub, door, most, tally);
     serving.settle_all(&rt, &**hub, stop)
 }

@@ -3,6 +3,7 @@ ghost use Rattle.std.specs.Prelude.{◌≡◌};
 ghost use Rattle.std.specs.Arc.{arc_value};
 ghost use Rattle.rpc_outside.specs.Links.{IsNew};
 ghost use Rattle.group_hub.specs.Passes.{IsPassOf};
+ghost use Rattle.server_ends.specs.Finishes.{Finishes};
 ghost use Rattle.server_rounds.specs.Served.{IsServed, finished_of};
 ghost use Rattle.server_rounds.specs.Running.{Keeps, WillKeep};
 
@@ -11,6 +12,7 @@ use crate::settled::Settled;
 use group_hub::{Hub, Pass};
 use rpc_outside::Link;
 use server_ends::Finished;
+use server_run::serve_connection;
 use std::alloc::Global;
 use std::snapshot::Snapshot;
 use std::sync::atomic::{AtomicBool, Ordering};
@@ -69,6 +71,23 @@ pub(crate) struct Running<S: Service, K: Link> {
     over: Arc<AtomicBool, Global>,
 }
 
+/// Serves a connection to its end, whose link is new.
+fn serve_one<R: Wait, S: Service, K: Link>(
+    rt: &R,
+    service: &S,
+    hub: &Hub,
+    pass: Pass,
+    link: K,
+) -> Finished<K>
+    requires pass { IsPassOf hub.now pass }
+    requires new { IsNew (K.shows link) }
+    ensures pass { IsPassOf hub.now result.pass }
+    ensures finishes { Finishes K.shows (S.may service.now) (S.tables service.now) hub.now.boot pass (K.shows link) result }
+{
+    let table = service.served();
+    serve_connection(rt, service.alloc(), hub, pass, link, table, service)
+}
+
 /// Serves a connection, in whatever thread this is.
 fn serve_there<R: Wait + Threads + Sync + Copy, S: Service + Drop, K: Link>(
     rt: R,
@@ -82,7 +101,7 @@ fn serve_there<R: Wait + Threads + Sync + Copy, S: Service + Drop, K: Link>(
     requires new { IsNew (K.shows link) }
     ensures { IsServed K.shows (S.may (arc_value service)) (S.tables (arc_value service)) (arc_value hub) pass link result }
 {
-    let finished = (*service).serve(&rt, &*hub, pass, link);
+    let finished = serve_one(&rt, &*service, &*hub, pass, link);
     over.store(true, Ordering::SeqCst);
     finished
 }
@@ -114,7 +133,7 @@ impl<S: Service, K: Link> Running<S, K> {
             Arc::try_clone(hub),
             Arc::try_clone(&over),
         ) else {
-            let place = Place::Here((**service).serve(&rt, &**hub, pass, link));
+            let place = Place::Here(serve_one(&rt, &**service, &**hub, pass, link));
             return Running {
                 place,
                 promise,

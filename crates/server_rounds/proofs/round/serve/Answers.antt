@@ -14,9 +14,9 @@ returns-clause-round g c =
     let st = c.accept_all-stop.new.self in
     let r = c.settle_all.result in
     let shows = g.D.Link.Link.shows in
-    is_round shows g.S.Service.may g.S.Service.tables (arc_value c.args.hub.now) st (arc_value c.args.service.now) c.args.pass (g.D.Door.shows c.args.door.now) (g.D.Door.shows c.accept_all-stop.new.door) c.args.most r
+    is_round shows g.S.Manager.may g.S.Manager.tables (arc_value c.args.hub.now) st (arc_value c.args.service.now) c.args.pass (g.D.Door.shows c.args.door.now) (g.D.Door.shows c.accept_all-stop.new.door) c.args.most r
     (c.accept_all-stop.ensures.keeps.service ∙ (c.new-serving.ensures.service ∙ c.deref.ensures)) (c.accept_all-stop.ensures.keeps.first ∙ c.new-serving.ensures.first) c.accept_all-stop.ensures.door
     (subst (λ (x : Stop). Stops (g.D.Door.shows c.args.door.now) (g.D.Door.shows c.accept_all-stop.new.door) c.args.most (length (links_of st)) x) (sym c.settle_all.ensures.stop) c.accept_all-stop.ensures.stop)
     c.settle_all.ensures.links
-    (subst (λ (h : Hub). AllByRecursion (IsSettled shows (g.S.Service.may st.service.value) (g.S.Service.tables st.service.value) h st.first.value) r.finished.items) c.deref-3.ensures c.settle_all.ensures.settled)
+    (subst (λ (h : Hub). AllByRecursion (IsSettled shows (g.S.Manager.may st.service.value) (g.S.Manager.tables st.service.value) h st.first.value) r.finished.items) c.deref-3.ensures c.settle_all.ensures.settled)
     c.settle_all.ensures.takes

@@ -5,7 +5,7 @@ use Rattle.server_rounds.proofs.serving.Serving.settle_all.Given as goal
 
 abbrev pub invariant-loop-self : goal.invariant-loop-self
 invariant-loop-self g l =
-    IsServing g.K.Link.shows g.S.Service.may g.S.Service.tables l.hub l.self
+    IsServing g.K.Link.shows g.S.Manager.may g.S.Manager.tables l.hub l.self
     × Keeps l.initial.self l.self
     × (links_of l.self ≡ links_of l.initial.self)
 

@@ -10,29 +10,29 @@ loop-running-init g c =
     let wide = c.in-Ok.ensures.capacity in
     let count = c.len.ensures in
     let same : deque_capacity c.replace-waiting.new.dest ≡ deque_capacity c.in-Ok.swept = ap (λ q. deque_capacity q) put in
-    swept_first g.K.Link.shows g.S.Service.may g.S.Service.tables c.args.hub.now c.args.self.now _ _ _ c.requires.serving refl refl refl refl
+    swept_first g.K.Link.shows g.S.Manager.may g.S.Manager.tables c.args.hub.now c.args.self.now _ _ _ c.requires.serving refl refl refl refl
     (ap (λ q. q.items) put ∙ c.in-Ok.ensures.items) (ap (λ q. deque_len q) put ∙ c.in-Ok.ensures.len) (ap (λ q. q.items) had) (ap (λ q. deque_len q) had) (omega (arith, wide, count, same))
 
 pub returns-clause-serving : goal.returns-clause-serving
 returns-clause-serving g c =
     let none : deque_len c.loop-running.waiting ≡ 0 = search rules in
-    (swept_end g.K.Link.shows g.S.Service.may g.S.Service.tables c.args.hub.now c.args.self.now c.loop-running.self c.loop-running.waiting.items _ c.requires.serving c.loop-running.invariant none (sym c.loop-running.waiting.ok.0)).0
+    (swept_end g.K.Link.shows g.S.Manager.may g.S.Manager.tables c.args.hub.now c.args.self.now c.loop-running.self c.loop-running.waiting.items _ c.requires.serving c.loop-running.invariant none (sym c.loop-running.waiting.ok.0)).0
 
 pub returns-clause-links : goal.returns-clause-links
 returns-clause-links g c =
     let none : deque_len c.loop-running.waiting ≡ 0 = search rules in
-    (swept_end g.K.Link.shows g.S.Service.may g.S.Service.tables c.args.hub.now c.args.self.now c.loop-running.self c.loop-running.waiting.items _ c.requires.serving c.loop-running.invariant none (sym c.loop-running.waiting.ok.0)).2
+    (swept_end g.K.Link.shows g.S.Manager.may g.S.Manager.tables c.args.hub.now c.args.self.now c.loop-running.self c.loop-running.waiting.items _ c.requires.serving c.loop-running.invariant none (sym c.loop-running.waiting.ok.0)).2
 
 pub returns-clause-len : goal.returns-clause-len
 returns-clause-len g c =
     let none : deque_len c.loop-running.waiting ≡ 0 = search rules in
-    (swept_end g.K.Link.shows g.S.Service.may g.S.Service.tables c.args.hub.now c.args.self.now c.loop-running.self c.loop-running.waiting.items _ c.requires.serving c.loop-running.invariant none (sym c.loop-running.waiting.ok.0)).3
+    (swept_end g.K.Link.shows g.S.Manager.may g.S.Manager.tables c.args.hub.now c.args.self.now c.loop-running.self c.loop-running.waiting.items _ c.requires.serving c.loop-running.invariant none (sym c.loop-running.waiting.ok.0)).3
 
 pub rest-requires-clause-kept : goal.rest-requires-clause-kept
 rest-requires-clause-kept g c κs within =
-    swept_kept g.K.Link.shows g.S.Service.may g.S.Service.tables c.args.hub.now c.args.self.now c.loop-running.self c.loop-running.waiting.items c.pop_front.new.self.items _ c.in-Some.running c.loop-running.invariant c.in-Some.ensures.items
+    swept_kept g.K.Link.shows g.S.Manager.may g.S.Manager.tables c.args.hub.now c.args.self.now c.loop-running.self c.loop-running.waiting.items c.pop_front.new.self.items _ c.in-Some.running c.loop-running.invariant c.in-Some.ensures.items
 
 pub loop-running-preserved : goal.loop-running-preserved
 loop-running-preserved g c =
-    swept_more g.K.Link.shows g.S.Service.may g.S.Service.tables c.args.hub.now c.args.self.now c.loop-running.self _ c.loop-running.waiting.items c.pop_front.new.self.items _ _ c.in-Some.running c.rest.result
+    swept_more g.K.Link.shows g.S.Manager.may g.S.Manager.tables c.args.hub.now c.args.self.now c.loop-running.self _ c.loop-running.waiting.items c.pop_front.new.self.items _ _ c.in-Some.running c.rest.result
     c.loop-running.invariant c.in-Some.ensures.items c.in-Some.ensures.cases refl refl refl refl c.push_back_reserved.ensures.items c.push_back_reserved.ensures.len c.push_back_reserved.ensures.capacity c.rest.ensures.promise c.rest.ensures.kept

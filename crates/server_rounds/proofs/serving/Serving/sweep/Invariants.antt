@@ -4,7 +4,7 @@ use Rattle.server_rounds.proofs.serving.Serving.sweep.Given as goal
 
 abbrev pub invariant-loop-running : goal.invariant-loop-running
 invariant-loop-running g l =
-    Swept g.K.Link.shows g.S.Service.may g.S.Service.tables l.hub l.fn.self l.self l.waiting.items (deque_len l.waiting)
+    Swept g.K.Link.shows g.S.Manager.may g.S.Manager.tables l.hub l.fn.self l.self l.waiting.items (deque_len l.waiting)
 
 abbrev pub decreases-loop-running : goal.decreases-loop-running
 decreases-loop-running g l = deque_len l.waiting

@@ -1,7 +1,7 @@
 use Rattle.std.proofs.Common.{◌∙◌}
 use Rattle.server_rounds.specs.Serving.{links_of}
 use Rattle.server_rounds.proofs.Doors.{stays_on}
-use Rattle.server_rounds.proofs.serving.Serving.accept_all.Goals as goal
+use Rattle.server_rounds.proofs.round.«Serving+S+CountLink+K».accept_all.Goals as goal
 
 pub loop-count-preserved : goal.loop-count-preserved
 loop-count-preserved g c =
