@@ -4,7 +4,7 @@ use crate::outcome::{FirstFaults, NO_FAULTS, comes_to};
 use std::alloc::Global;
 use std::test::*;
 
-/// Words, and behind `=>` the counts of the line on out.
+/// Words, and the line on out, whose counts another program computed. The greatest load is played twice.
 const ROWS: &[(&str, &str)] = &[
     (
         "load 1 0",
@@ -25,6 +25,14 @@ const ROWS: &[(&str, &str)] = &[
     (
         "load 7 1000",
         "steps 1000 groups 34 accepted 150 taken 64 denied 16 cancelled 34 issued 42 closed 7 rundown 35",
+    ),
+    (
+        "load 7 100000",
+        "steps 100000 groups 2963 accepted 14507 taken 5569 denied 2034 cancelled 3379 issued 3553 closed 551 rundown 3002",
+    ),
+    (
+        "load 7 100000",
+        "steps 100000 groups 2963 accepted 14507 taken 5569 denied 2034 cancelled 3379 issued 3553 closed 551 rundown 3002",
     ),
 ];
 

@@ -1,6 +1,6 @@
 //! What comes of a run, as a text.
 
-use rpc_app::obey;
+use rpc_app::{Obeyed, obey};
 use rpc_base::{MapShelf, NoMemory, Numbers, Octets, ShelfFile, ShelfFiles, VecSink};
 use std::alloc::Global;
 
@@ -21,7 +21,7 @@ fn octets(alloc: Global, text: &[u8]) -> Result<Octets, NoMemory> {
     Ok(Octets::from_vec(text.to_vec(alloc)?))
 }
 
-/// The status, what is on out, and what is on log, behind the words `words`, where the files `f` and `i` have these texts.
+/// The status, or 9 for connections, what is on out, and what is on log, behind the words `words`, where the files `f` and `i` have these texts.
 pub fn outcome(
     alloc: Global,
     words: &str,
@@ -44,7 +44,10 @@ pub fn outcome(
     let mut shelf = MapShelf::new(files, numbers(alloc, faults[0])?);
     let mut out = VecSink::new(alloc, numbers(alloc, faults[1])?);
     let mut log = VecSink::new(alloc, numbers(alloc, faults[2])?);
-    let status = obey(alloc, list.as_slice(), &mut shelf, &mut out, &mut log);
+    let status = match obey(alloc, list.as_slice(), &mut shelf, &mut out, &mut log) {
+        Obeyed::Done(status) => status,
+        Obeyed::Serve(_) => 9,
+    };
     let head = format!(in alloc; "{status}\n")?;
     let mut text = head.as_bytes().to_vec(alloc)?;
     text.extend_from_slice(out.written().as_slice())?;

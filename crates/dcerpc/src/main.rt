@@ -1,4 +1,4 @@
-//! The program `dcerpc`: its words are a command and the name of a file.
+//! The program `dcerpc`: its words are a command and what it takes.
 //!
 //! It makes the real objects of the outside, hands them and the words to the top call, and ends with
 //! the status that it answers.
@@ -7,9 +7,11 @@
 mod outside;
 
 use outside::{FileShelf, Output};
+use socket_links::SocketDoor;
 use std::alloc::Global;
 use std::process::ExitCode;
-use std::rt::Env;
+use std::rt::{Clock, Env};
+use std::time::{SystemTime, UNIX_EPOCH};
 use std::{env, io};
 
 /// Want of memory.
@@ -29,6 +31,18 @@ fn words(rt: &(impl Env + AllocGlobal), alloc: Global) -> Result<Vec<String>, u8
     Ok(words)
 }
 
+/// The boot word of a server: the clock's nanoseconds, so that another run has another word. It is 0 where the clock can't be
+/// read.
+fn boot_word(rt: &impl Clock) -> u64 {
+    let Ok(now) = SystemTime::now(rt) else {
+        return 0;
+    };
+    match now.duration_since(UNIX_EPOCH) {
+        Ok(since) => (since.as_nanos() % (1 << 64)) as u64,
+        Err(_) => 0,
+    }
+}
+
 fn main(rt: HostRuntime) -> ExitCode {
     let alloc = rt.alloc();
     let status = match words(&rt, alloc) {
@@ -36,7 +50,12 @@ fn main(rt: HostRuntime) -> ExitCode {
             let mut shelf = FileShelf::new(&rt);
             let mut out = Output::new(io::writer(&rt));
             let mut log = Output::new(rt.stderr());
-            rpc_app::run(&rt, alloc, words.as_slice(), &mut shelf, &mut out, &mut log)
+            let mut door = SocketDoor::new(&rt, alloc);
+            let words = words.as_slice();
+            let boot = boot_word(&rt);
+            rpc_app::run(
+                &rt, alloc, words, boot, &mut shelf, &mut door, &mut out, &mut log,
+            )
         }
         Err(status) => status,
     };

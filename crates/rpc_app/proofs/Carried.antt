@@ -1,5 +1,5 @@
--- Lines that are the same ask for one task.
-use Rattle.std.proofs.Common.{◌≡◌, ◌∙◌, ◌==◌, ◌<◌, ◌≤◌, ◌^◌, ℕ, Bool, true, false, List, [], ◌∷◌, refl, sym, subst, ap, ap₂, arith, Option, Some, None, codes, decimal, if◌then◌else◌, true≢false}
+-- Lines that are the same ask for one thing.
+use Rattle.std.proofs.Common.{◌≡◌, ◌∙◌, ◌==◌, ◌<◌, ◌≤◌, ◌^◌, ℕ, Bool, List, [], ◌∷◌, refl, sym, subst, ap, ap₂, arith, Option, Some, None, option_map, codes, decimal, if◌then◌else◌}
 use Rattle.std.specs.Str.{bytes_eq}
 use Rattle.std.proofs.lemmas.Fmt.{decimal_injective}
 use Rattle.command_line.specs.declared.command.Asked.{Asked}
@@ -8,7 +8,12 @@ use Rattle.command_line.specs.Asks.{Line, line_of}
 use Rattle.command_line.specs.Asks as line
 use Rattle.rpc_app.specs.declared.command.Command.{Command}
 use Rattle.rpc_app.specs.declared.command.Command.TheVariants.{Replay, Idl, Audit}
-use Rattle.rpc_app.specs.Asks.{FileTask, Task, OfFile, OfLoad, IsInRange, AsksFor, AsksForNothing, task_of}
+use Rattle.rpc_outside.specs.declared.address.Address.{Address}
+use Rattle.address_text.specs.Texts.{Host, FitsHost, host_text}
+use Rattle.address_text.proofs.Parts.{one_host}
+use Rattle.rpc_app.specs.Asks.{FileTask, Task, OfFile, OfLoad, ServeTask, Wanted, ToDo, ToServe, IsInRange, IsWithin, Asks, AsksFor, AsksToServe, AsksForNothing, wanted_of}
+use Rattle.rpc_app.specs.declared.words.Wanted.{Wanted as WantedHere}
+use Rattle.rpc_app.specs.Words.{told_wanted}
 
 abbrev first_in : List (List ℕ) → List ℕ
 first_in [] = []
@@ -25,73 +30,125 @@ option_in (o ∷ rest) = o.1
 abbrev command_in : List ℕ → Command
 command_in word = if bytes_eq word (codes "replay") then Replay else (if bytes_eq word (codes "idl") then Idl else Audit)
 
--- ---- whether a load is asked for
+abbrev second_option : List (List ℕ × Option (List ℕ)) → Option (List ℕ)
+second_option [] = None
+second_option (o ∷ rest) = option_in rest
 
-abbrev is_load : Asked → Bool
-is_load (asks.Load number steps) = true
-is_load _ = false
+abbrev text_in : Option (List ℕ) → List ℕ
+text_in None = []
+text_in (Some text) = text
 
-abbrev is_load_line : Line → Bool
-is_load_line l = bytes_eq l.word (codes "load")
+-- ---- what is asked for: a command with a file, a load, connections, calls
 
-by_its_word : (a : Asked) → is_load a ≡ is_load_line (line_of a)
+abbrev kind : Asked → ℕ
+kind (asks.Load number steps) = 1
+kind (asks.Serve ip port connections idl) = 2
+kind (asks.Call ip port idl script) = 3
+kind _ = 0
+
+abbrev kind_in : Line → ℕ
+kind_in l = if bytes_eq l.word (codes "load") then 1 else (if bytes_eq l.word (codes "serve") then 2 else (if bytes_eq l.word (codes "call") then 3 else 0))
+
+by_its_word : (a : Asked) → kind a ≡ kind_in (line_of a)
 by_its_word (asks.Replay file idl) = refl
 by_its_word (asks.Idl file) = refl
 by_its_word (asks.Audit file) = refl
 by_its_word (asks.Load number steps) = refl
+by_its_word (asks.Serve ip port connections idl) = refl
+by_its_word (asks.Call ip port idl script) = refl
 
-same_kind : (a b : Asked) → line_of a ≡ line_of b → is_load a ≡ is_load b
-same_kind a b e = by_its_word a ∙ ap is_load_line e ∙ sym (by_its_word b)
+same_kind : (a b : Asked) → line_of a ≡ line_of b → kind a ≡ kind b
+same_kind a b e = by_its_word a ∙ ap kind_in e ∙ sym (by_its_word b)
 
--- ---- the task of a line
+-- ---- what a line asks for
 
-abbrev by_line : Line → Task
-by_line l = OfFile (record { command = command_in l.word; file = first_in l.operands; idl = option_in l.options })
+abbrev by_line : Line → Option Wanted
+by_line l = Some (ToDo (OfFile (record { command = command_in l.word; file = first_in l.operands; idl = option_in l.options })))
 
-by_its_line : (a : Asked) → is_load a ≡ false → task_of a ≡ by_line (line_of a)
+by_its_line : (a : Asked) → kind a ≡ 0 → wanted_of a ≡ by_line (line_of a)
 by_its_line (asks.Replay file idl) e = refl
 by_its_line (asks.Idl file) e = refl
 by_its_line (asks.Audit file) e = refl
-by_its_line (asks.Load number steps) e = absurd (true≢false e)
+by_its_line (asks.Load number steps) e = absurd (omega (arith, e))
+by_its_line (asks.Serve ip port connections idl) e = absurd (omega (arith, e))
+by_its_line (asks.Call ip port idl script) e = absurd (omega (arith, e))
 
-one_file : (a b : Asked) → is_load a ≡ false → line_of a ≡ line_of b → task_of a ≡ task_of b
+one_file : (a b : Asked) → kind a ≡ 0 → line_of a ≡ line_of b → wanted_of a ≡ wanted_of b
 one_file a b none e = by_its_line a none ∙ ap by_line e ∙ sym (by_its_line b (sym (same_kind a b e) ∙ none))
 
 one_number : (n m : ℕ) → n < 2 ^ 64 → m < 2 ^ 64 → decimal n ≡ decimal m → n ≡ m
 one_number n m low less e = decimal_injective n m low less e
 
-one_load : (n s m t : ℕ) → line.IsInRange (asks.Load n s) → line.IsInRange (asks.Load m t) → line_of (asks.Load n s) ≡ line_of (asks.Load m t) → task_of (asks.Load n s) ≡ task_of (asks.Load m t)
+one_load : (n s m t : ℕ) → line.IsInRange (asks.Load n s) → line.IsInRange (asks.Load m t) → line_of (asks.Load n s) ≡ line_of (asks.Load m t) → wanted_of (asks.Load n s) ≡ wanted_of (asks.Load m t)
 one_load n s m t fits also e =
-    ap₂ OfLoad (one_number n m fits.0 also.0 (ap (λ (l : Line). first_in l.operands) e))
+    ap₂ (λ x y. Some (ToDo (OfLoad x y))) (one_number n m fits.0 also.0 (ap (λ (l : Line). first_in l.operands) e))
     (one_number s t (omega (arith, fits.1)) (omega (arith, also.1)) (ap (λ (l : Line). second_in l.operands) e))
 
-one_task : (a b : Asked) → line.IsInRange a → line.IsInRange b → line_of a ≡ line_of b → task_of a ≡ task_of b
-one_task (asks.Replay file idl) b fits also e = one_file (asks.Replay file idl) b refl e
-one_task (asks.Idl file) b fits also e = one_file (asks.Idl file) b refl e
-one_task (asks.Audit file) b fits also e = one_file (asks.Audit file) b refl e
-one_task (asks.Load n s) (asks.Replay file idl) fits also e = absurd (true≢false (same_kind (asks.Load n s) (asks.Replay file idl) e))
-one_task (asks.Load n s) (asks.Idl file) fits also e = absurd (true≢false (same_kind (asks.Load n s) (asks.Idl file) e))
-one_task (asks.Load n s) (asks.Audit file) fits also e = absurd (true≢false (same_kind (asks.Load n s) (asks.Audit file) e))
-one_task (asks.Load n s) (asks.Load m t) fits also e = one_load n s m t fits also e
+abbrev served : Host → ℕ → Option (List ℕ) → Option Wanted
+served host most idl = Some (ToServe (record { at = record { ip = host.0; port = host.1 }; most = most; idl = idl }))
 
-module _ (words : List (List ℕ)) (a : Asked) (t : Task) (is : t ≡ task_of a) where
-  pub asked : line.AsksFor words a → AsksFor words t
-  asked asks = (a, asks, sym is)
+one_server : (a b : Asked) (x y : Host) (n m : ℕ) (i j : Option (List ℕ)) → FitsHost x → FitsHost y → n ≤ 1000000 → m ≤ 1000000 → host_text x ≡ host_text y → decimal n ≡ decimal m → i ≡ j
+    → wanted_of a ≡ served x n i → wanted_of b ≡ served y m j → wanted_of a ≡ wanted_of b
+one_server a b x y n m i j fits also low less host number idl is are =
+    is ∙ ap (λ z. served z n i) (one_host x y fits also host) ∙ ap (λ z. served y z i) (one_number n m (omega arith) (omega arith) number) ∙ ap (served y m) idl ∙ sym are
+
+one_wanted : (a b : Asked) → line.IsInRange a → line.IsInRange b → line_of a ≡ line_of b → wanted_of a ≡ wanted_of b
+one_wanted (asks.Replay file idl) b fits also e = one_file (asks.Replay file idl) b refl e
+one_wanted (asks.Idl file) b fits also e = one_file (asks.Idl file) b refl e
+one_wanted (asks.Audit file) b fits also e = one_file (asks.Audit file) b refl e
+one_wanted (asks.Load n s) (asks.Load m t) fits also e = one_load n s m t fits also e
+one_wanted (asks.Load n s) b fits also e = absurd (omega (arith, same_kind (asks.Load n s) b e))
+one_wanted (asks.Serve ip port n idl) (asks.Serve jp qort m jdl) fits also e =
+    one_server (asks.Serve ip port n idl) (asks.Serve jp qort m jdl) (ip, port) (jp, qort) n m (option_map (λ text. text.now) idl) (option_map (λ text. text.now) jdl) fits.0 also.0 fits.2 also.2
+    (ap (λ (l : Line). first_in l.operands) e) (ap (λ (l : Line). text_in (option_in l.options)) e) (ap (λ (l : Line). second_option l.options) e) refl refl
+one_wanted (asks.Serve ip port n idl) b fits also e = absurd (omega (arith, same_kind (asks.Serve ip port n idl) b e))
+one_wanted (asks.Call ip port idl script) (asks.Call jp qort jdl tcript) fits also e = refl
+one_wanted (asks.Call ip port idl script) b fits also e = absurd (omega (arith, same_kind (asks.Call ip port idl script) b e))
+
+some_one : (x y : Wanted) → Some x ≡ Some y → x ≡ y
+some_one x y e = cc
+
+module _ (words : List (List ℕ)) (a : Asked) (w : Wanted) (is : wanted_of a ≡ Some w) where
+  pub asked : line.AsksFor words a → Asks words w
+  asked asks = (a, asks, is)
 
   -- it is the only one
-  pub alone : line.AsksFor words a → ((other : Asked) → line.AsksFor words other → line_of other ≡ line_of a) → (other : Task) → AsksFor words other → other ≡ t
-  alone own only other h = sym h.2 ∙ one_task h.0 a h.1.1 own.1 (only h.0 h.1) ∙ sym is
+  pub alone : line.AsksFor words a → ((other : Asked) → line.AsksFor words other → line_of other ≡ line_of a) → (other : Wanted) → Asks words other → other ≡ w
+  alone own only other h = some_one other w (sym h.2 ∙ one_wanted h.0 a h.1.1 own.1 (only h.0 h.1) ∙ is)
 
 pub unasked : (words : List (List ℕ)) → line.AsksForNothing words → AsksForNothing words
-unasked words none task h = none h.0 h.1
+unasked words none w h = none h.0 h.1
+
+-- what is asked for is nothing of what is done here
+pub unknown : (words : List (List ℕ)) (a : Asked) → wanted_of a ≡ None → line.AsksFor words a → ((other : Asked) → line.AsksFor words other → line_of other ≡ line_of a) → AsksForNothing words
+unknown words a is own only w h = absurd (no_one w (sym h.2 ∙ one_wanted h.0 a h.1.1 own.1 (only h.0 h.1) ∙ is))
+  where
+    no_one : (x : Wanted) → Some x ≡ None → ⊥
+    no_one x e = absurd (cc)
 
 -- ---- its range
 
-range_of : (a : Asked) → line.IsInRange a → IsInRange (task_of a)
+abbrev IsFit : Wanted → Type 0
+IsFit (ToDo task) = IsInRange task
+IsFit (ToServe task) = IsWithin task
+
+abbrev AreFit : Option Wanted → Type 0
+AreFit None = Unit {0}
+AreFit (Some w) = IsFit w
+
+range_of : (a : Asked) → line.IsInRange a → AreFit (wanted_of a)
 range_of (asks.Replay file idl) fits = tt
 range_of (asks.Idl file) fits = tt
 range_of (asks.Audit file) fits = tt
 range_of (asks.Load number steps) fits = fits.1
+range_of (asks.Serve ip port n idl) fits = (fits.1, fits.2)
+range_of (asks.Call ip port idl script) fits = tt
+
+is_fit : (words : List (List ℕ)) (w : Wanted) → Asks words w → IsFit w
+is_fit words w h = subst AreFit h.2 (range_of h.0 h.1.1)
 
 pub in_range : (words : List (List ℕ)) (t : Task) → AsksFor words t → IsInRange t
-in_range words t h = subst IsInRange h.2 (range_of h.0 h.1.1)
+in_range words t h = is_fit words (ToDo t) h
+
+pub within : (words : List (List ℕ)) (t : ServeTask) → AsksToServe words t → t.most ≤ 1000000
+within words t h = (is_fit words (ToServe t) h).1

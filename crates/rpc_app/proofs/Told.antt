@@ -33,7 +33,7 @@ module _ (files : Option Files) where
   file_refused echo command name octets said (inr r) t k =
       not_both echo command octets said (subst (λ (x : List ℕ). Refuses echo command x said) (sym (told_is files name octets r.octets t r.loaded.file)) r.refuses) k.1
 
-  text_refused : (idl : Option (List ℕ)) (echo : Option TableForm) (said : List ℕ) → RefusesText files idl said → TellsText files idl echo → ⊥
+  pub text_refused : (idl : Option (List ℕ)) (echo : Option TableForm) (said : List ℕ) → RefusesText files idl said → TellsText files idl echo → ⊥
   text_refused None echo said r t = absurd r
   text_refused (Some name) echo said r t =
       let i = t.3.1 in
@@ -68,7 +68,7 @@ module _ (files : Option Files) where
       let short = m.loaded.short in
       absurd (omega (arith, ap length same))
 
-  text_served : (idl : Option (List ℕ)) (echo : Option TableForm) (name octets : List ℕ) → Serves files idl echo → idl ≡ Some name → Tells files name octets → IsTaken None Idl octets
+  pub text_served : (idl : Option (List ℕ)) (echo : Option TableForm) (name octets : List ℕ) → Serves files idl echo → idl ≡ Some name → Tells files name octets → IsTaken None Idl octets
   text_served idl echo name octets s e t =
       let served : ServesText files name echo = subst (λ (i : Option (List ℕ)). Serves files i echo) e s in
       let same : octets ≡ served.0 = told_is files name octets served.0 t served.1.file in

@@ -1,5 +1,6 @@
 -- What the words ask to be done.
-use Rattle.std.specs.Prelude.{◌≡◌, ◌≤◌, ℕ, List, Option, None, option_map, ⊤}
+use Rattle.std.specs.Prelude.{◌≡◌, ◌≤◌, ℕ, List, Option, Some, None, option_map, ⊤}
+use Rattle.rpc_outside.specs.declared.address.Address.{Address}
 use Rattle.command_line.specs.declared.command.Asked.{Asked}
 use Rattle.command_line.specs.declared.command.Asked.TheVariants as asks
 use Rattle.command_line.specs.Asks as line
@@ -17,21 +18,49 @@ pub data Task : Type 0 where
   OfFile : FileTask → Task
   OfLoad : ℕ → ℕ → Task
 
-abbrev pub task_of : Asked → Task
-task_of (asks.Replay file idl) = OfFile (record { command = Replay; file = file.now; idl = option_map (λ text. text.now) idl })
-task_of (asks.Idl file) = OfFile (record { command = Idl; file = file.now; idl = None })
-task_of (asks.Audit file) = OfFile (record { command = Audit; file = file.now; idl = None })
-task_of (asks.Load number steps) = OfLoad number steps
+-- That connections be served: where to listen, how many at most, and the interface text whose interface is served beside the built-in
+-- ones.
+pub record ServeTask : Type 0 where
+  pub at : Address
+  pub most : ℕ
+  pub idl : Option (List ℕ)
+
+-- One of the two.
+pub data Wanted : Type 0 where
+  ToDo : Task → Wanted
+  ToServe : ServeTask → Wanted
+
+abbrev pub of_file : Command → List ℕ → Option (List ℕ) → Option Wanted
+of_file command file idl = Some (ToDo (OfFile (record { command = command; file = file; idl = idl })))
+
+abbrev pub wanted_of : Asked → Option Wanted
+wanted_of (asks.Replay file idl) = of_file Replay file.now (option_map (λ text. text.now) idl)
+wanted_of (asks.Idl file) = of_file Idl file.now None
+wanted_of (asks.Audit file) = of_file Audit file.now None
+wanted_of (asks.Load number steps) = Some (ToDo (OfLoad number steps))
+wanted_of (asks.Serve ip port connections idl) =
+    Some (ToServe (record { at = record { ip = ip; port = port }; most = connections; idl = option_map (λ text. text.now) idl }))
+wanted_of (asks.Call ip port idl script) = None
 
 -- a load has 100,000 steps at most
 abbrev pub IsInRange : Task → Type 0
 IsInRange (OfFile task) = ⊤
 IsInRange (OfLoad number steps) = steps ≤ 100000
 
--- the words ask for this task
-abbrev pub AsksFor : List (List ℕ) → Task → Type 0
-AsksFor words task = (asked : Asked) × line.AsksFor words asked × (task_of asked ≡ task)
+-- connections are 1,000,000 at most
+abbrev pub IsWithin : ServeTask → Type 0
+IsWithin task = (1 ≤ task.most) × (task.most ≤ 1000000)
 
--- they ask for none
+-- the words ask for that
+abbrev pub Asks : List (List ℕ) → Wanted → Type 0
+Asks words wanted = (asked : Asked) × line.AsksFor words asked × (wanted_of asked ≡ Some wanted)
+
+abbrev pub AsksFor : List (List ℕ) → Task → Type 0
+AsksFor words task = Asks words (ToDo task)
+
+abbrev pub AsksToServe : List (List ℕ) → ServeTask → Type 0
+AsksToServe words task = Asks words (ToServe task)
+
+-- they ask for none of it
 abbrev pub AsksForNothing : List (List ℕ) → Type 0
-AsksForNothing words = (task : Task) → AsksFor words task → ⊥
+AsksForNothing words = (wanted : Wanted) → Asks words wanted → ⊥

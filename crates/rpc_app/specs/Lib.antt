@@ -5,3 +5,4 @@ pub mod Commands
 pub mod Runs
 pub mod Making
 pub mod Obeys
+pub mod Serving

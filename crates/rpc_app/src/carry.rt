@@ -33,7 +33,7 @@ pub fn carry_out<F: Shelf, S: Sink, L: Sink>(
     ensures quiet { (result ≡ 3) ⊎ (result ≡ 5) → L.written log.new ≡ L.written log.old }
 {
     match done(alloc, task, shelf) {
-        Ok(made) => print(&made, out, log),
+        Ok(made) => print(made.out.as_slice(), made.log.as_slice(), out, log),
         Err(TaskFault::Refused(line)) => refuse(out, line.as_slice(), 2),
         Err(TaskFault::Failed) => 3,
         Err(TaskFault::Memory) => 5,

@@ -8,9 +8,11 @@ mod limits;
 mod load;
 mod make;
 mod say;
+mod serving;
 mod task;
 mod top;
 mod verdicts;
 mod words;
 
-pub use top::{obey, run};
+pub use top::{Obeyed, obey, run};
+pub use words::ServeTask;

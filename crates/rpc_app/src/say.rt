@@ -3,7 +3,6 @@ ghost use Rattle.std.specs.Prelude.{◌≡◌, ◌⊎◌, ◌<◌};
 ghost use Rattle.rpc_base.specs.Causes.{Rose};
 ghost use Rattle.rpc_app.specs.Runs.{Gains, GainsFront, EndsEarly};
 
-use replay::Replayed;
 use rpc_base::{Sink, put_all};
 
 /// Puts a refusal, and answers its status.
@@ -20,18 +19,18 @@ pub fn refuse<S: Sink>(out: &mut S, text: &[u8], status: u8) -> u8
     }
 }
 
-/// Puts what was made of a file on out, and then on log.
-pub fn print<S: Sink, L: Sink>(made: &Replayed, out: &mut S, log: &mut L) -> u8
+/// Puts a text on out, and then one on log.
+pub fn print<S: Sink, L: Sink>(printed: &[u8], logged: &[u8], out: &mut S, log: &mut L) -> u8
     ensures known { (result ≡ 0) ⊎ (result ≡ 4) }
-    ensures out { result ≡ 0 → Gains (S.written out.old) (S.written out.new) made.now.out }
-    ensures log { result ≡ 0 → Gains (L.written log.old) (L.written log.new) made.now.log }
+    ensures out { result ≡ 0 → Gains (S.written out.old) (S.written out.new) printed.now }
+    ensures log { result ≡ 0 → Gains (L.written log.old) (L.written log.new) logged.now }
     ensures failed { result ≡ 4 → Rose (S.faults out.old) (S.faults out.new) ⊎ Rose (L.faults log.old) (L.faults log.new) }
-    ensures fronts { result ≡ 4 → EndsEarly (S.written out.old) (S.written out.new) (L.written log.old) (L.written log.new) made.now.out made.now.log }
+    ensures fronts { result ≡ 4 → EndsEarly (S.written out.old) (S.written out.new) (L.written log.old) (L.written log.new) printed.now logged.now }
 {
-    if put_all(out, made.out.as_slice()).is_err() {
+    if put_all(out, printed).is_err() {
         return 4;
     }
-    if put_all(log, made.log.as_slice()).is_err() {
+    if put_all(log, logged).is_err() {
         return 4;
     }
     0

@@ -100,7 +100,7 @@ fn text_echo<F: Shelf>(alloc: Global, name: &str, shelf: &mut F) -> Result<Table
 }
 
 /// The same, where one is named.
-fn echo_of<F: Shelf>(
+pub fn echo_of<F: Shelf>(
     alloc: Global,
     name: Option<&str>,
     shelf: &mut F,

@@ -1,54 +1,82 @@
 //! The top call: does what the words ask, over the outside that is handed in.
-ghost use Rattle.std.specs.Prelude.{map, string_bytes};
-ghost use Rattle.rpc_app.specs.Obeys.{Obeys};
+ghost use Rattle.std.specs.Prelude.{◌≡◌, map, string_bytes};
+ghost use Rattle.rpc_app.specs.Serving.{Comes, IsLeft, RunsAs};
 
 use crate::carry::carry_out;
 use crate::say::refuse;
-use crate::words::asked;
+use crate::serving::serve_for;
+use crate::words::{ServeTask, Wanted, asked};
 use rpc_base::{NoMemory, Shelf, Sink};
+use rpc_outside::{Door, Link};
 use std::alloc::Global;
 use std::sync::Wait;
 use std::thread::Threads;
 
-/// Does what the words ask, and answers the status: 0 done, 1 the words are refused, 2 a file is
-/// refused, 3 the shelf failed, 4 an output failed, 5 want of memory. It always returns.
-pub fn obey<F: Shelf, S: Sink, L: Sink>(
+/// What came of the words.
+#[derive(Clone, Copy, Debug)]
+pub enum Obeyed<'a> {
+    /// The status: 0 done, 1 the words are refused, 2 a file is refused, 3 the shelf failed, 4 an output failed, 5 want of
+    /// memory.
+    Done(u8),
+    /// The words ask for connections to be served. Nothing was done.
+    Serve(ServeTask<'a>),
+}
+
+/// Does what the words ask, where that is a task of files. It always returns.
+pub fn obey<'a, F: Shelf, S: Sink, L: Sink>(
     alloc: Global,
-    words: &[String],
+    words: &'a [String],
     shelf: &mut F,
     out: &mut S,
     log: &mut L,
-) -> u8
-    ensures { Obeys (map string_bytes words.now)
+) -> Obeyed<'a>
+    ensures comes { Comes (map string_bytes words.now)
         (record { files = F.files shelf.old; before = F.faults shelf.old; after = F.faults shelf.new })
         (record { before = S.faults out.old; after = S.faults out.new; had = S.written out.old; has = S.written out.new })
         (record { before = L.faults log.old; after = L.faults log.new; had = L.written log.old; has = L.written log.new })
         result }
+    ensures unused { IsLeft result → (shelf.new ≡ shelf.old) × (out.new ≡ out.old) × (log.new ≡ log.old) }
 {
-    let found = match asked(alloc, words) {
-        Ok(found) => found,
-        Err(NoMemory) => return 5,
+    let wanted = match asked(alloc, words) {
+        Ok(wanted) => wanted,
+        Err(NoMemory) => return Obeyed::Done(5),
     };
-    match found {
-        Some(task) => carry_out(alloc, task, shelf, out, log),
-        None => refuse(out, b"refused: words\n", 1),
+    match wanted {
+        Some(Wanted::Task(task)) => Obeyed::Done(carry_out(alloc, task, shelf, out, log)),
+        Some(Wanted::Serve(task)) => Obeyed::Serve(task),
+        None => Obeyed::Done(refuse(out, b"refused: words\n", 1)),
     }
 }
 
-/// The program: `obey`, where it may also wait and start threads, as no command does yet.
-pub fn run<R: Wait + Threads + Sync, F: Shelf, S: Sink, L: Sink>(
-    _rt: &R,
+/// The program: does what the words ask, and answers the status: those of `obey`, and where connections are served 0 where
+/// each ended behind a whole PDU, 8 where one didn't, and 7 where the door failed, which outweighs the others. `boot` is the
+/// server's boot word.
+pub fn run<R, F, D, S, L>(
+    rt: &R,
     alloc: Global,
     words: &[String],
+    boot: u64,
     shelf: &mut F,
+    door: &mut D,
     out: &mut S,
     log: &mut L,
 ) -> u8
-    ensures { Obeys (map string_bytes words.now)
+where
+    R: Wait + Threads + Send + Sync + Copy + 'static,
+    F: Shelf,
+    D: Door,
+    D::Link: 'static,
+    S: Sink,
+    L: Sink,
+    ensures { RunsAs D.Link.shows (map string_bytes words.now) boot
         (record { files = F.files shelf.old; before = F.faults shelf.old; after = F.faults shelf.new })
+        (record { before = D.shows door.old; after = D.shows door.new })
         (record { before = S.faults out.old; after = S.faults out.new; had = S.written out.old; has = S.written out.new })
         (record { before = L.faults log.old; after = L.faults log.new; had = L.written log.old; has = L.written log.new })
         result }
 {
-    obey(alloc, words, shelf, out, log)
+    match obey(alloc, words, shelf, out, log) {
+        Obeyed::Done(status) => status,
+        Obeyed::Serve(task) => serve_for(rt, alloc, boot, task, shelf, door, out, log),
+    }
 }

@@ -1,11 +1,12 @@
 //! What the words ask to be done.
 ghost use Rattle.std.specs.Prelude.{◌≡◌, List, map, option_map, string_bytes, IfOk, IfSome, IfNone};
-ghost use Rattle.rpc_app.specs.Asks.{Task as ATask, AsksFor, AsksForNothing, task_of};
-ghost use Rattle.rpc_app.specs.Words.{told_task};
+ghost use Rattle.rpc_app.specs.Asks.{Wanted as AWanted, ToDo, OfFile, Asks, AsksForNothing, wanted_of};
+ghost use Rattle.rpc_app.specs.Words.{told_wanted};
 
 use crate::command::Command;
 use command_line::Asked;
 use rpc_base::NoMemory;
+use rpc_outside::Address;
 use std::alloc::Global;
 
 /// A command, the name of its file, and that of the interface text beside it.
@@ -25,38 +26,62 @@ pub enum Task<'a> {
     Load { number: u64, steps: u32 },
 }
 
-/// The task that is asked for.
-fn task_in(asked: Asked<'_>) -> Task<'_>
-    ensures { told_task result ≡ task_of asked.entry }
+/// Connections that are to be served: the address to listen at, how many at most, and the name of the interface text whose
+/// interface is served beside the built-in ones.
+#[derive(Clone, Copy, Debug)]
+pub struct ServeTask<'a> {
+    pub at: Address,
+    pub most: u32,
+    pub idl: Option<&'a str>,
+}
+
+/// What is wanted.
+#[derive(Clone, Copy, Debug)]
+pub enum Wanted<'a> {
+    /// A task of files, which needs nobody else.
+    Task(Task<'a>),
+    /// Connections are to be served.
+    Serve(ServeTask<'a>),
+}
+
+/// A command with a file, and the interface text beside it.
+fn of_file<'a>(command: Command, file: &'a str, idl: Option<&'a str>) -> Wanted<'a>
+    ensures { told_wanted result ≡ ToDo (OfFile (record { command = command; file = file.entry.now; idl = option_map (λ n. n.now) idl.entry })) }
+{
+    Wanted::Task(Task::File(FileTask { command, file, idl }))
+}
+
+/// What is wanted where that is asked.
+fn wanted_in(asked: Asked<'_>) -> Option<Wanted<'_>>
+    ensures { option_map told_wanted result ≡ wanted_of asked.entry }
 {
     match asked {
-        Asked::Replay { file, idl } => Task::File(FileTask {
-            command: Command::Replay,
-            file,
+        Asked::Replay { file, idl } => Some(of_file(Command::Replay, file, idl)),
+        Asked::Idl { file } => Some(of_file(Command::Idl, file, None)),
+        Asked::Audit { file } => Some(of_file(Command::Audit, file, None)),
+        Asked::Load { number, steps } => Some(Wanted::Task(Task::Load { number, steps })),
+        Asked::Serve {
+            ip,
+            port,
+            connections,
             idl,
-        }),
-        Asked::Idl { file } => Task::File(FileTask {
-            command: Command::Idl,
-            file,
-            idl: None,
-        }),
-        Asked::Audit { file } => Task::File(FileTask {
-            command: Command::Audit,
-            file,
-            idl: None,
-        }),
-        Asked::Load { number, steps } => Task::Load { number, steps },
+        } => Some(Wanted::Serve(ServeTask {
+            at: Address { ip, port },
+            most: connections,
+            idl,
+        })),
+        Asked::Call { .. } => None,
     }
 }
 
-/// The task that the words ask for, or `None` where they ask for none; `NoMemory` where memory ends while they are read.
-pub fn asked(alloc: Global, words: &[String]) -> Result<Option<Task<'_>>, NoMemory>
-    ensures asked { IfOk result (λ o. IfSome o (λ t. AsksFor (map string_bytes words.now) (told_task t))) }
-    ensures alone { IfOk result (λ o. IfSome o (λ t. (other : ATask) → AsksFor (map string_bytes words.now) other → other ≡ told_task t)) }
+/// What the words ask for, or `None` where they ask for nothing; `NoMemory` where memory ends while they are read.
+pub fn asked(alloc: Global, words: &[String]) -> Result<Option<Wanted<'_>>, NoMemory>
+    ensures asked { IfOk result (λ o. IfSome o (λ w. Asks (map string_bytes words.now) (told_wanted w))) }
+    ensures alone { IfOk result (λ o. IfSome o (λ w. (other : AWanted) → Asks (map string_bytes words.now) other → other ≡ told_wanted w)) }
     ensures nothing { IfOk result (λ o. IfNone o (AsksForNothing (map string_bytes words.now))) }
 {
     match command_line::asked(alloc, words)? {
-        Some(asked) => Ok(Some(task_in(asked))),
+        Some(asked) => Ok(wanted_in(asked)),
         None => Ok(None),
     }
 }

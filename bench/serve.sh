@@ -1,0 +1,111 @@
+#!/usr/bin/env bash
+# Times calls of `dcerpc serve` over the loopback, by `serve_load`: calls a second over 1, 4 and 16 connections, each
+# with one call out at a time, of the probe, where a handle is opened and closed, and of the store, where 4 or 4,096
+# octets are appended to a file and read. Each rate is the greatest of three, from when all connections are bound until
+# the last call is answered. A file has 16 MiB at most, and the three runs append no more than that. Behind each rate
+# stands how it is to that of one connection, and the memory that the server has then, the files of all three among it.
+# Last, what a connection costs that says nothing, of 200. Servers and clients share the processors of the machine.
+set -eu
+top=$(cd "$(dirname "$0")/.." && pwd)
+source "$top/bench/timing.sh"
+work=$(mktemp -d)
+server=
+stop() {
+    [ -z "$server" ] || kill "$server" 2>/dev/null || true
+    rm -rf "$work"
+}
+trap stop EXIT
+
+build_dcerpc
+program=$top/crates/dcerpc/out/dcerpc
+load=$top/crates/serve_load/out/serve_load
+(cd "$top/crates/serve_load" && rt run >/dev/null) # builds it where it is stale
+
+is_listening() { # PORT
+    grep -q "0100007F:$(printf %04X "$1") 00000000:0000 0A" /proc/net/tcp
+}
+
+# Starts a server of so many connections at the first port from 21900 on that isn't taken, and sets `server` and `port`.
+start() { # CONNECTIONS
+    local tries
+    for port in {21900..21919}; do
+        if is_listening "$port"; then continue; fi
+        "$program" serve "127.0.0.1:$port" --connections "$1" >"$work/out" 2>"$work/log" &
+        server=$!
+        for tries in {1..200}; do
+            if is_listening "$port"; then return 0; fi
+            if ! kill -0 "$server" 2>/dev/null; then break; fi
+            sleep 0.05
+        done
+        wait "$server" || true
+    done
+    echo "no server listens: $(cat "$work/out")" >&2
+    return 1
+}
+
+# The server's resident memory, in KiB.
+resident() {
+    awk '$1 == "VmRSS:" { print $2 }' "/proc/$server/status"
+}
+
+# The server ends once its last connection has; another status than 0 ends the script.
+finish() {
+    local status=0
+    wait "$server" || status=$?
+    server=
+    if [ "$status" != 0 ]; then
+        echo "status $status of the server: $(tail -n 1 "$work/out")" >&2
+        return 1
+    fi
+}
+
+# The least microseconds of three runs of a load. A run that fails ends the script.
+told() { # CONNECTIONS ROUNDS OCTETS
+    local best='' line
+    for _ in 1 2 3; do
+        line=$("$load" "127.0.0.1:$port" "$1" "$2" "$3") || {
+            echo "failed: $load 127.0.0.1:$port $*" >&2
+            return 1
+        }
+        line=${line##* }
+        if [ -z "$best" ] || [ "$line" -lt "$best" ]; then best=$line; fi
+    done
+    echo "$best"
+}
+
+for case in "0 20000 probe" "4 20000 store, 4 octets" "4096 1200 store, 4,096 octets"; do
+    read -r octets rounds what <<<"$case"
+    one=
+    for connections in 1 4 16; do
+        start $((3 * connections + 1))
+        time=$(told "$connections" $((rounds / connections)) "$octets")
+        memory=$(resident)
+        exec 3<>"/dev/tcp/127.0.0.1/$port" # the last connection
+        exec 3>&-
+        finish
+        awk -v what="$what, $connections connections" -v calls=$((rounds / connections * connections * 2)) \
+            -v time="$time" -v memory="$memory" -v one="$one" 'BEGIN {
+            rate = calls * 1e6 / time
+            printf "%-36s %8.0f calls a second", what, rate
+            if (one != "") printf ", %.2f times those of one", rate * one / 1e6
+            printf ", %.1f MiB\n", memory / 1024
+        }'
+        if [ -z "$one" ]; then one=$(awk -v calls=$((rounds * 2)) -v time="$time" 'BEGIN { print time / calls }'); fi
+    done
+done
+
+count=200
+start "$count"
+before=$(resident)
+descriptors=()
+for ((n = 0; n < count; n++)); do
+    exec {descriptor}<>"/dev/tcp/127.0.0.1/$port"
+    descriptors+=("$descriptor")
+done
+sleep 2
+after=$(resident)
+for descriptor in "${descriptors[@]}"; do exec {descriptor}>&-; done
+finish
+awk -v count="$count" -v before="$before" -v after="$after" 'BEGIN {
+    printf "%-36s %8.1f KiB a connection\n", "connections that say nothing", (after - before) / count
+}'

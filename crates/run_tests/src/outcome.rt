@@ -1,0 +1,47 @@
+//! What comes of a run, as a text.
+ghost use Rattle.std.specs.Prelude.{◌≡◌, true};
+ghost use Rattle.rpc_outside.specs.LinkLists.{are_new};
+
+use rpc_app::run;
+use rpc_base::{MapShelf, NoMemory, Numbers, ShelfFiles, VecSink};
+use rpc_outside::{Links, ScriptDoor};
+use std::alloc::Global;
+use std::sync::Wait;
+use std::thread::Threads;
+
+/// The server's boot word.
+const BOOT: u64 = 0x0102_0304_0506_0708;
+
+/// The status, the links that were given back, what is on out and what is on log, where a door hands out these links and
+/// its call of that number fails, from 1.
+pub fn outcome<R: Wait + Threads + Send + Sync + Copy + 'static>(
+    rt: &R,
+    alloc: Global,
+    words: &str,
+    links: Links,
+    failing: u64,
+) -> Result<Vec<u8>, NoMemory>
+    requires { are_new links.items ≡ true }
+{
+    let mut list = Vec::new(alloc);
+    for word in words.split_whitespace() {
+        list.push(String::from_str(alloc, word)?)?;
+    }
+    let mut faults = Numbers::new(alloc);
+    faults.push(failing)?;
+    let mut door = ScriptDoor::new(alloc, links, faults);
+    let mut shelf = MapShelf::new(ShelfFiles::new(alloc), Numbers::new(alloc));
+    let mut out = VecSink::new(alloc, Numbers::new(alloc));
+    let mut log = VecSink::new(alloc, Numbers::new(alloc));
+    let words = list.as_slice();
+    let status = run(
+        rt, alloc, words, BOOT, &mut shelf, &mut door, &mut out, &mut log,
+    );
+    let back = door.given_back().len();
+    let head = format!(in alloc; "{status} {back}\n")?;
+    let mut text = head.as_bytes().to_vec(alloc)?;
+    text.extend_from_slice(out.written().as_slice())?;
+    text.extend_from_slice(b"=>\n")?;
+    text.extend_from_slice(log.written().as_slice())?;
+    Ok(text)
+}

@@ -1,0 +1,10 @@
+pub mod Doors
+pub mod Adding
+pub mod Journals
+pub mod Names
+pub mod Groups
+pub mod Logged
+pub mod Leaves
+pub mod Apart
+pub mod Statuses
+pub mod Rounds

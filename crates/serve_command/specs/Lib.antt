@@ -1,0 +1,5 @@
+pub mod Lines
+pub mod Sums
+pub mod Doors
+pub mod Groups
+pub mod Serves

@@ -1,0 +1,98 @@
+//! The program: `serve_load ADDRESS CONNECTIONS ROUNDS OCTETS` calls a server of the probe and the store. It
+//! makes so many connections, each in a thread of its own, and on each so many rounds of two calls. Where
+//! OCTETS is 0, a round opens a handle of the probe and closes it. Else it appends so many octets to a file of
+//! the store, a multiple of 4 up to 4,096, and reads them. It prints how many calls were made and in how many
+//! microseconds, from when all connections are bound until the last call is answered; it ends with 1 where a
+//! connection failed or a call was answered otherwise. `bench/serve.sh` runs it.
+#![tactic(auto)]
+
+mod caller;
+mod rounds;
+
+use caller::Caller;
+use rounds::{Plan, make_rounds};
+use std::alloc::Global;
+use std::env;
+use std::io::Print;
+use std::net::{Net, SocketAddr, TcpStream};
+use std::process::ExitCode;
+use std::rt::{Clock, Env};
+use std::thread::{Threads, map_vec};
+use std::time::Instant;
+
+/// The most connections.
+const MOST_CONNECTIONS: u32 = 1_000;
+
+/// What the words ask for.
+#[derive(Clone, Copy, Drop)]
+struct Load {
+    address: SocketAddr,
+    connections: u32,
+    plan: Plan,
+}
+
+fn asked(rt: &(impl Env + AllocGlobal)) -> Option<Load> {
+    let mut words = env::args(rt).ok()?.skip(1);
+    let address = words.next()?.as_str().parse::<SocketAddr>().ok()?;
+    let connections = words.next()?.as_str().parse::<u32>().ok()?;
+    let rounds = words.next()?.as_str().parse::<u32>().ok()?;
+    let octets = words.next()?.as_str().parse::<usize>().ok()?;
+    let plan = Plan::of(rounds, octets)?;
+    if connections == 0 || connections > MOST_CONNECTIONS {
+        return None;
+    }
+    Some(Load {
+        address,
+        connections,
+        plan,
+    })
+}
+
+/// The connections, each bound.
+fn callers<R: Net<Stream = TcpStream>>(net: &R, alloc: Global, load: Load) -> Option<Vec<Caller>> {
+    let mut callers = Vec::new(alloc);
+    for number in 0..load.connections {
+        let caller = Caller::new(net, alloc, load.address, load.plan.interface(), number)?;
+        callers.push(caller).ok()?;
+    }
+    Some(callers)
+}
+
+/// How many microseconds all rounds took.
+fn timed<R: Net<Stream = TcpStream> + Threads + Clock + Sync>(
+    rt: &R,
+    alloc: Global,
+    load: Load,
+) -> Option<u128> {
+    let callers = callers(rt, alloc, load)?;
+    let plan = load.plan;
+    let start = Instant::now(rt).ok()?;
+    let made = map_vec(
+        rt,
+        callers,
+        &|caller: Caller| make_rounds(alloc, caller, plan),
+    )
+    .ok()?;
+    let time = start.elapsed(rt).ok()?;
+    if made.iter().all(|whole| *whole) {
+        Some(time.as_micros())
+    } else {
+        None
+    }
+}
+
+fn main(rt: HostRuntime) -> ExitCode {
+    let Some(load) = asked(&rt) else {
+        let _ = println!(rt; "serve_load ADDRESS CONNECTIONS ROUNDS OCTETS");
+        return ExitCode::SUCCESS;
+    };
+    let rounds = u64::from(load.connections).saturating_mul(u64::from(load.plan.rounds));
+    let calls = rounds.saturating_mul(2);
+    match timed(&rt, rt.alloc(), load) {
+        Some(time) => {
+            let _ = println!(rt; "calls {calls} microseconds {time}");
+            ExitCode::SUCCESS
+        }
+        None => ExitCode::FAILURE,
+    }
+}
