@@ -35,3 +35,13 @@ IsLine known connection outcome line = (said : List ℕ) × Says known outcome s
 -- the line of a connection that is lost with a call out
 unfoldable pub lost_line : ℕ → List ℕ
 lost_line connection = decimal connection ++ codes " lost\n"
+
+-- whether the line of an outcome was added; it wasn't where there is none
+abbrev pub Tells : Bool → List WireHandle → ℕ → Outcome → List ℕ → List ℕ → Type 0
+Tells true known connection outcome before now = (line : List ℕ) × IsLine known connection outcome line × (now ≡ before ++ line)
+Tells false known connection outcome before now = (line : List ℕ) → IsLine known connection outcome line → ⊥
+
+-- the same of what is said. Only private clauses speak of this
+abbrev pub Said : Bool → List WireHandle → Outcome → List ℕ → List ℕ → Type 0
+Said true known outcome before now = (said : List ℕ) × Says known outcome said × (now ≡ before ++ said)
+Said false known outcome before now = (said : List ℕ) → Says known outcome said → ⊥

@@ -1,8 +1,8 @@
 //! Lines of outcomes.
-ghost use Rattle.std.specs.Prelude.{◌≡◌, ◌++◌, List, ℕ, true, OnOk, IfOk, codes, decimal};
+ghost use Rattle.std.specs.Prelude.{◌≡◌, ◌++◌, List, OnOk, IfOk, codes, decimal};
 ghost use Rattle.ndr_value.specs.Values.{msg};
 ghost use Rattle.client_asks.specs.States as states;
-ghost use Rattle.call_texts.specs.Texts.{IsCallText};
+ghost use Rattle.client_asks.specs.States.Outcome.{TDone};
 ghost use Rattle.call_answers.specs.Answers as spec;
 
 use call_texts::put_row;
@@ -52,20 +52,20 @@ fn put_done(
     message: &Message,
     into: &mut Vec<u8>,
 ) -> Result<bool, NoMemory>
-    ensures { IfOk result (λ done. done ≡ true → (text : List ℕ) × IsCallText known.now (msg message.now).wires (msg message.now).values text × (into.new.items ≡ into.old.items ++ (codes " done " ++ text))) }
+    ensures { IfOk result (λ done. spec.Said done known.now (TDone (msg message.now)) into.old.items into.new.items) }
 {
     put(b" done ", into)?;
     put_row(alloc, known, message, into)
 }
 
-/// Adds what is said of an outcome. False where nothing can be.
+/// Adds what is said of an outcome. False where nothing is.
 fn put_said(
     alloc: Global,
     known: &[WireHandle],
     told: &Told,
     into: &mut Vec<u8>,
 ) -> Result<bool, NoMemory>
-    ensures { IfOk result (λ done. done ≡ true → (said : List ℕ) × spec.Says known.now (states.told told.now) said × (into.new.items ≡ into.old.items ++ said)) }
+    ensures { IfOk result (λ done. spec.Said done known.now (states.told told.now) into.old.items into.new.items) }
 {
     match told {
         Told::Bound(group) => put_bound(alloc, *group, into)?,
@@ -77,8 +77,9 @@ fn put_said(
     Ok(true)
 }
 
-/// Adds the line of a connection's outcome, where these handles have come. False where nothing can be said of it: it is a breach
-/// of the protocol, or a handle of its message has no place among its wires; what is added then means nothing.
+/// Adds the line of a connection's outcome, where these handles have come. False where it has none: it is a breach of the protocol,
+/// or a handle of its message has no place among its wires, or no name; what is added then means nothing.
+#[tactic(auto, using(crate::proofs::Lines::tells))]
 pub fn put_answer(
     alloc: Global,
     known: &[WireHandle],
@@ -86,7 +87,7 @@ pub fn put_answer(
     told: &Told,
     into: &mut Vec<u8>,
 ) -> Result<bool, NoMemory>
-    ensures { IfOk result (λ done. done ≡ true → (line : List ℕ) × spec.IsLine known.now connection (states.told told.now) line × (into.new.items ≡ into.old.items ++ line)) }
+    ensures { IfOk result (λ done. spec.Tells done known.now connection (states.told told.now) into.old.items into.new.items) }
 {
     put_decimal(alloc, u64::from(connection), into)?;
     let done = put_said(alloc, known, told, into)?;

@@ -1,2 +1,5 @@
 pub mod Renamed
+pub mod Lacks
+pub mod Apart
+pub mod Requests
 pub mod Items

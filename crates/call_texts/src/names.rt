@@ -1,20 +1,20 @@
 //! Texts of values with the places of handles, and with their names.
-ghost use Rattle.std.specs.Prelude.{◌≡◌, ◌++◌, ◌∷◌, List, ℕ, Some, false, true, IfOk, IfSome, slice_get, codes, decimal};
-ghost use Rattle.std.specs.Option.{option_copied};
+ghost use Rattle.std.specs.Prelude.{◌≡◌, ◌++◌, ◌∷◌, ◌<◌, ◌^◌, length, List, ℕ, Some, false, true, IfOk, MatchOption, All, slice_get, codes, decimal};
+ghost use Rattle.rpc_base.specs.declared.identifiers.WireHandle.{WireHandle};
 ghost use Rattle.value_text.specs.Marks as marks;
 ghost use Rattle.call_texts.specs.Handles as spec;
-ghost use Rattle.call_texts.specs.Texts.{Named};
-ghost use Rattle.call_texts.specs.Renaming.{IsRenamed};
+ghost use Rattle.call_texts.specs.Texts.{NamedFrom};
+ghost use Rattle.call_texts.specs.Renaming.{Renames};
 
 use crate::handles::{has_name, place, put_name};
 use ndr_value::Wires;
 use rpc_base::{NoMemory, WireHandle};
-use rpc_words::{cut_at, put, put_decimal, read_u8, read_u64};
+use rpc_words::{cut_at, put, put_decimal, read_u64};
 use std::alloc::Global;
 
 /// What stands behind an octet.
 pub(crate) fn behind(octet: u8, text: &[u8]) -> Option<&[u8]>
-    ensures { IfSome result (λ rest. text.now ≡ octet ∷ rest.now) }
+    ensures { MatchOption result ((rest : List ℕ) → text.now ≡ octet ∷ rest → ⊥) (λ rest. text.now ≡ octet ∷ rest.now) }
 {
     let (first, rest) = text.split_first()?;
     if *first == octet { Some(rest) } else { None }
@@ -22,7 +22,7 @@ pub(crate) fn behind(octet: u8, text: &[u8]) -> Option<&[u8]>
 
 /// What stands behind `null`.
 fn behind_null(text: &[u8]) -> Option<&[u8]>
-    ensures { IfSome result (λ rest. text.now ≡ codes "null" ++ rest.now) }
+    ensures { MatchOption result ((rest : List ℕ) → text.now ≡ codes "null" ++ rest → ⊥) (λ rest. text.now ≡ codes "null" ++ rest.now) }
 {
     behind(b'l', behind(b'l', behind(b'u', behind(b'n', text)?)?)?)
 }
@@ -40,6 +40,7 @@ fn heads_digit(text: &[u8]) -> bool
 /// The digits at the front of a text, and what stands behind them.
 fn cut_digits(text: &[u8]) -> (&[u8], &[u8])
     ensures text { text.now ≡ result.0.now ++ result.1.now }
+    ensures digits { All (λ c. marks.is_digit c ≡ true) result.0.now }
     ensures behind { marks.heads_digit result.1.now ≡ false }
 {
     match text.iter().position(|octet| !octet.is_ascii_digit()) {
@@ -48,12 +49,20 @@ fn cut_digits(text: &[u8]) -> (&[u8], &[u8])
     }
 }
 
-/// The handle that came at a place, where that is its first.
-fn came_at(known: &[WireHandle], number: u64) -> Option<WireHandle>
-    ensures { IfSome result (λ w. (spec.is_null w ≡ false) × (spec.has_name known.now w ≡ true) × (spec.place known.now w ≡ number)) }
+/// The handle that came at the place that is written so, where that is its first.
+fn came_at(known: &[WireHandle], count: usize, digits: &[u8]) -> Option<WireHandle>
+    requires { count ≡ length known.now }
+    ensures few { length known.now < 2 ^ 64 }
+    ensures found { MatchOption result
+        ((w : WireHandle) → spec.is_null w ≡ false → spec.has_name known.now w ≡ true → decimal (spec.place known.now w) ≡ digits.now → ⊥)
+        (λ w. (spec.is_null w ≡ false) × (spec.has_name known.now w ≡ true) × (decimal (spec.place known.now w) ≡ digits.now)) }
 {
-    let at = usize::try_from(number.checked_sub(1)?).ok()?;
-    let wire = *known.get(at)?;
+    let number = read_u64(digits)?;
+    let at = number.checked_sub(1)? as usize;
+    if at >= count {
+        return None;
+    }
+    let wire = known[at];
     if wire.is_null() || !has_name(known, &wire) || place(known, &wire) != number {
         return None;
     }
@@ -63,8 +72,12 @@ fn came_at(known: &[WireHandle], number: u64) -> Option<WireHandle>
 /// The handle whose name stands at the front of a text, and what stands behind it.
 #[tactic(auto, unfolding(crate::specs::Handles::name))]
 fn read_name<'a>(known: &[WireHandle], text: &'a [u8]) -> Option<(WireHandle, &'a [u8])>
-    ensures { IfSome result (λ x. (text.now ≡ spec.name known.now x.0 ++ x.1.now) × (marks.heads_digit x.1.now ≡ false) × (spec.has_name known.now x.0 ≡ true)) }
+    ensures few { length known.now < 2 ^ 64 }
+    ensures found { MatchOption result
+        ((w : WireHandle) (rest : List ℕ) → text.now ≡ spec.name known.now w ++ rest → marks.heads_digit rest ≡ false → spec.has_name known.now w ≡ true → ⊥)
+        (λ x. (text.now ≡ spec.name known.now x.0 ++ x.1.now) × (marks.heads_digit x.1.now ≡ false) × (spec.has_name known.now x.0 ≡ true)) }
 {
+    let count = known.len();
     if let Some(rest) = behind_null(text) {
         if heads_digit(rest) {
             return None;
@@ -72,7 +85,7 @@ fn read_name<'a>(known: &[WireHandle], text: &'a [u8]) -> Option<(WireHandle, &'
         return Some((WireHandle::NULL, rest));
     }
     let (digits, rest) = cut_digits(behind(b'h', text)?);
-    let wire = came_at(known, read_u64(digits)?)?;
+    let wire = came_at(known, count, digits)?;
     Some((wire, rest))
 }
 
@@ -83,7 +96,9 @@ pub(crate) fn with_places(
     known: &[WireHandle],
     text: &[u8],
 ) -> Result<Option<(Vec<u8>, Wires)>, NoMemory>
-    ensures { IfOk result (λ found. IfSome found (λ x. Named known.now x.1 x.0.items text.now)) }
+    ensures { IfOk result (λ found. MatchOption found
+        ((wires : List WireHandle) (places : List ℕ) → NamedFrom known.now 0 wires places text.now → ⊥)
+        (λ x. NamedFrom known.now 0 x.1 x.0.items text.now × ((wires : List WireHandle) (places : List ℕ) → NamedFrom known.now 0 wires places text.now → (wires ≡ x.1) × (places ≡ x.0.items)))) }
 {
     let mut plain = Vec::new(alloc);
     let mut wires = Wires::new(alloc);
@@ -122,7 +137,7 @@ pub(crate) fn put_named(
     text: &[u8],
     into: &mut Vec<u8>,
 ) -> Result<bool, NoMemory>
-    ensures { IfOk result (λ named. named ≡ true → IsRenamed known.now wires.now text.now into.old.items into.new.items) }
+    ensures { IfOk result (λ named. Renames named known.now wires.now text.now into.old.items into.new.items) }
 {
     let mut rest = text;
     while let Some((first, after)) = rest.split_first() {
@@ -155,8 +170,12 @@ pub(crate) fn put_named(
 
 /// The handle at the place that is written so.
 fn wire_at(wires: &[WireHandle], digits: &[u8]) -> Option<WireHandle>
-    ensures { IfSome result (λ w. (k : ℕ) × (decimal k ≡ digits.now) × (slice_get wires.now k ≡ Some w)) }
+    ensures few { length wires.now < 2 ^ 64 }
+    ensures found { MatchOption result
+        ((k : ℕ) (w : WireHandle) → decimal k ≡ digits.now → slice_get wires.now k ≡ Some w → ⊥)
+        (λ w. (k : ℕ) × (decimal k ≡ digits.now) × (slice_get wires.now k ≡ Some w)) }
 {
-    let at = read_u8(digits)?;
-    wires.get(at as usize).copied()
+    let count = wires.len();
+    let at = read_u64(digits)? as usize;
+    if at < count { Some(wires[at]) } else { None }
 }

@@ -58,7 +58,7 @@ impl Answers for Conversations {
 }
 
 /// The steps of a list of words: octets in hexadecimal, `quiet`, `await` and `end`.
-fn steps_of(alloc: Global, words: &[u8]) -> Result<LinkSteps, NoMemory> {
+pub(crate) fn steps_of(alloc: Global, words: &[u8]) -> Result<LinkSteps, NoMemory> {
     let mut steps = Items::new(alloc);
     for word in split_words(alloc, words)? {
         steps.push(match word {

@@ -1,7 +1,11 @@
-//! A caller's connection over links in memory: what the peer does, what is begun and what is told.
+//! A caller over links in memory: what the peers do, what is begun or what a script says, and what is told.
 #![tactic(auto)]
 
 #[cfg(test)]
 mod conversations;
 #[cfg(test)]
 mod rows;
+#[cfg(test)]
+mod scripts;
+#[cfg(test)]
+mod texts;

@@ -6,7 +6,7 @@ use Rattle.rpc_base.specs.Causes.{Rose}
 use Rattle.rpc_outside.specs.Links.{Shown, Counts, Took, Put}
 use Rattle.rpc_outside.proofs.LinkLemmas.{counts_then}
 use Rattle.pdu_codec.specs.declared.pdu.Pdu.{Pdu}
-use Rattle.pdu_stream.specs.Cuts.{Fed, HasGiven, GivesNext}
+use Rattle.pdu_stream.specs.Cuts.{Fed, HasGiven, IsPartial, GivesNext}
 use Rattle.pdu_stream.proofs.Given.{goes_on, push_goes_on}
 use Rattle.table_form.specs.Tables.{TableForm}
 use Rattle.client_asks.specs.declared.told.Told.{Told}
@@ -177,7 +177,10 @@ module _ {K : Type 0} (shows : K → Shown) (interface : TableForm) where
     pub begins_failed : Rose (shows w.link).faults (shows k).faults → ((n : ℕ) × Put (shows w.link) (shows k) (take n piece)) → Begins shows interface events m event Long w (Err begin.Failed) (with_client w c k)
     begins_failed rose p = (
       octets,
-      stopped (with_client w c k) (events ++ event octets ∷ []) (state c) (drop p.0 piece) (some_put (with_client w c w.link) k (events ++ event octets ∷ []) (state c) piece p.0 unput p.1),
+      state c,
+      drop p.0 piece,
+      happens,
+      some_put (with_client w c w.link) k (events ++ event octets ∷ []) (state c) piece p.0 unput p.1,
       rose,
     )
 
@@ -275,8 +278,15 @@ module _ {K : Type 0} (shows : K → Shown) (interface : TableForm) where
     looked : Looks shows interface (events ++ so_far.0) so_far.1 v r w
     looked = looks (events ++ so_far.0) so_far.1 so_far.3
 
+    quiet : r ≡ Ok look.Quiet → IsPartial w.feed.rest × Lived shows interface w (events ++ so_far.0) so_far.1 []
+    quiet is = subst (λ (x : Result Look Stop). Looks shows interface (events ++ so_far.0) so_far.1 v x w) is looked
+
     pub goes_quiet : r ≡ Ok look.Quiet → Waited events w
-    goes_quiet is = (so_far.0, so_far.1, so_far.2, subst (λ (x : Result Look Stop). Looks shows interface (events ++ so_far.0) so_far.1 v x w) is looked)
+    goes_quiet is = (so_far.0, so_far.1, so_far.2, (quiet is).1)
+
+    -- it was quiet for too long
+    pub ends_quiet : (old : Wire K) (m : ClientState) → r ≡ Ok look.Quiet → RoseBy most_quiets (shows old.link).quiets (shows w.link).quiets → Waits shows interface events m old (Err stop.Quiet) w
+    ends_quiet old m is rose = (so_far.0, so_far.1, so_far.2, (quiet is).1, ((quiet is).0, rose))
 
     pub goes_silent : r ≡ Ok look.Nothing → Waited events w
     goes_silent is = by (subst (λ (x : Result Look Stop). Looks shows interface (events ++ so_far.0) so_far.1 v x w) is looked)
@@ -307,14 +317,11 @@ module _ {K : Type 0} (shows : K → Shown) (interface : TableForm) where
         later z a b h r = omega arith
 
         by : (why : Stop) → Looks shows interface (events ++ so_far.0) so_far.1 v (Err why) w → Waits shows interface events m old (Err why) w
-        by stop.Memory h = (so_far.0, so_far.2, h, tt)
+        by stop.Memory h = (so_far.0, so_far.2, h)
         by stop.Quiet h = absurd h
-        by stop.Failed h = (so_far.0, so_far.2, stopped w (events ++ so_far.0) so_far.1 [] h.0, later _ (shows v.link).faults _ counts.faults h.1)
-        by stop.Ended h = (so_far.0, so_far.2, stopped w (events ++ so_far.0) so_far.1 [] h.0, (later _ (shows v.link).ends _ counts.ends h.1.0, h.1.1))
-        by stop.Cut h = (so_far.0, so_far.2, stopped w (events ++ so_far.0) so_far.1 [] h.0, h.1)
-
-  pub ends_quiet : (old w : Wire K) (events : List ClientEvent) (m : ClientState) → Waited events w → RoseBy most_quiets (shows old.link).quiets (shows w.link).quiets → Waits shows interface events m old (Err stop.Quiet) w
-  ends_quiet old w events m so_far rose = (so_far.0, so_far.2, stopped w (events ++ so_far.0) so_far.1 [] so_far.3, rose)
+        by stop.Failed h = (so_far.0, so_far.1, so_far.2, h.0, (h.1.0, later _ (shows v.link).faults _ counts.faults h.1.1))
+        by stop.Ended h = (so_far.0, so_far.1, so_far.2, h.0, (h.1.0, later _ (shows v.link).ends _ counts.ends h.1.1, h.1.2))
+        by stop.Cut h = (so_far.0, so_far.1, so_far.2, h.0, h.1)
 
   pub ends_short : (old w : Wire K) (events : List ClientEvent) (m : ClientState) → Waited events w → Waits shows interface events m old (Err stop.Memory) w
-  ends_short old w events m so_far = (so_far.0, so_far.2, stopped w (events ++ so_far.0) so_far.1 [] so_far.3, tt)
+  ends_short old w events m so_far = (so_far.0, so_far.2, stopped w (events ++ so_far.0) so_far.1 [] so_far.3)

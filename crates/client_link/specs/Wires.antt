@@ -5,7 +5,7 @@ use Rattle.rpc_base.specs.Causes.{Rose}
 use Rattle.rpc_outside.specs.Links.{Shown, IsNothing, Counts}
 use Rattle.pdu_codec.specs.declared.pdu.Pdu.{Pdu}
 use Rattle.pdu_codec.specs.declared.fault.PduFault.{PduFault}
-use Rattle.pdu_stream.specs.Cuts.{Fed, HasGiven, IsStop}
+use Rattle.pdu_stream.specs.Cuts.{Fed, HasGiven, IsPartial, IsStop}
 use Rattle.ndr_value.specs.Values.{Msg}
 use Rattle.table_form.specs.Tables.{OpForm, TableForm}
 use Rattle.client_asks.specs.Calls.{asking}
@@ -98,19 +98,19 @@ module _ {K : Type 0} (shows : K → Shown) where
       pub is_open : IsOpen w.link
 
     module _ (events : List ClientEvent) (m : ClientState) where
-      -- Something was begun, and put; or the link failed meanwhile; or it isn't begun.
+      -- Something was begun, and put; or the link failed meanwhile, and the last octets weren't put; or it isn't begun.
       abbrev pub Begins : (List ℕ → ClientEvent) → Type 0 → Wire K → Result Unit BeginFault → Wire K → Type 0
       Begins event Long old (Ok _) w = (octets : List ℕ) × (n : ClientState) × Happens m (event octets) n × Lived w (events ++ event octets ∷ []) n []
       Begins event Long old (Err begin.Failed) w =
-          (octets : List ℕ) × Stopped w (events ++ event octets ∷ []) × Rose (shows old.link).faults (shows w.link).faults
+          (octets : List ℕ) × (n : ClientState) × (pending : List ℕ) × Happens m (event octets) n × Lived w (events ++ event octets ∷ []) n pending × Rose (shows old.link).faults (shows w.link).faults
       Begins event Long old (Err begin.TooLong) w = Long × Lived w events m []
       Begins event Long old (Err begin.Memory) w = Lived w events m []
 
-      -- why nothing more is heard
+      -- Why nothing more is heard. But for a fault of the octets, no whole PDU is left in what came.
       abbrev pub Cause : Stop → Wire K → Wire K → Type 0
-      Cause stop.Failed old w = Rose (shows old.link).faults (shows w.link).faults
-      Cause stop.Ended old w = Rose (shows old.link).ends (shows w.link).ends × IsNothing (shows w.link).left
-      Cause stop.Quiet old w = RoseBy most_quiets (shows old.link).quiets (shows w.link).quiets
+      Cause stop.Failed old w = IsPartial w.feed.rest × Rose (shows old.link).faults (shows w.link).faults
+      Cause stop.Ended old w = IsPartial w.feed.rest × Rose (shows old.link).ends (shows w.link).ends × IsNothing (shows w.link).left
+      Cause stop.Quiet old w = IsPartial w.feed.rest × RoseBy most_quiets (shows old.link).quiets (shows w.link).quiets
       Cause stop.Cut old w = (fault : PduFault) × IsStop w.feed.rest fault
       Cause stop.Memory old w = ⊤
 
@@ -118,7 +118,7 @@ module _ {K : Type 0} (shows : K → Shown) where
       abbrev pub Looks : Wire K → Result Look Stop → Wire K → Type 0
       Looks old (Ok (look.Tells t)) w = (p : Pdu) × (n : ClientState) × HearsBody m p p.body (Some (told t)) n × Lived w (events ++ Received p (Some (told t)) ∷ []) n []
       Looks old (Ok look.Nothing) w = ((p : Pdu) × (n : ClientState) × HearsBody m p p.body None n × Lived w (events ++ Received p None ∷ []) n []) ⊎ Lived w events m []
-      Looks old (Ok look.Quiet) w = Lived w events m []
+      Looks old (Ok look.Quiet) w = IsPartial w.feed.rest × Lived w events m []
       Looks old (Err stop.Memory) w = Stopped w events
       Looks old (Err stop.Quiet) w = ⊥
       Looks old (Err why) w = Lived w events m [] × Cause why old w
@@ -127,4 +127,5 @@ module _ {K : Type 0} (shows : K → Shown) where
       abbrev pub Waits : Wire K → Result Told Stop → Wire K → Type 0
       Waits old (Ok t) w =
           (before : List ClientEvent) × (p : Pdu) × (n : ClientState) × AreSilent before × Lived w (events ++ (before ++ Received p (Some (told t)) ∷ [])) n []
-      Waits old (Err why) w = (before : List ClientEvent) × AreSilent before × Stopped w (events ++ before) × Cause why old w
+      Waits old (Err stop.Memory) w = (before : List ClientEvent) × AreSilent before × Stopped w (events ++ before)
+      Waits old (Err why) w = (before : List ClientEvent) × (n : ClientState) × AreSilent before × Lived w (events ++ before) n [] × Cause why old w

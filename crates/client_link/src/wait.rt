@@ -1,6 +1,7 @@
 //! What a connection hears.
 ghost use Rattle.std.specs.Prelude.{◌≡◌, ◌≢◌, ◌⊎◌, ℕ, List, [], IfOk};
 ghost use Rattle.rpc_outside.specs.Links.{Counts};
+ghost use Rattle.pdu_stream.specs.Cuts.{IsPartial};
 ghost use Rattle.table_form.specs.Tables.{TableForm};
 ghost use Rattle.client_asks.specs.States.{ClientState};
 ghost use Rattle.client_asks.specs.Histories.{ClientEvent};
@@ -58,6 +59,7 @@ impl<K: Link> Wire<K> {
     /// Takes octets, where there are any. At want of memory they are lost.
     fn take(&mut self) -> Result<Look, Stop>
         requires open { IsOpen K.shows self.old.link }
+        requires partial { IsPartial self.old.feed.rest }
         ensures stays { Stays self.old self.new }
         ensures open { IsOpen K.shows self.new.link }
         ensures counts { Counts (K.shows self.old.link) (K.shows self.new.link) }

@@ -1,25 +1,52 @@
-use Rattle.std.proofs.Common.{◌≡◌, ◌==◌, ap, ◌∙◌, ◌∷◌, List, ℕ, length}
-use Rattle.call_texts.proofs.Items.{row_start, item_read, none_is, row_read, short}
+use Rattle.std.proofs.Common.{◌≡◌, ◌==◌, ap, sym, subst, ◌∙◌, ◌∷◌, List, ℕ, Bool, length, map, codes}
+use Rattle.ndr_value.specs.Forms.{form, types_of}
+use Rattle.ndr_value.specs.Values.{Val}
+use Rattle.table_form.specs.declared.operation.Param.{Param}
+use Rattle.table_form.specs.Tables.{param_form}
+use Rattle.call_texts.specs.Renaming.{ItemStands}
+use Rattle.call_texts.proofs.Renamed.{nothing}
+use Rattle.call_texts.proofs.Items.{Reached, no_row, row_start, row_more, row_stops, row_end, row_open, none_is, is_none}
 use Rattle.call_texts.proofs.rows.read_values.Goals as goal
-use Rattle.call_texts.proofs.rows.read_values.Goals.{then-param+in_ok-value+in-Some-2+in_ok-push, else-param}
+
+pub returns-in_default : goal.returns-in_default
+returns-in_default c = no_row (types_of c.args.types.now.items) (map param_form c.args.params.now) c.args.text.now c.in_default.ensures
 
 pub loop-param-init : goal.loop-param-init
-loop-param-init c = row_start c.args.text.now c.in-Some.rest.now c.new-values.result.items c.new-values.ensures.items c.in-Some.ensures
+loop-param-init c = row_start (types_of c.args.types.now.items) (map param_form c.args.params.now) c.args.text.now c.new-values.result.items c.in-Some.rest.now c.new-values.ensures.items c.in-Some.ensures
 
-pub loop-param-preserved : goal.loop-param-preserved
-loop-param-preserved c =
-    elim c.if-param.branch [
-      | then-param+in_ok-value+in-Some-2+in_ok-push w ↦ (
-          let len = c.loop-param.values.ok.0 in
-          let empty = w.is_empty-first.ensures in
-          let first : w.is_empty-first.result ≡ (length c.loop-param.values.items == 0) = cc in
-          let item = rw w.in-Some-2.is at w.in_ok-value.ensures in
-          rw (w.values-is, w.rest-is, w.in_ok-push.ensures.items)
-          (item_read c.args.text.now c.loop-param.rest.now w.in-Some-2.after.now c.loop-param.values.items w.in-Some-2.value w.is_empty-first.result (none_is c.loop-param.values.items w.is_empty-first.result first) c.loop-param.invariant item)
-          )
-      | else-param w ↦ rw (w.values-is, w.rest-is) c.loop-param.invariant
-    ]
+pub returns-in_default-2 : goal.returns-in_default-2
+returns-in_default-2 c =
+    let len = c.loop-param.values.ok.0 in
+    let said = c.is_empty-first.ensures in
+    let first : c.is_empty-first.result ≡ (length c.loop-param.values.items == 0) = cc in
+    let is = none_is c.loop-param.values.items c.is_empty-first.result first in
+    let none = rw c.in_default-2.is at c.in_ok-value.ensures in
+    let reached = subst (λ (x : List Param). Reached (types_of c.args.types.now.items) (map param_form c.args.params.now) c.args.text.now c.loop-param.values.items (map param_form x) c.loop-param.rest.now) c.in-Some-split_first.ensures.cases.0
+    c.loop-param.invariant in
+    row_stops (types_of c.args.types.now.items) (map param_form c.args.params.now) c.args.text.now c.loop-param.values.items (param_form c.in-Some-split_first.param.now) (map param_form c.in-Some-split_first.others.now) c.loop-param.rest.now
+    c.if-param.true reached
+    (subst (λ (b : Bool). (v : Val) (rest : List ℕ) → ItemStands (types_of c.args.types.now.items) (form c.in-Some-split_first.param.now.shape) b c.loop-param.rest.now v rest → ⊥) is none)
 
-pub returns-in-Some-empty : goal.returns-in-Some-empty
-returns-in-Some-empty c =
-    row_read c.args.text.now c.loop-param.rest.now c.loop-param.values.items c.loop-param.invariant (c.in-Some-empty.ensures ∙ ap (λ (x : List ℕ). 41 ∷ x) (short c.in-Some-empty.field-0.now c.in-Some-empty.len_below))
+pub loop-param-preserved-in_ok-push : goal.loop-param-preserved-in_ok-push
+loop-param-preserved-in_ok-push c =
+    let len = c.loop-param.values.ok.0 in
+    let said = c.is_empty-first.ensures in
+    let first : c.is_empty-first.result ≡ (length c.loop-param.values.items == 0) = cc in
+    let is = none_is c.loop-param.values.items c.is_empty-first.result first in
+    let item = rw c.in-Some-2.is at c.in_ok-value.ensures in
+    let reached = subst (λ (x : List Param). Reached (types_of c.args.types.now.items) (map param_form c.args.params.now) c.args.text.now c.loop-param.values.items (map param_form x) c.loop-param.rest.now) c.in-Some-split_first.ensures.cases.0
+    c.loop-param.invariant in
+    rw c.in_ok-push.ensures.items
+    (row_more (types_of c.args.types.now.items) (map param_form c.args.params.now) c.args.text.now c.loop-param.values.items (param_form c.in-Some-split_first.param.now) (map param_form c.in-Some-split_first.others.now) c.loop-param.rest.now
+    c.in-Some-2.after.now c.in-Some-2.value c.if-param.true reached
+    (subst (λ (b : Bool). ItemStands (types_of c.args.types.now.items) (form c.in-Some-split_first.param.now.shape) b c.loop-param.rest.now (Rattle.ndr_value.specs.Values.val c.in-Some-2.value) c.in-Some-2.after.now) is item))
+
+pub returns-then-is_closed : goal.returns-then-is_closed
+returns-then-is_closed c =
+    row_end (types_of c.args.types.now.items) (map param_form c.args.params.now) c.args.text.now c.loop-param.values.items (map param_form c.loop-param.left.now) c.loop-param.rest.now
+    (ap (map param_form) (nothing c.loop-param.left.now c.in_default-split_first.ensures.cases)) c.if-is_closed.ensures c.loop-param.invariant
+
+pub returns-else-is_closed : goal.returns-else-is_closed
+returns-else-is_closed c =
+    row_open (types_of c.args.types.now.items) (map param_form c.args.params.now) c.args.text.now c.loop-param.values.items (map param_form c.loop-param.left.now) c.loop-param.rest.now
+    (ap (map param_form) (nothing c.loop-param.left.now c.in_default-split_first.ensures.cases)) c.if-is_closed.ensures c.loop-param.invariant

@@ -1,7 +1,11 @@
-use Rattle.std.proofs.Common.{◌≡◌, ◌++◌, codes}
-use Rattle.ndr_value.specs.Values.{vals}
-use Rattle.value_text.specs.Texts.{list_text}
+use Rattle.std.proofs.Common.{length, map}
+use Rattle.ndr_value.specs.Forms.{types_of}
+use Rattle.table_form.specs.Tables.{param_form}
+use Rattle.call_texts.proofs.Items.{Reached}
 use Rattle.call_texts.proofs.rows.read_values.Given as goal
 
 abbrev pub invariant-loop-param : goal.invariant-loop-param
-invariant-loop-param l = l.text ≡ codes "(" ++ (list_text (vals l.values.items) ++ l.rest)
+invariant-loop-param l = Reached (types_of l.types.items) (map param_form l.params) l.text l.values.items (map param_form l.left) l.rest
+
+abbrev pub decreases-loop-param : goal.decreases-loop-param
+decreases-loop-param l = length l.left

@@ -30,9 +30,8 @@ pub returns-then-quiets-eq-MOST_QUIETS-clause-waits : goal.returns-then-quiets-e
 returns-then-quiets-eq-MOST_QUIETS-clause-waits g c = λ interface events m l.
     let rose = rw c.in-Quiet.is at c.in_ok-told.ensures.quieter in
     let many = c.if-quiets-eq-MOST_QUIETS.true in
-    ends_quiet g.K.Link.shows interface c.args.self.now c.look.new.self events m
-    (goes_quiet g.K.Link.shows interface c.loop.self c.look.new.self events (c.loop.invariant.waited interface events m l) (Ok c.in_ok-told.field-0) (c.in_ok-told.ensures.looks interface) (ap Ok c.in-Quiet.is))
-    (rose_more c.loop.quiets 6000 _ _ _ c.loop.invariant.rose rose (omega arith))
+    ends_quiet g.K.Link.shows interface c.loop.self c.look.new.self events (c.loop.invariant.waited interface events m l) (Ok c.in_ok-told.field-0) (c.in_ok-told.ensures.looks interface) c.args.self.now m
+    (ap Ok c.in-Quiet.is) (rose_more c.loop.quiets 6000 _ _ _ c.loop.invariant.rose rose (omega arith))
 
 pub loop-preserved : goal.loop-preserved
 loop-preserved g c =

@@ -1,0 +1,20 @@
+-- Laws of the texts of answers: a message that is of an operation has a text, where its handles have come.
+use Rattle.std.specs.Prelude.{ℕ, List, Option}
+use Rattle.rpc_base.specs.declared.identifiers.WireHandle.{WireHandle}
+use Rattle.ndr_value.specs.Forms.{Form}
+use Rattle.ndr_value.specs.Values.{Msg}
+use Rattle.table_form.specs.Tables.{OpForm}
+use Rattle.ndr_model.specs.declared.way.Way.{Way}
+use Rattle.ndr_model.specs.Fits.{IsOfOp}
+use Rattle.client_asks.specs.States.Outcome.{TDone}
+use Rattle.call_texts.specs.Handles.{with_handles}
+use Rattle.call_texts.specs.Texts.{IsCallText}
+use Rattle.call_answers.specs.Answers.{IsLine}
+
+abbrev pub HasText : Type 0
+HasText = (types : List Form) (op : OpForm) (way : Way) (asked : Option Msg) (m : Msg) (known : List WireHandle) → IsOfOp types op way asked m
+    → (text : List ℕ) × IsCallText (with_handles known m.wires) m.wires m.values text
+
+abbrev pub HasLine : Type 0
+HasLine = (types : List Form) (op : OpForm) (way : Way) (asked : Option Msg) (m : Msg) (known : List WireHandle) (connection : ℕ) → IsOfOp types op way asked m
+    → (line : List ℕ) × IsLine (with_handles known m.wires) connection (TDone m) line

@@ -1,0 +1,12 @@
+//! Laws of the texts of answers.
+ghost use Rattle.answer_laws.specs.Laws.{HasLine, HasText};
+
+/// The values of a message of an operation have a text, once its handles have come.
+pub fn has_text()
+    ensures { HasText }
+{}
+
+/// So the outcome of a call that was done has a line.
+pub fn has_line()
+    ensures { HasLine }
+{}

@@ -1,0 +1,9 @@
+mod Channels
+mod Lists
+mod Dials
+mod Finding
+mod Asking
+mod Players
+mod LineLemmas
+mod ReadLemmas
+mod Whole

@@ -1,0 +1,15 @@
+use Rattle.call_play.proofs.LineLemmas.{cancel_ready, touched_within, cancelled, cancel_barred}
+use Rattle.call_play.proofs.player.Player.cancel.Goals as goal
+
+pub cancel_at-begun-requires-after_bounds : goal.cancel_at-begun-requires-after_bounds
+cancel_at-begun-requires-after_bounds g c κs within = cancel_ready g.K.Link.shows c.args.self.now c.args.name c.in-Some.at c.requires c.in-Some.ensures
+
+pub begun-requires-after_bounds : goal.begun-requires-after_bounds
+begun-requires-after_bounds g c κs within = touched_within g.K.Link.shows c.args.self.now c.cancel_at-begun.new.self c.in-Some.at c.cancel_at-begun.ensures
+
+pub returns : goal.returns
+returns g c =
+    cancelled g.K.Link.shows c.args.self.now c.cancel_at-begun.new.self c.begun.new.self c.args.name c.in-Some.at c.cancel_at-begun.result c.begun.result c.in-Some.ensures c.cancel_at-begun.ensures c.begun.ensures
+
+pub returns-in_default : goal.returns-in_default
+returns-in_default g c = cancel_barred g.K.Link.shows c.args.self.now c.args.name (rw c.in_default.is at c.calling.ensures)
