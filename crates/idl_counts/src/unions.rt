@@ -7,7 +7,7 @@ ghost use Rattle.idl_rules.specs.UnionTag as spec;
 
 use idl_outline::{Bare, Core, DataType, Declared, Event, Field, Label, Tag};
 use idl_rules::{
-    by_value, has_switch_type, int_holds, is_tag_core, is_unknown, lesser, place_if, repeated,
+    Saying, by_value, has, int_holds, is_tag_core, is_unknown, lesser, place_if, repeated,
     value_of, within,
 };
 use idl_tree::Num;
@@ -117,7 +117,7 @@ fn bare_place(bare: Bare, declared: &[Declared]) -> Option<usize>
 fn untagged(field: &Field) -> Option<usize>
     ensures { result ≡ least (spec.field_places field.now) }
 {
-    if has_switch_type(field) {
+    if has(field, Saying::SwitchType) {
         None
     } else {
         bare_place(field.bare, field.declared.as_slice())

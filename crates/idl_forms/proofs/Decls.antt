@@ -31,7 +31,7 @@ use Rattle.idl_forms.proofs.Leaves.{a_name, a_text, a_uuid, a_token, a_num, a_pk
 use Rattle.idl_forms.proofs.OwnWord.{own_word_on, has_own_word, params_off, is_own, is_not_own, param_heads}
 use Rattle.idl_forms.proofs.Specs.{spec_read, attrs_read, spec_firsts, member_firsts, spec_by, attrs_by, kind_within, spec_heads, typed_heads, reads_spec, reads_attrs, reads_kind}
 use Rattle.idl_tokens.specs.Terminals.{of_word, of_mark, opening, text_class}
-use Rattle.idl_tree.specs.Grammar.{name_classes}
+use Rattle.idl_tree.specs.Combinators.{name_classes}
 
 -- ---- how each is read, from at most n tokens
 

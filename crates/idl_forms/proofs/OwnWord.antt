@@ -21,7 +21,7 @@ use Rattle.idl_forms.proofs.Reading.{heads_append, heads_placed}
 use Rattle.idl_forms.proofs.Leaves.{open_heads, dtor_heads}
 use Rattle.idl_forms.proofs.Specs.{member_firsts, other_firsts, kind_begins, typed_heads}
 use Rattle.idl_tokens.specs.Terminals.{of_word, of_mark, opening}
-use Rattle.idl_tree.specs.Grammar.{name_classes}
+use Rattle.idl_tree.specs.Combinators.{name_classes}
 use Rattle.idl_tree.proofs.Classes.{is_name_class}
 
 -- Is "void" the list's own word? Not where it is the type of a first parameter: then a declarator follows, and its name is

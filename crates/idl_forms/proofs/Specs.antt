@@ -34,7 +34,7 @@ use Rattle.idl_forms.proofs.Reading.{Reads, heads_append, heads_placed, heads_le
 use Rattle.idl_forms.proofs.Leaves.{a_name, a_token, a_pk, a_base, a_dtor, a_ref, a_bounds, a_label, a_tag, range_heads, word_then, word_heads, mark_heads, open_heads, ident_heads, label_heads, dtors_heads, base_heads, reads_name, word_as, mark_as, reads_pk, reads_base, reads_dtors, reads_names, reads_tag, reads_starred, reads_ref, reads_bounds, reads_label}
 use Rattle.idl_forms.proofs.Readers.{flag}
 use Rattle.idl_tokens.specs.Terminals.{of_word, of_mark, opening, range_class}
-use Rattle.idl_tree.specs.Grammar.{name_classes}
+use Rattle.idl_tree.specs.Combinators.{name_classes}
 
 -- ---- what each may begin with
 

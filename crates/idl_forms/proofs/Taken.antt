@@ -9,7 +9,8 @@ use Rattle.ebnf.specs.Ebnf.Matches.{one, seq, left, right, none, some, stop, mor
 use Rattle.ebnf.proofs.Sound.{and_both}
 use Rattle.idl_tokens.specs.declared.kinds.Token.{Token}
 use Rattle.idl_tokens.specs.Terminals.{terminals, bad_class}
-use Rattle.idl_tree.specs.Grammar.{a_word, a_mark, a_name, a_range, a_number, a_text, a_uuid, the_end, pk, signed, bounds, sizeable, base, array_size, dtor, dtors, body, struct_rest, switch_part, union_body, union_rest, enum_body, enum_rest, typed, plain, spec, spec_but_void, star_name, size_ref, attr, attrs, member, members, label, arm, arms, param, param_but_void, more_params, params, op_rest, lone_or_op, const_decl, typedef_decl, decl, version, file_attr, file, rule}
+use Rattle.idl_tree.specs.Combinators.{a_word, a_mark, a_name, a_range, a_number, a_text, a_uuid, the_end}
+use Rattle.idl_tree.specs.Grammar.{pk, signed, bounds, sizeable, base, array_size, dtor, dtors, body, struct_rest, switch_part, union_body, union_rest, enum_body, enum_rest, typed, plain, spec, spec_but_void, star_name, size_ref, attr, attrs, member, members, label, arm, arms, param, param_but_void, more_params, params, op_rest, lone_or_op, const_decl, typedef_decl, decl, version, file_attr, file, rule}
 use Rattle.idl_forms.proofs.Stream.{Clean, seen, without_level_class}
 
 -- It names no class 0, and has no limit above 2 ^ 64.

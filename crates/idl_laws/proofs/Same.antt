@@ -6,7 +6,8 @@ use Rattle.ebnf.specs.Ebnf.Ebnf.{Seq, Alt, Opt, Many}
 use Rattle.ebnf.specs.Ebnf.Matches.{seq, left, right, none, some, stop, more}
 use Rattle.idl_tokens.specs.declared.words.Word.TheVariants as words
 use Rattle.idl_tokens.specs.declared.marks.Mark.TheVariants as marks
-use Rattle.idl_tree.specs.Grammar.{◌⨟◌, ◌∣◌, a_word, a_mark, a_name, a_text, a_uuid, listed, pk, signed, bounds, sizeable, base, array_size, dtor, dtors, body, struct_rest, union_body, union_rest, enum_body, enum_rest, typed, plain, spec, spec_but_void, size_ref, star_name, attr, attrs, member, members, label, arm, arms, param, param_but_void, more_params, params, op_rest, lone_or_op, const_decl, typedef_decl, decl, version, file_attr, file, rule}
+use Rattle.idl_tree.specs.Combinators.{◌⨟◌, ◌∣◌, a_word, a_mark, a_name, a_text, a_uuid, listed}
+use Rattle.idl_tree.specs.Grammar.{pk, signed, bounds, sizeable, base, array_size, dtor, dtors, body, struct_rest, union_body, union_rest, enum_body, enum_rest, typed, plain, spec, spec_but_void, size_ref, star_name, attr, attrs, member, members, label, arm, arms, param, param_but_void, more_params, params, op_rest, lone_or_op, const_decl, typedef_decl, decl, version, file_attr, file, rule}
 use Rattle.idl_laws.specs.AsWritten.{written_base, written_spec, written_member, written_arm, written_param, written_params, with_tag, written_decl, written_rule}
 use Rattle.idl_laws.proofs.Swap.{swapped}
 

@@ -5,7 +5,8 @@ use Rattle.ebnf.specs.Ebnf.{Ebnf}
 use Rattle.ebnf.specs.Ebnf.Ebnf.{Opt, Many}
 use Rattle.idl_tokens.specs.declared.words.Word.TheVariants as words
 use Rattle.idl_tokens.specs.declared.marks.Mark.TheVariants as marks
-use Rattle.idl_tree.specs.Grammar.{◌⨟◌, ◌∣◌, a_word, any_word, a_mark, a_name, a_text, a_uuid, listed, pk, signed, bounds, array_size, dtor, dtors, body, struct_rest, union_body, union_rest, enum_body, enum_rest, size_ref, star_name, attr, attrs, label, op_rest, version, file_attr}
+use Rattle.idl_tree.specs.Combinators.{◌⨟◌, ◌∣◌, a_word, any_word, a_mark, a_name, a_text, a_uuid, listed}
+use Rattle.idl_tree.specs.Grammar.{pk, signed, bounds, array_size, dtor, dtors, body, struct_rest, union_body, union_rest, enum_body, enum_rest, size_ref, star_name, attr, attrs, label, op_rest, version, file_attr}
 
 -- "boolean" | "byte" | ["unsigned"] "char" | ["unsigned"] ("small" | "short" | "long" | "hyper") ["int"]
 unfoldable pub written_base : Ebnf

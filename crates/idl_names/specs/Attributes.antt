@@ -4,6 +4,8 @@ use Rattle.std.specs.Option.{option_or}
 use Rattle.idl_tree.specs.declared.leaf.Pk.{Pk}
 use Rattle.idl_tree.specs.declared.leaf.Pk.TheVariants as pks
 use Rattle.idl_forms.specs.Forms.{AttrKindForm, OfIn, OfOut, OfPointer, OfText, OfMaybe, OfContext, OfSerialize, OfNoserialize, AttrForm, an_attr, AttrForms, no_attr, then_attr, FileKindForm, OfPointerDefault, FileForm}
+use Rattle.idl_names.specs.declared.attributes.Word.{Word}
+use Rattle.idl_names.specs.declared.attributes.Word.TheVariants as words
 use Rattle.idl_names.specs.declared.place.Place.{Place}
 use Rattle.idl_names.specs.declared.place.Place.TheVariants as places
 
@@ -45,6 +47,14 @@ says_handle _ = false
 abbrev pub says_noserialize : AttrKindForm → Bool
 says_noserialize OfNoserialize = true
 says_noserialize _ = false
+
+abbrev pub is_word : Word → AttrKindForm → Bool
+is_word words.In = says_in
+is_word words.Out = says_out
+is_word words.Text = says_string
+is_word words.Maybe = says_maybe
+is_word words.Handle = says_handle
+is_word words.Noserialize = says_noserialize
 
 -- each word for context handles but context_handle_noserialize
 abbrev pub is_serialised : AttrForms → Bool

@@ -1,5 +1,5 @@
 -- What declarators and labels say, by the constants that are known there.
-use Rattle.std.specs.Prelude.{ℤ, pos, neg_ℤ, ◌==◌, Bool, not, List, Option, Some, None, if◌then◌else◌}
+use Rattle.std.specs.Prelude.{ℤ, pos, neg_ℤ, ◌==◌, Bool, not, ◌&&◌, List, length, Option, Some, None, if◌then◌else◌}
 use Rattle.std.specs.List.{list_any}
 use Rattle.idl_tree.specs.declared.leaf.Num.{Num}
 use Rattle.idl_tree.specs.declared.leaf.ArraySize.{ArraySize}
@@ -34,9 +34,9 @@ extent_of constants (Some size) = size_extent constants size
 abbrev pub by_value : List Dtor → Bool
 by_value ds = list_any (λ d. d.stars == 0) ds
 
--- each declarator has a star
+-- there is a declarator, and each has a star: what stands before them stands behind a pointer
 abbrev pub all_pointed : List Dtor → Bool
-all_pointed ds = not (by_value ds)
+all_pointed ds = not (length ds == 0) && not (by_value ds)
 
 -- ---- labels
 

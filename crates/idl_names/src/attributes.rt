@@ -6,43 +6,53 @@ ghost use Rattle.idl_names.specs.Attributes as spec;
 use crate::place::Place;
 use idl_tree::{Attr, AttrKind, FileAttr, FileAttrKind, Pk};
 
-fn is_in(kind: &AttrKind) -> bool
-    ensures { result ≡ spec.says_in (attr_kind_form kind.now) }
-{
-    matches!(kind, AttrKind::In)
+/// What an attribute may say by a word alone.
+#[derive(Clone, Copy, PartialEq, Eq)]
+pub enum Word {
+    In,
+    Out,
+    /// `string`.
+    Text,
+    Maybe,
+    /// One of the three for context handles.
+    Handle,
+    /// `context_handle_noserialize`.
+    Noserialize,
 }
 
-fn is_out(kind: &AttrKind) -> bool
-    ensures { result ≡ spec.says_out (attr_kind_form kind.now) }
+fn is_word(word: Word, kind: &AttrKind) -> bool
+    ensures { result ≡ spec.is_word word (attr_kind_form kind.now) }
 {
-    matches!(kind, AttrKind::Out)
+    match word {
+        Word::In => matches!(kind, AttrKind::In),
+        Word::Out => matches!(kind, AttrKind::Out),
+        Word::Text => matches!(kind, AttrKind::Text),
+        Word::Maybe => matches!(kind, AttrKind::Maybe),
+        Word::Handle => matches!(
+            kind,
+            AttrKind::Handle | AttrKind::HandleSerialize | AttrKind::HandleNoserialize
+        ),
+        Word::Noserialize => matches!(kind, AttrKind::HandleNoserialize),
+    }
 }
 
-fn is_string(kind: &AttrKind) -> bool
-    ensures { result ≡ spec.says_string (attr_kind_form kind.now) }
+/// Whether an attribute says so.
+pub fn says(attrs: &[Attr], word: Word) -> bool
+    ensures { result ≡ spec.says (spec.is_word word) (attrs_form attrs.now) }
 {
-    matches!(kind, AttrKind::Text)
+    for attr in attrs {
+        if is_word(word, &attr.what) {
+            return true;
+        }
+    }
+    false
 }
 
-fn is_maybe(kind: &AttrKind) -> bool
-    ensures { result ≡ spec.says_maybe (attr_kind_form kind.now) }
+/// Whether calls with a handle of these attributes come one after another.
+pub fn is_serialised(attrs: &[Attr]) -> bool
+    ensures { result ≡ spec.is_serialised (attrs_form attrs.now) }
 {
-    matches!(kind, AttrKind::Maybe)
-}
-
-fn is_handle(kind: &AttrKind) -> bool
-    ensures { result ≡ spec.says_handle (attr_kind_form kind.now) }
-{
-    matches!(
-        kind,
-        AttrKind::Handle | AttrKind::HandleSerialize | AttrKind::HandleNoserialize
-    )
-}
-
-fn is_noserialize(kind: &AttrKind) -> bool
-    ensures { result ≡ spec.says_noserialize (attr_kind_form kind.now) }
-{
-    matches!(kind, AttrKind::HandleNoserialize)
+    !says(attrs, Word::Noserialize)
 }
 
 fn pointer_in(kind: &AttrKind) -> Option<Pk>
@@ -65,78 +75,6 @@ fn pointer_in(kind: &AttrKind) -> Option<Pk>
         | AttrKind::SwitchType(_)
         | AttrKind::Range(..) => None,
     }
-}
-
-/// Whether `in` is said.
-pub fn says_in(attrs: &[Attr]) -> bool
-    ensures { result ≡ spec.says spec.says_in (attrs_form attrs.now) }
-{
-    for attr in attrs {
-        if is_in(&attr.what) {
-            return true;
-        }
-    }
-    false
-}
-
-/// Whether `out` is said.
-pub fn says_out(attrs: &[Attr]) -> bool
-    ensures { result ≡ spec.says spec.says_out (attrs_form attrs.now) }
-{
-    for attr in attrs {
-        if is_out(&attr.what) {
-            return true;
-        }
-    }
-    false
-}
-
-/// Whether `string` is said.
-pub fn says_string(attrs: &[Attr]) -> bool
-    ensures { result ≡ spec.says spec.says_string (attrs_form attrs.now) }
-{
-    for attr in attrs {
-        if is_string(&attr.what) {
-            return true;
-        }
-    }
-    false
-}
-
-/// Whether `maybe` is said.
-pub fn says_maybe(attrs: &[Attr]) -> bool
-    ensures { result ≡ spec.says spec.says_maybe (attrs_form attrs.now) }
-{
-    for attr in attrs {
-        if is_maybe(&attr.what) {
-            return true;
-        }
-    }
-    false
-}
-
-/// Whether a word for context handles is said.
-pub fn says_handle(attrs: &[Attr]) -> bool
-    ensures { result ≡ spec.says spec.says_handle (attrs_form attrs.now) }
-{
-    for attr in attrs {
-        if is_handle(&attr.what) {
-            return true;
-        }
-    }
-    false
-}
-
-/// Whether calls with a handle of these attributes come one after another.
-pub fn is_serialised(attrs: &[Attr]) -> bool
-    ensures { result ≡ spec.is_serialised (attrs_form attrs.now) }
-{
-    for attr in attrs {
-        if is_noserialize(&attr.what) {
-            return false;
-        }
-    }
-    true
 }
 
 /// The class that the first pointer attribute gives.
@@ -185,9 +123,7 @@ fn default_in(kind: &FileAttrKind) -> Option<Pk>
 {
     match kind {
         FileAttrKind::PointerDefault(class) => Some(*class),
-        FileAttrKind::Uuid(_) => None,
-        FileAttrKind::Version(..) => None,
-        FileAttrKind::Endpoint(_) => None,
+        _ => None,
     }
 }
 

@@ -41,11 +41,11 @@ pub fn any_by_value(dtors: &[Dtor]) -> bool
     dtors.iter().any(|dtor| dtor.stars == 0)
 }
 
-/// Whether each declarator has a star.
+/// Whether there is a declarator, and each has a star.
 pub fn all_pointed(dtors: &[Dtor]) -> bool
     ensures { result ≡ spec.all_pointed dtors.now }
 {
-    !any_by_value(dtors)
+    !dtors.is_empty() && !any_by_value(dtors)
 }
 
 /// The number of a case; None for the default, and where a name isn't declared.

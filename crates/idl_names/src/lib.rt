@@ -10,8 +10,7 @@ mod place;
 mod symbols;
 
 pub use attributes::{
-    is_serialised, or_class, outer_class, pointer_default, pointer_given, says_handle, says_in,
-    says_maybe, says_out, says_string,
+    Word, is_serialised, or_class, outer_class, pointer_default, pointer_given, says,
 };
 pub use declarators::{all_pointed, any_by_value, extent_of, label_number};
 pub use names::{copy_name, is_name};

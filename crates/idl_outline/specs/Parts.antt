@@ -10,8 +10,10 @@ use Rattle.idl_tree.specs.declared.leaf.Dtor.{Dtor}
 use Rattle.idl_tree.specs.declared.spec.Label.{Label as LabelNode}
 use Rattle.idl_tree.specs.declared.spec.LabelKind.{LabelKind}
 use Rattle.idl_tree.specs.declared.spec.LabelKind.TheVariants as label_kinds
-use Rattle.idl_forms.specs.Forms.{SpecForm, a_spec, KindForm, OfUnion, SwitchForm, no_switch, a_switch, AttrForms}
+use Rattle.idl_forms.specs.Forms.{SpecForm, a_spec, KindForm, OfUnion, SwitchForm, no_switch, a_switch, AttrForms, no_attr}
 use Rattle.idl_names.specs.declared.place.Place.{Place}
+use Rattle.idl_names.specs.declared.place.Place.TheVariants as places
+use Rattle.idl_names.specs.Attributes.{says, says_handle}
 use Rattle.idl_names.specs.Symbols.{number_of}
 use Rattle.idl_names.specs.Declarators.{all_pointed, label_number}
 use Rattle.idl_outline.specs.declared.ty.DataType.{DataType}
@@ -22,6 +24,7 @@ use Rattle.idl_outline.specs.declared.field.Bare.{Bare}
 use Rattle.idl_outline.specs.declared.field.Bare.TheVariants as bares
 use Rattle.idl_outline.specs.declared.field.Field.{Field}
 use Rattle.idl_outline.specs.declared.event.Tag.{Tag}
+use Rattle.idl_outline.specs.declared.event.Tag.TheVariants as tags
 use Rattle.idl_outline.specs.declared.event.Label.{Label}
 use Rattle.idl_outline.specs.declared.event.Label.TheVariants as labels
 use Rattle.idl_outline.specs.declared.event.Event.TheVariants as events
@@ -29,12 +32,19 @@ use Rattle.idl_outline.specs.declared.setting.Setting.{Setting}
 use Rattle.idl_outline.specs.Types.{unknown, struct_type}
 use Rattle.idl_outline.specs.Names.{Past, constants_of, tag_named, declared_all, ends_open}
 
--- the setting of a spec that no declarator follows
-abbrev pub alone : Pk → Tag → Setting
-alone default given = record { default = default; pointed = false; void_allowed = false; given = given }
+-- where the type void may stand: as an operation's result, and in a typedef of context handles
+abbrev pub may_be_void : Place → AttrForms → Bool
+may_be_void places.Typedef as' = says says_handle as'
+may_be_void places.Operation as' = true
+may_be_void _ as' = false
 
-abbrev pub before_declarators : Pk → List Dtor → Bool → Tag → Setting
-before_declarators default ds void given = record { default = default; pointed = all_pointed ds; void_allowed = void; given = given }
+-- the setting of a spec at a place, behind attributes and before declarators. given: the tag that the attributes give
+abbrev pub setting_at : Pk → Place → AttrForms → List Dtor → Tag → Setting
+setting_at default place as' ds given = record { default = default; pointed = all_pointed ds; void_allowed = may_be_void place as'; given = given }
+
+-- that of a union's switch, and of a spec in a switch_type
+abbrev pub alone : Pk → Setting
+alone default = setting_at default places.Alone no_attr [] tags.Missing
 
 abbrev pub bare_tag : Option Ident → Bare
 bare_tag None = bares.Tagless

@@ -2,7 +2,6 @@
 ghost use Rattle.std.specs.Prelude.{◌≡◌, reverse, IfOk, OnOk, MatchOption, ◌∷◌, []};
 ghost use Rattle.idl_forms.specs.Forms.{attrs_form};
 ghost use Rattle.idl_outline.specs.Names as spec;
-ghost use Rattle.idl_outline.specs.Outline.{result_setting};
 ghost use Rattle.idl_outline.specs.Parts as parts;
 ghost use Rattle.idl_outline.specs.Types as types;
 
@@ -12,7 +11,7 @@ use crate::outline::Outline;
 use crate::setting::Setting;
 use crate::ty::{Core, DataType, Layer};
 use crate::types::declared_type;
-use idl_names::{Place, all_pointed, copy_name, extent_of, outer_class, says_handle};
+use idl_names::{Place, Word, all_pointed, copy_name, extent_of, outer_class, says};
 use idl_tree::{ArraySize, Attr, Dtor, Pk, SizeRef};
 use rpc_base::{Items, NoMemory};
 use std::alloc::Global;
@@ -105,7 +104,7 @@ fn declared_all(
 ) -> Result<Items<Declared>, NoMemory>
     ensures { IfOk result (λ ds. ds ≡ spec.declared_all outline.now place default (attrs_form attrs.now) ty dtors.now) }
 {
-    let handle = is_typedef(place) && says_handle(attrs);
+    let handle = is_typedef(place) && says(attrs, Word::Handle);
     let class = outer_class(default, place, attrs);
     each_declared(alloc, outline, handle, class, ty, dtors)
 }
@@ -194,45 +193,34 @@ pub fn ends_open(fields: &[Field]) -> bool
     }
 }
 
-/// The setting of a spec that no declarator follows. `given`: the tag from its attributes.
-pub fn setting_alone(default: Pk, given: Tag) -> Setting
-    ensures { result ≡ parts.alone default given }
+fn may_be_void(place: Place, attrs: &[Attr]) -> bool
+    ensures { result ≡ parts.may_be_void place (attrs_form attrs.now) }
 {
-    Setting {
-        default,
-        pointed: false,
-        void_allowed: false,
-        given,
+    match place {
+        Place::Typedef => says(attrs, Word::Handle),
+        Place::Operation => true,
+        Place::Alone | Place::Parameter | Place::Member | Place::Arm => false,
     }
 }
 
-/// The setting of a spec between its attributes and its declarators.
-pub fn setting_of(
-    default: Pk,
-    dtors: &[Dtor],
-    void_allowed: bool,
-    attributes: &[Attribute],
-) -> Setting
-    ensures { result ≡ parts.before_declarators default dtors.now void_allowed (spec.tag_given attributes.now) }
+/// The setting of a spec at a place, behind these attributes and before these declarators. `given`: the
+/// tag that the attributes give.
+pub fn setting_of(default: Pk, place: Place, attrs: &[Attr], dtors: &[Dtor], given: Tag) -> Setting
+    ensures { result ≡ parts.setting_at default place (attrs_form attrs.now) dtors.now given }
 {
     Setting {
         default,
         pointed: all_pointed(dtors),
-        void_allowed,
-        given: tag_given(attributes),
+        void_allowed: may_be_void(place, attrs),
+        given,
     }
 }
 
-/// The setting of an operation's result, which may be `void`.
-pub fn setting_of_result(default: Pk, attributes: &[Attribute]) -> Setting
-    ensures { result ≡ result_setting default attributes.now }
+/// The setting of a union's switch, and of a spec in a `switch_type`.
+pub fn setting_alone(default: Pk) -> Setting
+    ensures { result ≡ parts.alone default }
 {
-    Setting {
-        default,
-        pointed: false,
-        void_allowed: true,
-        given: tag_given(attributes),
-    }
+    setting_of(default, Place::Alone, &[], &[], Tag::Missing)
 }
 
 /// A copy of the size that an attribute gives.
@@ -266,12 +254,7 @@ fn array_used(alloc: Global, size: &ArraySize, outline: &mut Outline) -> Result<
     }
 }
 
-/// Adds the name that an array uses as its size.
-///
-/// # Errors
-///
-/// `NoMemory` where there is no memory for the name or the event.
-pub fn size_used(
+fn size_used(
     alloc: Global,
     array: &Option<ArraySize>,
     outline: &mut Outline,

@@ -13,8 +13,7 @@ mod ty;
 mod types;
 
 pub use declarators::{
-    ends_open, field_with, setting_alone, setting_of, setting_of_result, size, size_used,
-    sizes_used, tag_given,
+    ends_open, field_with, setting_alone, setting_of, size, sizes_used, tag_given,
 };
 pub use event::{Event, Events, Label, Labels, Tag};
 pub use field::{Attribute, Attributes, Bare, Declared, Field, Fields, Mark, NameRef, Size};

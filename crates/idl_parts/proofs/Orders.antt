@@ -9,7 +9,8 @@ use Rattle.ebnf.proofs.Equations.{parse_one, parse_seq, parse_opt, parse_alt, pa
 use Rattle.ebnf.proofs.Starts.{starts_first}
 use Rattle.idl_tokens.specs.declared.marks.Mark.TheVariants as marks
 use Rattle.idl_tokens.specs.declared.marks.Bracket.TheVariants as brackets
-use Rattle.idl_tree.specs.Grammar.{rule, a_word, a_mark, a_name, a_number, pk, signed, bounds, sizeable, base, in_brackets, array_size, dtor, dtors, enum_body, enum_rest, plain, star_name, size_ref, label, name_classes, level_limit}
+use Rattle.idl_tree.specs.Combinators.{a_word, a_mark, a_name, a_number, in_brackets, name_classes, level_limit}
+use Rattle.idl_tree.specs.Grammar.{rule, pk, signed, bounds, sizeable, base, array_size, dtor, dtors, enum_body, enum_rest, plain, star_name, size_ref, label}
 use Rattle.idl_parts.specs.Along.{Along, if_next, more_of, name_at, number_at, signed_at, pk_at, int_size_at, sizeable_at, base_at, array_size_at, array_at, stars_at, dtor_at, comma_dtor_at, dtors_at, comma_name_at, names_at, enum_body_at, enum_rest_at, star_name_at, size_ref_at, bounds_at, case_value_at, case_label_at, label_at, more_labels_at, labels_at, if_among, word_at, mark_at, open_at, shut_at}
 use Rattle.idl_tokens.specs.Terminals.{of_word, of_mark, opening, closing, number_class}
 use Rattle.idl_tokens.specs.declared.words.Word.TheVariants as words

@@ -6,7 +6,8 @@ use Rattle.ebnf.specs.Machine.{Stuck, ◌>>=◌, token, parse}
 use Rattle.ebnf.specs.Checks.{heads}
 use Rattle.idl_tokens.specs.declared.marks.Mark.TheVariants as marks
 use Rattle.idl_tokens.specs.declared.marks.Bracket.TheVariants as brackets
-use Rattle.idl_tree.specs.Grammar.{rule, a_mark, a_name, dtor, label, name_classes, level_limit}
+use Rattle.idl_tree.specs.Combinators.{a_mark, a_name, name_classes, level_limit}
+use Rattle.idl_tree.specs.Grammar.{rule, dtor, label}
 use Rattle.idl_tokens.specs.Terminals.{of_word, of_mark, opening, closing, number_class, text_class, uuid_class, end_class, range_class}
 use Rattle.idl_tokens.specs.declared.words.Word.TheVariants as words
 use Rattle.idl_tokens.specs.declared.words.Word.{Word}

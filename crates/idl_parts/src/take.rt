@@ -7,7 +7,7 @@ ghost use Rattle.idl_tokens.specs.Terminals.{terminals, of_word, of_mark, openin
 ghost use Rattle.idl_tree.specs.Pieces.{Written, BeginsAt, word_pieces, mark_pieces, open_pieces, shut_pieces, end_pieces, text_pieces, uuid_pieces, ident_pieces, range_pieces, num_pieces, if_word, if_mark, if_ident};
 ghost use Rattle.idl_parts.specs.Reads.{Gives, IsTaken};
 ghost use Rattle.idl_parts.specs.Along.{if_next, if_among, word_at, mark_at, open_at, shut_at, text_at, uuid_at, end_at, name_at, range_at};
-ghost use Rattle.idl_tree.specs.Grammar.{name_classes};
+ghost use Rattle.idl_tree.specs.Combinators.{name_classes};
 
 use crate::stop::Stop;
 use idl_tokens::{Bracket, Kind, Mark, Token, Word, class};

@@ -19,7 +19,8 @@ use Rattle.idl_layout.proofs.Printed.{layout_again}
 use Rattle.idl_tree.specs.Pieces.{What, Pieces, Stands, Front, Written}
 use Rattle.idl_tree.specs.Pieces.What.{Of, Opens}
 use Rattle.idl_tree.specs.Files.{ast_pieces}
-use Rattle.idl_tree.specs.Grammar.{a_word, a_mark, a_name, a_range, a_number, a_text, a_uuid, the_end, pk, signed, bounds, sizeable, base, array_size, dtor, dtors, body, struct_rest, switch_part, union_body, union_rest, enum_body, enum_rest, typed, plain, spec, spec_but_void, star_name, size_ref, attr, attrs, member, members, label, arm, arms, param, param_but_void, more_params, params, op_rest, lone_or_op, const_decl, typedef_decl, decl, version, file_attr, file, rule}
+use Rattle.idl_tree.specs.Combinators.{a_word, a_mark, a_name, a_range, a_number, a_text, a_uuid, the_end}
+use Rattle.idl_tree.specs.Grammar.{pk, signed, bounds, sizeable, base, array_size, dtor, dtors, body, struct_rest, switch_part, union_body, union_rest, enum_body, enum_rest, typed, plain, spec, spec_but_void, star_name, size_ref, attr, attrs, member, members, label, arm, arms, param, param_but_void, more_params, params, op_rest, lone_or_op, const_decl, typedef_decl, decl, version, file_attr, file, rule}
 use Rattle.idl_tree.specs.Idl.{IsTree, IsIdl, FirstDeparture}
 use Rattle.idl_tree.specs.declared.declaration.Ast.{Ast}
 use Rattle.idl_print.specs.Canonical.{kind_of, kinds_in, canonical_text}

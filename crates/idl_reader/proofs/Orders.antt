@@ -7,7 +7,8 @@ use Rattle.ebnf.specs.Machine.{null, Stuck, parse, token, sized, ◌>>=◌}
 use Rattle.ebnf.specs.Checks.{first, heads}
 use Rattle.idl_tokens.specs.declared.marks.Mark.TheVariants as marks
 use Rattle.idl_tokens.specs.declared.words.Word.TheVariants as words
-use Rattle.idl_tree.specs.Grammar.{rule, a_word, a_mark, a_name, a_number, a_text, a_uuid, the_end, base, sizeable, dtor, body, struct_rest, union_body, union_rest, enum_body, enum_rest, typed, plain, spec, spec_but_void, attrs, param, param_but_void, more_params, params, op_rest, tagged_or, lone_or_op, const_decl, typedef_decl, decl, version, file_attr, file, name_classes, level_limit}
+use Rattle.idl_tree.specs.Combinators.{a_word, a_mark, a_name, a_number, a_text, a_uuid, the_end, name_classes, level_limit}
+use Rattle.idl_tree.specs.Grammar.{rule, base, sizeable, dtor, body, struct_rest, union_body, union_rest, enum_body, enum_rest, typed, plain, spec, spec_but_void, attrs, param, param_but_void, more_params, params, op_rest, tagged_or, lone_or_op, const_decl, typedef_decl, decl, version, file_attr, file}
 use Rattle.idl_parts.specs.Along.{Along, if_next, in_round, more_of, name_at, signed_at, pk_at, base_at, dtor_at, dtors_at, enum_body_at, enum_rest_at, word_at, mark_at, uuid_at, end_at, text_at}
 use Rattle.idl_types.specs.Along.{typed_at, plain_at, struct_rest_at, union_body_at, union_rest_at, spec_at, if_attrs_at}
 use Rattle.idl_parts.proofs.Orders.{Law, bind_same, law_seq, law_opt, law_alt, law_within, law_one, law_same, law_many, law_more, name_law, signed_law, pk_law, base_law, dtor_law, dtors_law, enum_body_law, enum_rest_law}

@@ -13,12 +13,13 @@ use Rattle.ebnf.proofs.Equations.{parse_seq, parse_one}
 use Rattle.idl_tokens.specs.declared.kinds.Token.{Token}
 use Rattle.idl_tokens.specs.Terminals.{terminal, terminals, bad_class, end_class}
 use Rattle.idl_tokens.specs.Laws.{EndsOnce}
-use Rattle.idl_tree.specs.Grammar.{rule, file, a_word, a_mark, a_name, a_range, a_number, a_text, a_uuid, the_end, pk, signed, bounds, sizeable, base, array_size, dtor, dtors, body, struct_rest, switch_part, union_body, union_rest, enum_body, enum_rest, typed, plain, spec, spec_but_void, star_name, size_ref, attr, attrs, member, members, label, arm, arms, param, param_but_void, more_params, params, op_rest, lone_or_op, const_decl, typedef_decl, decl, version, file_attr}
+use Rattle.idl_tree.specs.Combinators.{a_word, a_mark, a_name, a_range, a_number, a_text, a_uuid, the_end}
+use Rattle.idl_tree.specs.Grammar.{rule, file, pk, signed, bounds, sizeable, base, array_size, dtor, dtors, body, struct_rest, switch_part, union_body, union_rest, enum_body, enum_rest, typed, plain, spec, spec_but_void, star_name, size_ref, attr, attrs, member, members, label, arm, arms, param, param_but_void, more_params, params, op_rest, lone_or_op, const_decl, typedef_decl, decl, version, file_attr}
 use Rattle.idl_tree.specs.Idl.{BeginsText, FirstDeparture, least, IsTree}
 use Rattle.idl_tree.proofs.Deciding.{sorted, file_good, file_full}
 use Rattle.idl_tokens.specs.declared.words.Word.TheVariants as words
 use Rattle.idl_tokens.specs.declared.marks.Bracket.TheVariants as brackets
-use Rattle.idl_tree.specs.Grammar.{in_brackets, ◌⨟◌}
+use Rattle.idl_tree.specs.Combinators.{in_brackets, ◌⨟◌}
 use Rattle.idl_tree.specs.Pieces.{Pieces, Front, Written, within, commas, word_pieces, ident_pieces, end_pieces}
 use Rattle.idl_tree.specs.Files.{ast_pieces, file_attr_pieces, decl_pieces}
 use Rattle.idl_tree.specs.declared.declaration.Ast.{Ast}

@@ -1,6 +1,6 @@
 -- The least place of several lists.
-use Rattle.std.proofs.Common.{◌≡◌, ℕ, ◌+◌, ◌<◌, min, List, [], ◌∷◌, ◌++◌, Bool, Option, Some, None, refl, ap, sym, ◌∙◌, drop, get_or, map, length, arith, append_assoc, append-nil}
-use Rattle.std.specs.List.{flat_map, filter}
+use Rattle.std.proofs.Common.{◌≡◌, ℕ, ◌+◌, ◌<◌, min, List, [], ◌∷◌, ◌++◌, Option, Some, None, refl, ap, sym, ◌∙◌, drop, get_or, length, arith, append_assoc, append-nil}
+use Rattle.std.specs.List.{flat_map}
 use Rattle.std.proofs.lemmas.List.{get_or_default, drop_more}
 use Rattle.idl_rules.specs.Least.{lesser, least}
 

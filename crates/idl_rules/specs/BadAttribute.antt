@@ -4,10 +4,8 @@
 -- in a conformant array is a member that isn't the last, an array's element or a union's arm; string stands on other than char;
 -- range on other than a parameter of an integer of at most 32 bits that holds its numbers, in order, or a Ref to one; maybe with an
 -- out or a result.
-use Rattle.std.specs.Prelude.{ℕ, ◌==◌, Bool, true, false, not, ◌&&◌, ◌||◌, List, [], ◌∷◌, ◌++◌, Option, Some, None, is_some, if◌then◌else◌}
+use Rattle.std.specs.Prelude.{ℕ, ◌==◌, Bool, true, false, not, ◌&&◌, ◌||◌, List, [], ◌∷◌, ◌++◌}
 use Rattle.std.specs.List.{list_any, list_all, flat_map}
-use Rattle.idl_tree.specs.declared.leaf.Ident.{Ident}
-use Rattle.idl_tree.specs.declared.leaf.Pk.{Pk}
 use Rattle.idl_forms.specs.Forms.{FileKindForm, OfUuid, OfVersion, OfPointerDefault, OfEndpoint, FileForm, TreeForm}
 use Rattle.idl_outline.specs.declared.field.Bare.{Bare}
 use Rattle.idl_outline.specs.declared.field.Bare.TheVariants as bares

@@ -2,10 +2,9 @@
 -- operation's result or in a context handle type; pointers to pointers in a typedef; a 65,536th operation, declared type or name of
 -- one enumeration; a 256th parameter of an operation or member of a body; an array size that isn't from 1 to 2^32 - 1; a number above
 -- 2^32 - 1 in size_is or length_is, or above 2^32 - 2 in max_is; a constant that doesn't fit its type.
-use Rattle.std.specs.Prelude.{ℕ, ◌+◌, ◌^◌, ◌==◌, nat_lt, nat_le, Bool, true, false, not, ◌&&◌, ◌||◌, List, [], ◌∷◌, ◌++◌, Option, Some, None, if◌then◌else◌, ℤ, pos, slice_get, bytes_eq}
+use Rattle.std.specs.Prelude.{ℕ, ◌+◌, ◌^◌, ◌==◌, nat_lt, nat_le, Bool, false, not, ◌&&◌, ◌||◌, List, [], ◌∷◌, ◌++◌, Option, Some, None, ℤ, pos, slice_get, bytes_eq}
 use Rattle.std.specs.List.{list_any, count_by, flat_map}
 use Rattle.std.specs.Prelude.{codes}
-use Rattle.idl_tree.specs.declared.leaf.Ident.{Ident}
 use Rattle.idl_tree.specs.declared.leaf.Num.{Num}
 use Rattle.idl_tree.specs.declared.leaf.Base.{Base}
 use Rattle.idl_tree.specs.declared.leaf.Base.TheVariants as bases
@@ -15,7 +14,6 @@ use Rattle.idl_names.specs.declared.place.Extent.{Extent}
 use Rattle.idl_names.specs.declared.place.Extent.TheVariants as extents
 use Rattle.idl_outline.specs.declared.field.Mark.{Mark}
 use Rattle.idl_outline.specs.declared.field.Mark.TheVariants as marks
-use Rattle.idl_outline.specs.declared.field.Attribute.{Attribute}
 use Rattle.idl_outline.specs.declared.field.Declared.{Declared}
 use Rattle.idl_outline.specs.declared.field.Field.{Field}
 use Rattle.idl_outline.specs.declared.event.Event.{Event}

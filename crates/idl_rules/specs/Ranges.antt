@@ -1,6 +1,6 @@
 -- What a range may stand on: an integer of at most 32 bits that holds both numbers, or a Ref to one. Of an unknown type nothing is
 -- said.
-use Rattle.std.specs.Prelude.{ℕ, Bool, true, false, not, ◌&&◌, ◌||◌, nat_le, int_le}
+use Rattle.std.specs.Prelude.{ℕ, Bool, false, not, ◌&&◌, ◌||◌, nat_le, int_le}
 use Rattle.std.specs.List.{list_all}
 use Rattle.idl_tree.specs.declared.leaf.Num.{Num}
 use Rattle.idl_outline.specs.declared.ty.DataType.{DataType}

@@ -1,7 +1,7 @@
 -- Rule 4, SizeName: a size name isn't a parameter or member of the same list of integer type; a switch name isn't one of a type that
 -- a union's tag may have; *name isn't a parameter that points to such a type; an [in] parameter names a parameter that isn't [in]. A
 -- name in a union's arm stands for a declarator of that arm alone: no value could agree with another arm's.
-use Rattle.std.specs.Prelude.{ℕ, Bool, true, false, not, ◌&&◌, ◌||◌, List, [], ◌∷◌, ◌++◌, bytes_eq, if◌then◌else◌}
+use Rattle.std.specs.Prelude.{ℕ, Bool, not, ◌&&◌, ◌||◌, List, [], ◌∷◌, ◌++◌, bytes_eq, if◌then◌else◌}
 use Rattle.std.specs.List.{list_any, flat_map}
 use Rattle.idl_outline.specs.declared.field.NameRef.{NameRef}
 use Rattle.idl_outline.specs.declared.field.Size.{Size}

@@ -1,5 +1,5 @@
 -- What is asked of types and attributes.
-use Rattle.std.specs.Prelude.{ℕ, ◌==◌, Bool, true, false, not, ◌&&◌, ◌||◌, List, Option, Some, None, is_none}
+use Rattle.std.specs.Prelude.{◌==◌, Bool, true, false, not, ◌&&◌, ◌||◌, Option, Some, is_none}
 use Rattle.std.specs.List.{list_any}
 use Rattle.idl_tree.specs.declared.leaf.Pk.{Pk}
 use Rattle.idl_tree.specs.declared.leaf.Pk.TheVariants as pks
@@ -14,10 +14,11 @@ use Rattle.idl_names.specs.declared.place.Extent.{Extent}
 use Rattle.idl_names.specs.declared.place.Extent.TheVariants as extents
 use Rattle.idl_outline.specs.declared.field.Mark.{Mark}
 use Rattle.idl_outline.specs.declared.field.Mark.TheVariants as marks
-use Rattle.idl_outline.specs.declared.field.Attribute.{Attribute}
 use Rattle.idl_outline.specs.declared.field.Field.{Field}
 use Rattle.idl_rules.specs.declared.asked.Asked.{Asked}
 use Rattle.idl_rules.specs.declared.asked.Asked.TheVariants as kinds
+use Rattle.idl_rules.specs.declared.asked.Saying.{Saying}
+use Rattle.idl_rules.specs.declared.asked.Saying.TheVariants as sayings
 
 -- neither a pointer nor an array
 abbrev pub by_value : DataType → Bool
@@ -156,6 +157,15 @@ abbrev pub says_switch_type : Mark → Bool
 says_switch_type (marks.SwitchType at t) = true
 says_switch_type _ = false
 
+abbrev pub says : Saying → Mark → Bool
+says sayings.In = says_in
+says sayings.Out = says_out
+says sayings.Text = says_string
+says sayings.Handle = says_handle
+says sayings.Maybe = says_maybe
+says sayings.Most = says_most
+says sayings.SwitchType = says_switch_type
+
 -- an attribute of the field says so
 abbrev pub has : (Mark → Bool) → Field → Bool
-has says f = list_any (λ a. says a.mark) f.attributes
+has said f = list_any (λ a. said a.mark) f.attributes

@@ -222,115 +222,43 @@ pub fn is_listed(place: Place) -> bool
     is_parameter(place) || is_member(place) || is_arm(place)
 }
 
-fn says_in(mark: &Mark) -> bool
-    ensures { result ≡ spec.says_in mark.now }
-{
-    matches!(mark, Mark::In)
+/// What an attribute may say.
+#[derive(Clone, Copy, PartialEq, Eq)]
+pub enum Saying {
+    In,
+    Out,
+    /// `string`.
+    Text,
+    /// One of the three words for context handles.
+    Handle,
+    Maybe,
+    /// `size_is` or `max_is`.
+    Most,
+    SwitchType,
 }
 
-fn says_out(mark: &Mark) -> bool
-    ensures { result ≡ spec.says_out mark.now }
+/// Whether it says so.
+pub fn says(saying: Saying, mark: &Mark) -> bool
+    ensures { result ≡ spec.says saying mark.now }
 {
-    matches!(mark, Mark::Out)
-}
-
-fn says_string(mark: &Mark) -> bool
-    ensures { result ≡ spec.says_string mark.now }
-{
-    matches!(mark, Mark::Text)
-}
-
-fn says_handle(mark: &Mark) -> bool
-    ensures { result ≡ spec.says_handle mark.now }
-{
-    matches!(mark, Mark::Handle)
-}
-
-/// Whether it is the word `maybe`.
-pub fn says_maybe(mark: &Mark) -> bool
-    ensures { result ≡ spec.says_maybe mark.now }
-{
-    matches!(mark, Mark::Maybe)
-}
-
-fn says_switch_type(mark: &Mark) -> bool
-    ensures { result ≡ spec.says_switch_type mark.now }
-{
-    matches!(mark, Mark::SwitchType { .. })
-}
-
-fn says_most(mark: &Mark) -> bool
-    ensures { result ≡ spec.says_most mark.now }
-{
-    match mark {
-        Mark::SizeIs(_) => true,
-        Mark::MaxIs(_) => true,
-        _ => false,
+    match saying {
+        Saying::In => matches!(mark, Mark::In),
+        Saying::Out => matches!(mark, Mark::Out),
+        Saying::Text => matches!(mark, Mark::Text),
+        Saying::Handle => matches!(mark, Mark::Handle),
+        Saying::Maybe => matches!(mark, Mark::Maybe),
+        Saying::Most => matches!(mark, Mark::SizeIs(_) | Mark::MaxIs(_)),
+        Saying::SwitchType => matches!(mark, Mark::SwitchType { .. }),
     }
 }
 
-/// Whether an attribute of the field is `in`.
-pub fn has_direction_in(field: &Field) -> bool
-    ensures { result ≡ spec.has spec.says_in field.now }
+/// Whether an attribute of the field says so.
+pub fn has(field: &Field, saying: Saying) -> bool
+    ensures { result ≡ spec.has (spec.says saying) field.now }
 {
     field
         .attributes
         .as_slice()
         .iter()
-        .any(|attribute| says_in(&attribute.mark))
-}
-
-/// Whether an attribute of the field is `out`.
-pub fn has_direction_out(field: &Field) -> bool
-    ensures { result ≡ spec.has spec.says_out field.now }
-{
-    field
-        .attributes
-        .as_slice()
-        .iter()
-        .any(|attribute| says_out(&attribute.mark))
-}
-
-/// Whether an attribute of the field is `string`.
-pub fn has_string(field: &Field) -> bool
-    ensures { result ≡ spec.has spec.says_string field.now }
-{
-    field
-        .attributes
-        .as_slice()
-        .iter()
-        .any(|attribute| says_string(&attribute.mark))
-}
-
-/// Whether an attribute of the field is a word for context handles.
-pub fn has_handle_word(field: &Field) -> bool
-    ensures { result ≡ spec.has spec.says_handle field.now }
-{
-    field
-        .attributes
-        .as_slice()
-        .iter()
-        .any(|attribute| says_handle(&attribute.mark))
-}
-
-/// Whether an attribute of the field is `size_is` or `max_is`.
-pub fn has_size(field: &Field) -> bool
-    ensures { result ≡ spec.has spec.says_most field.now }
-{
-    field
-        .attributes
-        .as_slice()
-        .iter()
-        .any(|attribute| says_most(&attribute.mark))
-}
-
-/// Whether an attribute of the field is `switch_type`.
-pub fn has_switch_type(field: &Field) -> bool
-    ensures { result ≡ spec.has spec.says_switch_type field.now }
-{
-    field
-        .attributes
-        .as_slice()
-        .iter()
-        .any(|attribute| says_switch_type(&attribute.mark))
+        .any(|attribute| says(saying, &attribute.mark))
 }

@@ -15,11 +15,10 @@ mod unknown_names;
 
 pub use again::{Again, Key, repeated};
 pub use asked::{
-    Asked, by_value, has_direction_in, has_direction_out, has_handle_word, has_size, has_string,
-    has_switch_type, is_arm, is_asked, is_bare_union, is_char, is_context_handle, is_handle_t,
-    is_listed, is_member, is_one_pointer, is_open_extent, is_open_layer, is_open_struct,
-    is_operation, is_parameter, is_pointer_layer, is_ref, is_ref_layer, is_single, is_tag_core,
-    is_typedef, is_unknown, is_void, says_maybe,
+    Asked, Saying, by_value, has, is_arm, is_asked, is_bare_union, is_char, is_context_handle,
+    is_handle_t, is_listed, is_member, is_one_pointer, is_open_extent, is_open_layer,
+    is_open_struct, is_operation, is_parameter, is_pointer_layer, is_ref, is_ref_layer, is_single,
+    is_tag_core, is_typedef, is_unknown, is_void, says,
 };
 pub use duplicates::duplicate;
 pub use laws::{same_trees_break_the_same_rules, same_trees_have_one_outline};

@@ -6,7 +6,7 @@ use Rattle.std.proofs.lemmas.Slice.Eq.{bytes_eq-Decides}
 use Rattle.std.proofs.Math.Bool.{or-false}
 use Rattle.ebnf.specs.Ebnf.{has}
 use Rattle.ebnf.proofs.Sets.{has_either}
-use Rattle.idl_tree.specs.Grammar.{name_classes}
+use Rattle.idl_tree.specs.Combinators.{name_classes}
 use Rattle.idl_tokens.specs.declared.words.Word.{Word}
 use Rattle.idl_tokens.specs.declared.words.Word.TheVariants as words
 use Rattle.idl_tokens.specs.declared.marks.Mark.{Mark}

@@ -1,3 +1,4 @@
+pub mod Combinators
 pub mod Grammar
 pub mod Pieces
 pub mod Trees

@@ -7,7 +7,8 @@ use Rattle.ebnf.specs.Machine.{null, parse, token, ◌>>=◌}
 use Rattle.ebnf.specs.Checks.{first, heads}
 use Rattle.idl_tokens.specs.declared.marks.Mark.TheVariants as marks
 use Rattle.idl_tokens.specs.declared.marks.Bracket.TheVariants as brackets
-use Rattle.idl_tree.specs.Grammar.{rule, a_word, a_mark, a_name, a_range, sizeable, base, dtors, body, struct_rest, switch_part, union_body, union_rest, enum_rest, typed, plain, spec, attr, attrs, member, members, label, arm, arms, name_classes, level_limit}
+use Rattle.idl_tree.specs.Combinators.{a_word, a_mark, a_name, a_range, name_classes, level_limit}
+use Rattle.idl_tree.specs.Grammar.{rule, sizeable, base, dtors, body, struct_rest, switch_part, union_body, union_rest, enum_rest, typed, plain, spec, attr, attrs, member, members, label, arm, arms}
 use Rattle.idl_parts.proofs.Orders.{Law, law_seq, law_opt, law_alt, law_within, law_one, law_same, law_many, law_more, name_law, base_law, dtors_law, if_name_law, enum_rest_law, ref_rule, star_rule, bounds_rule, labels_law}
 use Rattle.idl_parts.specs.Along.{Along, if_next, in_round, more_of, name_at, base_at, dtors_at, enum_rest_at, star_name_at, size_ref_at, plain_attr_start, plain_attr_at, size_attr_at, switch_is_at, range_attr_at, range_at, bounds_at, labels_at, if_among, word_at, mark_at}
 use Rattle.idl_types.specs.Along.{own_word_at, typed_at, plain_at, struct_rest_at, arms_part, union_body_at, union_rest_at, spec_start, member_start, spec_at, attr_at, comma_attr_at, attr_list_at, attrs_at, if_attrs_at, member_at, more_members_at, members_at, body_at, switch_type_at, switch_at, arm_at, more_arms_at, arm_list_at, arms_at}

@@ -6,7 +6,8 @@ use Rattle.ebnf.specs.Machine.{◌>>=◌, token, parse}
 use Rattle.ebnf.specs.Checks.{heads}
 use Rattle.idl_tokens.specs.declared.marks.Mark.TheVariants as marks
 use Rattle.idl_tokens.specs.declared.marks.Bracket.TheVariants as brackets
-use Rattle.idl_tree.specs.Grammar.{rule, in_brackets, body, switch_part, attrs, attr, member, arm, name_classes}
+use Rattle.idl_tree.specs.Combinators.{in_brackets, name_classes}
+use Rattle.idl_tree.specs.Grammar.{rule, body, switch_part, attrs, attr, member, arm}
 use Rattle.idl_parts.specs.Along.{Along, if_among, if_next, word_at, mark_at, open_at, shut_at, name_at, in_round, more_of, base_at, dtors_at, enum_rest_at, plain_attr_start, plain_attr_at, size_attr_at, switch_is_at, range_attr_at, labels_at}
 use Rattle.idl_tokens.specs.Terminals.{of_word, opening}
 use Rattle.idl_tokens.specs.declared.words.Word.TheVariants as words

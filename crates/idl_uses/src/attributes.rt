@@ -14,9 +14,7 @@ use crate::facts::{Said, Together, holding, said_by};
 use crate::meanings::has_meaning;
 use crate::parameters::bad_on_parameter;
 use idl_outline::{Attribute, Declared, Event, Field};
-use idl_rules::{
-    has_direction_out, is_parameter, is_uuid, is_void, lesser, place_if, repeated, says_maybe,
-};
+use idl_rules::{Saying, has, is_parameter, is_uuid, is_void, lesser, place_if, repeated, says};
 use idl_tree::{Ast, FileAttr};
 use rpc_base::NoMemory;
 use std::alloc::Global;
@@ -108,7 +106,7 @@ fn each_field(alloc: Global, fields: &[Field]) -> Result<Option<usize>, NoMemory
 fn any_out(parameters: &[Field]) -> bool
     ensures { result ≡ list_any (types.has types.says_out) parameters.now }
 {
-    parameters.iter().any(|field| has_direction_out(field))
+    parameters.iter().any(|field| has(field, Saying::Out))
 }
 
 fn answers(field: &Field, parameters: &[Field]) -> bool
@@ -125,7 +123,10 @@ fn maybe_place(field: &Field, parameters: &[Field]) -> Option<usize>
     let answers = answers(field, parameters);
     let mut found = None;
     for attribute in field.attributes.as_slice() {
-        let at = place_if(says_maybe(&attribute.mark) && answers, attribute.at);
+        let at = place_if(
+            says(Saying::Maybe, &attribute.mark) && answers,
+            attribute.at,
+        );
         found = lesser(found, at);
     }
     found

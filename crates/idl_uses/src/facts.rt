@@ -6,8 +6,8 @@ ghost use Rattle.idl_uses.specs.Facts as spec;
 
 use idl_outline::{Declared, Field};
 use idl_rules::{
-    by_value, has_direction_in, has_direction_out, has_handle_word, has_size, has_string, is_char,
-    is_context_handle, is_listed, is_open_extent, is_single, is_typedef, is_unknown,
+    Saying, by_value, has, is_char, is_context_handle, is_listed, is_open_extent, is_single,
+    is_typedef, is_unknown,
 };
 
 /// What a field's attributes say.
@@ -27,11 +27,11 @@ pub(crate) fn said_by(field: &Field) -> Said
     ensures { result ≡ spec.said_by field.now }
 {
     Said {
-        inward: has_direction_in(field),
-        outward: has_direction_out(field),
-        string: has_string(field),
-        size: has_size(field),
-        handle: has_handle_word(field),
+        inward: has(field, Saying::In),
+        outward: has(field, Saying::Out),
+        string: has(field, Saying::Text),
+        size: has(field, Saying::Most),
+        handle: has(field, Saying::Handle),
     }
 }
 
@@ -99,13 +99,13 @@ fn all_star(declared: &[Declared]) -> bool
 fn is_sizeable(field: &Field) -> bool
     ensures { result ≡ rule.is_sizeable field.now }
 {
-    is_listed(field.place) && all_plain_open(has_string(field), field.declared.as_slice())
+    is_listed(field.place) && all_plain_open(has(field, Saying::Text), field.declared.as_slice())
 }
 
 fn is_countable(field: &Field) -> bool
     ensures { result ≡ rule.is_countable field.now }
 {
-    is_listed(field.place) && all_plain_arrays(has_string(field), field.declared.as_slice())
+    is_listed(field.place) && all_plain_arrays(has(field, Saying::Text), field.declared.as_slice())
 }
 
 fn is_text(field: &Field) -> bool

@@ -7,9 +7,7 @@ ghost use Rattle.idl_uses.specs.declared.offers.Want.{Want};
 ghost use Rattle.idl_uses.specs.Offers as spec;
 
 use idl_outline::{Declared, Field};
-use idl_rules::{
-    Asked, by_value, has_direction_in, is_asked, is_one_pointer, is_parameter, is_unknown,
-};
+use idl_rules::{Asked, Saying, by_value, has, is_asked, is_one_pointer, is_parameter, is_unknown};
 use name_map::{Names, named, put};
 use rpc_base::NoMemory;
 use std::alloc::Global;
@@ -177,7 +175,7 @@ fn add(
 fn add_field(alloc: Global, offers: &mut Offers, field: &Field) -> Result<(), NoMemory>
     ensures { OnOk result ((name : List ℕ) (want : Want) → spec.meets (spec.found offers.new name) want ≡ (list_any (spec.offers_as name want field.now) field.now.declared || spec.meets (spec.found offers.old name) want)) }
 {
-    let inward = has_direction_in(field);
+    let inward = has(field, Saying::In);
     for declared in field.declared.as_slice() {
         add(alloc, offers, declared, offer_of(field, inward, declared))?;
     }

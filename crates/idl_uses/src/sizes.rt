@@ -9,7 +9,7 @@ ghost use Rattle.idl_uses.specs.Offers.{IsOffers, want};
 
 use crate::offers::{Offers, Want, is_offered, offers_of};
 use idl_outline::{Attribute, Event, Field, Mark, NameRef, Size};
-use idl_rules::{Asked, has_direction_in, is_arm, is_parameter, lesser, place_if};
+use idl_rules::{Asked, Saying, has, is_arm, is_parameter, lesser, place_if};
 use rpc_base::NoMemory;
 use std::alloc::Global;
 use std::slice;
@@ -86,7 +86,7 @@ fn field_place(list: &[Field], offers: &Offers, field: &Field) -> Option<usize>
     requires { IsOffers list.now offers.now }
     ensures { result ≡ least (spec.field_places list.now field.now) }
 {
-    let inward = has_direction_in(field);
+    let inward = has(field, Saying::In);
     let mut found = None;
     for attribute in field.attributes.as_slice() {
         found = lesser(

@@ -1,17 +1,15 @@
 //! Declarations and whole trees.
 ghost use Rattle.std.specs.Prelude.{◌≡◌, map, IfOk, OnOk};
 ghost use Rattle.idl_names.specs.declared.place.Place.TheVariants as places;
-ghost use Rattle.idl_forms.specs.Forms.{spec_form, attrs_form, param_form, decl_kind_form, decl_form, tree_form};
+ghost use Rattle.idl_forms.specs.Forms.{a_member, spec_form, attrs_form, param_form, decl_kind_form, decl_form, tree_form};
+ghost use Rattle.idl_names.specs.Members.{lone_member, result_member, param_member};
 ghost use Rattle.idl_outline.specs.Outline as outlines;
 ghost use Rattle.idl_outline.specs.Specs as walks;
 
 use crate::specs::{attributes_walked, spec_walked};
 use crate::used::{bare_spec, declared_field};
-use idl_names::{Place, copy_name, pointer_default, says_handle};
-use idl_outline::{
-    Declared, Event, Field, Fields, Outline, field_with, setting_alone, setting_of,
-    setting_of_result, size_used, tag_given,
-};
+use idl_names::{Place, copy_name, pointer_default};
+use idl_outline::{Declared, Event, Field, Fields, Outline, setting_of, tag_given};
 use idl_tree::{Ast, Attr, Decl, DeclKind, Dtor, Ident, ParamNode, Pk, Spec};
 use rpc_base::NoMemory;
 use std::alloc::Global;
@@ -19,51 +17,38 @@ use std::slice;
 
 fn types_declared(
     alloc: Global,
-    dtors: &[Dtor],
     declared: &[Declared],
     outline: &mut Outline,
 ) -> Result<(), NoMemory>
-    ensures { OnOk result (outline.new ≡ outlines.types_past dtors.now declared.now outline.old) }
+    ensures { OnOk result (outline.new ≡ outlines.types_past declared.now outline.old) }
 {
-    let mut others = declared;
-    for dtor in dtors {
-        let Some((one, more)) = others.split_first() else {
-            return Ok(());
-        };
-        size_used(alloc, &dtor.array, outline)?;
+    for one in declared {
         let name = copy_name(alloc, &one.name)?;
         outline.happen(Event::Typedef { name, ty: one.ty })?;
-        others = more;
     }
     Ok(())
 }
 
-fn typedef_field(
+// What one spec declares at a place, with its attributes and its declarators.
+fn field(
     alloc: Global,
     default: Pk,
+    place: Place,
     attrs: &[Attr],
     spec: &Spec,
     dtors: &[Dtor],
     outline: &mut Outline,
 ) -> Result<Field, NoMemory>
-    ensures field { IfOk result (λ f. f ≡ outlines.typedef_field default (attrs_form attrs.now) (spec_form spec.now) dtors.now outline.old) }
-    ensures past { OnOk result (outline.new ≡ outlines.typedef_behind default (attrs_form attrs.now) (spec_form spec.now) dtors.now outline.old) }
+    ensures field { IfOk result (λ f. f ≡ walks.member_field default place (a_member (attrs_form attrs.now) (spec_form spec.now) dtors.now) outline.old) }
+    ensures past { OnOk result (outline.new ≡ walks.member_past default place (a_member (attrs_form attrs.now) (spec_form spec.now) dtors.now) outline.old) }
 {
     let attributes = attributes_walked(alloc, default, attrs, outline)?;
-    let handle = says_handle(attrs);
-    let setting = setting_of(default, dtors, handle, attributes.as_slice());
+    let given = tag_given(attributes.as_slice());
+    let setting = setting_of(default, place, attrs, dtors, given);
     let ty = spec_walked(alloc, setting, spec, outline)?;
     let bare = bare_spec(spec);
-    field_with(
-        alloc,
-        outline,
-        default,
-        Place::Typedef,
-        attrs,
-        attributes,
-        ty,
-        bare,
-        dtors,
+    declared_field(
+        alloc, default, place, attrs, attributes, ty, bare, dtors, outline,
     )
 }
 
@@ -75,10 +60,10 @@ fn typedef(
     dtors: &[Dtor],
     outline: &mut Outline,
 ) -> Result<(), NoMemory>
-    ensures { OnOk result (outline.new ≡ outlines.typedef_past default (attrs_form attrs.now) (spec_form spec.now) dtors.now outline.old) }
+    ensures { OnOk result (outline.new ≡ outlines.typedef_past default (a_member (attrs_form attrs.now) (spec_form spec.now) dtors.now) outline.old) }
 {
-    let field = typedef_field(alloc, default, attrs, spec, dtors, outline)?;
-    types_declared(alloc, dtors, field.declared.as_slice(), outline)?;
+    let field = field(alloc, default, Place::Typedef, attrs, spec, dtors, outline)?;
+    types_declared(alloc, field.declared.as_slice(), outline)?;
     outline.happen(Event::Single(field))
 }
 
@@ -89,23 +74,9 @@ fn lone(
     spec: &Spec,
     outline: &mut Outline,
 ) -> Result<(), NoMemory>
-    ensures { OnOk result (outline.new ≡ outlines.lone_past default (attrs_form attrs.now) (spec_form spec.now) outline.old) }
+    ensures { OnOk result (outline.new ≡ outlines.lone_past default (lone_member (attrs_form attrs.now) (spec_form spec.now)) outline.old) }
 {
-    let attributes = attributes_walked(alloc, default, attrs, outline)?;
-    let setting = setting_alone(default, tag_given(attributes.as_slice()));
-    let ty = spec_walked(alloc, setting, spec, outline)?;
-    let bare = bare_spec(spec);
-    let field = field_with(
-        alloc,
-        outline,
-        default,
-        Place::Alone,
-        attrs,
-        attributes,
-        ty,
-        bare,
-        &[],
-    )?;
+    let field = field(alloc, default, Place::Alone, attrs, spec, &[], outline)?;
     outline.happen(Event::Single(field))
 }
 
@@ -115,22 +86,16 @@ fn parameter(
     node: &ParamNode,
     outline: &mut Outline,
 ) -> Result<Field, NoMemory>
-    ensures field { IfOk result (λ f. f ≡ walks.member_field default places.Parameter (outlines.one_member (param_form node.now)) outline.old) }
-    ensures past { OnOk result (outline.new ≡ walks.member_past default (outlines.one_member (param_form node.now)) outline.old) }
+    ensures field { IfOk result (λ f. f ≡ walks.member_field default places.Parameter (param_member (param_form node.now)) outline.old) }
+    ensures past { OnOk result (outline.new ≡ walks.member_past default places.Parameter (param_member (param_form node.now)) outline.old) }
 {
     let dtors = slice::from_ref(&node.dtor);
-    let attributes = attributes_walked(alloc, default, &node.attrs, outline)?;
-    let setting = setting_of(default, dtors, false, attributes.as_slice());
-    let ty = spec_walked(alloc, setting, &node.spec, outline)?;
-    let bare = bare_spec(&node.spec);
-    declared_field(
+    field(
         alloc,
         default,
         Place::Parameter,
         &node.attrs,
-        attributes,
-        ty,
-        bare,
+        &node.spec,
         dtors,
         outline,
     )
@@ -154,6 +119,7 @@ fn parameters(
     Ok(fields)
 }
 
+// The result of an operation, whose name stands for its declarator.
 fn result_field(
     alloc: Global,
     default: Pk,
@@ -162,29 +128,23 @@ fn result_field(
     name: &Ident,
     outline: &mut Outline,
 ) -> Result<Field, NoMemory>
-    ensures field { IfOk result (λ f. f ≡ outlines.result_field default (attrs_form attrs.now) (spec_form spec.now) name.now outline.old) }
-    ensures past { OnOk result (outline.new ≡ outlines.result_past default (attrs_form attrs.now) (spec_form spec.now) outline.old) }
+    ensures field { IfOk result (λ f. f ≡ walks.member_field default places.Operation (result_member (attrs_form attrs.now) (spec_form spec.now) name.now) outline.old) }
+    ensures past { OnOk result (outline.new ≡ walks.member_past default places.Operation (result_member (attrs_form attrs.now) (spec_form spec.now) name.now) outline.old) }
 {
-    let attributes = attributes_walked(alloc, default, attrs, outline)?;
-    let setting = setting_of_result(default, attributes.as_slice());
-    let ty = spec_walked(alloc, setting, spec, outline)?;
-    let bare = bare_spec(spec);
     let dtor = Dtor {
         stars: 0,
         name: copy_name(alloc, name)?,
         array: None,
     };
     let dtors = slice::from_ref(&dtor);
-    field_with(
+    field(
         alloc,
-        outline,
         default,
         Place::Operation,
         attrs,
-        attributes,
-        ty,
-        bare,
+        spec,
         dtors,
+        outline,
     )
 }
 
@@ -197,7 +157,7 @@ fn operation(
     nodes: &[ParamNode],
     outline: &mut Outline,
 ) -> Result<(), NoMemory>
-    ensures { OnOk result (outline.new ≡ outlines.op_past default (attrs_form attrs.now) (spec_form spec.now) name.now (map param_form nodes.now) outline.old) }
+    ensures { OnOk result (outline.new ≡ outlines.op_past default (result_member (attrs_form attrs.now) (spec_form spec.now) name.now) name.now (map param_form nodes.now) outline.old) }
 {
     let result = result_field(alloc, default, attrs, spec, name, outline)?;
     let name = copy_name(alloc, name)?;

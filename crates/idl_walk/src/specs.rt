@@ -13,7 +13,7 @@ use crate::used::{
 use idl_names::{Place, copy_name};
 use idl_outline::{
     Attribute, Attributes, Core, DataType, Event, Field, Fields, Labels, Mark, NameRef, Outline,
-    Setting, Tag, bare, core_of, field_with, setting_alone, setting_of, size,
+    Setting, Tag, bare, core_of, field_with, setting_alone, setting_of, size, tag_given,
 };
 use idl_tree::{ArmNode, Attr, AttrKind, Ident, Member, Pk, Spec, SpecKind, Switch};
 use rpc_base::NoMemory;
@@ -42,7 +42,7 @@ fn kind_walked(
     kind: &SpecKind,
     outline: &mut Outline,
 ) -> Result<DataType, NoMemory>
-    ensures ty { IfOk result (λ t. t ≡ walks.kind_type setting (kind_form kind.now) outline.old) }
+    ensures ty { IfOk result (λ t. t ≡ walks.kind_type setting at (kind_form kind.now) outline.old) }
     ensures past { OnOk result (outline.new ≡ walks.kind_past setting at (kind_form kind.now) outline.old) }
 {
     match kind {
@@ -76,7 +76,7 @@ fn structure(
     members: &[Member],
     outline: &mut Outline,
 ) -> Result<DataType, NoMemory>
-    ensures ty { IfOk result (λ t. t ≡ walks.kind_type setting (OfStruct tag.now (members_form members.now)) outline.old) }
+    ensures ty { IfOk result (λ t. t ≡ walks.kind_type setting 0 (OfStruct tag.now (members_form members.now)) outline.old) }
     ensures past { OnOk result (outline.new ≡ walks.kind_past setting 0 (OfStruct tag.now (members_form members.now)) outline.old) }
 {
     structure_begins(alloc, tag, members, outline)?;
@@ -110,7 +110,7 @@ fn switch_walked(
     ensures tag { IfOk result (λ t. t ≡ walks.switch_tag setting (switch_form switch.now) outline.old) }
     ensures past { OnOk result (outline.new ≡ walks.switch_past setting (switch_form switch.now) outline.old) }
 {
-    let inner = setting_alone(setting.default, Tag::Missing);
+    let inner = setting_alone(setting.default);
     let spec: &Spec = &switch.spec;
     let ty = spec_walked(alloc, inner, spec, outline)?;
     let none = Attributes::new(alloc);
@@ -180,7 +180,7 @@ fn arm_walked(
     outline: &mut Outline,
 ) -> Result<(), NoMemory>
     ensures fields { OnOk result (fields.new ≡ fields.old ++ walks.arm_field default (arm_form arm.now) outline.old) }
-    ensures labels { OnOk result (labels.new ≡ labels.old ++ walks.arm_label (arm_form arm.now) outline.old) }
+    ensures labels { OnOk result (labels.new ≡ labels.old ++ walks.arm_label default (arm_form arm.now) outline.old) }
     ensures past { OnOk result (outline.new ≡ walks.arm_past default (arm_form arm.now) outline.old) }
 {
     labels_read(&arm.labels, labels, outline)?;
@@ -200,7 +200,7 @@ fn arm_member(
     outline: &mut Outline,
 ) -> Result<(), NoMemory>
     ensures fields { OnOk result (fields.new ≡ fields.old ++ walks.member_field default places.Arm (member_form member.now) outline.old ∷ []) }
-    ensures past { OnOk result (outline.new ≡ walks.member_past default (member_form member.now) outline.old) }
+    ensures past { OnOk result (outline.new ≡ walks.member_past default places.Arm (member_form member.now) outline.old) }
 {
     let field = member_walked(alloc, default, Place::Arm, member, outline)?;
     fields.push(field)
@@ -234,10 +234,11 @@ fn member_walked(
     outline: &mut Outline,
 ) -> Result<Field, NoMemory>
     ensures field { IfOk result (λ f. f ≡ walks.member_field default place (member_form member.now) outline.old) }
-    ensures past { OnOk result (outline.new ≡ walks.member_past default (member_form member.now) outline.old) }
+    ensures past { OnOk result (outline.new ≡ walks.member_past default place (member_form member.now) outline.old) }
 {
     let attributes = attributes_walked(alloc, default, &member.attrs, outline)?;
-    let setting = setting_of(default, &member.dtors, false, attributes.as_slice());
+    let given = tag_given(attributes.as_slice());
+    let setting = setting_of(default, place, &member.attrs, &member.dtors, given);
     let ty = spec_walked(alloc, setting, &member.spec, outline)?;
     let bare = bare_spec(&member.spec);
     declared_field(
@@ -330,7 +331,7 @@ fn switch_type(
     ensures mark { IfOk result (λ m. m ≡ walks.mark_of default (OfSwitchType (spec_form spec.now)) outline.old) }
     ensures past { OnOk result (outline.new ≡ walks.mark_past default (OfSwitchType (spec_form spec.now)) outline.old) }
 {
-    let inner = setting_alone(default, Tag::Missing);
+    let inner = setting_alone(default);
     let ty = spec_walked(alloc, inner, spec, outline)?;
     Ok(Mark::SwitchType {
         spec_at: spec.at,

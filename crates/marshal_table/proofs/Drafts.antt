@@ -1,12 +1,13 @@
 -- What an interface declares is a table, but for the number of its operations.
 use Rattle.std.proofs.Common.{◌≡◌, ℕ, ◌+◌, ◌<◌, ◌≤◌, List, [], ◌∷◌, ◌++◌, length, take, refl, ap, subst, sym, ◌∙◌, arith, Bool, true, false, length-append}
-use Rattle.std.specs.Prelude.{◌==◌, nat_le, nat_lt, not, if◌then◌else◌}
+use Rattle.std.specs.Prelude.{◌==◌, nat_le, nat_lt, if◌then◌else◌}
 use Rattle.std.specs.List.{list_any, list_all}
 use Rattle.idl_tree.specs.declared.leaf.Ident.{Ident}
 use Rattle.idl_tree.specs.declared.leaf.Pk.{Pk}
 use Rattle.idl_tree.specs.declared.leaf.Dtor.{Dtor}
 use Rattle.idl_names.specs.declared.place.Place.TheVariants as places
 use Rattle.idl_names.specs.Declarators.{all_pointed}
+use Rattle.idl_names.specs.Members.{attrs_of, dtors_of, lone_member, result_member, param_member}
 use Rattle.idl_names.specs.Attributes.{pointer_default, says, says_handle, is_serialised}
 use Rattle.idl_forms.specs.Forms as idl
 use Rattle.ndr_value.specs.Forms.{Form}
@@ -18,29 +19,14 @@ use Rattle.table_scope.specs.declared.known.Sort.TheVariants as sorts
 use Rattle.table_scope.specs.declared.said.Terms.{Terms}
 use Rattle.table_scope.specs.Scopes.{Sense, Scope, handle_sense}
 use Rattle.table_scope.specs.Declarators.{terms, declared}
-use Rattle.table_specs.specs.Specs.{within, attrs_within, spec_at, attrs_at}
-use Rattle.table_laws.specs.Interfaces.{Listed, Draft, is_binding, param_names, param_sense, listed_at, param_at, params_at, sort_result, alone_at, op_of, op_at, typed, typedef_one, typedef_all, typedef_sense, typedef_at, decl_at, decls_at, nothing_declared, declared_in}
+use Rattle.table_specs.specs.Specs.{within, attrs_within, member_within, sense_at}
+use Rattle.table_laws.specs.Interfaces.{Listed, Draft, is_binding, param_names, listed_at, param_at, params_at, sort_result, op_of, op_at, typed, typedef_one, typedef_all, typedef_at, decl_at, decls_at, nothing_declared, declared_in}
 use Rattle.marshal_table.proofs.Fitting.{both_of, and_of, less_of, or_left, or_right, fits_more, declared_fits}
-use Rattle.marshal_table.proofs.Sounds.{SenseFits, put_all, Sound, Goes, reach, reach_not, reach_far, spec_sound, attrs_sound}
+use Rattle.marshal_table.proofs.Sounds.{SenseFits, put_all, Sound, Goes, reach_near, reach_far, pointed_not, shapes_fit, sense_sound}
 
 all_more : {X : Type 0} (f : X → Bool) (xs ys : List X) → list_all f xs ≡ true → list_all f ys ≡ true → list_all f (xs ++ ys) ≡ true
 all_more f [] ys h k = k
 all_more f (x ∷ xs) ys h k = let e = both_of (f x) (list_all f xs) h in and_of (f x) (list_all f (xs ++ ys)) e.0 (all_more f xs ys e.1 k)
-
--- ---- a spec behind its attributes
-
--- attributes, and then the spec
-abbrev behind : Pk → Bool → idl.AttrForms → idl.SpecForm → Scope → Sense × Scope
-behind k pointed as' s p = spec_at k pointed (attrs_at k as' p).0 s (attrs_at k as' p).1
-
-behind_sound : (far : ℕ) (k : Pk) (pointed : Bool) (as' : idl.AttrForms) (s : idl.SpecForm) (p : Scope) → Sound far p → length p.types + (attrs_within as' + within s) ≤ far
-    → Goes far (attrs_within as' + within s) p (behind k pointed as' s p).1 × (is_below (reach pointed (length (behind k pointed as' s p).1.types) far) far (behind k pointed as' s p).0.shape ≡ true)
-behind_sound far k pointed as' s p ok room =
-    let marks = attrs_sound far k as' p ok (omega (arith, room)) in
-    let before = marks.0.count in
-    let last = spec_sound far k pointed (attrs_at k as' p).0 s (attrs_at k as' p).1 marks.0.sound (omega (arith, before, room)) marks.1 in
-    let count = last.0.count in
-    (record { count = omega (arith, before, count); sound = last.0.sound }, last.1)
 
 -- ---- parameters
 
@@ -49,7 +35,7 @@ if_listed true n = 0
 if_listed false n = n
 
 abbrev param_within : idl.ParamForm → ℕ
-param_within n = if_listed (is_binding n.spec) (attrs_within n.attrs + within n.spec)
+param_within n = if_listed (is_binding n.spec) (member_within (param_member n))
 
 abbrev params_within : List idl.ParamForm → ℕ
 params_within [] = 0
@@ -68,14 +54,14 @@ listed_room false m n far h e = h
 
 param_sound : (far : ℕ) (k : Pk) (names : List Ident) (n : idl.ParamForm) (p : Scope) → Sound far p → length p.types + param_within n ≤ far → ListedSound far (param_within n) p (param_at k names n p)
 param_sound far k names n p ok room =
-    let as' : idl.AttrForms = n.attrs in
-    let q : Sense × Scope = param_sense k n p in
-    listed_any far (attrs_within as' + within n.spec) p (is_binding n.spec) (listed_at k names as' n.dtor q) ok (λ e.
-    let h = behind_sound far k (not (n.dtor.stars == 0)) as' n.spec p ok (listed_room (is_binding n.spec) (length p.types) (attrs_within as' + within n.spec) far room e) in
+    let m : idl.MemberForm = param_member n in
+    let q : Sense × Scope = sense_at k m p in
+    listed_any far (member_within m) p (is_binding n.spec) (listed_at k names n.attrs n.dtor q) ok (λ e.
+    let h = sense_sound far k m p ok (listed_room (is_binding n.spec) (length p.types) (member_within m) far room e) in
     let few = h.0.sound.few in
-    let t : Terms = terms k places.Parameter true names as' in
-    let f = declared_fits (length q.1.types) far t q.1.symbols.constants q.0.shape n.dtor (reach_not (n.dtor.stars == 0) (length q.1.types) far q.0.shape h.1) (reach_far (not (n.dtor.stars == 0)) (length q.1.types) far few q.0.shape h.1) in
-    (h.0, and_of (is_below far far (declared t q.1.symbols.constants q.0.shape n.dtor)) true (fits_more (length q.1.types) far far few (declared t q.1.symbols.constants q.0.shape n.dtor) f) refl))
+    let shape : Form = declared (terms k places.Parameter names n.attrs) q.1.symbols.constants q.0.shape n.dtor in
+    let fit : is_below (length q.1.types) far shape ≡ true = (shapes_fit far k places.Parameter names m q few h.1).0 in
+    (h.0, and_of (is_below far far shape) true (fits_more (length q.1.types) far far few shape fit) refl))
 
 params_sound : (far : ℕ) (k : Pk) (names : List Ident) (ns : List idl.ParamForm) (p : Scope) → Sound far p → length p.types + params_within ns ≤ far → ListedSound far (params_within ns) p (params_at k names ns p)
 params_sound far k names [] p ok room = (record { count = omega arith; sound = ok }, refl)
@@ -102,11 +88,8 @@ pub record DraftGoes (far n : ℕ) (d e : Draft) : Type 0 where
   pub sound : DraftSound far e
 
 result_sound : (far : ℕ) (s : Sort) (f : Form) → is_below far far f ≡ true → result_below far (sort_result s f) ≡ true
-result_sound far sorts.Value f e = e
-result_sound far sorts.ErrorStatus f e = e
 result_sound far sorts.Void f e = refl
-result_sound far sorts.HandleT f e = e
-result_sound far (sorts.Handle kind serialised) f e = e
+result_sound far _ f e = e
 
 four_at_most : (us : List HandleUse) → nat_le (length (take 4 us)) 4 ≡ true
 four_at_most [] = refl
@@ -137,19 +120,19 @@ kept_any far true ops uses o us ok room f =
       fit = all_more (op_below far) ops (o ∷ []) ok.fit (and_of (op_below far o) true f refl);
     }
 
-op_sound : (far : ℕ) (k : Pk) (as' : idl.AttrForms) (s : idl.SpecForm) (name : Ident) (ns : List idl.ParamForm) (d : Draft) → DraftSound far d → length d.scope.types + (attrs_within as' + within s + params_within ns) ≤ far
-    → DraftGoes far (attrs_within as' + within s + params_within ns) d (op_at k as' s name ns d)
-op_sound far k as' s name ns d ok room =
-    let r = behind_sound far k false as' s d.scope ok.scope (omega (arith, room)) in
-    let q : Sense × Scope = alone_at k as' s d.scope in
-    let before = r.0.count in
-    let few = r.0.sound.few in
-    let ps = params_sound far k (param_names ns) ns q.1 r.0.sound (omega (arith, before, room)) in
+op_sound : (far : ℕ) (k : Pk) (r : idl.MemberForm) (name : Ident) (ns : List idl.ParamForm) (d : Draft) → DraftSound far d → length d.scope.types + (member_within r + params_within ns) ≤ far
+    → DraftGoes far (member_within r + params_within ns) d (op_at k r name ns d)
+op_sound far k r name ns d ok room =
+    let h = sense_sound far k r d.scope ok.scope (omega (arith, room)) in
+    let q : Sense × Scope = sense_at k r d.scope in
+    let before = h.0.count in
+    let few = h.0.sound.few in
+    let ps = params_sound far k (param_names ns) ns q.1 h.0.sound (omega (arith, before, room)) in
     let count = ps.0.count in
     let l : Listed = (params_at k (param_names ns) ns q.1).0 in
-    let o : OpForm = op_of name.text as' q.0 l.0 in
+    let o : OpForm = op_of name.text (attrs_of r) q.0 l.0 in
     let fit : op_below far o ≡ true =
-    and_of (list_all (param_below far) l.0) (result_below far (sort_result q.0.sort q.0.shape)) ps.1 (result_sound far q.0.sort q.0.shape (reach_far false (length q.1.types) far few q.0.shape r.1)) in
+    and_of (list_all (param_below far) l.0) (result_below far (sort_result q.0.sort q.0.shape)) ps.1 (result_sound far q.0.sort q.0.shape (reach_far (all_pointed (dtors_of r)) (length q.1.types) far few q.0.shape h.1)) in
     let kept = kept_any far (nat_lt (length d.ops) 65535) d.ops d.uses o l.1 (record { few = ok.few; of_each = ok.of_each; few_uses = ok.few_uses; fit = ok.ops }) (less_of (length d.ops) 65535) fit in
     record {
       count = omega (arith, before, count);
@@ -171,14 +154,14 @@ typedef_sound far false serialised t m (d ∷ ds) p ok here e =
     (λ h. here (or_right (d.stars == 0) (list_any (λ x. x.stars == 0) ds) h)) e in
     record { count = rest.count; sound = rest.sound }
 
-typedef_at_sound : (far : ℕ) (k : Pk) (as' : idl.AttrForms) (s : idl.SpecForm) (ds : List Dtor) (p : Scope) → Sound far p → length p.types + (attrs_within as' + within s) ≤ far
-    → Goes far (attrs_within as' + within s) p (typedef_at k as' s ds p)
-typedef_at_sound far k as' s ds p ok room =
-    let h = behind_sound far k (all_pointed ds) as' s p ok room in
-    let q : Sense × Scope = typedef_sense k as' s ds p in
+typedef_at_sound : (far : ℕ) (k : Pk) (m : idl.MemberForm) (p : Scope) → Sound far p → length p.types + member_within m ≤ far → Goes far (member_within m) p (typedef_at k m p)
+typedef_at_sound far k m p ok room =
+    let h = sense_sound far k m p ok room in
+    let q : Sense × Scope = sense_at k m p in
     let before = h.0.count in
     let few = h.0.sound.few in
-    let rest = typedef_sound far (says says_handle as') (is_serialised as') (terms k places.Typedef false [] as') q.0 ds q.1 h.0.sound (reach_not (list_any (λ d. d.stars == 0) ds) (length q.1.types) far q.0.shape h.1) (reach_far (all_pointed ds) (length q.1.types) far few q.0.shape h.1) in
+    let rest = typedef_sound far (says says_handle (attrs_of m)) (is_serialised (attrs_of m)) (terms k places.Typedef [] (attrs_of m)) q.0 (dtors_of m) q.1 h.0.sound
+    (λ e. reach_near (all_pointed (dtors_of m)) (length q.1.types) far q.0.shape (pointed_not (dtors_of m) e) h.1) (reach_far (all_pointed (dtors_of m)) (length q.1.types) far few q.0.shape h.1) in
     let count = rest.count in
     record { count = omega (arith, before, count); sound = rest.sound }
 
@@ -200,9 +183,9 @@ in_draft far n d p ok goes = record { count = goes.count; sound = record { scope
 decl_sound : (far : ℕ) (k : Pk) (x : idl.DeclKindForm) (d : Draft) → DraftSound far d → length d.scope.types + decl_within x ≤ far → DraftGoes far (decl_within x) d (decl_at k x d)
 decl_sound far k (idl.OfConst base name value) d ok room =
     record { count = omega arith; sound = record { scope = record { types = ok.scope.types; few = ok.scope.few; named = ok.scope.named; tags = ok.scope.tags }; few = ok.few; of_each = ok.of_each; few_uses = ok.few_uses; ops = ok.ops } }
-decl_sound far k (idl.OfTypedef as' s ds) d ok room = in_draft far _ d _ ok (typedef_at_sound far k as' s ds d.scope ok.scope room)
-decl_sound far k (idl.OfLone as' s) d ok room = in_draft far _ d _ ok (behind_sound far k false as' s d.scope ok.scope room).0
-decl_sound far k (idl.OfOp as' s name void ps) d ok room = op_sound far k as' s name ps d ok room
+decl_sound far k (idl.OfTypedef as' s ds) d ok room = in_draft far _ d _ ok (typedef_at_sound far k (idl.a_member as' s ds) d.scope ok.scope room)
+decl_sound far k (idl.OfLone as' s) d ok room = in_draft far _ d _ ok (sense_sound far k (lone_member as' s) d.scope ok.scope room).0
+decl_sound far k (idl.OfOp as' s name void ps) d ok room = op_sound far k (result_member as' s name) name ps d ok room
 
 decls_sound : (far : ℕ) (k : Pk) (xs : List idl.DeclForm) (d : Draft) → DraftSound far d → length d.scope.types + decls_within xs ≤ far → DraftGoes far (decls_within xs) d (decls_at k xs d)
 decls_sound far k [] d ok room = record { count = omega arith; sound = ok }

@@ -9,7 +9,7 @@ use Rattle.idl_tree.specs.declared.leaf.Dtor.{Dtor}
 use Rattle.idl_names.specs.declared.place.Extent.{Extent}
 use Rattle.idl_names.specs.declared.place.Extent.TheVariants as extents
 use Rattle.ndr_value.specs.declared.shape.Count.{Count}
-use Rattle.ndr_value.specs.Forms.{Form, OfBool, OfByte, OfChar, OfInt, OfUint, OfEnum, OfNamed, OfStruct, OfUnion, OfArray, OfText, OfRef, OfUnique, OfFull, OfHandle, Forms, no_form, then_form, Body, empty, holds, ArmForms, no_arm, then_arm}
+use Rattle.ndr_value.specs.Forms.{Form, OfNamed, OfStruct, OfUnion, OfArray, OfText, OfRef, OfUnique, OfFull, Forms, no_form, then_form, Body, empty, holds, ArmForms, no_arm, then_arm}
 use Rattle.table_form.specs.Ordered.{is_below, each_below, arms_below, body_below}
 use Rattle.idl_tree.specs.declared.leaf.Num.{Num}
 use Rattle.table_scope.specs.declared.said.Terms.{Terms}
@@ -38,23 +38,13 @@ less_is a b h = grind (arith, common_steps)
 
 mutual
   pub fits_more : (near more far : ℕ) → near ≤ more → (s : Form) → is_below near far s ≡ true → is_below more far s ≡ true
-  fits_more near more far le OfBool e = e
-  fits_more near more far le OfByte e = e
-  fits_more near more far le OfChar e = e
-  fits_more near more far le (OfInt size) e = e
-  fits_more near more far le (OfUint size) e = e
-  fits_more near more far le (OfEnum count) e = e
   fits_more near more far le (OfNamed number switch) e = let h = less_of number near e in less_is number more (omega (arith, h, le))
   fits_more near more far le (OfStruct ss) e = each_more near more far le ss e
   fits_more near more far le (OfUnion tag arms) e =
       let h = both_of (is_below near far tag) (arms_below near far arms) e in
       and_of (is_below more far tag) (arms_below more far arms) (fits_more near more far le tag h.0) (arms_more near more far le arms h.1)
   fits_more near more far le (OfArray kind s) e = fits_more near more far le s e
-  fits_more near more far le (OfText most) e = e
-  fits_more near more far le (OfRef s) e = e
-  fits_more near more far le (OfUnique s) e = e
-  fits_more near more far le (OfFull s) e = e
-  fits_more near more far le (OfHandle kind) e = e
+  fits_more near more far le _ e = e
 
   each_more : (near more far : ℕ) → near ≤ more → (ss : Forms) → each_below near far ss ≡ true → each_below more far ss ≡ true
   each_more near more far le no_form e = e
@@ -75,21 +65,11 @@ mutual
 -- ---- what names a tag
 
 tied_fits : (near far : ℕ) (c : Count) (s : Form) → is_below near far s ≡ true → is_below near far (tied c s) ≡ true
-tied_fits near far c OfBool e = e
-tied_fits near far c OfByte e = e
-tied_fits near far c OfChar e = e
-tied_fits near far c (OfInt size) e = e
-tied_fits near far c (OfUint size) e = e
-tied_fits near far c (OfEnum count) e = e
-tied_fits near far c (OfNamed number switch) e = e
-tied_fits near far c (OfStruct ss) e = e
-tied_fits near far c (OfUnion tag arms) e = e
 tied_fits near far c (OfArray kind s) e = tied_fits near far c s e
-tied_fits near far c (OfText most) e = e
 tied_fits near far c (OfRef s) e = tied_fits far far c s e
 tied_fits near far c (OfUnique s) e = tied_fits far far c s e
 tied_fits near far c (OfFull s) e = tied_fits far far c s e
-tied_fits near far c (OfHandle kind) e = e
+tied_fits near far c _ e = e
 
 if_tied_fits : (near far : ℕ) (o : Option Count) (s : Form) → is_below near far s ≡ true → is_below near far (if_tied o s) ≡ true
 if_tied_fits near far None s e = e

@@ -1,5 +1,5 @@
 -- What is known at a place fits a table: a type holds types of lesser numbers alone, and names what will be one of the list.
-use Rattle.std.proofs.Common.{◌≡◌, ℕ, ◌+◌, ◌<◌, ◌≤◌, List, [], ◌∷◌, ◌++◌, length, refl, ap, subst, arith, Bool, true, false, Option, None, Some, length-append}
+use Rattle.std.proofs.Common.{◌≡◌, ℕ, ◌+◌, ◌<◌, ◌≤◌, List, [], ◌∷◌, ◌++◌, length, refl, ap, subst, ◌∙◌, arith, Bool, true, false, Option, None, Some, length-append}
 use Rattle.std.specs.Prelude.{◌==◌, ◌||◌, ◌&&◌, not, if◌then◌else◌, bytes_eq}
 use Rattle.std.specs.List.{list_any}
 use Rattle.std.specs.Option.{option_or}
@@ -7,7 +7,10 @@ use Rattle.idl_tree.specs.declared.leaf.Ident.{Ident}
 use Rattle.idl_tree.specs.declared.leaf.Pk.{Pk}
 use Rattle.idl_tree.specs.declared.leaf.Base.{Base}
 use Rattle.idl_tree.specs.declared.leaf.Base.TheVariants as bases
+use Rattle.idl_tree.specs.declared.leaf.Dtor.{Dtor}
+use Rattle.idl_names.specs.declared.place.Place.{Place}
 use Rattle.idl_names.specs.declared.place.Place.TheVariants as places
+use Rattle.idl_names.specs.Members.{attrs_of, dtors_of}
 use Rattle.idl_names.specs.Declarators.{all_pointed}
 use Rattle.idl_forms.specs.Forms as idl
 use Rattle.ndr_value.specs.Forms.{Form, OfNamed, OfStruct, OfUnion}
@@ -18,7 +21,7 @@ use Rattle.idl_names.specs.Symbols as names
 use Rattle.idl_names.specs.Symbols.{ByName, Symbols, put, found}
 use Rattle.table_scope.specs.Scopes.{Sense, Scope, type_named, numbered, tag_form, with_constant, begun, with_entry, ended, or_nothing as or_sense}
 use Rattle.table_scope.specs.Declarators.{terms}
-use Rattle.table_specs.specs.Specs.{Face, base_form, row, arm_row, or_nothing, struct_at, union_at, member_names, arm_names, within, kind_within, switch_within, member_within, members_within, arm_within, arms_within, mark_within, attr_within, attrs_within, spec_at, kind_at, switch_at, mark_at, attr_at, attrs_at, member_at, members_at, arm_at, arms_at}
+use Rattle.table_specs.specs.Specs.{Face, shapes_of, base_form, row, arm_row, or_nothing, struct_at, union_at, member_names, arm_names, within, kind_within, switch_within, member_within, members_within, arm_within, arms_within, mark_within, attr_within, attrs_within, spec_at, kind_at, switch_at, mark_at, attr_at, attrs_at, sense_at, members_at, arm_at, arms_at}
 use Rattle.marshal_table.proofs.Fitting.{both_of, and_of, less_is, fits_more, body_more, all_declared, AllFit, all_more, all_join, row_fits, held_fits, FacesFit, arm_row_fits}
 
 abbrev pub SenseFits : ℕ → ℕ → Option Sense → Type 0
@@ -66,9 +69,17 @@ pub reach_far : (b : Bool) (near far : ℕ) → near ≤ far → (s : Form) → 
 reach_far true near far le s e = e
 reach_far false near far le s e = fits_more near far far le s e
 
-pub reach_not : (b : Bool) (near far : ℕ) (s : Form) → is_below (reach (not b) near far) far s ≡ true → b ≡ true → is_below near far s ≡ true
-reach_not true near far s e is = e
-reach_not false near far s e is = absurd cc
+pub reach_near : (b : Bool) (near far : ℕ) (s : Form) → b ≡ false → is_below (reach b near far) far s ≡ true → is_below near far s ≡ true
+reach_near true near far s is e = absurd cc
+reach_near false near far s is e = e
+
+and_no : (b : Bool) → (b && false) ≡ false
+and_no true = refl
+and_no false = refl
+
+-- a spec with a declarator by value stands behind no pointer
+pub pointed_not : (ds : List Dtor) → list_any (λ d. d.stars == 0) ds ≡ true → all_pointed ds ≡ false
+pointed_not ds e = ap (λ (b : Bool). not (length ds == 0) && not b) e ∙ and_no (not (length ds == 0))
 
 number_fits : (b : Bool) (near far n : ℕ) → n < near → n < far → is_below (reach b near far) far (OfNamed n None) ≡ true
 number_fits true near far n here there = less_is n far there
@@ -231,23 +242,31 @@ SpecSound far n pointed p q = Goes far n p q.1 × (is_below (reach pointed (leng
 abbrev GivenSound : ℕ → ℕ → Scope → Option Form × Scope → Type 0
 GivenSound far n p q = Goes far n p q.1 × GivenFits (length q.1.types) far q.0
 
+-- what declarators behind the spec declare
+pub shapes_fit : (far : ℕ) (k : Pk) (place : Place) (names : List Ident) (m : idl.MemberForm) (q : Sense × Scope) → length q.1.types ≤ far → is_below (reach (all_pointed (dtors_of m)) (length q.1.types) far) far q.0.shape ≡ true
+    → AllFit (length q.1.types) far (shapes_of k place names m q)
+shapes_fit far k place names m q few e =
+    all_declared (length q.1.types) far (terms k place names (attrs_of m)) q.1.symbols.constants q.0.shape (dtors_of m)
+    (λ h. reach_near (all_pointed (dtors_of m)) (length q.1.types) far q.0.shape (pointed_not (dtors_of m) h) e)
+    (reach_far (all_pointed (dtors_of m)) (length q.1.types) far few q.0.shape e)
+
 mutual
   pub spec_sound : (far : ℕ) (k : Pk) (pointed : Bool) (given : Option Form) (s : idl.SpecForm) (p : Scope) → Sound far p → length p.types + within s ≤ far → GivenFits (length p.types) far given → SpecSound far (within s) pointed p (spec_at k pointed given s p)
-  spec_sound far k pointed given (idl.a_spec at what) p ok room g = kind_sound far k pointed given what p ok room g
+  spec_sound far k pointed given (idl.a_spec at what) p ok room g = kind_sound far k pointed given at what p ok room g
 
-  kind_sound : (far : ℕ) (k : Pk) (pointed : Bool) (given : Option Form) (s : idl.KindForm) (p : Scope) → Sound far p → length p.types + kind_within s ≤ far → GivenFits (length p.types) far given → SpecSound far (kind_within s) pointed p (kind_at k pointed given s p)
-  kind_sound far k pointed given (idl.OfBase b) p ok room g = (stays far p ok, base_fits (reach pointed (length p.types) far) far b)
-  kind_sound far k pointed given (idl.OfName i) p ok room g = (stays far p ok, reach_fits pointed (length p.types) far ok.few (type_named i.text p.symbols.types).shape (named_fits (length p.types) far i.text p.symbols.types ok.named))
-  kind_sound far k pointed given idl.OfVoid p ok room g = (stays far p ok, refl)
-  kind_sound far k pointed given idl.OfHandle p ok room g = (stays far p ok, refl)
-  kind_sound far k pointed given idl.OfStatus p ok room g = (stays far p ok, refl)
-  kind_sound far k pointed given (idl.OfTag tag) p ok room g = (stays far p ok, tag_fits (length p.types) far pointed tag p.symbols ok.tags)
-  kind_sound far k pointed given (idl.OfStruct tag ms) p ok room g =
+  kind_sound : (far : ℕ) (k : Pk) (pointed : Bool) (given : Option Form) (at : ℕ) (s : idl.KindForm) (p : Scope) → Sound far p → length p.types + kind_within s ≤ far → GivenFits (length p.types) far given → SpecSound far (kind_within s) pointed p (kind_at k pointed given at s p)
+  kind_sound far k pointed given at (idl.OfBase b) p ok room g = (stays far p ok, base_fits (reach pointed (length p.types) far) far b)
+  kind_sound far k pointed given at (idl.OfName i) p ok room g = (stays far p ok, reach_fits pointed (length p.types) far ok.few (type_named i.text p.symbols.types).shape (named_fits (length p.types) far i.text p.symbols.types ok.named))
+  kind_sound far k pointed given at idl.OfVoid p ok room g = (stays far p ok, refl)
+  kind_sound far k pointed given at idl.OfHandle p ok room g = (stays far p ok, refl)
+  kind_sound far k pointed given at idl.OfStatus p ok room g = (stays far p ok, refl)
+  kind_sound far k pointed given at (idl.OfTag tag) p ok room g = (stays far p ok, tag_fits (length p.types) far pointed tag p.symbols ok.tags)
+  kind_sound far k pointed given at (idl.OfStruct tag ms) p ok room g =
       let same = ap (λ (ts : List Form). length ts) (begun_types tag (members_within ms) p) in
       let inside = members_sound far k (member_names ms) ms (begun tag (members_within ms) p) (begun_sound far tag (members_within ms) p ok (omega (arith, room))) (omega (arith, same, room)) in
       let count = inside.0.count in
       struct_sound far (members_within ms) pointed tag p (members_at k (member_names ms) ms (begun tag (members_within ms) p)) (record { count = omega (arith, same, count); sound = inside.0.sound }) inside.1 room
-  kind_sound far k pointed given (idl.OfUnion tag s arms) p ok room g =
+  kind_sound far k pointed given at (idl.OfUnion tag s arms) p ok room g =
       let t = switch_sound far k given s p ok (omega (arith, room)) g in
       let before = t.0.count in
       let inside = arms_sound far k (arm_names arms) arms (switch_at k given s p).1 t.0.sound (omega (arith, before, room)) in
@@ -256,7 +275,7 @@ mutual
       (record { count = omega (arith, before, count); sound = inside.0.sound })
       (fits_more (length (switch_at k given s p).1.types) (length (arms_at k (arm_names arms) arms (switch_at k given s p).1).1.types) far (omega (arith, count)) (switch_at k given s p).0 t.1)
       inside.1 room
-  kind_sound far k pointed given (idl.OfEnum tag list) p ok room g = (record { count = omega arith; sound = names_sound far 0 list p ok }, refl)
+  kind_sound far k pointed given at (idl.OfEnum tag list) p ok room g = (record { count = omega arith; sound = names_sound far 0 list p ok }, refl)
 
   switch_sound : (far : ℕ) (k : Pk) (given : Option Form) (s : idl.SwitchForm) (p : Scope) → Sound far p → length p.types + switch_within s ≤ far → GivenFits (length p.types) far given
       → Goes far (switch_within s) p (switch_at k given s p).1 × (is_below (length (switch_at k given s p).1.types) far (switch_at k given s p).0 ≡ true)
@@ -264,21 +283,8 @@ mutual
   switch_sound far k given (idl.a_switch s i body) p ok room g = spec_sound far k false None s p ok room tt
 
   mark_sound : (far : ℕ) (k : Pk) (m : idl.AttrKindForm) (p : Scope) → Sound far p → length p.types + mark_within m ≤ far → GivenSound far (mark_within m) p (mark_at k m p)
-  mark_sound far k idl.OfIn p ok room = (stays far p ok, tt)
-  mark_sound far k idl.OfOut p ok room = (stays far p ok, tt)
-  mark_sound far k (idl.OfPointer c) p ok room = (stays far p ok, tt)
-  mark_sound far k idl.OfText p ok room = (stays far p ok, tt)
-  mark_sound far k idl.OfIdempotent p ok room = (stays far p ok, tt)
-  mark_sound far k idl.OfMaybe p ok room = (stays far p ok, tt)
-  mark_sound far k idl.OfContext p ok room = (stays far p ok, tt)
-  mark_sound far k idl.OfSerialize p ok room = (stays far p ok, tt)
-  mark_sound far k idl.OfNoserialize p ok room = (stays far p ok, tt)
-  mark_sound far k (idl.OfSizeIs r) p ok room = (stays far p ok, tt)
-  mark_sound far k (idl.OfMaxIs r) p ok room = (stays far p ok, tt)
-  mark_sound far k (idl.OfLengthIs r) p ok room = (stays far p ok, tt)
-  mark_sound far k (idl.OfSwitchIs star i) p ok room = (stays far p ok, tt)
-  mark_sound far k (idl.OfRange low high) p ok room = (stays far p ok, tt)
   mark_sound far k (idl.OfSwitchType s) p ok room = spec_sound far k false None s p ok room tt
+  mark_sound far k _ p ok room = (stays far p ok, tt)
 
   attr_sound : (far : ℕ) (k : Pk) (a : idl.AttrForm) (p : Scope) → Sound far p → length p.types + attr_within a ≤ far → GivenSound far (attr_within a) p (attr_at k a p)
   attr_sound far k (idl.an_attr at m) p ok room = mark_sound far k m p ok room
@@ -295,39 +301,35 @@ mutual
             (given_more (length (attr_at k a p).1.types) (length (attrs_at k rest (attr_at k a p).1).1.types) far (omega (arith, count)) (attr_at k a p).0 first.1) others.1,
       )
 
-  member_sound : (far : ℕ) (k : Pk) (names : List Ident) (m : idl.MemberForm) (p : Scope) → Sound far p → length p.types + member_within m ≤ far
-      → Goes far (member_within m) p (member_at k names m p).1 × AllFit (length (member_at k names m p).1.types) far (member_at k names m p).0
-  member_sound far k names (idl.a_member as' s ds) p ok room =
+  pub sense_sound : (far : ℕ) (k : Pk) (m : idl.MemberForm) (p : Scope) → Sound far p → length p.types + member_within m ≤ far → SpecSound far (member_within m) (all_pointed (dtors_of m)) p (sense_at k m p)
+  sense_sound far k (idl.a_member as' s ds) p ok room =
       let marks = attrs_sound far k as' p ok (omega (arith, room)) in
       let before = marks.0.count in
       let behind = spec_sound far k (all_pointed ds) (attrs_at k as' p).0 s (attrs_at k as' p).1 marks.0.sound (omega (arith, before, room)) marks.1 in
       let count = behind.0.count in
-      let few = behind.0.sound.few in
-      let q : Sense × Scope = spec_at k (all_pointed ds) (attrs_at k as' p).0 s (attrs_at k as' p).1 in (
-        record { count = omega (arith, before, count); sound = behind.0.sound },
-        all_declared (length q.1.types) far (terms k places.Member false names as') q.1.symbols.constants q.0.shape ds
-            (reach_not (list_any (λ d. d.stars == 0) ds) (length q.1.types) far q.0.shape behind.1)
-            (reach_far (all_pointed ds) (length q.1.types) far few q.0.shape behind.1),
-      )
+      (record { count = omega (arith, before, count); sound = behind.0.sound }, behind.1)
 
   members_sound : (far : ℕ) (k : Pk) (names : List Ident) (ms : idl.MemberForms) (p : Scope) → Sound far p → length p.types + members_within ms ≤ far
       → Goes far (members_within ms) p (members_at k names ms p).1 × AllFit (length (members_at k names ms p).1.types) far (members_at k names ms p).0
   members_sound far k names idl.no_member p ok room = (stays far p ok, tt)
   members_sound far k names (idl.then_member m ms) p ok room =
-      let first = member_sound far k names m p ok (omega (arith, room)) in
+      let first = sense_sound far k m p ok (omega (arith, room)) in
+      let q : Sense × Scope = sense_at k m p in
+      let shapes : List Form = shapes_of k places.Member names m q in
       let before = first.0.count in
-      let others = members_sound far k names ms (member_at k names m p).1 first.0.sound (omega (arith, before, room)) in
+      let others = members_sound far k names ms q.1 first.0.sound (omega (arith, before, room)) in
       let count = others.0.count in (
         record { count = omega (arith, before, count); sound = others.0.sound },
-        all_join (length (members_at k names ms (member_at k names m p).1).1.types) far (member_at k names m p).0 (members_at k names ms (member_at k names m p).1).0
-            (all_more (length (member_at k names m p).1.types) (length (members_at k names ms (member_at k names m p).1).1.types) far (omega (arith, count)) (member_at k names m p).0 first.1) others.1,
+        all_join (length (members_at k names ms q.1).1.types) far shapes (members_at k names ms q.1).0
+            (all_more (length q.1.types) (length (members_at k names ms q.1).1.types) far (omega (arith, count)) shapes (shapes_fit far k places.Member names m q first.0.sound.few first.1)) others.1,
       )
 
   arm_sound : (far : ℕ) (k : Pk) (names : List Ident) (a : idl.ArmForm) (p : Scope) → Sound far p → length p.types + arm_within a ≤ far
       → Goes far (arm_within a) p (arm_at k names a p).1 × (body_below (length (arm_at k names a p).1.types) far (arm_at k names a p).0.2 ≡ true)
   arm_sound far k names (idl.member_arm ls m) p ok room =
-      let inside = member_sound far k names m p ok room in
-      (inside.0, held_fits (length (member_at k names m p).1.types) far (member_at k names m p).0 inside.1)
+      let inside = sense_sound far k m p ok room in
+      let q : Sense × Scope = sense_at k m p in
+      (inside.0, held_fits (length q.1.types) far (shapes_of k places.Arm names m q) (shapes_fit far k places.Arm names m q inside.0.sound.few inside.1))
   arm_sound far k names (idl.empty_arm ls) p ok room = (stays far p ok, refl)
 
   arms_sound : (far : ℕ) (k : Pk) (names : List Ident) (as' : idl.ArmForms) (p : Scope) → Sound far p → length p.types + arms_within as' ≤ far

@@ -1,26 +1,24 @@
 //! Declarations, and the interface's own attributes.
-ghost use Rattle.std.specs.Prelude.{◌≡◌, [], map, false, IfOk, OnOk};
-ghost use Rattle.idl_forms.specs.Forms.{spec_form, attrs_form, decl_kind_form, decl_form, file_kind_form, file_form};
-ghost use Rattle.idl_names.specs.declared.place.Place.TheVariants as places;
+ghost use Rattle.std.specs.Prelude.{◌≡◌, map, IfOk, OnOk};
+ghost use Rattle.idl_forms.specs.Forms.{a_member, spec_form, attrs_form, decl_kind_form, decl_form, file_kind_form, file_form};
+ghost use Rattle.idl_names.specs.Members.{lone_member};
+ghost use Rattle.table_specs.specs.Specs.{sense_at};
 ghost use Rattle.table_scope.specs.Scopes.{sense, scope};
-ghost use Rattle.table_scope.specs.Declarators as declarators;
 ghost use Rattle.name_map.specs.Named.{at_name};
 ghost use Rattle.table_laws.specs.Interfaces as spec;
 ghost use Rattle.marshal_table.specs.Lists as lists;
 
 use crate::listing::Operations;
-use crate::operations::{alone, operation};
-use idl_names::{Place, all_pointed, is_serialised, says_handle};
-use idl_tree::{
-    ArraySize, Attr, Decl, DeclKind, Dtor, FileAttr, FileAttrKind, Ident, Num, Pk, Spec,
-};
+use crate::operations::operation;
+use idl_names::{Place, Word, is_serialised, says};
+use idl_tree::{ArraySize, Attr, Decl, DeclKind, Dtor, FileAttr, FileAttrKind, Num, Pk, Spec};
 use name_map::Names;
 use rpc_base::{NoMemory, SyntaxId};
 use std::alloc::Global;
 use table_scope::{
     Known, Meaning, Sort, Terms, declared, in_16, terms, with_constant, with_handle, with_type,
 };
-use table_specs::{attrs_tag, spec_meaning};
+use table_specs::meaning_of;
 use uuid::Uuid;
 
 fn bare_sort(array: &Option<ArraySize>, sort: Sort) -> Sort
@@ -94,31 +92,6 @@ fn typedef_all(
     Ok(())
 }
 
-// What a typedef's spec stands for.
-fn typedef_meaning(
-    attrs: &[Attr],
-    of: &Spec,
-    dtors: &[Dtor],
-    alloc: Global,
-    known: &mut Known,
-    default: Pk,
-) -> Result<Meaning, NoMemory>
-    ensures value { IfOk result (λ m. sense m ≡ (spec.typedef_sense default (attrs_form attrs.now) (spec_form of.now) dtors.now (scope known.old)).0) }
-    ensures past { OnOk result (scope known.new ≡ (spec.typedef_sense default (attrs_form attrs.now) (spec_form of.now) dtors.now (scope known.old)).1) }
-{
-    let tag = attrs_tag(attrs, alloc, known, default)?;
-    let pointed = all_pointed(dtors);
-    spec_meaning(of, alloc, known, default, pointed, &tag)
-}
-
-// What attributes say of a typedef's declarators, which have no counts.
-fn typedef_terms(attrs: &[Attr], alloc: Global, default: Pk) -> Result<Terms, NoMemory>
-    ensures { IfOk result (λ t. t ≡ declarators.terms default places.Typedef false [] (attrs_form attrs.now)) }
-{
-    let none: Vec<Ident> = Vec::new(alloc);
-    terms(attrs, default, Place::Typedef, false, none.as_slice())
-}
-
 fn typedef(
     attrs: &[Attr],
     of: &Spec,
@@ -127,15 +100,16 @@ fn typedef(
     known: &mut Known,
     default: Pk,
 ) -> Result<(), NoMemory>
-    ensures { OnOk result (scope known.new ≡ spec.typedef_at default (attrs_form attrs.now) (spec_form of.now) dtors.now (scope known.old)) }
+    ensures { OnOk result (scope known.new ≡ spec.typedef_at default (a_member (attrs_form attrs.now) (spec_form of.now) dtors.now) (scope known.old)) }
 {
-    let meaning = typedef_meaning(attrs, of, dtors, alloc, known, default)?;
-    let terms = typedef_terms(attrs, alloc, default)?;
-    let handle = says_handle(attrs);
+    let meaning = meaning_of(attrs, of, dtors, alloc, known, default)?;
+    let terms = terms(attrs, default, Place::Typedef, &[])?;
+    let handle = says(attrs, Word::Handle);
     let serialised = is_serialised(attrs);
     typedef_all(dtors, alloc, known, handle, serialised, &terms, &meaning)
 }
 
+// A spec without a declarator.
 fn lone(
     attrs: &[Attr],
     of: &Spec,
@@ -143,9 +117,9 @@ fn lone(
     known: &mut Known,
     default: Pk,
 ) -> Result<(), NoMemory>
-    ensures { OnOk result (scope known.new ≡ spec.lone_at default (attrs_form attrs.now) (spec_form of.now) (scope known.old)) }
+    ensures { OnOk result (scope known.new ≡ (sense_at default (lone_member (attrs_form attrs.now) (spec_form of.now)) (scope known.old)).1) }
 {
-    alone(attrs, of, alloc, known, default)?;
+    meaning_of(attrs, of, &[], alloc, known, default)?;
     Ok(())
 }
 

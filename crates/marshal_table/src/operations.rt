@@ -1,23 +1,24 @@
 //! Operations.
-ghost use Rattle.std.specs.Prelude.{◌≡◌, ◌++◌, ◌∷◌, [], map, take, false, IfOk, OnOk};
+ghost use Rattle.std.specs.Prelude.{◌≡◌, [], map, take, IfOk, OnOk};
 ghost use Rattle.ndr_value.specs.Forms.{form};
 ghost use Rattle.table_form.specs.Tables.{result_form, param_form, op_form};
 ghost use Rattle.idl_forms.specs.Forms as idl;
 ghost use Rattle.idl_forms.specs.Forms.{spec_form, attrs_form};
 ghost use Rattle.table_scope.specs.Scopes.{sense, scope};
+ghost use Rattle.idl_names.specs.Members.{result_member};
 ghost use Rattle.table_laws.specs.Interfaces as spec;
 ghost use Rattle.marshal_table.specs.Lists as lists;
 
 use crate::listing::{Listing, Operations};
 use crate::params::{param_names, params};
-use idl_names::says_maybe;
+use idl_names::{Word, says};
 use idl_tree::{Attr, Ident, ParamNode, Pk, Spec};
 use ndr_value::Shape;
 use rpc_base::NoMemory;
 use std::alloc::Global;
 use table_form::{HandleUses, Op, Params};
 use table_scope::{Known, Meaning, Sort};
-use table_specs::{attrs_tag, spec_meaning};
+use table_specs::meaning_of;
 
 fn result_of(sort: Sort, shape: Shape) -> Option<Shape>
     ensures { result_form result ≡ spec.sort_result sort (form shape) }
@@ -48,7 +49,7 @@ fn op_of(
 {
     let name = name.text.copy(alloc)?;
     let status = is_status(meaning.sort);
-    let maybe = says_maybe(attrs);
+    let maybe = says(attrs, Word::Maybe);
     let result = result_of(meaning.sort, meaning.shape);
     Ok(Op {
         name,
@@ -78,25 +79,6 @@ fn add_op(into: &mut Operations, op: Op, uses: HandleUses) -> Result<(), NoMemor
     into.ops.push(op)?;
     into.uses.push(first_four(uses))?;
     Ok(())
-}
-
-/// What a spec without a declarator stands for, behind its attributes.
-///
-/// # Errors
-///
-/// `NoMemory` where there is no memory for it.
-pub fn alone(
-    attrs: &[Attr],
-    of: &Spec,
-    alloc: Global,
-    known: &mut Known,
-    default: Pk,
-) -> Result<Meaning, NoMemory>
-    ensures value { IfOk result (λ m. sense m ≡ (spec.alone_at default (attrs_form attrs.now) (spec_form of.now) (scope known.old)).0) }
-    ensures past { OnOk result (scope known.new ≡ (spec.alone_at default (attrs_form attrs.now) (spec_form of.now) (scope known.old)).1) }
-{
-    let tag = attrs_tag(attrs, alloc, known, default)?;
-    spec_meaning(of, alloc, known, default, false, &tag)
 }
 
 // The parameters that are listed.
@@ -145,9 +127,9 @@ pub fn operation(
     known: &mut Known,
     into: &mut Operations,
 ) -> Result<(), NoMemory>
-    ensures { OnOk result (lists.draft known.new into.new ≡ spec.op_at default (attrs_form attrs.now) (spec_form of.now) name.now (map idl.param_form nodes.now) (lists.draft known.old into.old)) }
+    ensures { OnOk result (lists.draft known.new into.new ≡ spec.op_at default (result_member (attrs_form attrs.now) (spec_form of.now) name.now) name.now (map idl.param_form nodes.now) (lists.draft known.old into.old)) }
 {
-    let meaning = alone(attrs, of, alloc, known, default)?;
+    let meaning = meaning_of(attrs, of, &[], alloc, known, default)?;
     let all = listed(nodes, alloc, known, default)?;
     add_with(alloc, name, attrs, meaning, all, known, into)
 }

@@ -1,8 +1,7 @@
 //! Parameters.
-ghost use Rattle.std.specs.Prelude.{◌≡◌, ◌++◌, ◌∷◌, [], ◌==◌, not, map, true, IfOk, OnOk};
-ghost use Rattle.std.specs.List.{flat_map};
+ghost use Rattle.std.specs.Prelude.{◌≡◌, ◌++◌, ◌∷◌, [], map, IfOk, OnOk};
 ghost use Rattle.ndr_value.specs.Forms.{form};
-ghost use Rattle.table_form.specs.Tables.{result_form, param_form};
+ghost use Rattle.table_form.specs.Tables.{param_form};
 ghost use Rattle.idl_forms.specs.Forms as idl;
 ghost use Rattle.idl_forms.specs.Forms.{spec_form, kind_form, attrs_form};
 ghost use Rattle.idl_names.specs.declared.place.Place.TheVariants as places;
@@ -14,15 +13,16 @@ ghost use Rattle.table_laws.specs.Interfaces as spec;
 ghost use Rattle.marshal_table.specs.Lists as lists;
 
 use crate::listing::Listing;
-use idl_names::{Place, copy_name, says_in, says_out};
+use idl_names::{Place, Word, copy_name, says};
 use idl_tree::{Attr, Dtor, Ident, Num, ParamNode, Pk, Spec, SpecKind};
 use name_map::Names;
 use ndr_value::Shape;
 use rpc_base::NoMemory;
 use std::alloc::Global;
+use std::slice;
 use table_form::{HandleUse, HandleUses, Param, Params};
 use table_scope::{Known, Meaning, Sort, declared, range, terms};
-use table_specs::{attrs_tag, spec_meaning};
+use table_specs::meaning_of;
 
 fn is_binding_kind(kind: &SpecKind) -> bool
     ensures { result ≡ spec.is_binding_kind (kind_form kind.now) }
@@ -85,21 +85,6 @@ fn add_param(params: &mut Params, param: Param) -> Result<(), NoMemory>
     Ok(())
 }
 
-// What a parameter's spec stands for.
-fn param_meaning(
-    node: &ParamNode,
-    alloc: Global,
-    known: &mut Known,
-    default: Pk,
-) -> Result<Meaning, NoMemory>
-    ensures value { IfOk result (λ m. sense m ≡ (spec.param_sense default (idl.param_form node.now) (scope known.old)).0) }
-    ensures past { OnOk result (scope known.new ≡ (spec.param_sense default (idl.param_form node.now) (scope known.old)).1) }
-{
-    let tag = attrs_tag(&node.attrs, alloc, known, default)?;
-    let pointed = node.dtor.stars != 0;
-    spec_meaning(&node.spec, alloc, known, default, pointed, &tag)
-}
-
 // A parameter of that shape.
 fn one_param(
     alloc: Global,
@@ -110,12 +95,12 @@ fn one_param(
     constants: &Names<Num>,
     shape: &Shape,
 ) -> Result<Param, NoMemory>
-    ensures { IfOk result (λ p. param_form p ≡ record { shape = declarators.declared (declarators.terms default places.Parameter true names.now (attrs_form attrs.now)) (at_name constants.now) (form shape.now) dtor.now; inward = attributes.says attributes.says_in (attrs_form attrs.now); outward = attributes.says attributes.says_out (attrs_form attrs.now); range = attributes.given declarators.range_in (attrs_form attrs.now) }) }
+    ensures { IfOk result (λ p. param_form p ≡ record { shape = declarators.declared (declarators.terms default places.Parameter names.now (attrs_form attrs.now)) (at_name constants.now) (form shape.now) dtor.now; inward = attributes.says attributes.says_in (attrs_form attrs.now); outward = attributes.says attributes.says_out (attrs_form attrs.now); range = attributes.given declarators.range_in (attrs_form attrs.now) }) }
 {
-    let terms = terms(attrs, default, Place::Parameter, true, names)?;
+    let terms = terms(attrs, default, Place::Parameter, names)?;
     let shape = declared(alloc, &terms, constants, shape, dtor)?;
-    let inward = says_in(attrs);
-    let outward = says_out(attrs);
+    let inward = says(attrs, Word::In);
+    let outward = says(attrs, Word::Out);
     let range = range(attrs)?;
     Ok(Param {
         shape,
@@ -168,7 +153,8 @@ fn param(
     if is_binding(&node.spec) {
         return Ok(());
     }
-    let meaning = param_meaning(node, alloc, known, default)?;
+    let dtors = slice::from_ref(&node.dtor);
+    let meaning = meaning_of(&node.attrs, &node.spec, dtors, alloc, known, default)?;
     add_listed(node, alloc, known, default, names, &meaning, into)
 }
 

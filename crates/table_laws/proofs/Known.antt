@@ -18,19 +18,25 @@ use Rattle.idl_outline.specs.declared.event.Event.TheVariants as events
 use Rattle.idl_outline.specs.declared.setting.Setting.{Setting}
 use Rattle.idl_forms.specs.Forms as idl
 use Rattle.idl_outline.specs.Names.{Past, symbols_of, tag_given, each_declared}
-use Rattle.idl_outline.specs.Parts.{before_declarators, size_past, array_past, sizes_past, label_past, labels_past, tag_used_past, other_tag_past, names_past, struct_past, struct_end}
+use Rattle.idl_outline.specs.Parts.{setting_at, size_past, array_past, sizes_past, label_past, labels_past, tag_used_past, other_tag_past, names_past, struct_past, struct_end}
 use Rattle.idl_outline.specs.Holding.{tag_holds}
-use Rattle.idl_outline.specs.Specs.{attributes, spec_past, kind_past, switch_past, mark_past, attr_past, attrs_past, member_past, members_past, member_fields, arm_past, arms_past}
-use Rattle.idl_outline.specs.Outline.{types_past}
+use Rattle.idl_outline.specs.Specs.{outline_reader, leaf_past as outline_leaf, fields_in, attributes, spec_past, spec_type, switch_past, attr_past, attrs_past, member_past, arm_past}
+use Rattle.idl_outline.specs.Outline.{types_past, typedef_past}
 use Rattle.ndr_value.specs.Forms.{Form}
 use Rattle.idl_names.specs.declared.symbols.Tag.{Tag}
 use Rattle.table_scope.specs.declared.said.Terms.{Terms}
-use Rattle.idl_names.specs.Declarators.{all_pointed}
+use Rattle.idl_names.specs.declared.place.Place.{Place}
+use Rattle.idl_names.specs.declared.place.Place.TheVariants as places
+use Rattle.idl_names.specs.Attributes.{says, says_handle, is_serialised, outer_class}
+use Rattle.table_scope.specs.Declarators.{terms}
+use Rattle.idl_names.specs.Members.{dtors_of}
+use Rattle.idl_names.specs.Walk.{read_at}
+use Rattle.idl_names.proofs.Walks.{Keep, spec_kept, switch_kept, attr_kept, attrs_kept, read_kept, arm_kept}
 use Rattle.idl_names.specs.Symbols.{Symbols, number_of, with_type, with_constant, with_tag, with_names}
 use Rattle.table_scope.specs.Scopes as scopes
 use Rattle.table_scope.specs.Scopes.{Sense, Scope, begun, ended}
-use Rattle.table_specs.specs.Specs.{members_within, member_names, arm_names, spec_at, kind_at, switch_at, mark_at, attr_at, attrs_at, member_at, members_at, arm_at, arms_at}
-use Rattle.table_laws.specs.Interfaces.{typedef_one, typedef_all}
+use Rattle.table_specs.specs.Specs.{table_reader, leaf_past as table_leaf, or_nothing, members_within, spec_at, switch_at, attr_at, attrs_at, sense_at, arm_at}
+use Rattle.table_laws.specs.Interfaces.{typedef_one, typedef_all, typedef_at}
 use Rattle.table_laws.specs.Alike.{whole_of}
 
 pub record Alike (s : Symbols DataType Bool) (t : Symbols Sense ℕ) : Type 0 where
@@ -120,81 +126,61 @@ ended_agrees (Some i) fs t p q h = alike_tag i _ _ (symbols_of p) q.symbols refl
 
 -- ---- specs, attributes and what they hold
 
-mutual
-  pub spec_agrees : (g : Setting) (k : Pk) (pointed : Bool) (given : Option Form) (s : idl.SpecForm) (p : Past) (q : Scope) → Agree p q → Agree (spec_past g s p) (spec_at k pointed given s q).1
-  spec_agrees g k pointed given (idl.a_spec at what) p q h = kind_agrees g at k pointed given what p q h
+leaf_agrees : (g : Setting) (at : ℕ) (s : idl.KindForm) (p : Past) (q : Scope) → Agree p q → Agree (outline_leaf g at s p) (table_leaf s q)
+leaf_agrees g at idl.OfVoid p q h = void_agrees g.void_allowed at p q h
+leaf_agrees g at (idl.OfTag tag) p q h = used_agrees g tag p q h
+leaf_agrees g at (idl.OfEnum tag names) p q h = names_agree 0 names (other_tag_past tag p) q.symbols (other_agrees tag p q h)
+leaf_agrees g at _ p q h = h
 
-  kind_agrees : (g : Setting) (at : ℕ) (k : Pk) (pointed : Bool) (given : Option Form) (s : idl.KindForm) (p : Past) (q : Scope) → Agree p q → Agree (kind_past g at s p) (kind_at k pointed given s q).1
-  kind_agrees g at k pointed given (idl.OfBase b) p q h = h
-  kind_agrees g at k pointed given (idl.OfName i) p q h = h
-  kind_agrees g at k pointed given idl.OfVoid p q h = void_agrees g.void_allowed at p q h
-  kind_agrees g at k pointed given idl.OfHandle p q h = h
-  kind_agrees g at k pointed given idl.OfStatus p q h = h
-  kind_agrees g at k pointed given (idl.OfTag tag) p q h = used_agrees g tag p q h
-  kind_agrees g at k pointed given (idl.OfStruct tag ms) p q h =
-      let r : Past = struct_past tag (tag_holds tag ms) p in
-      let z : Scope = begun tag (members_within ms) q in
-      ended_agrees tag (member_fields g.default ms r) _ (members_past g.default ms r) (members_at k (member_names ms) ms z).1
-      (members_agree g.default k (member_names ms) ms r z (begun_agrees tag (tag_holds tag ms) (members_within ms) p q h))
-  kind_agrees g at k pointed given (idl.OfUnion tag s arms) p q h =
-      let r : Past = switch_past g s (other_tag_past tag p) in
-      arms_agree g.default k (arm_names arms) arms r (switch_at k given s q).1 (switch_agrees g k given s (other_tag_past tag p) q (other_agrees tag p q h))
-  kind_agrees g at k pointed given (idl.OfEnum tag names) p q h = names_agree 0 names (other_tag_past tag p) q.symbols (other_agrees tag p q h)
+keep : Keep outline_reader table_reader Agree
+keep = record {
+  leaf = λ g c at s p q h. leaf_agrees g at s p q h;
+  struct_begins = λ tag ms p q h. begun_agrees tag (tag_holds tag ms) (members_within ms) p q h;
+  struct_ends = λ k l tag ms x y h. ended_agrees tag (fields_in k x.0) _ x.1 y.1 h;
+  union_begins = λ tag p q h. other_agrees tag p q h;
+  union_ends = λ k l s arms t u x y h. h;
+  switched = λ k l s i x y h. h;
+  labelled = λ ls p q h. labels_agree ls p q h;
+  sized = λ ds p q h. sizes_agree ds p q h;
+}
 
-  pub switch_agrees : (g : Setting) (k : Pk) (given : Option Form) (s : idl.SwitchForm) (p : Past) (q : Scope) → Agree p q → Agree (switch_past g s p) (switch_at k given s q).1
-  switch_agrees g k given idl.no_switch p q h = h
-  switch_agrees g k given (idl.a_switch s i body) p q h = spec_agrees _ k false None s p q h
+pub spec_agrees : (g : Setting) (k : Pk) (pointed : Bool) (given : Option Form) (s : idl.SpecForm) (p : Past) (q : Scope) → Agree p q → Agree (spec_past g s p) (spec_at k pointed given s q).1
+spec_agrees g k pointed given s p q h = spec_kept outline_reader table_reader Agree keep g.default k g (pointed, given) s p q h
 
-  mark_agrees : (default : Pk) (k : Pk) (m : idl.AttrKindForm) (p : Past) (q : Scope) → Agree p q → Agree (mark_past default m p) (mark_at k m q).1
-  mark_agrees default k idl.OfIn p q h = h
-  mark_agrees default k idl.OfOut p q h = h
-  mark_agrees default k (idl.OfPointer c) p q h = h
-  mark_agrees default k idl.OfText p q h = h
-  mark_agrees default k idl.OfIdempotent p q h = h
-  mark_agrees default k idl.OfMaybe p q h = h
-  mark_agrees default k idl.OfContext p q h = h
-  mark_agrees default k idl.OfSerialize p q h = h
-  mark_agrees default k idl.OfNoserialize p q h = h
-  mark_agrees default k (idl.OfSizeIs r) p q h = h
-  mark_agrees default k (idl.OfMaxIs r) p q h = h
-  mark_agrees default k (idl.OfLengthIs r) p q h = h
-  mark_agrees default k (idl.OfSwitchIs star i) p q h = h
-  mark_agrees default k (idl.OfRange low high) p q h = h
-  mark_agrees default k (idl.OfSwitchType s) p q h = spec_agrees _ k false None s p q h
+pub switch_agrees : (g : Setting) (k : Pk) (given : Option Form) (s : idl.SwitchForm) (p : Past) (q : Scope) → Agree p q → Agree (switch_past g s p) (switch_at k given s q).1
+switch_agrees g k given s p q h = switch_kept outline_reader table_reader Agree keep g.default k g.given (or_nothing given) s p q h
 
-  pub attr_agrees : (default : Pk) (k : Pk) (a : idl.AttrForm) (p : Past) (q : Scope) → Agree p q → Agree (attr_past default a p) (attr_at k a q).1
-  attr_agrees default k (idl.an_attr at m) p q h = mark_agrees default k m p q h
+pub attr_agrees : (default : Pk) (k : Pk) (a : idl.AttrForm) (p : Past) (q : Scope) → Agree p q → Agree (attr_past default a p) (attr_at k a q).1
+attr_agrees default k a p q h = attr_kept outline_reader table_reader Agree keep default k a p q h
 
-  pub attrs_agree : (default : Pk) (k : Pk) (as' : idl.AttrForms) (p : Past) (q : Scope) → Agree p q → Agree (attrs_past default as' p) (attrs_at k as' q).1
-  attrs_agree default k idl.no_attr p q h = h
-  attrs_agree default k (idl.then_attr a rest) p q h = attrs_agree default k rest (attr_past default a p) (attr_at k a q).1 (attr_agrees default k a p q h)
+pub attrs_agree : (default : Pk) (k : Pk) (as' : idl.AttrForms) (p : Past) (q : Scope) → Agree p q → Agree (attrs_past default as' p) (attrs_at k as' q).1
+attrs_agree default k as' p q h = attrs_kept outline_reader table_reader Agree keep default k as' p q h
 
-  pub member_agrees : (default : Pk) (k : Pk) (names : List Ident) (m : idl.MemberForm) (p : Past) (q : Scope) → Agree p q → Agree (member_past default m p) (member_at k names m q).1
-  member_agrees default k names (idl.a_member as' s ds) p q h =
-      let g : Setting = before_declarators default ds false (tag_given (attributes default as' p)) in
-      let marks : Option Form × Scope = attrs_at k as' q in
-      sizes_agree ds (spec_past g s (attrs_past default as' p)) (spec_at k (all_pointed ds) marks.0 s marks.1).1 (spec_agrees g k (all_pointed ds) marks.0 s (attrs_past default as' p) marks.1 (attrs_agree default k as' p q h))
+pub member_agrees : (default : Pk) (place : Place) (k : Pk) (m : idl.MemberForm) (p : Past) (q : Scope) → Agree p q → Agree (member_past default place m p) (sense_at k m q).1
+member_agrees default place k m p q h =
+    sizes_agree (dtors_of m) (read_at outline_reader default (outline_reader.around default place) m p).known (sense_at k m q).1
+    (read_kept outline_reader table_reader Agree keep default k (outline_reader.around default place) (table_reader.around k place) m p q h)
 
-  pub members_agree : (default : Pk) (k : Pk) (names : List Ident) (ms : idl.MemberForms) (p : Past) (q : Scope) → Agree p q → Agree (members_past default ms p) (members_at k names ms q).1
-  members_agree default k names idl.no_member p q h = h
-  members_agree default k names (idl.then_member m ms) p q h = members_agree default k names ms (member_past default m p) (member_at k names m q).1 (member_agrees default k names m p q h)
-
-  pub arm_agrees : (default : Pk) (k : Pk) (names : List Ident) (a : idl.ArmForm) (p : Past) (q : Scope) → Agree p q → Agree (arm_past default a p) (arm_at k names a q).1
-  arm_agrees default k names (idl.member_arm ls m) p q h = member_agrees default k names m (labels_past ls p) q (labels_agree ls p q h)
-  arm_agrees default k names (idl.empty_arm ls) p q h = labels_agree ls p q h
-
-  pub arms_agree : (default : Pk) (k : Pk) (names : List Ident) (as' : idl.ArmForms) (p : Past) (q : Scope) → Agree p q → Agree (arms_past default as' p) (arms_at k names as' q).1
-  arms_agree default k names idl.no_arm p q h = h
-  arms_agree default k names (idl.then_arm a rest) p q h = arms_agree default k names rest (arm_past default a p) (arm_at k names a q).1 (arm_agrees default k names a p q h)
+pub arm_agrees : (default : Pk) (k : Pk) (names : List Ident) (a : idl.ArmForm) (p : Past) (q : Scope) → Agree p q → Agree (arm_past default a p) (arm_at k names a q).1
+arm_agrees default k names a p q h = arm_kept outline_reader table_reader Agree keep default k a p q h
 
 -- ---- declarators of typedefs
 
-one_agrees : (handle serialised word : Bool) (t : Terms) (m : Sense) (class : Pk) (ty : DataType) (past : Past) (d : Dtor) (u : DataType) (p : Past) (q : Scope) → Agree p q → Agree (events.Typedef d.name u ∷ size_past d.array p) (typedef_one handle serialised t m d q)
-one_agrees true serialised word t m class ty past d u p q h = alike_type d.name u _ (symbols_of (size_past d.array p)) q.symbols (size_agrees d.array p q h)
-one_agrees false serialised word t m class ty past d u p q h = alike_type d.name u _ (symbols_of (size_past d.array p)) q.symbols (size_agrees d.array p q h)
+one_agrees : (handle serialised : Bool) (t : Terms) (m : Sense) (d : Dtor) (u : DataType) (p : Past) (q : Scope) → Agree p q → Agree (events.Typedef d.name u ∷ p) (typedef_one handle serialised t m d q)
+one_agrees true serialised t m d u p q h = alike_type d.name u _ (symbols_of p) q.symbols h
+one_agrees false serialised t m d u p q h = alike_type d.name u _ (symbols_of p) q.symbols h
 
-pub types_agree : (handle serialised word : Bool) (t : Terms) (m : Sense) (class : Pk) (ty : DataType) (past : Past) (ds : List Dtor) (p : Past) (q : Scope) → Agree p q
-    → Agree (types_past ds (each_declared past word class ty ds) p) (typedef_all handle serialised t m ds q)
+types_agree : (handle serialised word : Bool) (t : Terms) (m : Sense) (class : Pk) (ty : DataType) (past : Past) (ds : List Dtor) (p : Past) (q : Scope) → Agree p q
+    → Agree (types_past (each_declared past word class ty ds) p) (typedef_all handle serialised t m ds q)
 types_agree handle serialised word t m class ty past [] p q h = h
 types_agree handle serialised word t m class ty past (d ∷ ds) p q h =
-    types_agree handle serialised word t m class ty past ds (events.Typedef d.name _ ∷ size_past d.array p) (typedef_one handle serialised t m d q) (one_agrees handle serialised word t m class ty past d _ p q h)
+    types_agree handle serialised word t m class ty past ds (events.Typedef d.name _ ∷ p) (typedef_one handle serialised t m d q) (one_agrees handle serialised t m d _ p q h)
+
+pub typedef_agrees : (k : Pk) (m : idl.MemberForm) (p : Past) (q : Scope) → Agree p q → Agree (typedef_past k m p) (typedef_at k m q)
+typedef_agrees k (idl.a_member as' s ds) p q h =
+    let m : idl.MemberForm = idl.a_member as' s ds in
+    let g : Setting = setting_at k places.Typedef as' ds (tag_given (attributes k as' p)) in
+    let r : Past = attrs_past k as' p in
+    let behind : Sense × Scope = sense_at k m q in
+    types_agree (says says_handle as') (is_serialised as') (says says_handle as') (terms k places.Typedef [] as') behind.0 (outer_class k places.Typedef as') (spec_type g s r) (spec_past g s r) ds
+    (member_past k places.Typedef m p) behind.1 (member_agrees k places.Typedef k m p q h)

@@ -1,3 +1,4 @@
+pub mod Bodies
 pub mod Declarations
 pub mod Handles
 pub mod Known

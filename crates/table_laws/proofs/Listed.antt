@@ -6,22 +6,24 @@ use Rattle.std.proofs.lemmas.Grind.{common_steps}
 use Rattle.std.proofs.lemmas.List.Sums.{sum_by-cons}
 use Rattle.idl_tree.specs.declared.leaf.Ident.{Ident}
 use Rattle.idl_tree.specs.declared.leaf.Pk.{Pk}
-use Rattle.idl_tree.specs.declared.leaf.Dtor.{Dtor}
 use Rattle.idl_tree.specs.declared.declaration.Ast.{Ast}
 use Rattle.idl_outline.specs.declared.event.Event.{Event}
 use Rattle.idl_outline.specs.declared.event.Event.TheVariants as events
 use Rattle.idl_forms.specs.Forms as idl
 use Rattle.idl_outline.specs.Names.{Past, is_operation}
-use Rattle.idl_outline.specs.Specs.{attrs_past}
+use Rattle.idl_outline.specs.declared.field.Declared.{Declared}
+use Rattle.idl_outline.specs.Specs.{member_past, member_field}
+use Rattle.idl_names.specs.declared.place.Place.TheVariants as places
+use Rattle.idl_names.specs.Members.{lone_member, result_member}
 use Rattle.idl_names.specs.Attributes.{pointer_default}
-use Rattle.idl_outline.specs.Outline.{typedef_behind, typedef_field, typedef_past, types_past, lone_past, result_past, params_past, op_past, decl_past, decls_past, outline}
+use Rattle.idl_outline.specs.Outline.{typedef_past, types_past, lone_past, params_past, named_past, op_past, decl_past, decls_past, outline}
 use Rattle.idl_rules.specs.Places.{Among, at_if, gathered}
 use Rattle.idl_rules.specs.OutsideProfile.{outside_profile}
 use Rattle.idl_rules.specs.Broken.{NoneBroken}
 use Rattle.table_form.specs.Tables.{OpForm, TableForm}
 use Rattle.table_laws.specs.Interfaces.{Draft, decl_at, decls_at, op_at, nothing_declared, tabled}
 use Rattle.table_laws.specs.Wholes.{op_name, names_in, op_names, HasEachOperation}
-use Rattle.table_laws.proofs.Quiet.{Behind, Quiet, stays_behind, then_behind, more_behind, then_quiet, one_more, spec_quiet, attrs_quiet, types_behind, params_quiet}
+use Rattle.table_laws.proofs.Quiet.{Behind, Quiet, stays_behind, then_behind, more_behind, one_more, member_quiet, types_behind, params_quiet}
 
 pub less_is : (a b : ℕ) → a < b → nat_lt a b ≡ true
 less_is a b h = grind (arith, common_steps)
@@ -56,43 +58,41 @@ below n le ne = grind (arith, common_steps)
 
 -- ---- declarations that declare no operation
 
-pub typedef_behind_is : (k : Pk) (as' : idl.AttrForms) (s : idl.SpecForm) (ds : List Dtor) (p : Past) → Behind p (typedef_past k as' s ds p)
-typedef_behind_is k as' s ds p =
-    let q : Past = attrs_past k as' p in
-    let r : Past = typedef_behind k as' s ds p in
-    let z : Past = types_past ds (typedef_field k as' s ds p).declared r in
-    more_behind (events.Single _) p z refl (then_behind p r z (then_quiet p q r (attrs_quiet k as' p) (spec_quiet _ s q)).behind (types_behind ds (typedef_field k as' s ds p).declared r))
+pub typedef_behind_is : (k : Pk) (m : idl.MemberForm) (p : Past) → Behind p (typedef_past k m p)
+typedef_behind_is k m p =
+    let r : Past = member_past k places.Typedef m p in
+    let xs : List Declared = (member_field k places.Typedef m p).declared in
+    more_behind (events.Single _) p (types_past xs r) refl (then_behind p r (types_past xs r) (member_quiet k places.Typedef m p).behind (types_behind xs r))
 
-pub lone_quiet : (k : Pk) (as' : idl.AttrForms) (s : idl.SpecForm) (p : Past) → Quiet p (lone_past k as' s p)
-lone_quiet k as' s p = one_more (events.Single _) p _ refl (λ name. refl) (then_quiet p (attrs_past k as' p) _ (attrs_quiet k as' p) (spec_quiet _ s (attrs_past k as' p)))
-
-pub result_quiet : (k : Pk) (as' : idl.AttrForms) (s : idl.SpecForm) (p : Past) → Quiet p (result_past k as' s p)
-result_quiet k as' s p = then_quiet p (attrs_past k as' p) (result_past k as' s p) (attrs_quiet k as' p) (spec_quiet _ s (attrs_past k as' p))
+pub lone_quiet : (k : Pk) (m : idl.MemberForm) (p : Past) → Quiet p (lone_past k m p)
+lone_quiet k m p = one_more (events.Single _) p _ refl (λ name. refl) (member_quiet k places.Alone m p)
 
 -- ---- an operation: behind its result its name, and then its parameters
 
-pub params_behind : (k : Pk) (as' : idl.AttrForms) (s : idl.SpecForm) (name : Ident) (ns : List idl.ParamForm) (p : Past) → Quiet (events.Operation name ∷ result_past k as' s p) (op_past k as' s name ns p)
-params_behind k as' s name ns p =
-    let q : Past = events.Operation name ∷ result_past k as' s p in
+pub params_behind : (k : Pk) (r : idl.MemberForm) (name : Ident) (ns : List idl.ParamForm) (p : Past) → Quiet (named_past k r name p) (op_past k r name ns p)
+params_behind k r name ns p =
+    let q : Past = named_past k r name p in
     one_more (events.Call _ _) q (params_past k ns q) refl (λ name. refl) (params_quiet k ns q)
 
 counted_one : (name : Ident) (q : Past) → count_by is_operation (events.Operation name ∷ q) ≡ 1 + count_by is_operation q
 counted_one name q = sum_by-cons (λ e. cond (is_operation e) 1 0) (events.Operation name) q
 
-op_count : (k : Pk) (as' : idl.AttrForms) (s : idl.SpecForm) (name : Ident) (ns : List idl.ParamForm) (p : Past) → count_by is_operation (op_past k as' s name ns p) ≡ 1 + count_by is_operation p
-op_count k as' s name ns p = (params_behind k as' s name ns p).behind.none ∙ (counted_one name (result_past k as' s p) ∙ ap {B = ℕ} (λ (n : ℕ). 1 + n) (result_quiet k as' s p).behind.none)
+op_count : (k : Pk) (r : idl.MemberForm) (name : Ident) (ns : List idl.ParamForm) (p : Past) → count_by is_operation (op_past k r name ns p) ≡ 1 + count_by is_operation p
+op_count k r name ns p =
+    let q : Past = member_past k places.Operation r p in
+    (params_behind k r name ns p).behind.none ∙ (counted_one name q ∙ ap {B = ℕ} (λ (n : ℕ). 1 + n) (member_quiet k places.Operation r p).behind.none)
 
-pub op_room : (k : Pk) (as' : idl.AttrForms) (s : idl.SpecForm) (name : Ident) (ns : List idl.ParamForm) (p : Past) → count_by is_operation p ≤ 65535 → Clean (op_past k as' s name ns p) → count_by is_operation p < 65535
-op_room k as' s name ns p le c =
-    let q : Past = result_past k as' s p in
-    let named : Clean (events.Operation name ∷ q) = clean_before (events.Operation name ∷ q) (op_past k as' s name ns p) (params_behind k as' s name ns p).behind c in
+pub op_room : (k : Pk) (r : idl.MemberForm) (name : Ident) (ns : List idl.ParamForm) (p : Past) → count_by is_operation p ≤ 65535 → Clean (op_past k r name ns p) → count_by is_operation p < 65535
+op_room k r name ns p le c =
+    let q : Past = member_past k places.Operation r p in
+    let named : Clean (named_past k r name p) = clean_before (named_past k r name p) (op_past k r name ns p) (params_behind k r name ns p).behind c in
     let here = not_at (count_by is_operation q == 65535) name.at (nil_left (outside_profile q (events.Operation name)) (gathered outside_profile q) named) in
-    below (count_by is_operation p) le (subst (λ (n : ℕ). (n == 65535) ≡ false) (result_quiet k as' s p).behind.none here)
+    below (count_by is_operation p) le (subst (λ (n : ℕ). (n == 65535) ≡ false) (member_quiet k places.Operation r p).behind.none here)
 
-pub op_clean : (k : Pk) (as' : idl.AttrForms) (s : idl.SpecForm) (name : Ident) (ns : List idl.ParamForm) (p : Past) → Clean (op_past k as' s name ns p) → Clean p
-op_clean k as' s name ns p c =
-    let q : Past = result_past k as' s p in
-    clean_before p q (result_quiet k as' s p).behind (clean_back (events.Operation name ∷ []) q (clean_before (events.Operation name ∷ q) (op_past k as' s name ns p) (params_behind k as' s name ns p).behind c))
+pub op_clean : (k : Pk) (r : idl.MemberForm) (name : Ident) (ns : List idl.ParamForm) (p : Past) → Clean (op_past k r name ns p) → Clean p
+op_clean k r name ns p c =
+    let q : Past = member_past k places.Operation r p in
+    clean_before p q (member_quiet k places.Operation r p).behind (clean_back (events.Operation name ∷ []) q (clean_before (named_past k r name p) (op_past k r name ns p) (params_behind k r name ns p).behind c))
 
 -- ---- what a declaration adds to the operations
 
@@ -112,13 +112,13 @@ pub kept_op : (b : Bool) (ops : List OpForm) (o : OpForm) → b ≡ true → (if
 kept_op true ops o e = refl
 kept_op false ops o e = absurd cc
 
-op_listed : (k : Pk) (as' : idl.AttrForms) (s : idl.SpecForm) (name : Ident) (ns : List idl.ParamForm) (d : Draft) (p : Past) → length d.ops ≡ count_by is_operation p → length d.ops ≤ 65535 → Clean (op_past k as' s name ns p)
-    → Lists d (op_at k as' s name ns d) p (op_past k as' s name ns p) (name.text ∷ []) × (length (op_at k as' s name ns d).ops ≤ 65535)
-op_listed k as' s name ns d p counted few c =
-    let less : length d.ops < 65535 = subst (λ (n : ℕ). n < 65535) (sym counted) (op_room k as' s name ns p (subst (λ (n : ℕ). n ≤ 65535) counted few) c) in
-    let kept : (op_at k as' s name ns d).ops ≡ d.ops ++ _ ∷ [] = kept_op (nat_lt (length d.ops) 65535) d.ops _ (less_is (length d.ops) 65535 less) in
-    let longer : length (op_at k as' s name ns d).ops ≡ length d.ops + 1 = ap (λ (os : List OpForm). length os) kept ∙ length-append d.ops (_ ∷ []) in
-    let more = op_count k as' s name ns p in (
+op_listed : (k : Pk) (r : idl.MemberForm) (name : Ident) (ns : List idl.ParamForm) (d : Draft) (p : Past) → length d.ops ≡ count_by is_operation p → length d.ops ≤ 65535 → Clean (op_past k r name ns p)
+    → Lists d (op_at k r name ns d) p (op_past k r name ns p) (name.text ∷ []) × (length (op_at k r name ns d).ops ≤ 65535)
+op_listed k r name ns d p counted few c =
+    let less : length d.ops < 65535 = subst (λ (n : ℕ). n < 65535) (sym counted) (op_room k r name ns p (subst (λ (n : ℕ). n ≤ 65535) counted few) c) in
+    let kept : (op_at k r name ns d).ops ≡ d.ops ++ _ ∷ [] = kept_op (nat_lt (length d.ops) 65535) d.ops _ (less_is (length d.ops) 65535 less) in
+    let longer : length (op_at k r name ns d).ops ≡ length d.ops + 1 = ap (λ (os : List OpForm). length os) kept ∙ length-append d.ops (_ ∷ []) in
+    let more = op_count k r name ns p in (
       record { names_are = ap (map op_name) kept ∙ names_more d.ops _; counted = omega (arith, longer, counted, more) },
       omega (arith, longer, less),
     )
@@ -126,15 +126,15 @@ op_listed k as' s name ns d p counted few c =
 pub decl_listed : (k : Pk) (x : idl.DeclKindForm) (d : Draft) (p : Past) → length d.ops ≡ count_by is_operation p → length d.ops ≤ 65535 → Clean (decl_past k x p)
     → Lists d (decl_at k x d) p (decl_past k x p) (names_in x) × (length (decl_at k x d).ops ≤ 65535)
 decl_listed k (idl.OfConst base name value) d p counted few c = (same_ops d _ p _ refl (more_behind (events.Constant base name value) p p refl (stays_behind p)) counted, few)
-decl_listed k (idl.OfTypedef as' s ds) d p counted few c = (same_ops d _ p _ refl (typedef_behind_is k as' s ds p) counted, few)
-decl_listed k (idl.OfLone as' s) d p counted few c = (same_ops d _ p _ refl (lone_quiet k as' s p).behind counted, few)
-decl_listed k (idl.OfOp as' s name void ps) d p counted few c = op_listed k as' s name ps d p counted few c
+decl_listed k (idl.OfTypedef as' s ds) d p counted few c = (same_ops d _ p _ refl (typedef_behind_is k (idl.a_member as' s ds) p) counted, few)
+decl_listed k (idl.OfLone as' s) d p counted few c = (same_ops d _ p _ refl (lone_quiet k (lone_member as' s) p).behind counted, few)
+decl_listed k (idl.OfOp as' s name void ps) d p counted few c = op_listed k (result_member as' s name) name ps d p counted few c
 
 pub decl_clean : (k : Pk) (x : idl.DeclKindForm) (p : Past) → Clean (decl_past k x p) → Clean p
 decl_clean k (idl.OfConst base name value) p c = clean_back (events.Constant base name value ∷ []) p c
-decl_clean k (idl.OfTypedef as' s ds) p c = clean_before p _ (typedef_behind_is k as' s ds p) c
-decl_clean k (idl.OfLone as' s) p c = clean_before p _ (lone_quiet k as' s p).behind c
-decl_clean k (idl.OfOp as' s name void ps) p c = op_clean k as' s name ps p c
+decl_clean k (idl.OfTypedef as' s ds) p c = clean_before p _ (typedef_behind_is k (idl.a_member as' s ds) p) c
+decl_clean k (idl.OfLone as' s) p c = clean_before p _ (lone_quiet k (lone_member as' s) p).behind c
+decl_clean k (idl.OfOp as' s name void ps) p c = op_clean k (result_member as' s name) name ps p c
 
 pub decls_clean : (k : Pk) (xs : List idl.DeclForm) (p : Past) → Clean (decls_past k xs p) → Clean p
 decls_clean k [] p c = c

@@ -10,17 +10,23 @@ use Rattle.idl_tree.specs.declared.leaf.Dtor.{Dtor}
 use Rattle.idl_tree.specs.declared.spec.Label.{Label as LabelNode}
 use Rattle.idl_tree.specs.declared.spec.LabelKind.{LabelKind}
 use Rattle.idl_tree.specs.declared.spec.LabelKind.TheVariants as label_kinds
+use Rattle.idl_names.specs.declared.place.Place.{Place}
+use Rattle.idl_names.specs.declared.place.Place.TheVariants as places
+use Rattle.idl_names.specs.Members.{dtors_of, param_member}
+use Rattle.idl_names.specs.Walk.{Around, read_at}
+use Rattle.idl_names.proofs.Walks.{Keep, spec_kept, switch_kept, attr_kept, attrs_kept, read_kept, members_kept, arms_kept}
 use Rattle.idl_outline.specs.declared.field.Declared.{Declared}
 use Rattle.idl_outline.specs.declared.field.Field.{Field}
+use Rattle.idl_outline.specs.declared.field.Mark.{Mark}
 use Rattle.idl_outline.specs.declared.event.Event.{Event}
 use Rattle.idl_outline.specs.declared.event.Event.TheVariants as events
 use Rattle.idl_outline.specs.declared.setting.Setting.{Setting}
 use Rattle.idl_forms.specs.Forms as idl
-use Rattle.idl_outline.specs.Names.{Past, is_operation, type_named, tag_given}
-use Rattle.idl_outline.specs.Parts.{before_declarators, size_past, array_past, sizes_past, label_past, labels_past, tag_used_past, other_tag_past, names_past, struct_past, struct_end}
+use Rattle.idl_outline.specs.Names.{Past, is_operation, type_named}
+use Rattle.idl_outline.specs.Parts.{size_past, array_past, sizes_past, label_past, labels_past, tag_used_past, other_tag_past, names_past, struct_past, struct_end}
 use Rattle.idl_outline.specs.Holding.{tag_holds}
-use Rattle.idl_outline.specs.Specs.{attributes, spec_past, kind_past, switch_past, mark_past, attr_past, attrs_past, member_past, members_past, member_fields, arm_past, arms_past}
-use Rattle.idl_outline.specs.Outline.{types_past, one_member, params_past}
+use Rattle.idl_outline.specs.Specs.{outline_reader, leaf_past, fields_in, spec_past, switch_past, attr_past, attrs_past, member_past, members_past, arms_past}
+use Rattle.idl_outline.specs.Outline.{types_past, params_past}
 
 -- the later past has the earlier one behind further events, none of which declares an operation
 pub record Behind (p q : Past) : Type 0 where
@@ -60,7 +66,7 @@ array_quiet sizes.Star p = stays p
 array_quiet (sizes.Number n) p = stays p
 array_quiet (sizes.Named i) p = one_more (events.ConstantUsed i) p p refl (λ name. refl) (stays p)
 
-pub size_quiet : (o : Option ArraySize) (p : Past) → Quiet p (size_past o p)
+size_quiet : (o : Option ArraySize) (p : Past) → Quiet p (size_past o p)
 size_quiet None p = stays p
 size_quiet (Some s) p = array_quiet s p
 
@@ -95,7 +101,7 @@ names_quiet n (i ∷ is) p =
     let e : Event = events.EnumName i (record { at = i.at; minus = false; value = n }) in
     then_quiet p (e ∷ p) (names_past (n + 1) is (e ∷ p)) (one_more e p p refl (λ name. refl) (stays p)) (names_quiet (n + 1) is (e ∷ p))
 
-begins_quiet : (tag : Option Ident) (itself : Bool) (p : Past) → Quiet p (struct_past tag itself p)
+pub begins_quiet : (tag : Option Ident) (itself : Bool) (p : Past) → Quiet p (struct_past tag itself p)
 begins_quiet None itself p = stays p
 begins_quiet (Some i) itself p = one_more (events.StructBegins i itself) p p refl (λ name. refl) (stays p)
 
@@ -105,90 +111,63 @@ ends_quiet (Some i) fs p q a = one_more (events.StructEnds i _) p (events.Body f
 
 -- ---- specs, attributes and what they hold
 
-mutual
-  pub spec_quiet : (g : Setting) (s : idl.SpecForm) (p : Past) → Quiet p (spec_past g s p)
-  spec_quiet g (idl.a_spec at k) p = kind_quiet g at k p
+leaf_quiet : (g : Setting) (at : ℕ) (k : idl.KindForm) (p : Past) → Quiet p (leaf_past g at k p)
+leaf_quiet g at (idl.OfName i) p = one_more (events.TypeUsed i) p p refl (λ name. refl) (stays p)
+leaf_quiet g at idl.OfVoid p = void_quiet g.void_allowed at p
+leaf_quiet g at (idl.OfTag tag) p = tag_quiet g tag p
+leaf_quiet g at (idl.OfEnum tag names) p =
+    then_quiet p (other_tag_past tag p) (names_past 0 names (other_tag_past tag p)) (other_quiet tag p) (names_quiet 0 names (other_tag_past tag p))
+leaf_quiet g at _ p = stays p
 
-  kind_quiet : (g : Setting) (at : ℕ) (k : idl.KindForm) (p : Past) → Quiet p (kind_past g at k p)
-  kind_quiet g at (idl.OfBase b) p = stays p
-  kind_quiet g at (idl.OfName i) p = one_more (events.TypeUsed i) p p refl (λ name. refl) (stays p)
-  kind_quiet g at idl.OfVoid p = void_quiet g.void_allowed at p
-  kind_quiet g at idl.OfHandle p = stays p
-  kind_quiet g at idl.OfStatus p = stays p
-  kind_quiet g at (idl.OfTag tag) p = tag_quiet g tag p
-  kind_quiet g at (idl.OfStruct tag ms) p =
-      let q : Past = struct_past tag (tag_holds tag ms) p in
-      ends_quiet tag (member_fields g.default ms q) p (members_past g.default ms q) (then_quiet p q (members_past g.default ms q) (begins_quiet tag (tag_holds tag ms) p) (members_quiet g.default ms q))
-  kind_quiet g at (idl.OfUnion tag s arms) p =
-      let q : Past = other_tag_past tag p in
-      let r : Past = switch_past g s q in
-      let z : Past = arms_past g.default arms r in
-      let behind : Quiet p z = then_quiet p r z (then_quiet p q r (other_quiet tag p) (switch_quiet g s q)) (arms_quiet g.default arms r) in
-      one_more (events.Union _ _) p (events.Body _ ∷ z) refl (λ name. refl) (one_more (events.Body _) p z refl (λ name. refl) behind)
-  kind_quiet g at (idl.OfEnum tag names) p =
-      then_quiet p (other_tag_past tag p) (names_past 0 names (other_tag_past tag p)) (other_quiet tag p) (names_quiet 0 names (other_tag_past tag p))
+abbrev After : Past → Past → Past → Type 0
+After p q z = Quiet p q
 
-  pub switch_quiet : (g : Setting) (s : idl.SwitchForm) (p : Past) → Quiet p (switch_past g s p)
-  switch_quiet g idl.no_switch p = stays p
-  switch_quiet g (idl.a_switch s i body) p = one_more (events.Single _) p _ refl (λ name. refl) (spec_quiet _ s p)
+keep : (p : Past) → Keep outline_reader outline_reader (After p)
+keep p = record {
+  leaf = λ g c at k q z h. then_quiet p q _ h (leaf_quiet g at k q);
+  struct_begins = λ tag ms q z h. then_quiet p q _ h (begins_quiet tag (tag_holds tag ms) q);
+  struct_ends = λ k l tag ms x y h. ends_quiet tag (fields_in k x.0) p x.1 h;
+  union_begins = λ tag q z h. then_quiet p q _ h (other_quiet tag q);
+  union_ends = λ k l s arms t u x y h. one_more (events.Union _ _) p (events.Body _ ∷ x.1) refl (λ name. refl) (one_more (events.Body _) p x.1 refl (λ name. refl) h);
+  switched = λ k l s i x y h. one_more (events.Single _) p x.1 refl (λ name. refl) h;
+  labelled = λ ls q z h. then_quiet p q _ h (labels_quiet ls q);
+  sized = λ ds q z h. then_quiet p q _ h (sizes_quiet ds q);
+}
 
-  mark_quiet : (default : Pk) (m : idl.AttrKindForm) (p : Past) → Quiet p (mark_past default m p)
-  mark_quiet default idl.OfIn p = stays p
-  mark_quiet default idl.OfOut p = stays p
-  mark_quiet default (idl.OfPointer k) p = stays p
-  mark_quiet default idl.OfText p = stays p
-  mark_quiet default idl.OfIdempotent p = stays p
-  mark_quiet default idl.OfMaybe p = stays p
-  mark_quiet default idl.OfContext p = stays p
-  mark_quiet default idl.OfSerialize p = stays p
-  mark_quiet default idl.OfNoserialize p = stays p
-  mark_quiet default (idl.OfSizeIs r) p = stays p
-  mark_quiet default (idl.OfMaxIs r) p = stays p
-  mark_quiet default (idl.OfLengthIs r) p = stays p
-  mark_quiet default (idl.OfSwitchIs star i) p = stays p
-  mark_quiet default (idl.OfRange low high) p = stays p
-  mark_quiet default (idl.OfSwitchType s) p = spec_quiet _ s p
+pub spec_quiet : (g : Setting) (s : idl.SpecForm) (p : Past) → Quiet p (spec_past g s p)
+spec_quiet g s p = spec_kept outline_reader outline_reader (After p) (keep p) g.default g.default g g s p p (stays p)
 
-  pub attr_quiet : (default : Pk) (a : idl.AttrForm) (p : Past) → Quiet p (attr_past default a p)
-  attr_quiet default (idl.an_attr at m) p = mark_quiet default m p
+pub switch_quiet : (g : Setting) (s : idl.SwitchForm) (p : Past) → Quiet p (switch_past g s p)
+switch_quiet g s p = switch_kept outline_reader outline_reader (After p) (keep p) g.default g.default g.given g.given s p p (stays p)
 
-  pub attrs_quiet : (default : Pk) (as' : idl.AttrForms) (p : Past) → Quiet p (attrs_past default as' p)
-  attrs_quiet default idl.no_attr p = stays p
-  attrs_quiet default (idl.then_attr a as') p =
-      then_quiet p (attr_past default a p) (attrs_past default as' (attr_past default a p)) (attr_quiet default a p) (attrs_quiet default as' (attr_past default a p))
+pub attr_quiet : (default : Pk) (a : idl.AttrForm) (p : Past) → Quiet p (attr_past default a p)
+attr_quiet default a p = attr_kept outline_reader outline_reader (After p) (keep p) default default a p p (stays p)
 
-  pub member_quiet : (default : Pk) (m : idl.MemberForm) (p : Past) → Quiet p (member_past default m p)
-  member_quiet default (idl.a_member as' s ds) p =
-      let g : Setting = before_declarators default ds false (tag_given (attributes default as' p)) in
-      let q : Past = attrs_past default as' p in
-      let r : Past = spec_past g s q in
-      then_quiet p r (sizes_past ds r) (then_quiet p q r (attrs_quiet default as' p) (spec_quiet g s q)) (sizes_quiet ds r)
+pub attrs_quiet : (default : Pk) (as' : idl.AttrForms) (p : Past) → Quiet p (attrs_past default as' p)
+attrs_quiet default as' p = attrs_kept outline_reader outline_reader (After p) (keep p) default default as' p p (stays p)
 
-  pub members_quiet : (default : Pk) (ms : idl.MemberForms) (p : Past) → Quiet p (members_past default ms p)
-  members_quiet default idl.no_member p = stays p
-  members_quiet default (idl.then_member m ms) p =
-      then_quiet p (member_past default m p) (members_past default ms (member_past default m p)) (member_quiet default m p) (members_quiet default ms (member_past default m p))
+pub member_quiet : (default : Pk) (place : Place) (m : idl.MemberForm) (p : Past) → Quiet p (member_past default place m p)
+member_quiet default place m p =
+    let around : Around Mark Setting = outline_reader.around default place in
+    let q : Past = (read_at outline_reader default around m p).known in
+    then_quiet p q (sizes_past (dtors_of m) q) (read_kept outline_reader outline_reader (After p) (keep p) default default around around m p p (stays p)) (sizes_quiet (dtors_of m) q)
 
-  pub arm_quiet : (default : Pk) (a : idl.ArmForm) (p : Past) → Quiet p (arm_past default a p)
-  arm_quiet default (idl.member_arm ls m) p = then_quiet p (labels_past ls p) (member_past default m (labels_past ls p)) (labels_quiet ls p) (member_quiet default m (labels_past ls p))
-  arm_quiet default (idl.empty_arm ls) p = labels_quiet ls p
+pub members_quiet : (default : Pk) (ms : idl.MemberForms) (p : Past) → Quiet p (members_past default ms p)
+members_quiet default ms p = members_kept outline_reader outline_reader (After p) (keep p) default default ms p p (stays p)
 
-  pub arms_quiet : (default : Pk) (as' : idl.ArmForms) (p : Past) → Quiet p (arms_past default as' p)
-  arms_quiet default idl.no_arm p = stays p
-  arms_quiet default (idl.then_arm a as') p =
-      then_quiet p (arm_past default a p) (arms_past default as' (arm_past default a p)) (arm_quiet default a p) (arms_quiet default as' (arm_past default a p))
+pub arms_quiet : (default : Pk) (as' : idl.ArmForms) (p : Past) → Quiet p (arms_past default as' p)
+arms_quiet default as' p = arms_kept outline_reader outline_reader (After p) (keep p) default default as' p p (stays p)
 
 -- ---- declarators of typedefs, and parameters
 
-pub types_behind : (ds : List Dtor) (xs : List Declared) (p : Past) → Behind p (types_past ds xs p)
-types_behind [] xs p = stays_behind p
-types_behind (d ∷ ds) [] p = stays_behind p
-types_behind (d ∷ ds) (x ∷ xs) p =
-    let q : Past = size_past d.array p in
+pub types_behind : (xs : List Declared) (p : Past) → Behind p (types_past xs p)
+types_behind [] p = stays_behind p
+types_behind (x ∷ xs) p =
     let e : Event = events.Typedef x.name x.ty in
-    then_behind p (e ∷ q) (types_past ds xs (e ∷ q)) (more_behind e p q refl (size_quiet d.array p).behind) (types_behind ds xs (e ∷ q))
+    then_behind p (e ∷ p) (types_past xs (e ∷ p)) (more_behind e p p refl (stays_behind p)) (types_behind xs (e ∷ p))
 
 pub params_quiet : (default : Pk) (ns : List idl.ParamForm) (p : Past) → Quiet p (params_past default ns p)
 params_quiet default [] p = stays p
 params_quiet default (n ∷ ns) p =
-    then_quiet p (member_past default (one_member n) p) (params_past default ns (member_past default (one_member n) p)) (member_quiet default (one_member n) p) (params_quiet default ns (member_past default (one_member n) p))
+    let q : Past = member_past default places.Parameter (param_member n) p in
+    then_quiet p q (params_past default ns q) (member_quiet default places.Parameter (param_member n) p) (params_quiet default ns q)

@@ -66,37 +66,11 @@ any_more f g (x ∷ xs) h e = or_more (f x) (list_any f xs) (g x) (list_any g xs
 
 most_is : (k : Pk) (m : idl.AttrKindForm) (p : Past) → rule_most (mark_of k m p) ≡ says_most m
 most_is k idl.OfIn p = refl
-most_is k idl.OfOut p = refl
-most_is k (idl.OfPointer c) p = refl
-most_is k idl.OfText p = refl
-most_is k idl.OfIdempotent p = refl
-most_is k idl.OfMaybe p = refl
-most_is k idl.OfContext p = refl
-most_is k idl.OfSerialize p = refl
-most_is k idl.OfNoserialize p = refl
-most_is k (idl.OfSizeIs r) p = refl
-most_is k (idl.OfMaxIs r) p = refl
-most_is k (idl.OfLengthIs r) p = refl
-most_is k (idl.OfSwitchIs star i) p = refl
-most_is k (idl.OfRange low high) p = refl
-most_is k (idl.OfSwitchType s) p = refl
+most_is k _ p = refl
 
 string_is : (k : Pk) (m : idl.AttrKindForm) (p : Past) → rule_string (mark_of k m p) ≡ says_string m
 string_is k idl.OfIn p = refl
-string_is k idl.OfOut p = refl
-string_is k (idl.OfPointer c) p = refl
-string_is k idl.OfText p = refl
-string_is k idl.OfIdempotent p = refl
-string_is k idl.OfMaybe p = refl
-string_is k idl.OfContext p = refl
-string_is k idl.OfSerialize p = refl
-string_is k idl.OfNoserialize p = refl
-string_is k (idl.OfSizeIs r) p = refl
-string_is k (idl.OfMaxIs r) p = refl
-string_is k (idl.OfLengthIs r) p = refl
-string_is k (idl.OfSwitchIs star i) p = refl
-string_is k (idl.OfRange low high) p = refl
-string_is k (idl.OfSwitchType s) p = refl
+string_is k _ p = refl
 
 pub most_said : (k : Pk) (as' : idl.AttrForms) (p : Past) → list_any (λ a. rule_most a.mark) (attributes k as' p) ≡ says says_most as'
 most_said k idl.no_attr p = refl
@@ -117,22 +91,12 @@ ref_found list f names (refs.Number n) h e = refl
 ref_found list f names (refs.Named star i) h e = h asks.Integer (record { star = star; name = i }) (there (list_any (size.offers asks.Integer f (record { star = star; name = i })) list) i.at e)
 
 mark_found : (k : Pk) (list : List Field) (f : Field) (names : List Ident) (m : idl.AttrKindForm) (p : Past) → Offered list f names → size.mark_places list f (mark_of k m p) ≡ [] → count_stands names m ≡ true
-mark_found k list f names idl.OfIn p h e = refl
-mark_found k list f names idl.OfOut p h e = refl
-mark_found k list f names (idl.OfPointer c) p h e = refl
-mark_found k list f names idl.OfText p h e = refl
-mark_found k list f names idl.OfIdempotent p h e = refl
-mark_found k list f names idl.OfMaybe p h e = refl
-mark_found k list f names idl.OfContext p h e = refl
-mark_found k list f names idl.OfSerialize p h e = refl
-mark_found k list f names idl.OfNoserialize p h e = refl
 mark_found k list f names (idl.OfSizeIs r) p h e = ref_found list f names r h e
 mark_found k list f names (idl.OfMaxIs r) p h e = ref_found list f names r h e
 mark_found k list f names (idl.OfLengthIs r) p h e = ref_found list f names r h e
 mark_found k list f names (idl.OfSwitchIs star i) p h e =
     h asks.Tag (record { star = star; name = i }) (there (list_any (size.offers asks.Tag f (record { star = star; name = i })) list) i.at e)
-mark_found k list f names (idl.OfRange low high) p h e = refl
-mark_found k list f names (idl.OfSwitchType s) p h e = refl
+mark_found k list f names _ p h e = refl
 
 pub counts_found : (k : Pk) (list : List Field) (f : Field) (names : List Ident) (as' : idl.AttrForms) (p : Past) → Offered list f names → flat_map (size.attribute_places list f) (attributes k as' p) ≡ []
     → counts_stand names as' ≡ true

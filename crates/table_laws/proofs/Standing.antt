@@ -17,14 +17,13 @@ use Rattle.idl_outline.specs.declared.field.NameRef.{NameRef}
 use Rattle.idl_names.specs.declared.place.Place.{Place}
 use Rattle.idl_names.specs.declared.place.Place.TheVariants as places
 use Rattle.idl_outline.specs.declared.field.Field.{Field}
-use Rattle.idl_outline.specs.declared.event.Tag.TheVariants as given_tags
 use Rattle.idl_outline.specs.declared.event.Event.{Event}
 use Rattle.idl_outline.specs.declared.event.Event.TheVariants as events
 use Rattle.idl_outline.specs.declared.setting.Setting.{Setting}
 use Rattle.idl_forms.specs.Forms as idl
 use Rattle.idl_outline.specs.Names.{Past, symbols_of, type_named, constant_named, is_typedef, tag_given, each_declared}
 use Rattle.idl_names.specs.Attributes.{outer_class, says, says_handle}
-use Rattle.idl_outline.specs.Parts.{before_declarators, alone, size_past, sizes_past, label_past, labels_past, tag_used_past, other_tag_past, struct_past, struct_end}
+use Rattle.idl_outline.specs.Parts.{setting_at, alone, size_past, sizes_past, label_past, labels_past, tag_used_past, other_tag_past, struct_past, struct_end}
 use Rattle.idl_names.specs.Declarators.{all_pointed}
 use Rattle.idl_outline.specs.Holding.{tag_holds}
 use Rattle.idl_outline.specs.Specs.{attributes, spec_past, spec_type, switch_past, attr_past, attrs_past, member_past, members_past, member_field, member_fields, arm_past, arms_past, arm_field, arm_fields}
@@ -37,7 +36,7 @@ use Rattle.ndr_value.specs.Forms.{Form}
 use Rattle.idl_names.specs.declared.symbols.Tag.{Tag}
 use Rattle.idl_names.specs.Symbols.{ByName, found}
 use Rattle.table_scope.specs.Scopes.{Sense, Scope, begun}
-use Rattle.table_specs.specs.Specs.{dtor_names, names_of, member_names, members_within, arm_dtors, arm_names, spec_at, switch_at, attr_at, attrs_at, member_at, arm_at}
+use Rattle.table_specs.specs.Specs.{dtor_names, names_of, member_names, members_within, arm_dtors, arm_names, spec_at, switch_at, attr_at, attrs_at, sense_at, arm_at}
 use Rattle.table_laws.specs.Stands.{tag_stands, label_stands, labels_stand, is_among, counts_stand, dtors_stand, spec_stands, switch_stands, mark_stands, attr_stands, attrs_stand, member_stands, members_stand, arm_stands, arms_stand}
 use Rattle.table_laws.proofs.Quiet.{Behind, sizes_quiet, labels_quiet, spec_quiet, attrs_quiet, member_quiet, members_quiet, arms_quiet}
 use Rattle.table_laws.proofs.Listed.{nil_left, nil_right}
@@ -111,7 +110,7 @@ labels_found (l ∷ ls) p q h c =
     (label_found l.what p q h (kept_before (label_past l.what p) (labels_past ls (label_past l.what p)) (labels_quiet ls (label_past l.what p)).behind c))
     (labels_found ls (label_past l.what p) q (label_agrees l.what p q h) c)
 
-pub size_found : (o : Option ArraySize) (p : Past) (constants : ByName Num) → ((name : List ℕ) → constants name ≡ constant_named name p) → Kept (size_past o p) → is_constant constants o ≡ true
+size_found : (o : Option ArraySize) (p : Past) (constants : ByName Num) → ((name : List ℕ) → constants name ≡ constant_named name p) → Kept (size_past o p) → is_constant constants o ≡ true
 size_found None p constants h c = refl
 size_found (Some sizes.Empty) p constants h c = refl
 size_found (Some sizes.Star) p constants h c = refl
@@ -146,7 +145,7 @@ declared_among past handle class t (d ∷ ds) n = ap {B = Bool} (λ (b : Bool). 
 pub field_among : (k : Pk) (place : Place) (m : idl.MemberForm) (p : Past) (n : NameRef) → names_it n (member_field k place m p) ≡ is_among (names_of m) n.name
 field_among k place (idl.a_member as' s ds) p n =
     let r : Past = attrs_past k as' p in
-    let g : Setting = before_declarators k ds false (tag_given (attributes k as' p)) in
+    let g : Setting = setting_at k place as' ds (tag_given (attributes k as' p)) in
     declared_among (spec_past g s r) (is_typedef place && says says_handle as') (outer_class k place as') (spec_type g s r) ds n
 
 among_append : (xs ys : List Ident) (i : Ident) → is_among (xs ++ ys) i ≡ (is_among xs i || is_among ys i)
@@ -155,7 +154,7 @@ among_append xs ys i = list_any-append (λ x. bytes_eq x.text i.text) xs ys
 members_among : (k : Pk) (ms : idl.MemberForms) (p : Past) (n : NameRef) → list_any (names_it n) (member_fields k ms p) ≡ is_among (member_names ms) n.name
 members_among k idl.no_member p n = refl
 members_among k (idl.then_member m ms) p n =
-    (λ j. field_among k places.Member m p n j || members_among k ms (member_past k m p) n j) ∙ sym (among_append (names_of m) (member_names ms) n.name)
+    (λ j. field_among k places.Member m p n j || members_among k ms (member_past k places.Member m p) n j) ∙ sym (among_append (names_of m) (member_names ms) n.name)
 
 -- one of an arm's names is one of all arms'
 pub left_among : (xs ys : List Ident) (i : Ident) → is_among xs i ≡ true → is_among (xs ++ ys) i ≡ true
@@ -208,12 +207,12 @@ behind_fits : (default : Pk) (list : List Field) (a : idl.ArmForm) (rest : List 
 behind_fits default list (idl.member_arm ls m) rest p h = others_fit list (member_field default places.Arm m (labels_past ls p)) rest h
 behind_fits default list (idl.empty_arm ls) rest p h = h
 
-body_fits : (fs : List Field) (p : Past) → Kept (events.Body fs ∷ p) → AllFit fs fs
+pub body_fits : (fs : List Field) (p : Past) → Kept (events.Body fs ∷ p) → AllFit fs fs
 body_fits fs p c =
     record { attributes = nil_left (bad.each_field fs) (gathered bad.bad_attribute p) c.attributes; sizes = nil_left (flat_map (size.listed_places fs) fs) (gathered size.size_name p) c.sizes }
 
 -- a structure's body, and what is known of it at its end
-ended_kept : (tag : Option Ident) (fs : List Field) (p : Past) → Kept (struct_end tag fs p) → Kept (events.Body fs ∷ p)
+pub ended_kept : (tag : Option Ident) (fs : List Field) (p : Past) → Kept (struct_end tag fs p) → Kept (events.Body fs ∷ p)
 ended_kept None fs p c = c
 ended_kept (Some i) fs p c = kept_tail (events.StructEnds i _) (events.Body fs ∷ p) c
 
@@ -224,12 +223,8 @@ used_stands g None p q h c = refl
 used_stands g (Some i) p q h c = tag_known g.pointed (q.symbols.tags i.text) ((symbols_of p).tags i.text) i.at (gathered unknown p) (h.tags i.text) c.unknown
 
 mutual
-  pub spec_stand : (g : Setting) (k : Pk) (given : Option Form) (s : idl.SpecForm) (p : Past) (q : Scope) → Agree p q → Kept (spec_past g s p) → spec_stands k g.pointed given s q ≡ true
-  spec_stand g k given (idl.a_spec at (idl.OfBase b)) p q h c = refl
+  spec_stand : (g : Setting) (k : Pk) (given : Option Form) (s : idl.SpecForm) (p : Past) (q : Scope) → Agree p q → Kept (spec_past g s p) → spec_stands k g.pointed given s q ≡ true
   spec_stand g k given (idl.a_spec at (idl.OfName i)) p q h c = h.types i.text ∙ known_there (type_named i.text p) i.at (gathered unknown p) c.unknown
-  spec_stand g k given (idl.a_spec at idl.OfVoid) p q h c = refl
-  spec_stand g k given (idl.a_spec at idl.OfHandle) p q h c = refl
-  spec_stand g k given (idl.a_spec at idl.OfStatus) p q h c = refl
   spec_stand g k given (idl.a_spec at (idl.OfTag tag)) p q h c = used_stands g tag p q h c
   spec_stand g k given (idl.a_spec at (idl.OfStruct tag ms)) p q h c =
       let r : Past = struct_past tag (tag_holds tag ms) p in
@@ -248,33 +243,20 @@ mutual
       both (switch_stands k s q) (arms_stand k (arm_names arms) arms z)
       (switch_stand g k s before q agree (kept_before r (arms_past g.default arms r) (arms_quiet g.default arms r).behind inside))
       (arms_stand_all g.default k fs (arm_names arms) arms r z (switch_agrees g k given s before q agree) inside (λ i e. e) (body_fits fs (arms_past g.default arms r) body))
-  spec_stand g k given (idl.a_spec at (idl.OfEnum tag names)) p q h c = refl
+  spec_stand g k given (idl.a_spec at _) p q h c = refl
 
   switch_stand : (g : Setting) (k : Pk) (s : idl.SwitchForm) (p : Past) (q : Scope) → Agree p q → Kept (switch_past g s p) → switch_stands k s q ≡ true
   switch_stand g k idl.no_switch p q h c = refl
-  switch_stand g k (idl.a_switch s i body) p q h c = spec_stand (alone g.default given_tags.Missing) k None s p q h (kept_tail (events.Single _) (spec_past (alone g.default given_tags.Missing) s p) c)
+  switch_stand g k (idl.a_switch s i body) p q h c = spec_stand (alone g.default) k None s p q h (kept_tail (events.Single _) (spec_past (alone g.default) s p) c)
 
   mark_stand : (default k : Pk) (m : idl.AttrKindForm) (p : Past) (q : Scope) → Agree p q → Kept (attr_past default (idl.an_attr 0 m) p) → mark_stands k m q ≡ true
-  mark_stand default k idl.OfIn p q h c = refl
-  mark_stand default k idl.OfOut p q h c = refl
-  mark_stand default k (idl.OfPointer x) p q h c = refl
-  mark_stand default k idl.OfText p q h c = refl
-  mark_stand default k idl.OfIdempotent p q h c = refl
-  mark_stand default k idl.OfMaybe p q h c = refl
-  mark_stand default k idl.OfContext p q h c = refl
-  mark_stand default k idl.OfSerialize p q h c = refl
-  mark_stand default k idl.OfNoserialize p q h c = refl
-  mark_stand default k (idl.OfSizeIs r) p q h c = refl
-  mark_stand default k (idl.OfMaxIs r) p q h c = refl
-  mark_stand default k (idl.OfLengthIs r) p q h c = refl
-  mark_stand default k (idl.OfSwitchIs star i) p q h c = refl
-  mark_stand default k (idl.OfRange low high) p q h c = refl
-  mark_stand default k (idl.OfSwitchType s) p q h c = spec_stand (alone default given_tags.Missing) k None s p q h c
+  mark_stand default k (idl.OfSwitchType s) p q h c = spec_stand (alone default) k None s p q h c
+  mark_stand default k _ p q h c = refl
 
   attr_stand : (default k : Pk) (a : idl.AttrForm) (p : Past) (q : Scope) → Agree p q → Kept (attr_past default a p) → attr_stands k a q ≡ true
   attr_stand default k (idl.an_attr at m) p q h c = mark_stand default k m p q h c
 
-  pub attrs_stand_all : (default k : Pk) (as' : idl.AttrForms) (p : Past) (q : Scope) → Agree p q → Kept (attrs_past default as' p) → attrs_stand k as' q ≡ true
+  attrs_stand_all : (default k : Pk) (as' : idl.AttrForms) (p : Past) (q : Scope) → Agree p q → Kept (attrs_past default as' p) → attrs_stand k as' q ≡ true
   attrs_stand_all default k idl.no_attr p q h c = refl
   attrs_stand_all default k (idl.then_attr a rest) p q h c =
       let r : Past = attr_past default a p in
@@ -282,11 +264,11 @@ mutual
       (attr_stand default k a p q h (kept_before r (attrs_past default rest r) (attrs_quiet default rest r).behind c))
       (attrs_stand_all default k rest r (attr_at k a q).1 (attr_agrees default k a p q h) c)
 
-  pub member_stand : (default k : Pk) (place : Place) (list : List Field) (more : Bool) (names : List Ident) (m : idl.MemberForm) (p : Past) (q : Scope) → Agree p q → Kept (member_past default m p)
+  pub member_stand : (default k : Pk) (place : Place) (list : List Field) (more : Bool) (names : List Ident) (m : idl.MemberForm) (p : Past) (q : Scope) → Agree p q → Kept (member_past default place m p)
       → Offered list (member_field default place m p) names → Fits list more (member_field default place m p) → member_stands k names m q ≡ true
   member_stand default k place list more names (idl.a_member as' s ds) p q h c o f =
       let r : Past = attrs_past default as' p in
-      let g : Setting = before_declarators default ds false (tag_given (attributes default as' p)) in
+      let g : Setting = setting_at default place as' ds (tag_given (attributes default as' p)) in
       let z : Past = spec_past g s r in
       let marks : Option Form × Scope = attrs_at k as' q in
       let behind : Sense × Scope = spec_at k (all_pointed ds) marks.0 s marks.1 in
@@ -304,12 +286,12 @@ mutual
       → ((n : NameRef) → list_any (names_it n) list ≡ true → is_among names n.name ≡ true) → AllFit list (member_fields default ms p) → members_stand k names ms q ≡ true
   members_stand_all default k list names idl.no_member p q h c o f = refl
   members_stand_all default k list names (idl.then_member m ms) p q h c o f =
-      let r : Past = member_past default m p in
+      let r : Past = member_past default places.Member m p in
       let field : Field = member_field default places.Member m p in
       let rest : List Field = member_fields default ms r in
-      both (member_stands k names m q) (members_stand k names ms (member_at k names m q).1)
+      both (member_stands k names m q) (members_stand k names ms (sense_at k m q).1)
       (member_stand default k places.Member list (bad.is_more rest) names m p q h (kept_before r (members_past default ms r) (members_quiet default ms r).behind c) (offered_by list field names o) (member_fits default list m rest p f))
-      (members_stand_all default k list names ms r (member_at k names m q).1 (member_agrees default k names m p q h) c o (others_fit list field rest f))
+      (members_stand_all default k list names ms r (sense_at k m q).1 (member_agrees default places.Member k m p q h) c o (others_fit list field rest f))
 
   -- the names of an arm's declarators are among all the arms'
   arm_stand : (default k : Pk) (list rest : List Field) (names : List Ident) (a : idl.ArmForm) (p : Past) (q : Scope) → Agree p q → Kept (arm_past default a p)
@@ -318,7 +300,7 @@ mutual
       let r : Past = labels_past ls p in
       let field : Field = member_field default places.Arm m r in
       both (labels_stand q.symbols.constants ls) (member_stands k names m q)
-      (labels_found ls p q h (kept_before r (member_past default m r) (member_quiet default m r).behind c))
+      (labels_found ls p q h (kept_before r (member_past default places.Arm m r) (member_quiet default places.Arm m r).behind c))
       (member_stand default k places.Arm (field ∷ []) (bad.is_more rest) names m r q (labels_agree ls p q h) c
       (offered_by (field ∷ []) field names (λ n e. o n.name (sym (field_among default places.Arm m r n) ∙ alone_true (names_it n field) e))) (arm_fits default list m rest r f))
   arm_stand default k list rest names (idl.empty_arm ls) p q h c o f = labels_found ls p q h c

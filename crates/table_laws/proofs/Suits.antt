@@ -26,7 +26,7 @@ use Rattle.idl_outline.specs.Parts.{tag_used_type}
 use Rattle.idl_outline.specs.Specs.{spec_type}
 use Rattle.idl_rules.specs.Types.{by_value, is_unknown, is_char}
 use Rattle.ndr_value.specs.declared.shape.Count.{Count}
-use Rattle.ndr_value.specs.Forms.{Form, OfBool, OfByte, OfChar, OfInt, OfUint, OfEnum, OfNamed, OfStruct, OfUnion, OfArray, OfText, OfRef, OfUnique, OfFull, OfHandle}
+use Rattle.ndr_value.specs.Forms.{Form, OfInt, OfUint, OfNamed, OfArray, OfText, OfRef, OfUnique, OfFull}
 use Rattle.table_form.specs.Aligned.{octets_of}
 use Rattle.idl_names.specs.declared.symbols.Tag.{Tag}
 use Rattle.table_scope.specs.declared.said.Terms.{Terms}
@@ -45,35 +45,20 @@ extent_is past cs o h = λ j. extent_of (λ name. h name j) o
 -- ---- what names a union's tag is no part of what suits
 
 named_kind : (c : Count) (number : ℕ) (switch : Option Count) (k : Core) → is_kind k (OfNamed number switch) ≡ true → is_kind k (OfNamed number (Some c)) ≡ true
-named_kind c number switch cores.Boolean e = absurd cc
-named_kind c number switch cores.Byte e = absurd cc
-named_kind c number switch cores.Char e = absurd cc
-named_kind c number switch (cores.Int unsigned size) e = absurd cc
-named_kind c number switch cores.ErrorStatus e = absurd cc
-named_kind c number switch (cores.Enum count) e = absurd cc
 named_kind c number switch (cores.Struct ends) e = refl
 named_kind c number switch (cores.Union switched) e = refl
 named_kind c number switch cores.Void e = refl
 named_kind c number switch cores.HandleT e = refl
-named_kind c number switch cores.ContextHandle e = absurd cc
 named_kind c number switch cores.Unknown e = refl
+named_kind c number switch _ e = absurd cc
 
 tied_kind : (c : Count) (k : Core) (s : Form) → is_kind k (bottom s) ≡ true → is_kind k (bottom (tied c s)) ≡ true
-tied_kind c k OfBool e = e
-tied_kind c k OfByte e = e
-tied_kind c k OfChar e = e
-tied_kind c k (OfInt size) e = e
-tied_kind c k (OfUint size) e = e
-tied_kind c k (OfEnum count) e = e
 tied_kind c k (OfNamed number switch) e = named_kind c number switch k e
-tied_kind c k (OfStruct ss) e = e
-tied_kind c k (OfUnion tag arms) e = e
 tied_kind c k (OfArray kind s) e = tied_kind c k s e
-tied_kind c k (OfText most) e = e
 tied_kind c k (OfRef s) e = tied_kind c k s e
 tied_kind c k (OfUnique s) e = tied_kind c k s e
 tied_kind c k (OfFull s) e = tied_kind c k s e
-tied_kind c k (OfHandle kind) e = e
+tied_kind c k _ e = e
 
 tied_pointer : (c : Count) (class : Pk) (s : Form) → is_pointer class s ≡ true → is_pointer class (tied c s) ≡ true
 tied_pointer c pks.Ref (OfRef s) e = refl
@@ -136,18 +121,9 @@ abbrev pub is_char_type : DataType → Bool
 is_char_type t = is_unknown t.core || (is_char t.core && by_value t)
 
 char_kind : (k : Core) (b : Bool) (most : Option ℕ) → (is_unknown k || (is_char k && b)) ≡ true → is_kind k (OfText most) ≡ true
-char_kind cores.Boolean b most e = absurd cc
-char_kind cores.Byte b most e = absurd cc
 char_kind cores.Char b most e = refl
-char_kind (cores.Int unsigned size) b most e = absurd cc
-char_kind cores.ErrorStatus b most e = absurd cc
-char_kind (cores.Enum count) b most e = absurd cc
-char_kind (cores.Struct ends) b most e = absurd cc
-char_kind (cores.Union switched) b most e = absurd cc
-char_kind cores.Void b most e = absurd cc
-char_kind cores.HandleT b most e = absurd cc
-char_kind cores.ContextHandle b most e = absurd cc
 char_kind cores.Unknown b most e = refl
+char_kind _ b most e = absurd cc
 
 -- ---- a declarator
 
@@ -249,10 +225,6 @@ tag_suits g (Some i) p q h = found_suits g.pointed (q.symbols.tags i.text) ((sym
 pub spec_suits : (g : Setting) (k : Pk) (given : Option Form) (s : idl.SpecForm) (p : Past) (q : Scope) → ResolveAlike (symbols_of p) q.symbols → suits (spec_type g s p) (spec_at k g.pointed given s q).0.shape ≡ true
 spec_suits g k given (idl.a_spec at (idl.OfBase b)) p q h = base_suits b
 spec_suits g k given (idl.a_spec at (idl.OfName i)) p q h = named_suits (type_named i.text p) (q.symbols.types i.text) (h.types i.text)
-spec_suits g k given (idl.a_spec at idl.OfVoid) p q h = refl
-spec_suits g k given (idl.a_spec at idl.OfHandle) p q h = refl
-spec_suits g k given (idl.a_spec at idl.OfStatus) p q h = refl
 spec_suits g k given (idl.a_spec at (idl.OfTag tag)) p q h = tag_suits g tag p q h
-spec_suits g k given (idl.a_spec at (idl.OfStruct tag ms)) p q h = refl
-spec_suits g k given (idl.a_spec at (idl.OfUnion tag s arms)) p q h = refl
 spec_suits g k given (idl.a_spec at (idl.OfEnum tag names)) p q h = equal (length names)
+spec_suits g k given (idl.a_spec at _) p q h = refl

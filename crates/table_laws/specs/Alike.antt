@@ -11,10 +11,10 @@ use Rattle.idl_outline.specs.declared.ty.Layer.{Layer}
 use Rattle.idl_outline.specs.declared.ty.Layer.TheVariants as layers
 use Rattle.idl_names.specs.declared.place.Place.TheVariants as places
 use Rattle.idl_outline.specs.declared.field.Declared.{Declared}
-use Rattle.idl_outline.specs.declared.event.Event.TheVariants as events
 use Rattle.idl_outline.specs.Names.{Past, symbols_of}
 use Rattle.idl_outline.specs.Specs.{member_past, member_field}
-use Rattle.idl_outline.specs.Outline.{one_member, result_past, result_field, decl_past, decls_past}
+use Rattle.idl_outline.specs.Outline.{named_past, decl_past, decls_past}
+use Rattle.idl_names.specs.Members.{result_member, param_member}
 use Rattle.idl_names.specs.Attributes.{pointer_default}
 use Rattle.idl_forms.specs.Forms as idl
 use Rattle.idl_rules.specs.Broken.{NoneBroken}
@@ -26,7 +26,8 @@ use Rattle.table_form.specs.Tables.{ParamForm}
 use Rattle.idl_names.specs.declared.symbols.Tag.{Tag}
 use Rattle.idl_names.specs.Symbols.{Symbols}
 use Rattle.table_scope.specs.Scopes.{Sense}
-use Rattle.table_laws.specs.Interfaces.{Draft, is_binding, param_names, params_at, alone_at, decl_at, decls_at, nothing_declared}
+use Rattle.table_specs.specs.Specs.{sense_at}
+use Rattle.table_laws.specs.Interfaces.{Draft, is_binding, param_names, params_at, decl_at, decls_at, nothing_declared}
 
 -- ---- a type and a shape
 
@@ -125,17 +126,18 @@ all_suit _ _ = false
 
 -- the parameters that are listed, as the rules judge them
 abbrev pub listed_in : Pk → idl.ParamForm → Past → List Declared
-listed_in default n p = if is_binding n.spec then [] else (member_field default places.Parameter (one_member n) p).declared
+listed_in default n p = if is_binding n.spec then [] else (member_field default places.Parameter (param_member n) p).declared
 
 abbrev pub all_listed : Pk → List idl.ParamForm → Past → List Declared
 all_listed default [] p = []
-all_listed default (n ∷ ns) p = listed_in default n p ++ all_listed default ns (member_past default (one_member n) p)
+all_listed default (n ∷ ns) p = listed_in default n p ++ all_listed default ns (member_past default places.Parameter (param_member n) p)
 
 -- an operation's parameters and result in the table have shapes that suit the types by which the rules judge them
 abbrev pub decl_suits : Pk → idl.DeclKindForm → Past → Draft → Bool
 decl_suits default (idl.OfOp as' s name void ns) p d =
-    suits (result_field default as' s name p).spec (alone_at default as' s d.scope).0.shape
-    && all_suit (all_listed default ns (events.Operation name ∷ result_past default as' s p)) (params_at default (param_names ns) ns (alone_at default as' s d.scope).1).0.0
+    let r : idl.MemberForm = result_member as' s name in
+    suits (member_field default places.Operation r p).spec (sense_at default r d.scope).0.shape
+    && all_suit (all_listed default ns (named_past default r name p)) (params_at default (param_names ns) ns (sense_at default r d.scope).1).0.0
 decl_suits default _ p d = true
 
 abbrev pub decls_suit : Pk → List idl.DeclForm → Past → Draft → Bool

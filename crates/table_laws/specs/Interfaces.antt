@@ -1,5 +1,5 @@
 -- The table of an interface: its declarations, in order.
-use Rattle.std.specs.Prelude.{ℕ, ◌==◌, Bool, true, false, not, nat_lt, if◌then◌else◌, List, [], ◌∷◌, ◌++◌, length, take, Option, Some, None}
+use Rattle.std.specs.Prelude.{ℕ, ◌==◌, Bool, true, false, nat_lt, if◌then◌else◌, List, [], ◌∷◌, ◌++◌, length, take, Option, Some, None}
 use Rattle.std.specs.List.{flat_map}
 use Rattle.std.specs.Option.{option_or}
 use Rattle.uuid.specs.Parts.{zero_bytes}
@@ -11,7 +11,7 @@ use Rattle.idl_tree.specs.declared.leaf.ArraySize.{ArraySize}
 use Rattle.idl_tree.specs.declared.leaf.Dtor.{Dtor}
 use Rattle.idl_tree.specs.declared.declaration.Ast.{Ast}
 use Rattle.idl_names.specs.declared.place.Place.TheVariants as places
-use Rattle.idl_names.specs.Declarators.{all_pointed}
+use Rattle.idl_names.specs.Members.{attrs_of, dtors_of, lone_member, result_member, param_member}
 use Rattle.idl_names.specs.Attributes.{pointer_default, given, says, says_in, says_out, says_maybe, says_handle, is_serialised}
 use Rattle.idl_forms.specs.Forms as idl
 use Rattle.ndr_value.specs.Forms.{Form}
@@ -23,7 +23,7 @@ use Rattle.table_scope.specs.declared.said.Terms.{Terms}
 use Rattle.idl_names.specs.Symbols.{ByName}
 use Rattle.table_scope.specs.Scopes.{Sense, Scope, nothing_known, with_type, with_handle, with_constant}
 use Rattle.table_scope.specs.Declarators.{range_in, terms, declared}
-use Rattle.table_specs.specs.Specs.{spec_at, attrs_at}
+use Rattle.table_specs.specs.Specs.{sense_at}
 
 -- ---- parameters. handle_t is not listed, and has no index
 
@@ -53,15 +53,9 @@ Listed = List ParamForm × List HandleUse
 abbrev pub joined : Listed → Listed → Listed
 joined a b = (a.0 ++ b.0, a.1 ++ b.1)
 
--- what a parameter's spec stands for
-abbrev pub param_sense : Pk → idl.ParamForm → Scope → Sense × Scope
-param_sense default n p =
-    let marks : Option Form × Scope = attrs_at default n.attrs p in
-    spec_at default (not (n.dtor.stars == 0)) marks.0 n.spec marks.1
-
 abbrev pub one_param : Pk → List Ident → idl.AttrForms → Dtor → Sense × Scope → ParamForm
 one_param default names as' d behind =
-    record { shape = declared (terms default places.Parameter true names as') behind.1.symbols.constants behind.0.shape d; inward = says says_in as'; outward = says says_out as'; range = given range_in as' }
+    record { shape = declared (terms default places.Parameter names as') behind.1.symbols.constants behind.0.shape d; inward = says says_in as'; outward = says says_out as'; range = given range_in as' }
 
 abbrev pub listed_at : Pk → List Ident → idl.AttrForms → Dtor → Sense × Scope → Listed × Scope
 listed_at default names as' d behind =
@@ -69,7 +63,7 @@ listed_at default names as' d behind =
 
 abbrev pub param_at : Pk → List Ident → idl.ParamForm → Scope → Listed × Scope
 param_at default names n p =
-    if is_binding n.spec then (([], []), p) else listed_at default names n.attrs n.dtor (param_sense default n p)
+    if is_binding n.spec then (([], []), p) else listed_at default names n.attrs n.dtor (sense_at default (param_member n) p)
 
 abbrev pub params_at : Pk → List Ident → List idl.ParamForm → Scope → Listed × Scope
 params_at default names [] p = (([], []), p)
@@ -108,16 +102,13 @@ in_scope d p = record { scope = p; ops = d.ops; uses = d.uses }
 abbrev pub op_of : List ℕ → idl.AttrForms → Sense → List ParamForm → OpForm
 op_of name as' r ps = record { name = name; params = ps; result = sort_result r.sort r.shape; status = is_status r.sort; maybe = says says_maybe as' }
 
--- what the spec of an operation's result stands for, or one without a declarator
-abbrev pub alone_at : Pk → idl.AttrForms → idl.SpecForm → Scope → Sense × Scope
-alone_at default as' s p = let marks : Option Form × Scope = attrs_at default as' p in spec_at default false marks.0 s marks.1
-
 abbrev pub op_with : List ℕ → idl.AttrForms → Sense → Listed × Scope → Draft → Draft
 op_with name as' r ps d = with_op (op_of name as' r ps.0.0) ps.0.1 (in_scope d ps.1)
 
-abbrev pub op_at : Pk → idl.AttrForms → idl.SpecForm → Ident → List idl.ParamForm → Draft → Draft
-op_at default as' s name ns d =
-    op_with name.text as' (alone_at default as' s d.scope).0 (params_at default (param_names ns) ns (alone_at default as' s d.scope).1) d
+-- r: its result
+abbrev pub op_at : Pk → idl.MemberForm → Ident → List idl.ParamForm → Draft → Draft
+op_at default r name ns d =
+    op_with name.text (attrs_of r) (sense_at default r d.scope).0 (params_at default (param_names ns) ns (sense_at default r d.scope).1) d
 
 -- ---- typedefs
 
@@ -140,26 +131,17 @@ abbrev pub typedef_all : Bool → Bool → Terms → Sense → List Dtor → Sco
 typedef_all handle serialised t m [] p = p
 typedef_all handle serialised t m (d ∷ ds) p = typedef_all handle serialised t m ds (typedef_one handle serialised t m d p)
 
--- what a typedef's spec stands for
-abbrev pub typedef_sense : Pk → idl.AttrForms → idl.SpecForm → List Dtor → Scope → Sense × Scope
-typedef_sense default as' s ds p =
-    let marks : Option Form × Scope = attrs_at default as' p in
-    spec_at default (all_pointed ds) marks.0 s marks.1
-
-abbrev pub typedef_at : Pk → idl.AttrForms → idl.SpecForm → List Dtor → Scope → Scope
-typedef_at default as' s ds p =
-    typedef_all (says says_handle as') (is_serialised as') (terms default places.Typedef false [] as') (typedef_sense default as' s ds p).0 ds (typedef_sense default as' s ds p).1
-
-abbrev pub lone_at : Pk → idl.AttrForms → idl.SpecForm → Scope → Scope
-lone_at default as' s p = (alone_at default as' s p).1
+abbrev pub typedef_at : Pk → idl.MemberForm → Scope → Scope
+typedef_at default m p =
+    typedef_all (says says_handle (attrs_of m)) (is_serialised (attrs_of m)) (terms default places.Typedef [] (attrs_of m)) (sense_at default m p).0 (dtors_of m) (sense_at default m p).1
 
 -- ---- declarations
 
 abbrev pub decl_at : Pk → idl.DeclKindForm → Draft → Draft
 decl_at default (idl.OfConst base name value) d = in_scope d (with_constant name value d.scope)
-decl_at default (idl.OfTypedef as' s ds) d = in_scope d (typedef_at default as' s ds d.scope)
-decl_at default (idl.OfLone as' s) d = in_scope d (lone_at default as' s d.scope)
-decl_at default (idl.OfOp as' s name void ps) d = op_at default as' s name ps d
+decl_at default (idl.OfTypedef as' s ds) d = in_scope d (typedef_at default (idl.a_member as' s ds) d.scope)
+decl_at default (idl.OfLone as' s) d = in_scope d (sense_at default (lone_member as' s) d.scope).1
+decl_at default (idl.OfOp as' s name void ns) d = op_at default (result_member as' s name) name ns d
 
 abbrev pub decls_at : Pk → List idl.DeclForm → Draft → Draft
 decls_at default [] d = d

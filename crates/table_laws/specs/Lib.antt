@@ -1,4 +1,5 @@
 pub mod Alike
+pub mod Bodies
 pub mod Interfaces
 pub mod Laws
 pub mod Stands

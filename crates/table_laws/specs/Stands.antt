@@ -16,13 +16,14 @@ use Rattle.idl_tree.specs.declared.spec.LabelKind.{LabelKind}
 use Rattle.idl_tree.specs.declared.spec.LabelKind.TheVariants as labels
 use Rattle.idl_tree.specs.declared.declaration.Ast.{Ast}
 use Rattle.idl_names.specs.Declarators.{all_pointed}
+use Rattle.idl_names.specs.Members.{lone_member, result_member, param_member}
 use Rattle.idl_names.specs.Attributes.{pointer_default, says, says_string}
 use Rattle.idl_forms.specs.Forms as idl
 use Rattle.ndr_value.specs.Forms.{Form}
 use Rattle.idl_names.specs.Symbols.{ByName, Symbols, tag_named}
 use Rattle.table_scope.specs.Scopes.{Sense, Scope, begun}
-use Rattle.table_specs.specs.Specs.{member_names, members_within, arm_names, spec_at, switch_at, attr_at, attrs_at, member_at, arm_at}
-use Rattle.table_laws.specs.Interfaces.{Draft, is_binding, param_names, param_at, alone_at, decl_at, nothing_declared, first_in, uuid_in}
+use Rattle.table_specs.specs.Specs.{member_names, members_within, arm_names, spec_at, switch_at, attr_at, attrs_at, sense_at, arm_at}
+use Rattle.table_laws.specs.Interfaces.{Draft, is_binding, param_names, param_at, decl_at, nothing_declared, first_in, uuid_in}
 
 -- ---- names
 
@@ -117,7 +118,7 @@ abbrev mutual
 
   pub members_stand : Pk → List Ident → idl.MemberForms → Scope → Bool
   members_stand default names idl.no_member p = true
-  members_stand default names (idl.then_member m ms) p = member_stands default names m p && members_stand default names ms (member_at default names m p).1
+  members_stand default names (idl.then_member m ms) p = member_stands default names m p && members_stand default names ms (sense_at default m p).1
 
   pub arm_stands : Pk → List Ident → idl.ArmForm → Scope → Bool
   arm_stands default names (idl.member_arm ls m) p = labels_stand p.symbols.constants ls && member_stands default names m p
@@ -131,21 +132,18 @@ abbrev mutual
 
 -- a handle_t isn't listed
 abbrev pub param_stands : Pk → List Ident → idl.ParamForm → Scope → Bool
-param_stands default names n p = is_binding n.spec || member_stands default names (idl.a_member n.attrs n.spec (n.dtor ∷ [])) p
+param_stands default names n p = is_binding n.spec || member_stands default names (param_member n) p
 
 abbrev pub params_stand : Pk → List Ident → List idl.ParamForm → Scope → Bool
 params_stand default names [] p = true
 params_stand default names (n ∷ ns) p = param_stands default names n p && params_stand default names ns (param_at default names n p).1
 
--- a spec without a declarator, or that of an operation's result
-abbrev pub alone_stands : Pk → idl.AttrForms → idl.SpecForm → Scope → Bool
-alone_stands default as' s p = attrs_stand default as' p && spec_stands default false (attrs_at default as' p).0 s (attrs_at default as' p).1
-
 abbrev pub decl_stands : Pk → idl.DeclKindForm → Scope → Bool
 decl_stands default (idl.OfConst base name value) p = true
 decl_stands default (idl.OfTypedef as' s ds) p = member_stands default [] (idl.a_member as' s ds) p
-decl_stands default (idl.OfLone as' s) p = alone_stands default as' s p
-decl_stands default (idl.OfOp as' s name void ns) p = alone_stands default as' s p && params_stand default (param_names ns) ns (alone_at default as' s p).1
+decl_stands default (idl.OfLone as' s) p = member_stands default [] (lone_member as' s) p
+decl_stands default (idl.OfOp as' s name void ns) p =
+    member_stands default [] (result_member as' s name) p && params_stand default (param_names ns) ns (sense_at default (result_member as' s name) p).1
 
 abbrev pub decls_stand : Pk → List idl.DeclForm → Draft → Bool
 decls_stand default [] d = true

@@ -3,10 +3,12 @@ use Rattle.std.specs.Prelude.{◌≡◌, ℕ, List, [], ◌∷◌, ◌++◌, map
 use Rattle.idl_tree.specs.declared.declaration.Ast.{Ast}
 use Rattle.idl_tree.specs.declared.leaf.Pk.{Pk}
 use Rattle.idl_names.specs.Attributes.{pointer_default}
+use Rattle.idl_names.specs.Members.{result_member}
 use Rattle.idl_forms.specs.Forms as idl
 use Rattle.table_form.specs.declared.operation.HandleUse.{HandleUse}
 use Rattle.table_form.specs.Tables.{OpForm, TableForm}
-use Rattle.table_laws.specs.Interfaces.{Draft, param_names, params_at, alone_at, decl_at, nothing_declared}
+use Rattle.table_specs.specs.Specs.{sense_at}
+use Rattle.table_laws.specs.Interfaces.{Draft, param_names, params_at, decl_at, nothing_declared}
 
 abbrev pub op_name : OpForm → List ℕ
 op_name o = o.name
@@ -23,7 +25,7 @@ op_names (x ∷ xs) = names_in x.what ++ op_names xs
 -- the handles of the operation that a declaration declares, for what was declared before: those of its parameters, in order
 abbrev pub handles_in : Pk → idl.DeclKindForm → Draft → List (List HandleUse)
 handles_in default (idl.OfOp as' s name void ps) d =
-    (params_at default (param_names ps) ps (alone_at default as' s d.scope).1).0.1 ∷ []
+    (params_at default (param_names ps) ps (sense_at default (result_member as' s name) d.scope).1).0.1 ∷ []
 handles_in default _ d = []
 
 abbrev pub all_handles : Pk → List idl.DeclForm → Draft → List (List HandleUse)

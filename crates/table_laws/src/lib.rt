@@ -4,6 +4,7 @@
 #![tactic(auto)]
 
 ghost use Rattle.table_laws.specs.Alike.{NamesResolveAlike, OperationsSuit};
+ghost use Rattle.table_laws.specs.Bodies.{BodiesSuit};
 ghost use Rattle.table_laws.specs.Laws.{EachOperationIsListed, EachHandleIsListed, NothingStandsIn};
 
 /// Each operation of an interface that keeps the rules is in its table, in order.
@@ -33,4 +34,10 @@ pub fn names_resolve_alike()
 /// by which the rules judge them.
 pub fn operations_suit()
     ensures { OperationsSuit }
+{}
+
+/// The types in its table are the bodies of its structures and unions, in the order in which they end.
+/// Each declarator of a body has a shape there that suits the type by which the rules judge it.
+pub fn bodies_suit()
+    ensures { BodiesSuit }
 {}

@@ -11,6 +11,7 @@ use Rattle.idl_forms.specs.Forms.{AttrKindForm, OfSizeIs, OfMaxIs, OfLengthIs, O
 use Rattle.idl_names.specs.declared.place.Extent.{Extent}
 use Rattle.idl_names.specs.declared.place.Extent.TheVariants as extents
 use Rattle.idl_names.specs.declared.place.Place.{Place}
+use Rattle.idl_names.specs.declared.place.Place.TheVariants as places
 use Rattle.idl_names.specs.Symbols.{ByName}
 use Rattle.idl_names.specs.Attributes.{given, says, says_string, pointer_in, or_class, outer_class}
 use Rattle.idl_names.specs.Declarators.{value_of, extent_of}
@@ -28,27 +29,27 @@ abbrev pub index_of : List ℕ → List Ident → ℕ
 index_of name [] = 0
 index_of name (i ∷ is) = if bytes_eq i.text name then 0 else index_of name is + 1
 
-abbrev pub named_count : Bool → List Ident → ℕ → Bool → Ident → Count
-named_count parameters names plus star i =
-    if parameters then counts.Param (index_of i.text names) star plus else counts.Member (index_of i.text names) plus
+abbrev pub named_count : Place → List Ident → ℕ → Bool → Ident → Count
+named_count places.Parameter names plus star i = counts.Param (index_of i.text names) star plus
+named_count _ names plus star i = counts.Member (index_of i.text names) plus
 
-abbrev pub count : Bool → List Ident → ℕ → SizeRef → Count
-count parameters names plus (refs.Number n) = counts.Number (n.value + plus)
-count parameters names plus (refs.Named star i) = named_count parameters names plus star i
+abbrev pub count : Place → List Ident → ℕ → SizeRef → Count
+count place names plus (refs.Number n) = counts.Number (n.value + plus)
+count place names plus (refs.Named star i) = named_count place names plus star i
 
 -- how many elements there may be: max_is names the greatest index, one less
-abbrev pub most_in : Bool → List Ident → AttrKindForm → Option Count
-most_in parameters names (OfSizeIs r) = Some (count parameters names 0 r)
-most_in parameters names (OfMaxIs r) = Some (count parameters names 1 r)
-most_in parameters names _ = None
+abbrev pub most_in : Place → List Ident → AttrKindForm → Option Count
+most_in place names (OfSizeIs r) = Some (count place names 0 r)
+most_in place names (OfMaxIs r) = Some (count place names 1 r)
+most_in place names _ = None
 
-abbrev pub travel_in : Bool → List Ident → AttrKindForm → Option Count
-travel_in parameters names (OfLengthIs r) = Some (count parameters names 0 r)
-travel_in parameters names _ = None
+abbrev pub travel_in : Place → List Ident → AttrKindForm → Option Count
+travel_in place names (OfLengthIs r) = Some (count place names 0 r)
+travel_in place names _ = None
 
-abbrev pub switch_in : Bool → List Ident → AttrKindForm → Option Count
-switch_in parameters names (OfSwitchIs star i) = Some (named_count parameters names 0 star i)
-switch_in parameters names _ = None
+abbrev pub switch_in : Place → List Ident → AttrKindForm → Option Count
+switch_in place names (OfSwitchIs star i) = Some (named_count place names 0 star i)
+switch_in place names _ = None
 
 -- the numbers that a parameter may be
 abbrev pub range_in : AttrKindForm → Option Bounds
@@ -57,15 +58,15 @@ range_in _ = None
 
 -- what attributes say of the declarators behind them: parameters, or the members of one body, with the names of all of these. Pointers
 -- behind others have the class of the interface
-abbrev pub terms : Pk → Place → Bool → List Ident → AttrForms → Terms
-terms default place parameters names as' = record {
+abbrev pub terms : Pk → Place → List Ident → AttrForms → Terms
+terms default place names as' = record {
   inner = default;
   outer = outer_class default place as';
   element = or_class (given pointer_in as') default;
   text = says says_string as';
-  most = given (most_in parameters names) as';
-  travel = given (travel_in parameters names) as';
-  switch = given (switch_in parameters names) as';
+  most = given (most_in place names) as';
+  travel = given (travel_in place names) as';
+  switch = given (switch_in place names) as';
 }
 
 -- ---- pointers

@@ -3,6 +3,7 @@ ghost use Rattle.std.specs.Prelude.{◌≡◌, ◌+◌, ◌≤◌, length, IfOk}
 ghost use Rattle.idl_names.specs.Declarators.{value_of};
 ghost use Rattle.table_scope.specs.Declarators as spec;
 
+use idl_names::Place;
 use idl_tree::{Ident, Num, SizeRef};
 use ndr_value::Count;
 use rpc_base::NoMemory;
@@ -67,29 +68,31 @@ fn index_of(name: &[u8], names: &[Ident]) -> usize
     index
 }
 
-/// The count that a name stands for. A name that isn't among the others is refused too.
+/// The count that a name stands for, as a parameter or a member. A name that isn't among the others is
+/// refused too.
 pub fn named_count(
-    parameters: bool,
+    place: Place,
     names: &[Ident],
     plus: u8,
     star: bool,
     name: &Ident,
 ) -> Result<Count, NoMemory>
-    ensures { IfOk result (λ c. c ≡ spec.named_count parameters names.now plus star name.now) }
+    ensures { IfOk result (λ c. c ≡ spec.named_count place names.now plus star name.now) }
 {
-    let place = index_of(name.text.as_slice(), names);
-    if place > 255 || place == names.len() {
+    let found = index_of(name.text.as_slice(), names);
+    if found > 255 || found == names.len() {
         return Err(NoMemory);
     }
-    let index = place as u8;
-    if parameters {
-        Ok(Count::Param {
+    let index = found as u8;
+    match place {
+        Place::Parameter => Ok(Count::Param {
             index,
             through: star,
             plus,
-        })
-    } else {
-        Ok(Count::Member { index, plus })
+        }),
+        Place::Typedef | Place::Alone | Place::Operation | Place::Member | Place::Arm => {
+            Ok(Count::Member { index, plus })
+        }
     }
 }
 
@@ -104,11 +107,11 @@ fn sum(number: u64, plus: u8) -> Result<u32, NoMemory>
 }
 
 /// What a size gives, and so much more.
-pub fn count(parameters: bool, names: &[Ident], plus: u8, size: &SizeRef) -> Result<Count, NoMemory>
-    ensures { IfOk result (λ c. c ≡ spec.count parameters names.now plus size.now) }
+pub fn count(place: Place, names: &[Ident], plus: u8, size: &SizeRef) -> Result<Count, NoMemory>
+    ensures { IfOk result (λ c. c ≡ spec.count place names.now plus size.now) }
 {
     match size {
         SizeRef::Number(number) => Ok(Count::Number(sum(number.value, plus)?)),
-        SizeRef::Named { star, name } => named_count(parameters, names, plus, *star, name),
+        SizeRef::Named { star, name } => named_count(place, names, plus, *star, name),
     }
 }

@@ -8,7 +8,7 @@ ghost use Rattle.table_scope.specs.Declarators as spec;
 use crate::counts::in_32;
 use crate::marks;
 use crate::said::Terms;
-use idl_names::{Extent, Place, extent_of, or_class, outer_class, pointer_given, says_string};
+use idl_names::{Extent, Place, Word, extent_of, or_class, outer_class, pointer_given, says};
 use idl_tree::{Attr, Dtor, Ident, Num, Pk};
 use name_map::Names;
 use ndr_value::{ArrayKind, Count, Shape, copy_shape};
@@ -16,26 +16,20 @@ use rpc_base::NoMemory;
 use std::alloc::Global;
 use table_form::{MOST_LEVELS, has_few_levels};
 
-/// What attributes say of the declarators behind them. `parameters`: these are parameters, and not
-/// members of a body; `names` has the names of all of these.
+/// What attributes say of the declarators behind them. `names`: the names of all parameters, or of all
+/// members of the body.
 ///
 /// # Errors
 ///
 /// `NoMemory` where a size or a switch names none of them, or a number or an index has no room in its
 /// field: no interface that keeps the rules has such an attribute.
-pub fn terms(
-    attrs: &[Attr],
-    default: Pk,
-    place: Place,
-    parameters: bool,
-    names: &[Ident],
-) -> Result<Terms, NoMemory>
-    ensures { IfOk result (λ t. t ≡ spec.terms default place parameters names.now (attrs_form attrs.now)) }
+pub fn terms(attrs: &[Attr], default: Pk, place: Place, names: &[Ident]) -> Result<Terms, NoMemory>
+    ensures { IfOk result (λ t. t ≡ spec.terms default place names.now (attrs_form attrs.now)) }
 {
-    let text = says_string(attrs);
-    let most = marks::most(attrs, parameters, names)?;
-    let travel = marks::travel(attrs, parameters, names)?;
-    let switch = marks::switch(attrs, parameters, names)?;
+    let text = says(attrs, Word::Text);
+    let most = marks::most(attrs, place, names)?;
+    let travel = marks::travel(attrs, place, names)?;
+    let switch = marks::switch(attrs, place, names)?;
     Ok(Terms {
         inner: default,
         outer: outer_class(default, place, attrs),

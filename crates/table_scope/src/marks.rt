@@ -5,17 +5,18 @@ ghost use Rattle.idl_names.specs.Attributes.{given};
 ghost use Rattle.table_scope.specs.Declarators.{most_in, travel_in, switch_in, range_in};
 
 use crate::counts::{count, named_count, signed_64};
+use idl_names::Place;
 use idl_tree::{Attr, AttrKind, Ident};
 use ndr_value::Count;
 use rpc_base::NoMemory;
 use table_form::Bounds;
 
-fn most_of(kind: &AttrKind, parameters: bool, names: &[Ident]) -> Result<Option<Count>, NoMemory>
-    ensures { IfOk result (λ c. c ≡ most_in parameters names.now (attr_kind_form kind.now)) }
+fn most_of(kind: &AttrKind, place: Place, names: &[Ident]) -> Result<Option<Count>, NoMemory>
+    ensures { IfOk result (λ c. c ≡ most_in place names.now (attr_kind_form kind.now)) }
 {
     match kind {
-        AttrKind::SizeIs(size) => Ok(Some(count(parameters, names, 0, size)?)),
-        AttrKind::MaxIs(size) => Ok(Some(count(parameters, names, 1, size)?)),
+        AttrKind::SizeIs(size) => Ok(Some(count(place, names, 0, size)?)),
+        AttrKind::MaxIs(size) => Ok(Some(count(place, names, 1, size)?)),
         AttrKind::In
         | AttrKind::Out
         | AttrKind::Pointer(_)
@@ -32,11 +33,11 @@ fn most_of(kind: &AttrKind, parameters: bool, names: &[Ident]) -> Result<Option<
     }
 }
 
-fn travel_of(kind: &AttrKind, parameters: bool, names: &[Ident]) -> Result<Option<Count>, NoMemory>
-    ensures { IfOk result (λ c. c ≡ travel_in parameters names.now (attr_kind_form kind.now)) }
+fn travel_of(kind: &AttrKind, place: Place, names: &[Ident]) -> Result<Option<Count>, NoMemory>
+    ensures { IfOk result (λ c. c ≡ travel_in place names.now (attr_kind_form kind.now)) }
 {
     match kind {
-        AttrKind::LengthIs(size) => Ok(Some(count(parameters, names, 0, size)?)),
+        AttrKind::LengthIs(size) => Ok(Some(count(place, names, 0, size)?)),
         AttrKind::In
         | AttrKind::Out
         | AttrKind::Pointer(_)
@@ -54,12 +55,12 @@ fn travel_of(kind: &AttrKind, parameters: bool, names: &[Ident]) -> Result<Optio
     }
 }
 
-fn switch_of(kind: &AttrKind, parameters: bool, names: &[Ident]) -> Result<Option<Count>, NoMemory>
-    ensures { IfOk result (λ c. c ≡ switch_in parameters names.now (attr_kind_form kind.now)) }
+fn switch_of(kind: &AttrKind, place: Place, names: &[Ident]) -> Result<Option<Count>, NoMemory>
+    ensures { IfOk result (λ c. c ≡ switch_in place names.now (attr_kind_form kind.now)) }
 {
     match kind {
         AttrKind::SwitchIs { star, name } => {
-            Ok(Some(named_count(parameters, names, 0, *star, name)?))
+            Ok(Some(named_count(place, names, 0, *star, name)?))
         }
         AttrKind::In
         | AttrKind::Out
@@ -104,11 +105,11 @@ fn range_of(kind: &AttrKind) -> Result<Option<Bounds>, NoMemory>
 }
 
 /// How many elements there may be.
-pub fn most(attrs: &[Attr], parameters: bool, names: &[Ident]) -> Result<Option<Count>, NoMemory>
-    ensures { IfOk result (λ c. c ≡ given (most_in parameters names.now) (attrs_form attrs.now)) }
+pub fn most(attrs: &[Attr], place: Place, names: &[Ident]) -> Result<Option<Count>, NoMemory>
+    ensures { IfOk result (λ c. c ≡ given (most_in place names.now) (attrs_form attrs.now)) }
 {
     for attr in attrs {
-        let found = most_of(&attr.what, parameters, names)?;
+        let found = most_of(&attr.what, place, names)?;
         if found.is_some() {
             return Ok(found);
         }
@@ -117,11 +118,11 @@ pub fn most(attrs: &[Attr], parameters: bool, names: &[Ident]) -> Result<Option<
 }
 
 /// How many elements travel.
-pub fn travel(attrs: &[Attr], parameters: bool, names: &[Ident]) -> Result<Option<Count>, NoMemory>
-    ensures { IfOk result (λ c. c ≡ given (travel_in parameters names.now) (attrs_form attrs.now)) }
+pub fn travel(attrs: &[Attr], place: Place, names: &[Ident]) -> Result<Option<Count>, NoMemory>
+    ensures { IfOk result (λ c. c ≡ given (travel_in place names.now) (attrs_form attrs.now)) }
 {
     for attr in attrs {
-        let found = travel_of(&attr.what, parameters, names)?;
+        let found = travel_of(&attr.what, place, names)?;
         if found.is_some() {
             return Ok(found);
         }
@@ -130,11 +131,11 @@ pub fn travel(attrs: &[Attr], parameters: bool, names: &[Ident]) -> Result<Optio
 }
 
 /// What selects a union's arm.
-pub fn switch(attrs: &[Attr], parameters: bool, names: &[Ident]) -> Result<Option<Count>, NoMemory>
-    ensures { IfOk result (λ c. c ≡ given (switch_in parameters names.now) (attrs_form attrs.now)) }
+pub fn switch(attrs: &[Attr], place: Place, names: &[Ident]) -> Result<Option<Count>, NoMemory>
+    ensures { IfOk result (λ c. c ≡ given (switch_in place names.now) (attrs_form attrs.now)) }
 {
     for attr in attrs {
-        let found = switch_of(&attr.what, parameters, names)?;
+        let found = switch_of(&attr.what, place, names)?;
         if found.is_some() {
             return Ok(found);
         }

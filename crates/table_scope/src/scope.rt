@@ -1,6 +1,6 @@
 //! What names stand for, and what declarations add.
 ghost use Rattle.std.specs.Prelude.{◌≡◌, ◌+◌, length, IfOk, OnOk};
-ghost use Rattle.ndr_value.specs.Forms.{form, forms, arms_of, types_of, OfStruct, OfUnion};
+ghost use Rattle.ndr_value.specs.Forms.{form, forms, arms_of, OfStruct, OfUnion};
 ghost use Rattle.table_scope.specs.Scopes as spec;
 ghost use Rattle.table_scope.specs.Scopes.{sense, scope, handle_sense};
 

@@ -1,4 +1,3 @@
 pub mod Layers
 pub mod Members
 pub mod Rows
-pub mod Same

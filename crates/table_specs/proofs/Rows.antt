@@ -1,5 +1,5 @@
 -- Rows of forms and arms, and what arms hold.
-use Rattle.std.proofs.Common.{◌≡◌, ◌<◌, ◌≤◌, List, [], ◌∷◌, ◌++◌, length, refl, ap, sym, ◌∙◌, arith, map, length-append, append_assoc, append-nil, Option, Some, None}
+use Rattle.std.proofs.Common.{◌≡◌, ◌<◌, ◌≤◌, List, [], ◌∷◌, ◌++◌, length, refl, ap, sym, ◌∙◌, arith, map, length-append, Option, Some, None}
 use Rattle.std.specs.Option.{option_or}
 use Rattle.ndr_value.specs.declared.shape.Shape.{Shape}
 use Rattle.ndr_value.specs.declared.shape.Arm.{Arm}

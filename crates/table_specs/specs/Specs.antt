@@ -11,7 +11,11 @@ use Rattle.idl_tree.specs.declared.leaf.Dtor.{Dtor}
 use Rattle.idl_tree.specs.declared.spec.Label.{Label}
 use Rattle.idl_tree.specs.declared.spec.LabelKind.{LabelKind}
 use Rattle.idl_tree.specs.declared.spec.LabelKind.TheVariants as labels
+use Rattle.idl_names.specs.declared.place.Place.{Place}
 use Rattle.idl_names.specs.declared.place.Place.TheVariants as places
+use Rattle.idl_names.specs.Members.{attrs_of, dtors_of}
+use Rattle.idl_names.specs.Walk.{Marks, Read, ReadMember, ReadArm, Reader}
+use Rattle.idl_names.specs.Walk as walk
 use Rattle.idl_names.specs.Declarators.{value_of, all_pointed, label_number}
 use Rattle.idl_forms.specs.Forms as idl
 use Rattle.ndr_value.specs.Forms.{Form, OfBool, OfByte, OfChar, OfInt, OfUint, OfEnum, OfNamed, OfStruct, OfUnion, Forms, no_form, then_form, Body, empty, holds, ArmForms}
@@ -146,61 +150,100 @@ enum_sense names = valued (OfEnum (length names))
 abbrev pub enum_past : List Ident → Scope → Scope
 enum_past names p = with_names names p
 
--- ---- specs. default: the pointer class of the interface; pointed: each declarator of the spec has a star; given: the form of its
--- switch_type
+-- ---- declarators, with the names of all that are declared beside them; behind: what their spec stands for, and what is known behind it
 
-abbrev mutual
-  pub spec_at : Pk → Bool → Option Form → idl.SpecForm → Scope → Sense × Scope
-  spec_at default pointed given (idl.a_spec at k) p = kind_at default pointed given k p
+abbrev pub shapes_of : Pk → Place → List Ident → idl.MemberForm → Sense × Scope → List Form
+shapes_of default place names m behind = map (declared (terms default place names (attrs_of m)) behind.1.symbols.constants behind.0.shape) (dtors_of m)
 
-  pub kind_at : Pk → Bool → Option Form → idl.KindForm → Scope → Sense × Scope
-  kind_at default pointed given (idl.OfBase b) p = (valued (base_form b), p)
-  kind_at default pointed given (idl.OfName i) p = (type_named i.text p.symbols.types, p)
-  kind_at default pointed given idl.OfVoid p = (shapeless sorts.Void, p)
-  kind_at default pointed given idl.OfHandle p = (shapeless sorts.HandleT, p)
-  kind_at default pointed given idl.OfStatus p = (status_sense, p)
-  kind_at default pointed given (idl.OfTag tag) p = (valued (tag_form pointed tag p.symbols), p)
-  kind_at default pointed given (idl.OfStruct tag ms) p = struct_at tag (members_at default (member_names ms) ms (begun tag (members_within ms) p))
-  kind_at default pointed given (idl.OfUnion tag s arms) p =
-      union_at (switch_at default given s p).0 (arms_at default (arm_names arms) arms (switch_at default given s p).1)
-  kind_at default pointed given (idl.OfEnum tag names) p = (enum_sense names, enum_past names p)
+abbrev pub shapes_in : Pk → Place → List Ident → ReadMember Scope Sense (Option Form) → List Form
+shapes_in default place names x = shapes_of default place names x.0 (x.1.spec, x.1.known)
 
-  -- a union's tag: that of its switch, or of the switch_type that is given
-  pub switch_at : Pk → Option Form → idl.SwitchForm → Scope → Form × Scope
-  switch_at default given idl.no_switch p = (or_nothing given, p)
-  switch_at default given (idl.a_switch s i body) p = ((spec_at default false None s p).0.shape, (spec_at default false None s p).1)
+abbrev pub shapes : Pk → List Ident → List (ReadMember Scope Sense (Option Form)) × Scope → List Form × Scope
+shapes default names inside = (flat_map (shapes_in default places.Member names) inside.0, inside.1)
 
-  -- the form of the first switch_type
-  pub mark_at : Pk → idl.AttrKindForm → Scope → Option Form × Scope
-  mark_at default (idl.OfSwitchType s) p = (Some (spec_at default false None s p).0.shape, (spec_at default false None s p).1)
-  mark_at default _ p = (None, p)
+abbrev pub held_in : Pk → List Ident → Option (ReadMember Scope Sense (Option Form)) → Body
+held_in default names None = empty
+held_in default names (Some x) = held (shapes_in default places.Arm names x)
 
-  pub attr_at : Pk → idl.AttrForm → Scope → Option Form × Scope
-  attr_at default (idl.an_attr at m) p = mark_at default m p
+abbrev pub face_in : Pk → List Ident → ReadArm Scope Sense (Option Form) → Face
+face_in default names a = (cases a.known.symbols.constants a.labels, has_default a.labels, held_in default names a.member)
 
-  pub attrs_at : Pk → idl.AttrForms → Scope → Option Form × Scope
-  attrs_at default idl.no_attr p = (None, p)
-  attrs_at default (idl.then_attr a rest) p =
-      (option_or (attr_at default a p).0 (attrs_at default rest (attr_at default a p).1).0, (attrs_at default rest (attr_at default a p).1).1)
+abbrev pub faces : Pk → List Ident → List (ReadArm Scope Sense (Option Form)) × Scope → List Face × Scope
+faces default names inside = (map (face_in default names) inside.0, inside.1)
 
-  -- members of one body, with the names of all of them
-  pub member_at : Pk → List Ident → idl.MemberForm → Scope → List Form × Scope
-  member_at default names (idl.a_member as' s ds) p =
-      let marks : Option Form × Scope = attrs_at default as' p in
-      let behind : Sense × Scope = spec_at default (all_pointed ds) marks.0 s marks.1 in
-      (map (declared (terms default places.Member false names as') behind.1.symbols.constants behind.0.shape) ds, behind.1)
+-- ---- the table's reader of specs
 
-  pub members_at : Pk → List Ident → idl.MemberForms → Scope → List Form × Scope
-  members_at default names idl.no_member p = ([], p)
-  members_at default names (idl.then_member m ms) p =
-      ((member_at default names m p).0 ++ (members_at default names ms (member_at default names m p).1).0, (members_at default names ms (member_at default names m p).1).1)
+-- the form of the first switch_type
+abbrev pub first_tag : Marks (Option Form) → Option Form
+first_tag [] = None
+first_tag (x ∷ xs) = option_or x.1 (first_tag xs)
 
-  pub arm_at : Pk → List Ident → idl.ArmForm → Scope → Face × Scope
-  arm_at default names (idl.member_arm ls m) p =
-      ((cases p.symbols.constants ls, has_default ls, held (member_at default names m p).0), (member_at default names m p).1)
-  arm_at default names (idl.empty_arm ls) p = ((cases p.symbols.constants ls, has_default ls, empty), p)
+-- pointed: each declarator of the spec has a star
+abbrev pub leaf_sense : Bool → idl.KindForm → Scope → Sense
+leaf_sense pointed (idl.OfBase b) p = valued (base_form b)
+leaf_sense pointed (idl.OfName i) p = type_named i.text p.symbols.types
+leaf_sense pointed idl.OfVoid p = shapeless sorts.Void
+leaf_sense pointed idl.OfHandle p = shapeless sorts.HandleT
+leaf_sense pointed idl.OfStatus p = status_sense
+leaf_sense pointed (idl.OfTag tag) p = valued (tag_form pointed tag p.symbols)
+leaf_sense pointed (idl.OfEnum tag names) p = enum_sense names
+leaf_sense pointed _ p = valued nothing
 
-  pub arms_at : Pk → List Ident → idl.ArmForms → Scope → List Face × Scope
-  arms_at default names idl.no_arm p = ([], p)
-  arms_at default names (idl.then_arm a rest) p =
-      ((arm_at default names a p).0 ∷ (arms_at default names rest (arm_at default names a p).1).0, (arms_at default names rest (arm_at default names a p).1).1)
+abbrev pub leaf_past : idl.KindForm → Scope → Scope
+leaf_past (idl.OfEnum tag names) p = enum_past names p
+leaf_past _ p = p
+
+-- around a spec: whether it is pointed, and the form of its switch_type
+abbrev pub table_reader : Reader Scope Sense (Option Form) (Bool × Option Form) Form
+table_reader = record {
+  around = λ default place as' ds xs. (all_pointed ds, first_tag xs);
+  leaf = λ c at k p. (leaf_sense c.0 k p, leaf_past k p);
+  struct_begins = λ tag ms p. begun tag (members_within ms) p;
+  struct_ends = λ default tag ms inside. struct_at tag (shapes default (member_names ms) inside);
+  union_begins = λ tag p. p;
+  union_ends = λ default s arms tag inside. union_at tag (faces default (arm_names arms) inside);
+  given = λ c. or_nothing c.1;
+  switched = λ default s i spec. (spec.0.shape, spec.1);
+  mark = λ m. None;
+  switch_type = λ s m. Some m.shape;
+  labelled = λ ls p. p;
+  sized = λ ds p. p;
+}
+
+-- ---- what it has of specs and what they hold. default: the pointer class of the interface; given: the form of the spec's switch_type
+
+abbrev pub spec_at : Pk → Bool → Option Form → idl.SpecForm → Scope → Sense × Scope
+spec_at default pointed given s p = walk.spec_at table_reader default (pointed, given) s p
+
+abbrev pub kind_at : Pk → Bool → Option Form → ℕ → idl.KindForm → Scope → Sense × Scope
+kind_at default pointed given at k p = walk.kind_at table_reader default (pointed, given) at k p
+
+-- a union's tag: that of its switch, or of the switch_type that is given
+abbrev pub switch_at : Pk → Option Form → idl.SwitchForm → Scope → Form × Scope
+switch_at default given s p = walk.switch_at table_reader default (or_nothing given) s p
+
+abbrev pub mark_at : Pk → idl.AttrKindForm → Scope → Option Form × Scope
+mark_at default m p = walk.mark_at table_reader default m p
+
+abbrev pub attr_at : Pk → idl.AttrForm → Scope → Option Form × Scope
+attr_at default a p = ((walk.attr_at table_reader default a p).0.1, (walk.attr_at table_reader default a p).1)
+
+abbrev pub attrs_at : Pk → idl.AttrForms → Scope → Option Form × Scope
+attrs_at default as' p = (first_tag (walk.attrs_at table_reader default as' p).0, (walk.attrs_at table_reader default as' p).1)
+
+abbrev pub read_at : Pk → idl.MemberForm → Scope → Read Scope Sense (Option Form)
+read_at default m p = walk.read_at table_reader default (table_reader.around default places.Member) m p
+
+-- what the spec of a member stands for, behind its attributes
+abbrev pub sense_at : Pk → idl.MemberForm → Scope → Sense × Scope
+sense_at default m p = ((read_at default m p).spec, (read_at default m p).known)
+
+-- members of one body, with the names of all of them
+abbrev pub members_at : Pk → List Ident → idl.MemberForms → Scope → List Form × Scope
+members_at default names ms p = shapes default names (walk.members_at table_reader default ms p)
+
+abbrev pub arm_at : Pk → List Ident → idl.ArmForm → Scope → Face × Scope
+arm_at default names a p = (face_in default names (walk.arm_at table_reader default a p).0, (walk.arm_at table_reader default a p).1)
+
+abbrev pub arms_at : Pk → List Ident → idl.ArmForms → Scope → List Face × Scope
+arms_at default names arms p = faces default names (walk.arms_at table_reader default arms p)

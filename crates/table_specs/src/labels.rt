@@ -1,6 +1,5 @@
 //! The labels of a union's arms, and what the arms hold.
-ghost use Rattle.std.specs.Prelude.{◌≡◌, ◌≤◌, ◌<◌, ◌++◌, length, map, IfOk, OnOk};
-ghost use Rattle.std.specs.List.{list_any};
+ghost use Rattle.std.specs.Prelude.{◌≡◌, ◌<◌, ◌++◌, map, IfOk, OnOk};
 ghost use Rattle.ndr_value.specs.Forms.{form, body, OfStruct};
 ghost use Rattle.name_map.specs.Named.{at_name};
 ghost use Rattle.table_specs.specs.Specs as spec;

@@ -6,4 +6,4 @@ mod labels;
 mod names;
 mod specs;
 
-pub use specs::{attrs_tag, spec_meaning};
+pub use specs::meaning_of;

@@ -1,9 +1,10 @@
 //! What specs stand for, and what they add to what is known. The recursion goes as deep as the tree.
-ghost use Rattle.std.specs.Prelude.{◌≡◌, ◌∷◌, [], ◌++◌, map, true, false, IfOk, OnOk, Some, None};
+ghost use Rattle.std.specs.Prelude.{◌≡◌, ◌++◌, map, false, IfOk, OnOk, Some, None};
 ghost use Rattle.std.specs.Option.{option_or};
 ghost use Rattle.ndr_value.specs.Forms.{form, face, body, OfUnion};
 ghost use Rattle.table_form.specs.Tables.{result_form};
-ghost use Rattle.idl_forms.specs.Forms.{spec_form, kind_form, member_form, members_form, switch_form, arm_form, arms_form, attr_kind_form, attr_form, attrs_form};
+ghost use Rattle.idl_forms.specs.Forms.{a_member, spec_form, member_form, members_form, switch_form, arm_form, arms_form, attr_kind_form, attr_form, attrs_form};
+ghost use Rattle.idl_names.specs.declared.place.Place.TheVariants as places;
 ghost use Rattle.table_scope.specs.Scopes.{sense, scope, status_sense, shapeless, begun};
 ghost use Rattle.table_scope.specs.Declarators as declarators;
 ghost use Rattle.name_map.specs.Named.{at_name};
@@ -120,14 +121,30 @@ fn enumeration(known: &mut Known, alloc: Global, names: &[Ident]) -> Result<Mean
     Ok(valued(Shape::Enum(in_16(names.len() as u64)?)))
 }
 
-/// What a spec stands for. `pointed`: each of its declarators has a star. `given`: the shape of its
-/// `switch_type`.
+/// What a spec stands for, behind these attributes and before these declarators.
 ///
 /// # Errors
 ///
 /// `NoMemory` where there is no memory for it.
+pub fn meaning_of(
+    attrs: &[Attr],
+    of: &Spec,
+    dtors: &[Dtor],
+    alloc: Global,
+    known: &mut Known,
+    default: Pk,
+) -> Result<Meaning, NoMemory>
+    ensures value { IfOk result (λ m. sense m ≡ (spec.sense_at default (a_member (attrs_form attrs.now) (spec_form of.now) dtors.now) (scope known.old)).0) }
+    ensures past { OnOk result (scope known.new ≡ (spec.sense_at default (a_member (attrs_form attrs.now) (spec_form of.now) dtors.now) (scope known.old)).1) }
+{
+    let tag = attrs_tag(attrs, alloc, known, default)?;
+    let pointed = all_pointed(dtors);
+    spec_meaning(of, alloc, known, default, pointed, &tag)
+}
+
+// What a spec stands for. `pointed`: it stands behind a pointer. `given`: the shape of its `switch_type`.
 #[cycle(specs)]
-pub fn spec_meaning(
+fn spec_meaning(
     of: &Spec,
     alloc: Global,
     known: &mut Known,
@@ -138,22 +155,7 @@ pub fn spec_meaning(
     ensures value { IfOk result (λ m. sense m ≡ (spec.spec_at default pointed (result_form given.now) (spec_form of.now) (scope known.old)).0) }
     ensures past { OnOk result (scope known.new ≡ (spec.spec_at default pointed (result_form given.now) (spec_form of.now) (scope known.old)).1) }
 {
-    kind_meaning(&of.what, alloc, known, default, pointed, given)
-}
-
-#[cycle(specs)]
-fn kind_meaning(
-    kind: &SpecKind,
-    alloc: Global,
-    known: &mut Known,
-    default: Pk,
-    pointed: bool,
-    given: &Option<Shape>,
-) -> Result<Meaning, NoMemory>
-    ensures value { IfOk result (λ m. sense m ≡ (spec.kind_at default pointed (result_form given.now) (kind_form kind.now) (scope known.old)).0) }
-    ensures past { OnOk result (scope known.new ≡ (spec.kind_at default pointed (result_form given.now) (kind_form kind.now) (scope known.old)).1) }
-{
-    match kind {
+    match &of.what {
         SpecKind::Base(base) => Ok(valued(base_shape(*base))),
         SpecKind::Named(name) => type_named(known, alloc, name),
         SpecKind::Void => Ok(without_shape(alloc, Sort::Void)),
@@ -232,14 +234,10 @@ fn switch_tag(by: &Switch, alloc: Global, known: &mut Known, default: Pk) -> Res
     Ok(meaning.shape)
 }
 
-/// The shape that the first `switch_type` of a list gives.
-///
-/// # Errors
-///
-/// `NoMemory` where there is no memory for it.
+// The shape that the first `switch_type` of a list gives.
 #[cycle(specs)]
 #[tactic(auto, using(crate::proofs::Rows::ors))]
-pub fn attrs_tag(
+fn attrs_tag(
     list: &[Attr],
     alloc: Global,
     known: &mut Known,
@@ -289,23 +287,38 @@ fn mark_tag(
     }
 }
 
+// What the spec of a member stands for.
+#[cycle(specs)]
+fn member_meaning(
+    member: &Member,
+    alloc: Global,
+    known: &mut Known,
+    default: Pk,
+) -> Result<Meaning, NoMemory>
+    ensures value { IfOk result (λ m. sense m ≡ (spec.sense_at default (member_form member.now) (scope known.old)).0) }
+    ensures past { OnOk result (scope known.new ≡ (spec.sense_at default (member_form member.now) (scope known.old)).1) }
+{
+    let tag = attrs_tag(&member.attrs, alloc, known, default)?;
+    let pointed = all_pointed(&member.dtors);
+    spec_meaning(&member.spec, alloc, known, default, pointed, &tag)
+}
+
 // Adds the shapes of the members that one spec declares.
 #[cycle(specs)]
 fn member_shapes(
     member: &Member,
+    place: Place,
     alloc: Global,
     known: &mut Known,
     default: Pk,
     names: &[Ident],
     into: &mut Shapes,
 ) -> Result<(), NoMemory>
-    ensures value { OnOk result (map form into.new.items ≡ map form into.old.items ++ (spec.member_at default names.now (member_form member.now) (scope known.old)).0) }
-    ensures past { OnOk result (scope known.new ≡ (spec.member_at default names.now (member_form member.now) (scope known.old)).1) }
+    ensures value { OnOk result (map form into.new.items ≡ map form into.old.items ++ spec.shapes_of default place names.now (member_form member.now) (spec.sense_at default (member_form member.now) (scope known.old))) }
+    ensures past { OnOk result (scope known.new ≡ (spec.sense_at default (member_form member.now) (scope known.old)).1) }
 {
-    let tag = attrs_tag(&member.attrs, alloc, known, default)?;
-    let pointed = all_pointed(&member.dtors);
-    let meaning = spec_meaning(&member.spec, alloc, known, default, pointed, &tag)?;
-    let terms = terms(&member.attrs, default, Place::Member, false, names)?;
+    let meaning = member_meaning(member, alloc, known, default)?;
+    let terms = terms(&member.attrs, default, place, names)?;
     let constants = &known.symbols.constants;
     each_declared(
         alloc,
@@ -330,7 +343,15 @@ fn members_shapes(
 {
     let mut all = Vec::new(alloc);
     for member in list {
-        member_shapes(member, alloc, known, default, names, &mut all)?;
+        member_shapes(
+            member,
+            Place::Member,
+            alloc,
+            known,
+            default,
+            names,
+            &mut all,
+        )?;
     }
     Ok(all)
 }
@@ -391,10 +412,18 @@ fn arm_shape(
     default: Pk,
     names: &[Ident],
 ) -> Result<Option<Shape>, NoMemory>
-    ensures value { IfOk result (λ o. body o ≡ spec.held (spec.member_at default names.now (member_form member.now) (scope known.old)).0) }
-    ensures past { OnOk result (scope known.new ≡ (spec.member_at default names.now (member_form member.now) (scope known.old)).1) }
+    ensures value { IfOk result (λ o. body o ≡ spec.held (spec.shapes_of default places.Arm names.now (member_form member.now) (spec.sense_at default (member_form member.now) (scope known.old)))) }
+    ensures past { OnOk result (scope known.new ≡ (spec.sense_at default (member_form member.now) (scope known.old)).1) }
 {
     let mut shapes = Vec::new(alloc);
-    member_shapes(member, alloc, known, default, names, &mut shapes)?;
+    member_shapes(
+        member,
+        Place::Arm,
+        alloc,
+        known,
+        default,
+        names,
+        &mut shapes,
+    )?;
     Ok(held(shapes))
 }

@@ -1,6 +1,6 @@
 use Rattle.std.proofs.Common.{◌≡◌, ◌≤◌, ◌<◌, length}
 use Rattle.idl_tokens.specs.Terminals.{terminals}
-use Rattle.idl_tree.specs.Grammar.{a_name}
+use Rattle.idl_tree.specs.Combinators.{a_name}
 use Rattle.idl_tree.specs.Pieces.{Written}
 use Rattle.idl_tree.specs.Trees.{names_pieces}
 use Rattle.idl_parts.specs.Along.{names_at, more_of}

@@ -1,6 +1,6 @@
 use Rattle.std.proofs.Common.{◌≡◌, ◌≤◌, ◌<◌, length}
 use Rattle.idl_tokens.specs.Terminals.{terminals}
-use Rattle.idl_tree.specs.Grammar.{a_text}
+use Rattle.idl_tree.specs.Combinators.{a_text}
 use Rattle.idl_tree.specs.Pieces.{Written, commas, text_pieces}
 use Rattle.idl_parts.specs.Along.{more_of}
 use Rattle.idl_reader.specs.Along.{texts_at}

@@ -6,4 +6,4 @@ use Rattle.table_scope.proofs.marks.most.Given as goal
 
 -- what is left of the attributes has the answer
 abbrev pub invariant-loop-attr : goal.invariant-loop-attr
-invariant-loop-attr l = given (most_in l.parameters l.names) (attrs_form (drop l.attr-index l.attrs)) ≡ given (most_in l.parameters l.names) (attrs_form l.attrs)
+invariant-loop-attr l = given (most_in l.place l.names) (attrs_form (drop l.attr-index l.attrs)) ≡ given (most_in l.place l.names) (attrs_form l.attrs)

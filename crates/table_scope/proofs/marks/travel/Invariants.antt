@@ -6,4 +6,4 @@ use Rattle.table_scope.proofs.marks.travel.Given as goal
 
 -- what is left of the attributes has the answer
 abbrev pub invariant-loop-attr : goal.invariant-loop-attr
-invariant-loop-attr l = given (travel_in l.parameters l.names) (attrs_form (drop l.attr-index l.attrs)) ≡ given (travel_in l.parameters l.names) (attrs_form l.attrs)
+invariant-loop-attr l = given (travel_in l.place l.names) (attrs_form (drop l.attr-index l.attrs)) ≡ given (travel_in l.place l.names) (attrs_form l.attrs)

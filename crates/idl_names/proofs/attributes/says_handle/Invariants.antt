@@ -1,8 +1,0 @@
-use Rattle.std.proofs.Common.{◌≡◌, drop}
-use Rattle.idl_forms.specs.Forms.{attrs_form}
-use Rattle.idl_names.specs.Attributes.{says, says_handle}
-use Rattle.idl_names.proofs.attributes.says_handle.Given as goal
-
--- what is left of the attributes has the answer
-abbrev pub invariant-loop-attr : goal.invariant-loop-attr
-invariant-loop-attr l = says says_handle (attrs_form (drop l.attr-index l.attrs)) ≡ says says_handle (attrs_form l.attrs)
