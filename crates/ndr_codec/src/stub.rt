@@ -4,15 +4,17 @@ ghost use Rattle.ndr_value.specs.Values.{Msg, msg};
 ghost use Rattle.table_form.specs.Shown.{shown};
 ghost use Rattle.table_form.specs.Tables.{OpForm, op_form};
 ghost use Rattle.ndr_model.specs.Message.{IsStub, read_stub};
+ghost use Rattle.ndr_model.specs.Stub.{start};
 ghost use Rattle.ndr_model.specs.Message as model;
 ghost use Rattle.ndr_model.specs.Fits.{IsOfOp};
 ghost use Rattle.ndr_agree.specs.Views.{asked_of};
+ghost use Rattle.ndr_read.specs.Views.{last_of};
 ghost use Rattle.ndr_codec.specs.Faults.{Decodes, IsThat};
 
 use crate::fault::unread;
 use ndr_agree::{Call, first_off};
 use ndr_model::{NdrFault, Way};
-use ndr_read::{Reading, read};
+use ndr_read::{Tail, read};
 use ndr_value::Message;
 use rpc_base::Order;
 use std::alloc::Global;
@@ -24,20 +26,41 @@ fn compared(
     op: &Op,
     way: Way,
     asked: Option<&Message>,
-    reading: Reading,
+    message: Message,
+    tail: &Tail<'_>,
 ) -> Result<Message, NdrFault>
-    ensures { Decodes result (model.compared (shown table.now).types (op_form op.now) way (asked_of (λ m. m.now) asked.entry) reading.marks (msg reading.message)) }
+    ensures { Decodes result (model.compared (shown table.now).types (op_form op.now) way (asked_of (λ m. m.now) asked.entry) (last_of tail.now).marks (msg message)) }
 {
     let call = Call {
         table,
         op,
         way,
         asked,
-        said: &reading.message,
+        said: &message,
     };
-    match first_off(&call, reading.marks.as_slice()) {
-        None => Ok(reading.message),
+    match first_off(&call, tail.marks()) {
+        None => Ok(message),
         Some(departure) => Err(NdrFault::of(departure)),
+    }
+}
+
+// As `decode_op`, with what is kept while the stub is read.
+fn decode_by<'a>(
+    alloc: Global,
+    table: &'a Table,
+    op: &'a Op,
+    way: Way,
+    order: Order,
+    asked: Option<&Message>,
+    stub: &'a [u8],
+    tail: &mut Tail<'a>,
+) -> Result<Message, NdrFault>
+    requires { last_of tail.old ≡ start }
+    ensures { Decodes result (read_stub (shown table.now).types (op_form op.now) way order (asked_of (λ m. m.now) asked.entry) stub.now) }
+{
+    match read(alloc, table, op, way, order, stub, tail) {
+        Err(error) => Err(unread(error)),
+        Ok(message) => compared(table, op, way, asked, message, tail),
     }
 }
 
@@ -52,10 +75,8 @@ pub(crate) fn decode_op(
 ) -> Result<Message, NdrFault>
     ensures { Decodes result (read_stub (shown table.now).types (op_form op.now) way order (asked_of (λ m. m.now) asked.entry) stub.now) }
 {
-    match read(alloc, table, op, way, order, stub) {
-        Err(error) => Err(unread(error)),
-        Ok(reading) => compared(table, op, way, asked, reading),
-    }
+    let mut tail = Tail::new(alloc);
+    decode_by(alloc, table, op, way, order, asked, stub, &mut tail)
 }
 
 /// The message of the operation of that number that has the octets as its stub of that way. `asked` is

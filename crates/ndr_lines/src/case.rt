@@ -1,6 +1,6 @@
 //! One stub, and what it is.
 
-use crate::read::{is_plain, message_of};
+use crate::read::{has_plain_text, message_of};
 use crate::text::{put_fault, put_message};
 use crate::typed::are_typed;
 use ndr_codec::{NdrFault, Way, decode, encode, fits, in_range};
@@ -143,18 +143,17 @@ impl Case<'_> {
         if self.is_canonical && octets != stub {
             put(b" in other octets", into)?;
         }
-        if self.is_canonical && !self.is_read(alloc, table, asked, stub) {
+        if self.is_canonical
+            && has_plain_text(self.way, message)
+            && !self.is_read(alloc, table, asked, stub)
+        {
             put(b" read otherwise", into)?;
         }
         Ok(())
     }
 
-    // Whether the message that the wanted text is read as is written as those octets. A text with a heap
-    // or handles isn't read.
+    // Whether the message that the wanted text is read as is written as those octets.
     fn is_read(&self, alloc: Global, table: &Table, asked: Option<&Message>, stub: &[u8]) -> bool {
-        if !is_plain(self.wanted) {
-            return true;
-        }
         match message_of(alloc, table, self.way, self.wanted) {
             None => false,
             Some(message) => match self.written(alloc, table, asked, &message) {

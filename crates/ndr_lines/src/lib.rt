@@ -1,5 +1,5 @@
 //! Lines with stubs of interfaces: each is decoded, and what came is compared with what the line names. Its text is
-//! read too, where its octets are the canonical ones, and what comes is written.
+//! read too, where its octets are the canonical ones and it has no handles, and what comes is written.
 #![tactic(auto)]
 
 mod blocks;

@@ -1,6 +1,6 @@
 //! Messages, read from their texts.
 
-use crate::typed::goes;
+use call_texts::{Handles, read_row};
 use ndr_codec::Way;
 use ndr_value::{Message, Shape, Values, Wires};
 use std::alloc::Global;
@@ -38,24 +38,24 @@ impl Reader<'_> {
         Some(())
     }
 
-    // The values of the first operation, one way.
-    fn values(&mut self, way: Way) -> Option<()> {
+    // The values of a response of the first operation.
+    fn values(&mut self) -> Option<()> {
         let table = self.table;
         let op = table.op(0)?;
         for param in &op.params {
-            if goes(way, param) {
+            if param.outward {
                 self.value(&param.shape)?;
             }
         }
-        match (way, &op.result) {
-            (Way::Response, Some(shape)) => self.value(shape),
-            _ => Some(()),
+        match &op.result {
+            Some(shape) => self.value(shape),
+            None => Some(()),
         }
     }
 }
 
-/// The message of the first operation that has the text, where it has neither a heap nor handles.
-pub fn message_of(alloc: Global, table: &Table, way: Way, text: &[u8]) -> Option<Message> {
+// The values of a response of the first operation that have the text.
+fn values_of(alloc: Global, table: &Table, text: &[u8]) -> Option<Values> {
     let mut reader = Reader {
         alloc,
         table,
@@ -63,18 +63,33 @@ pub fn message_of(alloc: Global, table: &Table, way: Way, text: &[u8]) -> Option
         at: behind(b"(", text, 0)?,
         values: Vec::new(alloc),
     };
-    reader.values(way)?;
+    reader.values()?;
     if behind(b")", text, reader.at)? != text.len() {
         return None;
     }
-    Some(Message {
-        values: reader.values,
-        heap: Vec::new(alloc),
-        wires: Wires::new(alloc),
-    })
+    Some(reader.values)
 }
 
-/// Whether the text is of a message with neither a heap nor handles.
-pub fn is_plain(text: &[u8]) -> bool {
-    text.ends_with(b")")
+/// The message of the first operation that has the text, where that is plain.
+pub fn message_of(alloc: Global, table: &Table, way: Way, text: &[u8]) -> Option<Message> {
+    match way {
+        Way::Request => {
+            let params = &table.op(0)?.params;
+            read_row(alloc, table.types(), params, &Handles::new(alloc), text).ok()?
+        }
+        Way::Response => Some(Message {
+            values: values_of(alloc, table, text)?,
+            heap: Vec::new(alloc),
+            wires: Wires::new(alloc),
+        }),
+    }
+}
+
+/// Whether the text of a message is read here: it has no handles, and no heap where it is a response.
+pub fn has_plain_text(way: Way, message: &Message) -> bool {
+    message.wires.is_empty()
+        && match way {
+            Way::Request => true,
+            Way::Response => message.heap.is_empty(),
+        }
 }

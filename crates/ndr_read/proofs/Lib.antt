@@ -1,3 +1,4 @@
+mod Flats
 mod Follows
 mod Heaps
 mod Octets

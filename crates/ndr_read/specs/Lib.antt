@@ -1,3 +1,4 @@
+pub mod Alone
 pub mod Noted
 pub mod Views
 pub mod Pieces

@@ -7,11 +7,13 @@ ghost use Rattle.ndr_model.specs.declared.mark.Mark.TheVariants.{Referent};
 ghost use Rattle.ndr_model.specs.Places.{Last, noting, look};
 ghost use Rattle.ndr_model.specs.Reading.{number};
 ghost use Rattle.ndr_model.specs.Scan.{scan};
-ghost use Rattle.ndr_model.specs.Build.{ahead, ends, build, build_at, built_each, built_times, built_arm, whole, referent, behind_ref, behind_unique, behind_full, behind_known, in_struct, in_array};
+ghost use Rattle.ndr_model.specs.Build.{cursor, ahead, ends, build, build_at, built_each, built_times, built_arm, whole, referent, behind_ref, behind_unique, behind_full, behind_known, in_struct, in_array};
 ghost use Rattle.ndr_scan.specs.Gives.{Gives};
 ghost use Rattle.ndr_scan.specs.Views.{types_in};
+ghost use Rattle.ndr_read.specs.Alone.{ended};
 ghost use Rattle.ndr_read.specs.Views.{cursor_of, last_of};
 
+use crate::alone::stands_alone;
 use crate::leaves::{
     build_bool, build_byte, build_char, build_enum, build_handle, build_int, build_text, build_uint,
 };
@@ -439,6 +441,28 @@ fn build_referent<'a>(
     build_whole(fuel, reader, room - 1, inner, tail)
 }
 
+// A value without referents: what follows its flat part follows it.
+#[cycle(build)]
+#[inline(never)]
+fn build_alone<'a>(
+    fuel: u32,
+    reader: &Reader<'a>,
+    room: u16,
+    shape: &'a Shape,
+    tail: &mut Tail<'a>,
+) -> Result<Value, ReadError>
+    ensures { Gives (λ v. (val v, last_of tail.new)) result (ended (build (types_in reader.now) reader.now.order reader.now.octets.now fuel room None (form shape.now) (cursor (last_of tail.old).here) (last_of tail.old))) }
+{
+    let mut flat = Flat {
+        at: tail.at,
+        ids: tail.seen.referents.len() as usize,
+        handles: tail.seen.wires.len(),
+    };
+    let value = build_value(fuel, reader, room, None, shape, &mut flat, tail)?;
+    tail.at = flat.at;
+    Ok(value)
+}
+
 /// A value and its referents, where they go on.
 #[cycle(build)]
 pub(crate) fn build_whole<'a>(
@@ -450,6 +474,9 @@ pub(crate) fn build_whole<'a>(
 ) -> Result<Value, ReadError>
     ensures { Gives (λ v. (val v, last_of tail.new)) result (whole (types_in reader.now) reader.now.order reader.now.octets.now fuel room (form shape.now) (last_of tail.old)) }
 {
+    if stands_alone(shape) {
+        return build_alone(fuel, reader, room, shape, tail);
+    }
     let mut flat = Flat {
         at: tail.at,
         ids: tail.seen.referents.len() as usize,

@@ -75,6 +75,9 @@ pub(crate) fn in_order(
 ) -> Result<Option<Values>, NoMemory>
     ensures { IfOk result (λ o. option_map (λ h. vals h.items) o ≡ heap_from (items_of items.items) 0 count) }
 {
+    if count == 0 {
+        return Ok(Some(Vec::new(alloc)));
+    }
     let mut slots = empty(alloc, count)?;
     fill(items, &mut slots);
     gather(alloc, slots)

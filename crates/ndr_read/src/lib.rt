@@ -2,6 +2,7 @@
 //! Syntax NDR").
 #![tactic(auto)]
 
+mod alone;
 mod build;
 mod heap;
 mod leaves;
@@ -11,4 +12,5 @@ mod state;
 mod whole;
 
 pub use marks::Marks;
-pub use whole::{Reading, read};
+pub use state::Tail;
+pub use whole::read;

@@ -18,27 +18,19 @@ ghost use Rattle.ndr_read.specs.Views.{last_of, items_of};
 
 use crate::build::build_whole;
 use crate::heap::in_order;
-use crate::marks::Marks;
 use crate::notes::note;
 use crate::state::Tail;
 use ndr_model::{Departure, Mark, Way};
-use ndr_pointers::Referents;
-use ndr_scan::{ReadError, Reader, Seen, aligned, tag_octets};
+use ndr_scan::{ReadError, Reader, aligned, tag_octets};
 use ndr_value::{Message, Shape, Value, Values, Wires};
 use rpc_base::{NoMemory, Order};
 use std::alloc::Global;
+use std::mem;
 use table_form::{Bounds, Op, Param, Table};
 
 // How deep constructs of a stub nest at most: types, parameters and results nest by value 16
 // levels, and there are 256 levels of pointers.
 const ENOUGH: u32 = 257 * 1024;
-
-/// A message that was read, and the marks of what stands in its stub.
-#[derive(Drop)]
-pub struct Reading {
-    pub message: Message,
-    pub marks: Marks,
-}
 
 // Whether a parameter goes that way.
 fn goes(way: Way, param: &Param) -> bool
@@ -188,34 +180,28 @@ fn read_to_end<'a>(
     end(reader, values, tail)
 }
 
-// The message of values that were read.
-fn message(alloc: Global, values: Values, tail: Tail<'_>) -> Result<Reading, ReadError>
-    ensures { Gives (λ r. (msg r.message, r.marks)) result (reading_of (vals values.items, last_of tail.entry)) }
+// The message of values that were read. The marks stay.
+fn message(alloc: Global, values: Values, tail: &mut Tail<'_>) -> Result<Message, ReadError>
+    ensures { Gives (λ m. (msg m, (last_of tail.new).marks)) result (reading_of (vals values.items, last_of tail.old)) }
 {
-    let Tail {
-        seen,
-        items,
-        marks,
-        ..
-    } = tail;
-    let Seen { referents, wires } = seen;
-    let count = referents.len() as usize;
+    let count = tail.seen.referents.len() as usize;
+    let items = mem::replace(&mut tail.items, Vec::new(alloc));
     match in_order(alloc, items, count)? {
         None => Err(ReadError::Departs(Departure::TooDeep(0))),
         Some(heap) => {
-            let message = Message {
+            let wires = mem::replace(&mut tail.seen.wires, Wires::new(alloc));
+            Ok(Message {
                 values,
                 heap,
                 wires,
-            };
-            Ok(Reading { message, marks })
+            })
         }
     }
 }
 
 /// The message of the operation that stands in a stub of that way, before counts, tags and ranges are
-/// compared with what names them, and the marks of what was read. Unless memory runs out, its first
-/// departure where none stands there.
+/// compared with what names them; the marks of what was read are then in the tail. Unless memory runs
+/// out, its first departure where none stands there.
 pub fn read<'a>(
     alloc: Global,
     table: &'a Table,
@@ -223,8 +209,10 @@ pub fn read<'a>(
     way: Way,
     order: Order,
     octets: &'a [u8],
-) -> Result<Reading, ReadError>
-    ensures { Gives (λ r. (msg r.message, r.marks)) result (reading (shown table.now).types (op_form op.now) way order octets.now) }
+    tail: &mut Tail<'a>,
+) -> Result<Message, ReadError>
+    requires { last_of tail.old ≡ start }
+    ensures { Gives (λ m. (msg m, (last_of tail.new).marks)) result (reading (shown table.now).types (op_form op.now) way order octets.now) }
 {
     let reader = Reader {
         alloc,
@@ -232,15 +220,6 @@ pub fn read<'a>(
         order,
         octets,
     };
-    let mut tail = Tail {
-        at: 0,
-        seen: Seen {
-            referents: Referents::new(alloc),
-            wires: Wires::new(alloc),
-        },
-        items: Vec::new(alloc),
-        marks: Marks::new(alloc),
-    };
-    let values = read_to_end(&reader, op, way, &mut tail)?;
+    let values = read_to_end(&reader, op, way, tail)?;
     message(alloc, values, tail)
 }

@@ -17,6 +17,7 @@ use Rattle.ndr_scan.specs.Views.{types_in, place}
 use Rattle.ndr_read.specs.Views.{cursor_of, items_of, last_of}
 use Rattle.ndr_scan.proofs.Walks.{moved_is}
 use Rattle.ndr_read.specs.Readings.{join}
+use Rattle.ndr_read.proofs.Flats.{alone_whole}
 use Rattle.ndr_read.proofs.Rows.{vals_push, one_more, one_fails, all_done, each_more, each_fails, each_done, build_step, struct_build, union_build, items_push}
 use Rattle.ndr_read.proofs.build.+build.Goals as goal
 
@@ -129,3 +130,9 @@ build_struct-returns t c =
     struct_build (types_in c.args.reader.now) c.args.reader.now.order c.args.reader.now.octets.now (scan (types_in c.args.reader.now) c.args.reader.now.order c.args.reader.now.octets.now c.args.fuel) (build (types_in c.args.reader.now) c.args.reader.now.order c.args.reader.now.octets.now c.args.fuel) c.args.room c.args.moved own (form c.args.shape.now) ss (cursor_of c.args.flat.now) (last_of c.args.tail.now) c.in_ok-own.begin c.requires (c.in_ok-own.ensures ss c.requires)
     ∙ ap (λ (q : Last). in_struct (built_each go own ss (ahead (cursor_of c.args.flat.now) c.in_ok-own.begin) q)) (sym c.in_ok-note_front.ensures) in
     subst (λ (f : Built). Gives (λ v. (val v, ends (cursor_of c.build_members.new.flat) (last_of c.build_members.new.tail))) c.build_members.result f) (sym e) c.build_members.ensures
+
+pub build_whole-returns-then-stands_alone : goal.build_whole-returns-then-stands_alone
+build_whole-returns-then-stands_alone t c =
+    subst (λ (f : Found). Gives (λ v. (val v, last_of c.build_alone.new.tail)) c.build_alone.result f)
+    (sym (alone_whole (types_in c.args.reader.now) c.args.reader.now.order c.args.reader.now.octets.now c.args.fuel c.args.room (form c.args.shape.now) (last_of c.args.tail.now) (sym c.stands_alone.ensures ∙ c.if-stands_alone.true)))
+    c.build_alone.ensures

@@ -19,8 +19,11 @@ decreases-build_times l = 8 * l.fuel + 1
 abbrev pub decreases-build_arm : goal.decreases-build_arm
 decreases-build_arm l = 8 * l.fuel + 1
 
+abbrev pub decreases-build_alone : goal.decreases-build_alone
+decreases-build_alone l = 8 * l.fuel + 1
+
 abbrev pub decreases-build_whole : goal.decreases-build_whole
-decreases-build_whole l = 8 * l.fuel + 1
+decreases-build_whole l = 8 * l.fuel + 2
 
 abbrev pub decreases-build_members : goal.decreases-build_members
 decreases-build_members l = 8 * l.fuel + 2
@@ -32,7 +35,7 @@ abbrev pub decreases-build_each_item : goal.decreases-build_each_item
 decreases-build_each_item l = 8 * l.fuel + 2
 
 abbrev pub decreases-build_referent : goal.decreases-build_referent
-decreases-build_referent l = 8 * l.fuel + 2
+decreases-build_referent l = 8 * l.fuel + 3
 
 abbrev pub decreases-build_struct : goal.decreases-build_struct
 decreases-build_struct l = 8 * l.fuel + 3
@@ -41,25 +44,25 @@ abbrev pub decreases-build_items : goal.decreases-build_items
 decreases-build_items l = 8 * l.fuel + 3
 
 abbrev pub decreases-build_ref : goal.decreases-build_ref
-decreases-build_ref l = 8 * l.fuel + 3
+decreases-build_ref l = 8 * l.fuel + 4
 
 abbrev pub decreases-build_unique : goal.decreases-build_unique
-decreases-build_unique l = 8 * l.fuel + 3
+decreases-build_unique l = 8 * l.fuel + 4
 
 abbrev pub decreases-build_new : goal.decreases-build_new
-decreases-build_new l = 8 * l.fuel + 3
+decreases-build_new l = 8 * l.fuel + 4
 
 abbrev pub decreases-build_array : goal.decreases-build_array
 decreases-build_array l = 8 * l.fuel + 4
 
 abbrev pub decreases-build_known : goal.decreases-build_known
-decreases-build_known l = 8 * l.fuel + 4
+decreases-build_known l = 8 * l.fuel + 5
 
 abbrev pub decreases-build_full : goal.decreases-build_full
-decreases-build_full l = 8 * l.fuel + 5
+decreases-build_full l = 8 * l.fuel + 6
 
 abbrev pub decreases-build_one : goal.decreases-build_one
-decreases-build_one l = 8 * l.fuel + 6
+decreases-build_one l = 8 * l.fuel + 7
 
 -- what was built, and what is left, give what all gives
 abbrev pub invariant-build_each-loop-shape : goal.invariant-build_each-loop-shape
