@@ -5,7 +5,7 @@ use Rattle.std.proofs.lemmas.List.{append_cancel_right, length-reverse}
 use Rattle.std.proofs.lemmas.Bool.Decides.{eqb_tells}
 use mathlib.Core.Logic.{dite}
 use native.Mathlib.Decide.{ℕ_discrete}
-use Rattle.turn_lock.specs.Histories.{StartsWith}
+use Rattle.turn_lock.specs.Histories.{StartsWith, places}
 use Rattle.handle_model.specs.declared.entry.Entry.{Entry}
 use Rattle.handle_model.specs.declared.entry.Entry.TheVariants.{Join}
 use Rattle.handle_model.specs.declared.limits.JoinLimit.{JoinLimit}
@@ -13,9 +13,10 @@ use Rattle.handle_model.specs.Journal.{is_shut}
 use Rattle.handle_model.specs.History.{History}
 use Rattle.handle_model.specs.Limits.{join_limit}
 use Rattle.hub_story.specs.declared.item.Mark.{Mark}
-use Rattle.hub_story.specs.declared.item.Mark.TheVariants.{Opened}
+use Rattle.hub_story.specs.declared.item.Mark.TheVariants.{Opened, Missed}
 use Rattle.hub_story.specs.declared.item.Item.{Item}
 use Rattle.hub_story.specs.declared.item.Item.TheVariants.{Begun, Listed, Of}
+use Rattle.hub_story.specs.Directories.{is_open_id}
 use Rattle.hub_story.specs.Histories.{mark_of, entry_of, marks_in, past_in, journal_in}
 use Rattle.hub_story.specs.Passes.{Seen, Serves}
 use Rattle.hub_story.specs.Calls.{IsNewConn, Enters}
@@ -33,7 +34,7 @@ use Rattle.group_hub.specs.Passes.{at_shard, EntersAt}
 use Rattle.group_hub.specs.Openings.{HadNoRoom, PassedBy, Quiet, Opens}
 use Rattle.group_joins.specs.declared.joining.Membership.{Membership}
 use Rattle.group_joins.specs.Owning.{Owns, Grown}
-use Rattle.group_joins.specs.Joins.{JoinedAs, Was, NoRoom, IsRefusedFor, Joins, by_opening, by_finding}
+use Rattle.group_joins.specs.Joins.{JoinedAs, Was, NoRoom, Misses, IsRefusedFor, Joins, by_opening, by_finding}
 use Rattle.group_joins.proofs.PassLemmas.{owns_more}
 
 -- ---- fronts and own places
@@ -165,6 +166,15 @@ found boot id c p q some call serves =
 was_so : (boot s : ℕ) (v w : Seen) (between more : List Item) (Holds : List Item → Type 0) → Enters boot s v w between more → Holds (v.log ++ between) → Was v w Holds
 was_so boot s v w between more Holds e h = record { moment = v.log ++ between; later = more; since = between; front = e.log; starts = refl; holds = h }
 
+misses : (boot s g : ℕ) (v w : Seen) (between more : List Item) → Enters boot s v w between more → more ≡ Listed (Missed g) ∷ [] → is_open_id (marks_in (v.log ++ between)) g ≡ false → Misses g v w
+misses boot s g v w between more e one absent = record {
+  before = v.log ++ between;
+  starts = (between, refl);
+  front = e.log ∙ ap (λ l. (v.log ++ between) ++ l) one;
+  own = e.own ∙ ap (λ l. v.own ++ places (length (v.log ++ between)) (length l)) one;
+  absent = absent;
+}
+
 no_room : (boot s : ℕ) (full : Bool) (v w : Seen) → HadNoRoom boot s full v w → Was v w (NoRoom s)
 no_room boot s true v w h = was_so boot s v w h.between [] (NoRoom s) h.enters (inl h.full_is)
 no_room boot s false v w h = was_so boot s v w h.between [] (NoRoom s) h.enters (inr (h.used_up refl))
@@ -233,7 +243,7 @@ missed boot id p q (Directory n) some call =
     let t = call.here.3.0 in (
       call.here.1,
       grown_there boot (shard_of id) p q call.here.0 call.here.1 call.here.2 (λ x low apart. onward_same (at_shard p x) (at_shard q x) (call.others x apart)),
-      inl (refl, some, inl (t.2, was_so boot (shard_of id) (at_shard p (shard_of id)) (at_shard q (shard_of id)) call.here.0 call.here.1 _ call.here.2 t.0)),
+      inl (refl, some, inl (t.2, misses boot (shard_of id) id (at_shard p (shard_of id)) (at_shard q (shard_of id)) call.here.0 call.here.1 call.here.2 t.2 t.0)),
     )
 missed boot id p q (Shut n) some call =
     let t = call.here.3.0 in ended boot id p q call.here.0 (nothing_in boot id p q call.here.0 call.here.1 t.3 call.here.2) call.others some t.1

@@ -1,6 +1,7 @@
 -- What a bind's group comes to.
-use Rattle.std.specs.Prelude.{◌≡◌, ◌≢◌, ◌⊎◌, ℕ, ◌<◌, true, false, None, Result, Ok, Err, List, [], ◌∷◌, ◌++◌}
+use Rattle.std.specs.Prelude.{◌≡◌, ◌≢◌, ◌⊎◌, ℕ, ◌<◌, true, false, None, Result, Ok, Err, List, [], ◌∷◌, ◌++◌, length}
 use Rattle.std.specs.List.{list_any}
+use Rattle.turn_lock.specs.Histories.{StartsWith}
 use Rattle.handle_model.specs.declared.entry.Entry.{Entry}
 use Rattle.handle_model.specs.declared.entry.Entry.TheVariants.{Join}
 use Rattle.handle_model.specs.Journal.{is_shut}
@@ -49,10 +50,18 @@ pub record Was (v w : Seen) (Holds : List Item → Type 0) : Type 0 where
 abbrev pub NoRoom : ℕ → List Item → Type 0
 NoRoom s log = (is_full (marks_in log) ≡ true) ⊎ (is_used_up s (marks_in log) ≡ true)
 
--- the group of the id isn't open, and that was marked at a new own place; or it has ended
+-- The id was marked as missed, at a new own place, behind items in which its group isn't open.
+pub record Misses (g : ℕ) (v w : Seen) : Type 0 where
+  pub before : List Item
+  pub starts : StartsWith before v.log
+  pub front : w.log ≡ before ++ Listed (Missed g) ∷ []
+  pub own : w.own ≡ v.own ++ length before ∷ []
+  pub absent : is_open_id (marks_in before) g ≡ false
+
+-- the id was marked as missed, where its group isn't open; or the group has ended
 abbrev pub IsNoGroup : ℕ → ℕ → Pass → Pass → List Item → Type 0
 IsNoGroup boot g p q items =
-    ((items ≡ Listed (Missed g) ∷ []) × Was (at_shard p (shard_of g)) (at_shard q (shard_of g)) (λ log. is_open_id (marks_in log) g ≡ false))
+    ((items ≡ Listed (Missed g) ∷ []) × Misses g (at_shard p (shard_of g)) (at_shard q (shard_of g)))
     ⊎ ((items ≡ []) × (list_any is_shut (past_in g (at_shard q (shard_of g)).log) ≡ true))
 
 -- Why a bind is refused with that reason: there is no group of the id; no further group may be opened; the group takes no

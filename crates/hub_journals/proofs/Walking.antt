@@ -23,7 +23,7 @@ use Rattle.hub_story.specs.Histories.{marks_in, past_in, journal_in, home_of, Is
 use Rattle.hub_story.specs.Folded.{kept, kept_since}
 use Rattle.hub_story.specs.Passes.{Seen}
 use Rattle.hub_story.specs.Calls.{Enters}
-use Rattle.hub_story.proofs.FoldLemmas.{kept_folds}
+use Rattle.hub_story.proofs.FoldLemmas.{kept_folds, kept_join}
 use Rattle.shard.specs.Copies.{gives_copy}
 use Rattle.group_hub.specs.declared.pass.Pass.{Pass}
 use Rattle.group_hub.specs.Shards.{shard_of}
@@ -83,6 +83,7 @@ copy_on boot p q r c on is = record {
   story = is.story;
   opened = is.opened;
   sound = is.sound;
+  joined = is.joined;
 }
 
 -- ---- how far
@@ -170,6 +171,7 @@ module _ (boot : ℕ) (p q r : Pass) (old mid : List ℕ) (next : ℕ) (over : L
           story = l.story;
           opened = there;
           sound = kept_sound (home_of boot next) (past_in next (front_at r next)) (l.story.sound next);
+          joined = kept_join (home_of boot next) (past_in next (front_at r next)) (l.story.joined next there);
         });
     going = λ g low less goes. less_or_is g next less (λ b. among_before g (w.going g low b goes)) (among_last g);
     ended = λ g low is_over_ opened. among_before g (w.ended g low is_over_ (opened_on q r g (l.others (shard_of g) (other_shard g is_over_)) opened));

@@ -2,6 +2,7 @@
 use Rattle.std.specs.Prelude.{◌≡◌, ℕ, ◌<◌, ◌≤◌, ◌^◌, ◌==◌, true, List, [], ◌∷◌, ◌++◌, map, ⊤}
 use Rattle.std.specs.List.{AllByRecursion, list_any}
 use Rattle.turn_lock.specs.Histories.{StartsWith}
+use Rattle.handle_model.specs.Journal.{is_join}
 use Rattle.handle_model.specs.History.{History, IsSound}
 use Rattle.hub_story.specs.declared.item.Item.{Item}
 use Rattle.hub_story.specs.Directories.{is_opened_id}
@@ -41,13 +42,14 @@ AreRising [] = ⊤
 AreRising (g ∷ gs) = AllByRecursion (λ h. g < h) gs × AreRising gs
 
 -- The copy was made behind what the pass had seen as p, and has been seen as it is q: of a group that was opened, whose journal is legal
--- and settled.
+-- and settled, and isn't empty: it has the Join of a connection.
 pub record IsCopy (boot : ℕ) (p q : Pass) (c : Copy) : Type 0 where
   pub starts : StartsWith c.front (front_at p c.id)
   pub goes_on : StartsWith (front_at q c.id) c.front
   pub story : IsStory boot (shard_of c.id) c.front
   pub opened : is_opened_id (marks_in c.front) c.id ≡ true
   pub sound : IsSound (journal_of boot c)
+  pub joined : list_any is_join (journal_of boot c).past ≡ true
 
 -- The text of the journals of all groups that the pass has as opened, by rising id, was added.
 pub record Logs (boot : ℕ) (p q : Pass) (old new : List ℕ) : Type 0 where

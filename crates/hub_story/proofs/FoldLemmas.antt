@@ -8,7 +8,7 @@ use Rattle.handle_model.specs.declared.entry.Entry.{Entry}
 use Rattle.handle_model.specs.declared.base.Base.{Base}
 use Rattle.handle_model.specs.Folds.{base_of, advance, fold}
 use Rattle.handle_model.specs.History.{History, IsSound, since}
-use Rattle.handle_model.specs.Journal.{Legal, asked, is_shut, waits, runs, due}
+use Rattle.handle_model.specs.Journal.{Legal, asked, is_join, is_shut, waits, runs, due}
 use Rattle.journal_laws.specs.Further.{with_entries}
 use Rattle.journal_tables.specs.Shown.{tables_of}
 use Rattle.journal_folds.specs.Unplaced.{unplaced}
@@ -103,3 +103,16 @@ kept_folds home (Orphan k ∷ past) l = folds_on (kept_since home past) (since h
 kept_folds home (End k results said ∷ past) l = folds_on (kept_since home past) (since home empty_base past) (End k results said ∷ []) (kept_folds home past l.1)
 kept_folds home (Leave c ∷ past) l = folds_on (kept_since home past) (since home empty_base past) (Leave c ∷ []) (kept_folds home past l.1)
 kept_folds home (Shut items ∷ past) l = folds_on (kept_since home past) (since home empty_base past) (Shut items ∷ []) (kept_folds home past l.1)
+
+-- the last Join stands among the entries
+pub kept_join : (home : Home) (past : List Entry) → list_any is_join past ≡ true → list_any is_join (kept_since home past).past ≡ true
+kept_join home [] h = h
+kept_join home (Join c ∷ past) h = refl
+kept_join home (Accept k a ∷ past) h = kept_join home past h
+kept_join home (Take k cookies ∷ past) h = kept_join home past h
+kept_join home (Deny k slot ∷ past) h = kept_join home past h
+kept_join home (Cancel k ∷ past) h = kept_join home past h
+kept_join home (Orphan k ∷ past) h = kept_join home past h
+kept_join home (End k results said ∷ past) h = kept_join home past h
+kept_join home (Leave c ∷ past) h = kept_join home past h
+kept_join home (Shut items ∷ past) h = kept_join home past h

@@ -6,7 +6,7 @@ use lib.ListN.{get_elem?}
 use Rattle.handle_model.specs.declared.entry.Home.{Home}
 use Rattle.handle_model.specs.declared.entry.Entry.{Entry}
 use Rattle.handle_model.specs.Bases.{empty_base}
-use Rattle.handle_model.specs.Journal.{is_shut}
+use Rattle.handle_model.specs.Journal.{is_shut, is_join}
 use Rattle.handle_model.specs.History.{History, IsSound, since}
 use Rattle.hub_story.specs.declared.item.Mark.{Mark}
 use Rattle.hub_story.specs.declared.item.Mark.TheVariants.{Retired}
@@ -69,5 +69,7 @@ pub record IsStory (boot s : ℕ) (log : List Item) : Type 0 where
   pub few : length (open_ids (marks_in log)) ≤ 64
   -- no other group has an entry
   pub unopened : (g : ℕ) → is_opened_id (marks_in log) g ≡ false → past_in g log ≡ []
+  -- a connection joined each group that was opened
+  pub joined : (g : ℕ) → is_opened_id (marks_in log) g ≡ true → list_any is_join (past_in g log) ≡ true
   -- a group was retired behind its Shut
   pub ended : (q g : ℕ) → get_elem? log q ≡ some (Listed (Retired g)) → list_any is_shut (past_in g (take q log)) ≡ true

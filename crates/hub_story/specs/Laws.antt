@@ -8,13 +8,14 @@ use Rattle.handle_model.specs.declared.entry.Entry.{Entry}
 use Rattle.handle_model.specs.declared.entry.Entry.TheVariants.{Join, Take}
 use Rattle.handle_model.specs.Bases.{empty_base}
 use Rattle.handle_model.specs.History.{since}
-use Rattle.handle_model.specs.Journal.{Legal, leaves, ends, suit, runs}
+use Rattle.handle_model.specs.Journal.{Legal, is_join, leaves, ends, suit, runs}
 use Rattle.fold_laws.specs.FoldOf.{IsFoldOf}
 use Rattle.group_core.specs.Stages.{is_asked}
-use Rattle.hub_story.specs.Folded.{kept_since}
+use Rattle.hub_story.specs.Folded.{kept_since, kept}
 use Rattle.hub_story.specs.declared.item.Item.{Item}
 use Rattle.hub_story.specs.declared.item.Item.TheVariants.{Of}
-use Rattle.hub_story.specs.Histories.{past_in}
+use Rattle.hub_story.specs.Directories.{is_opened_id}
+use Rattle.hub_story.specs.Histories.{marks_in, past_in, journal_in, IsStory}
 use Rattle.hub_story.specs.Passes.{Seen, HasOwn, Serves, Runs, slots_seen}
 use Rattle.hub_story.specs.Calls.{Enters}
 use Rattle.hub_story.specs.Still.{StillHas}
@@ -34,6 +35,12 @@ abbrev pub RunsAsAsked : Type 0
 RunsAsAsked =
     (home : Home) (past : List Entry) (k : ℕ) → Legal (since home empty_base past) → runs (since home empty_base past) k ≡ true
     → is_asked (kept_since home past) k ≡ is_asked (since home empty_base past) k
+
+-- and it has the Join of a connection, where the group was opened
+abbrev pub KeepsJoin : Type 0
+KeepsJoin =
+    (boot s g : ℕ) (log : List Item) → IsStory boot s log → is_opened_id (marks_in log) g ≡ true
+    → list_any is_join (kept (journal_in boot g log)).past ≡ true
 
 -- WHAT PASSES HAVE
 

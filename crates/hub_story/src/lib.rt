@@ -11,5 +11,6 @@ mod laws;
 
 pub use item::{Item, Mark};
 pub use laws::{
-    asked_is_asked, keeps_whole, runs_as_asked, runs_by_front, serves_by_front, still_has_all,
+    asked_is_asked, keeps_join, keeps_whole, runs_as_asked, runs_by_front, serves_by_front,
+    still_has_all,
 };

@@ -14,7 +14,7 @@ use Rattle.handle_model.specs.declared.entry.Entry.TheVariants as entry
 use Rattle.handle_model.specs.declared.limits.JoinLimit.TheVariants as limit
 use Rattle.handle_model.specs.declared.base.Base.{Base}
 use Rattle.handle_model.specs.Bases.{empty_base}
-use Rattle.handle_model.specs.Journal.{Legal, is_shut}
+use Rattle.handle_model.specs.Journal.{Legal, is_shut, is_join}
 use Rattle.handle_model.specs.History.{History, IsSound, since, history_of, size}
 use Rattle.journal_laws.specs.Further.{with_entries}
 use Rattle.group_core.specs.declared.answer.JoinRefusal.{JoinRefusal}
@@ -105,6 +105,7 @@ story_missed boot s g log t =
       ids = subst (λ m. opened_ids m ≡ first_ids s (length (opened_ids m))) (sym marks) t.ids;
       few = subst (λ m. length (open_ids m) ≤ 64) (sym marks) t.few;
       unopened = λ h no. past_marked h g log ∙ t.unopened h (ap (λ m. is_opened_id m h) (sym marks) ∙ no);
+      joined = λ h there. ap (list_any is_join) (past_marked h g log) ∙ t.joined h (ap (λ m. is_opened_id m h) (sym marks) ∙ there);
       ended = λ q h at. dite (dec_lt q (length log))
           (λ low. ap (λ l. list_any is_shut (past_in h l)) (take_front log (Marked (Missed g) ∷ []) q low) ∙ t.ended q h (sym (at_append log (Marked (Missed g) ∷ []) q low) ∙ at))
           (λ high. absurd (no_retired h (q - length log) g

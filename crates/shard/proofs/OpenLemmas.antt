@@ -12,7 +12,7 @@ use Rattle.handle_model.specs.declared.entry.Home.{Home}
 use Rattle.handle_model.specs.declared.entry.Entry.{Entry}
 use Rattle.handle_model.specs.declared.entry.Entry.TheVariants.{Join}
 use Rattle.handle_model.specs.Bases.{empty_base}
-use Rattle.handle_model.specs.Journal.{is_shut}
+use Rattle.handle_model.specs.Journal.{is_shut, is_join}
 use Rattle.handle_model.specs.History.{History, IsSound, since}
 use Rattle.handle_model.proofs.Steps.{empty_sound}
 use Rattle.group_core.specs.Conns.{Joins}
@@ -134,6 +134,12 @@ module _ (boot s id : ℕ) (log : List Item) (t : IsStory boot s log) (o : is_op
         elim (eqb_tells id h) [
           | inl same ↦ absurd (let f : ((id == h) || is_opened_id (marks_in log) h) ≡ true = rw same.0 refl in let c = sym f ∙ not_it in cc)
           | inr apart ↦ past_other h apart.1 ∙ t.unopened h (rw apart.0 at not_it)
+        ];
+    joined = λ h yes.
+        let it_or_one : ((id == h) || is_opened_id (marks_in log) h) ≡ true = ap (λ m. is_opened_id m h) (sym marks_opened) ∙ yes in
+        elim (eqb_tells id h) [
+          | inl same ↦ subst (λ (n : ℕ). list_any is_join (past_in n log') ≡ true) same.1 (ap (list_any is_join) past_id)
+          | inr apart ↦ ap (list_any is_join) (past_other h apart.1) ∙ t.joined h (rw apart.0 at it_or_one)
         ];
     ended = λ q h at. dite (dec_lt q (length log))
         (λ low. ap (λ l. list_any is_shut (past_in h l)) (take_front log (opening id) q low) ∙ t.ended q h (sym (at_append log (opening id) q low) ∙ at))

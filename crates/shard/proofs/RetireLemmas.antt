@@ -8,7 +8,7 @@ use mathlib.Core.Logic.{dite}
 use native.Mathlib.Decide.{dec_lt, ℕ_discrete}
 use lib.ListN.{get_elem?}
 use Rattle.handle_model.specs.Bases.{empty_base}
-use Rattle.handle_model.specs.Journal.{is_shut}
+use Rattle.handle_model.specs.Journal.{is_shut, is_join}
 use Rattle.handle_model.specs.History.{IsSound, since}
 use Rattle.handle_model.proofs.Tests.{and_left, and_right}
 use Rattle.hub_story.specs.declared.item.Mark.{Mark}
@@ -85,6 +85,7 @@ story_retired boot s g log t shut few =
       ids = subst (λ m. opened_ids m ≡ first_ids s (length (opened_ids m))) (sym marks) t.ids;
       few = subst (λ m. length (open_ids m) ≤ 64) (sym marks) few;
       unopened = λ h no. past_retired h g log ∙ t.unopened h (ap (λ m. is_opened_id m h) (sym marks) ∙ no);
+      joined = λ h there. ap (list_any is_join) (past_retired h g log) ∙ t.joined h (ap (λ m. is_opened_id m h) (sym marks) ∙ there);
       ended = λ q h at. dite (dec_lt q (length log))
           (λ low. ap (λ l. list_any is_shut (past_in h l)) (take_front log (Marked (Retired g) ∷ []) q low) ∙ t.ended q h (sym (at_append log (Marked (Retired g) ∷ []) q low) ∙ at))
           (λ high.

@@ -17,6 +17,7 @@ story_begun boot s = record {
   ids = refl;
   few = omega arith;
   unopened = λ g no. refl;
+  joined = λ g yes. absurd cc;
   ended = λ q g at. absurd (none boot s q g at);
 }
   where

@@ -9,7 +9,7 @@ use native.Mathlib.Decide.{dec_lt, ℕ_discrete}
 use lib.ListN.{get_elem?}
 use Rattle.handle_model.specs.declared.entry.Entry.{Entry}
 use Rattle.handle_model.specs.Bases.{empty_base}
-use Rattle.handle_model.specs.Journal.{is_shut}
+use Rattle.handle_model.specs.Journal.{is_shut, is_join}
 use Rattle.handle_model.specs.History.{History, IsSound, since}
 use Rattle.journal_laws.specs.Further.{with_entries}
 use Rattle.hub_story.specs.declared.item.Mark.{Mark}
@@ -146,6 +146,11 @@ story_more boot s g log es t open_ sound =
       unopened = λ h no. elim (eqb_tells g h) [
         | inl same ↦ absurd (let yes : is_opened_id (marks_in (log ++ items_of g es)) h ≡ true = (λ k. is_opened_id (marks k) (sym same.1 k)) ∙ open_ in let f = sym no ∙ yes in cc)
         | inr apart ↦ past_else g h log es apart.1 ∙ t.unopened h (ap (λ m. is_opened_id m h) (sym marks) ∙ no)
+      ];
+      joined = λ h there. elim (eqb_tells g h) [
+        | inl same ↦ subst (λ (n : ℕ). list_any is_join (past_in n (log ++ items_of g es)) ≡ true) same.1
+            (subst (λ l. list_any is_join l ≡ true) (sym (past_of g log es)) (any_behind is_join es (past_in g log) (t.joined g open_)))
+        | inr apart ↦ ap (list_any is_join) (past_else g h log es apart.1) ∙ t.joined h (ap (λ m. is_opened_id m h) (sym marks) ∙ there)
       ];
       ended = λ q h at. dite (dec_lt q (length log))
           (λ low. ap (λ l. list_any is_shut (past_in h l)) (take_front log (items_of g es) q low) ∙ t.ended q h (sym (at_append log (items_of g es) q low) ∙ at))
