@@ -99,6 +99,10 @@ impl Manager for DeskService {
         self.desks.call(rt, iface, op, message, cookies, probe)
     }
 
+    fn is_brief(&self, iface: u16, op: u16, stub: usize) -> bool {
+        self.desks.is_brief(iface, op, stub)
+    }
+
     fn rundown<R: Wait>(&self, rt: &R, due: Due) {
         self.desks.rundown(rt, due);
     }

@@ -9,5 +9,8 @@ mod locked;
 mod served;
 mod shared;
 
+/// The length in octets of the longest stub whose call is brief: a desk's call takes time by its stub.
+const BRIEF: usize = 65_536;
+
 pub use locked::Locked;
 pub use shared::SharedDesks;

@@ -1,4 +1,5 @@
 //! A desk as the one manager of a server.
+use crate::BRIEF;
 use crate::locked::Locked;
 use handle_model::{CookieRow, Due};
 use manager_api::{Answer, FixedDesk, Probe};
@@ -25,6 +26,10 @@ impl<D: FixedDesk + Drop> Manager for Locked<D> {
         probe: &mut P,
     ) -> Answer {
         self.answer(rt, iface, op, message, cookies, probe)
+    }
+
+    fn is_brief(&self, _iface: u16, _op: u16, stub: usize) -> bool {
+        stub <= BRIEF
     }
 
     fn rundown<R: Wait>(&self, rt: &R, due: Due) {

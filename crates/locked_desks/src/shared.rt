@@ -4,6 +4,7 @@ ghost use Rattle.service_desks.specs.Calls.{ids_in};
 ghost use Rattle.service_desks.specs.Shows.{shown_by};
 ghost use Rattle.service_desks.specs.State.{tables_with};
 
+use crate::BRIEF;
 use crate::endpoints::endpoint_map;
 use crate::lasting::{echo, manage, run_down_echo, run_down_managed};
 use crate::locked::Locked;
@@ -111,6 +112,10 @@ impl Manager for SharedDesks {
                 None => unreachable!(),
             },
         }
+    }
+
+    fn is_brief(&self, _iface: u16, _op: u16, stub: usize) -> bool {
+        stub <= BRIEF
     }
 
     fn rundown<R: Wait>(&self, rt: &R, due: Due) {

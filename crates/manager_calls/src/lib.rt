@@ -6,6 +6,6 @@ mod manager;
 mod ready;
 mod running;
 
-pub use manager::{Manager, Unasked};
+pub use manager::Manager;
 pub use ready::{Ready, prepared};
 pub use running::{Answered, run};

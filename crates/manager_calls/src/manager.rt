@@ -37,26 +37,10 @@ pub trait Manager {
         ensures told { ans result ≡ cancelled → P.told probe.new ≡ true }
         ensures key { P.key probe.new ≡ P.key probe.old };
 
+    /// Whether a call of an operation, with a stub of that many octets, surely ends so soon that a cancel could hardly come
+    /// meanwhile. Such a call runs in its connection's thread, and any other in a thread beside it.
+    fn is_brief(&self, iface: u16, op: u16, stub: usize) -> bool;
+
     /// Runs down a handle of a group that has ended. It takes no memory.
     fn rundown<R: Wait>(&self, rt: &R, due: Due);
-}
-
-/// The probe of a call that nobody can cancel while it runs: its connection waits for its end.
-#[derive(Drop)]
-pub struct Unasked;
-
-impl Probe for Unasked {
-    ghost use Rattle.std.specs.Prelude.{◌≡◌, ◌||◌, Bool, false};
-
-    type Key = ();
-
-    ghost told = { λ p. false };
-
-    ghost key = { λ p. tt };
-
-    fn asked(&mut self) -> bool
-        ensures { result ≡ false }
-    {
-        false
-    }
 }

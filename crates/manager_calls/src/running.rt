@@ -9,8 +9,9 @@ ghost use Rattle.served_tables.specs.Served.{tables_in};
 ghost use Rattle.served_call.specs.Suited.{suit_cookies};
 ghost use Rattle.manager_calls.specs.Ready.{Repeats};
 
-use crate::manager::{Manager, Unasked};
+use crate::manager::Manager;
 use handle_model::{Asked, Home, Outcomes, Said};
+use manager_api::Probe;
 use ndr_value::Message;
 use rpc_base::Status;
 use served_call::{Ended, Room, end_of, row_for, same_message};
@@ -47,10 +48,10 @@ fn twice(alloc: Global, said: Said) -> (Said, Said)
     }
 }
 
-/// Has the manager answer a call that was taken with these cookies, one for each slot, and ends it so, while nobody can
-/// cancel it. `message` and `again` are the call's message. Where there is no memory for the response's octets, its end
-/// says nca_s_fault_remote_no_memory; the results stand.
-pub fn run<R: Wait, M: Manager>(
+/// Has the manager answer a call that was taken with these cookies, one for each slot, and ends it so. While it runs the
+/// probe tells whether it was cancelled. `message` and `again` are the call's message. Where there is no memory for the
+/// response's octets, its end says nca_s_fault_remote_no_memory; the results stand.
+pub fn run<R: Wait, M: Manager, P: Probe>(
     rt: &R,
     alloc: Global,
     served: &Served,
@@ -61,6 +62,7 @@ pub fn run<R: Wait, M: Manager>(
     again: &Message,
     cookies: &[Option<u64>],
     room: Room,
+    probe: &mut P,
 ) -> Answered
     requires served { M.tables manager.now ≡ tables_in served.now }
     requires slots { HasSlots (tables_in served.now) asked.now.iface asked.now.op asked.now.order asked.now.stub asked.now.slots }
@@ -68,15 +70,16 @@ pub fn run<R: Wait, M: Manager>(
     requires cookies { suit_cookies asked.now.slots cookies.now ≡ true }
     requires message { IsAsked (tables_in served.now) asked.now.iface asked.now.op asked.now.order asked.now.stub (msg message) }
     requires again { IsAsked (tables_in served.now) asked.now.iface asked.now.op asked.now.order asked.now.stub (msg again.now) }
-    ensures meets { Meets home (tables_in served.now) (M.may manager.now) asked.now cookies.now false result.results result.said }
+    requires untold { P.told probe.old ≡ false }
+    ensures meets { Meets home (tables_in served.now) (M.may manager.now) asked.now cookies.now (P.told probe.new) result.results result.said }
+    ensures key { P.key probe.new ≡ P.key probe.old }
     ensures suit { suit asked.now.slots result.results ≡ true }
     ensures told { result.told ≡ result.said }
     ensures fits { FitsStub (Some result.said) }
 {
     same_message(served, asked, &message, again);
     let row = row_for(served, asked, again, cookies);
-    let mut probe = Unasked;
-    let answer = manager.call(rt, asked.iface, asked.op, message, row, &mut probe);
+    let answer = manager.call(rt, asked.iface, asked.op, message, row, probe);
     let Ended { results, said } = end_of(alloc, served, home, asked, again, cookies, answer, room);
     let (said, told) = twice(alloc, said);
     Answered {

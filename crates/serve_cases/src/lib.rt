@@ -2,6 +2,14 @@
 #![tactic(auto)]
 
 #[cfg(test)]
+mod cancels;
+#[cfg(test)]
+mod departs;
+#[cfg(test)]
+mod held;
+#[cfg(test)]
+mod journals;
+#[cfg(test)]
 mod links;
 #[cfg(test)]
 mod served;

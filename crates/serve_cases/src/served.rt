@@ -3,37 +3,40 @@ ghost use Rattle.std.specs.Prelude.{◌≡◌, IfOk, [], ◌∷◌, false};
 ghost use Rattle.probe_desk.specs.Table as probe;
 ghost use Rattle.served_tables.specs.Served.{tables_in};
 
+use crate::journals::journals;
 use crate::links::{link, octets, steps};
 use group_hub::{Hub, Retired};
 use locked_desks::Locked;
+use manager_calls::Manager;
 use probe_desk::{ProbeDesk, probe_table};
 use rpc_base::{Items, NoMemory};
-use rpc_outside::{LinkStep, ScriptLink};
+use rpc_outside::{Link, LinkStep, ScriptLink};
 use served_tables::{Served, Tables};
 use server_ends::{Ending, Finished};
 use server_run::serve_connection;
 use std::alloc::Global;
 use std::sync::Wait;
 use std::test::*;
+use std::thread::Threads;
 
 /// Of the server with which its handles begin.
-const BOOT: u64 = 0x0102_0304_0506_0708;
+pub const BOOT: u64 = 0x0102_0304_0506_0708;
 
 /// A bind of call 1: a new group, context 0 of the probe, over NDR; and its bind_ack, with group 1.
-const BIND: &str =
+pub const BIND: &str =
     "05000b03 10000000 48000000 01000000 98059805 00000000 01000000 00000100 127a0c5f4d3b6f4e8a90b1c2d3e4f506 01000000 045d888aeb1cc9119fe808002b104860 02000000";
 
-const ACK: &str =
+pub const ACK: &str =
     "05000c03 10000000 38000000 01000000 98059805 01000000 00000000 01000000 00000000 045d888aeb1cc9119fe808002b104860 02000000";
 
 /// A request of call 2 for probe_open with the number 5, and its response with handle 1.
-const OPEN: &str = "05000003 10000000 1c000000 02000000 04000000 00000000 05000000";
+pub const OPEN: &str = "05000003 10000000 1c000000 02000000 04000000 00000000 05000000";
 
-const OPENED: &str =
+pub const OPENED: &str =
     "05000203 10000000 30000000 02000000 18000000 00000000 00000000 04030201 0605 0807 0000 000100000001 00000000";
 
 /// The interfaces of a server of the probe alone.
-fn probe_alone(alloc: Global) -> Result<Served, NoMemory>
+pub fn probe_alone(alloc: Global) -> Result<Served, NoMemory>
     ensures { IfOk result (λ served. tables_in served ≡ probe.probe_table ∷ []) }
 {
     let mut tables: Tables = Vec::new(alloc);
@@ -41,14 +44,37 @@ fn probe_alone(alloc: Global) -> Result<Served, NoMemory>
     Ok(Served::new(tables))
 }
 
-/// What a connection over a link comes to at a new server of the probe.
-fn serve<R: Wait>(rt: &R, alloc: Global, link: ScriptLink) -> Result<Finished<ScriptLink>, Fail>
-    requires { link.closed ≡ false }
+/// What a connection over a link comes to at a new server of the probe, which that manager answers, and the journals that
+/// it leaves.
+pub fn serve_at<R: Wait + Threads + Sync, K: Link, M: Manager + Sync>(
+    rt: &R,
+    alloc: Global,
+    link: K,
+    manager: &M,
+) -> Result<(Finished<K>, Vec<u8>), Fail>
+    requires open { (K.shows link).closed ≡ false }
+    requires table { M.tables manager.now ≡ probe.probe_table ∷ [] }
 {
     let served = probe_alone(alloc)?;
-    let manager = Locked::new(ProbeDesk::new(alloc));
     let (hub, pass) = Hub::new(alloc, BOOT)?;
-    Ok(serve_connection(rt, alloc, &hub, pass, link, &served, &manager))
+    let mut other = pass;
+    let pass = hub.split(&mut other);
+    let done = serve_connection(rt, alloc, &hub, pass, link, &served, manager);
+    let text = journals(rt, alloc, &hub, other)?;
+    Ok((done, text))
+}
+
+/// The same at its desk.
+fn serve<R: Wait + Threads + Sync>(
+    rt: &R,
+    alloc: Global,
+    link: ScriptLink,
+) -> Result<Finished<ScriptLink>, Fail>
+    requires { link.closed ≡ false }
+{
+    let manager = Locked::new(ProbeDesk::new(alloc));
+    let (done, _) = serve_at(rt, alloc, link, &manager)?;
+    Ok(done)
 }
 
 #[test]

@@ -1,5 +1,5 @@
 -- The journals that are printed, and the connections of the round.
-use Rattle.std.proofs.Common.{◌≡◌, ◌⊎◌, ◌∙◌, ◌<◌, ℕ, Bool, true, false, Some, List, [], ◌∷◌, ◌++◌, refl, sym, ap, subst, arith, inl, inr}
+use Rattle.std.proofs.Common.{◌≡◌, ◌⊎◌, ◌∙◌, ◌<◌, ℕ, Bool, true, false, Some, List, [], ◌∷◌, ◌++◌, refl, sym, ap, subst, arith, inl, inr, true≢false}
 use Rattle.std.specs.List.{list_any, filter, AllByRecursion}
 use Rattle.rpc_outside.specs.Links.{Shown}
 use Rattle.rpc_outside.specs.Doors.{DoorShown}
@@ -7,7 +7,7 @@ use Rattle.turn_lock.specs.Histories.{StartsWith}
 use Rattle.handle_model.specs.declared.entry.Entry.{Entry}
 use Rattle.handle_model.specs.declared.entry.Entry.TheVariants.{Join, Leave}
 use Rattle.handle_model.specs.History.{IsSound}
-use Rattle.handle_model.specs.Journal.{joins, is_shut}
+use Rattle.handle_model.specs.Journal.{joins, is_join, is_shut}
 use Rattle.table_form.specs.Tables.{TableForm}
 use Rattle.manager_api.specs.Answers.{Ans}
 use Rattle.manager_api.specs.Calls.{Call}
@@ -52,8 +52,15 @@ joined_kept c past e = any_kept (joins c) (of_conn c) past (subst (λ l. list_an
     both : (c : ℕ) → list_any (joins c) (Leave c ∷ Join c ∷ []) ≡ true
     both c = rw (same_number c) refl
 
+-- a Join is that of some connection
+some_join : (past : List Entry) → list_any is_join past ≡ true → (c : ℕ) × (list_any (joins c) past ≡ true)
+some_join [] h = absurd (true≢false (sym h))
+some_join (Join c ∷ past) h = (c, rw (same_number c) refl)
+some_join (_ ∷ past) h = some_join past h
+
 module _ {K : Type 0} (shows : K → Shown) (may : Call → Bool → Ans → Type 0) (tables : List TableForm) (h : Hub) where
-  member_joined : (p : Pass) (a : Shown) (g c : ℕ) (x : Settled K) → AsMember shows may tables h.boot p a g c (finished_of x)
+  -- a connection of a group has its Join in the group's journal
+  pub member_joined : (p : Pass) (a : Shown) (g c : ℕ) (x : Settled K) → AsMember shows may tables h.boot p a g c (finished_of x)
       → list_any (joins c) (past_in g (at_shard x.pass.value (shard_of g)).log) ≡ true
   member_joined p a g c x m = joined_kept c (past_in g (at_shard x.pass.value (shard_of g)).log) m.story.made.conns
 
@@ -74,12 +81,13 @@ module _ {K : Type 0} (shows : K → Shown) (may : Call → Bool → Ans → Typ
   -- a printed journal each of whose connections is one of the round's ends with Shut
   copy_ended : (p q : Pass) (a b : DoorShown K) (most : ℕ) (r : Round K) (copy : Copy) → IsRound shows may tables h p a most r b
       → IsCopy h.boot r.pass q copy → EndsIfOurs h.boot r.finished.items copy
-  copy_ended p q a b most r copy round is = λ c joined ours.
+  copy_ended p q a b most r copy round is = λ ours.
       let g = copy.id in
       let past = past_in g copy.front in
       let legal = (is.story.sound g).legal in
+      let first = some_join past (is.story.joined g is.opened) in
       let all = λ (d : ℕ) (t : IsThere (whole (home_of h.boot g) past) d). ours d (named (home_of h.boot g) past legal d t) in
-      let ended = groups_end {S = Unit {0}} {K = K} shows (λ _. may) (λ _. tables) tt h p a b most r round g c copy.front is.starts is.story joined all in
+      let ended = groups_end {S = Unit {0}} {K = K} shows (λ _. may) (λ _. tables) tt h p a b most r round g first.0 copy.front is.starts is.story first.1 all in
       shut_ends (home_of h.boot g) past legal ended
 
   pub copies_ended : (p q : Pass) (a b : DoorShown K) (most : ℕ) (r : Round K) (copies : List Copy) → IsRound shows may tables h p a most r b

@@ -6,5 +6,7 @@ pub mod Groups
 pub mod Logged
 pub mod Leaves
 pub mod Apart
+pub mod Counting
+pub mod Connections
 pub mod Statuses
 pub mod Rounds

@@ -37,7 +37,7 @@ use Rattle.serve_command.proofs.Groups.{low_shard, later, conn_joined}
 
 -- ---- a group with an entry was opened, and its id is at least 1
 
-story_of : (h : Hub) (p : Pass) (g : ℕ) → IsPassOf h p → IsStory h.boot (shard_of g) (front_at p g)
+pub story_of : (h : Hub) (p : Pass) (g : ℕ) → IsPassOf h p → IsStory h.boot (shard_of g) (front_at p g)
 story_of h p g of =
     let l = some_item h.shards.items (shard_of g) (subst (λ n. shard_of g < n) (sym h.whole.count) (low_shard g)) in
     (of.each (shard_of g) l.0 (low_shard g) l.1).story
@@ -60,7 +60,7 @@ one_opened boot s g log t there = one_first s _ g (ap (list_any (λ m. m == g)) 
 
 -- ---- the copy of a group
 
-find_copy : (g : ℕ) (P : Copy → Type 0) (copies : List Copy) → AllByRecursion (λ copy. copy.id ≡ g → P copy) copies → list_any (λ h. h == g) (ids_of copies) ≡ true → HasCopy g P copies
+pub find_copy : (g : ℕ) (P : Copy → Type 0) (copies : List Copy) → AllByRecursion (λ copy. copy.id ≡ g → P copy) copies → list_any (λ h. h == g) (ids_of copies) ≡ true → HasCopy g P copies
 find_copy g P [] all h = absurd (true≢false (sym h))
 find_copy g P (copy ∷ more) all h = elim (or_cases (copy.id == g) (list_any (λ h. h == g) (ids_of more)) h) [
   | inl e ↦ let same = eqb-true copy.id g e in inl (same, all.0 same)
@@ -84,13 +84,19 @@ module _ {K : Type 0} (shows : K → Shown) (may : Call → Bool → Ans → Typ
     copy_has p q g c more each.1 had,
   )
 
+  -- the journal of a group with an entry is printed
+  pub among : (p last : Pass) (g : ℕ) (test : Entry → Bool) (text : List ℕ) (l : Logs h.boot p last [] text) → IsPassOf h last → g < 2 ^ 32 → list_any test (past_in g (front_at p g)) ≡ true
+      → list_any (λ h. h == g) (ids_of l.copies) ≡ true
+  among p last g test text l of low had =
+      let story = story_of h last g of in
+      let now = later test g (front_at p g) (front_at last g) (l.sees (shard_of g) (low_shard g)) had in
+      let opened = has_opened h.boot (shard_of g) g test (front_at last g) story now in
+      l.all g (one_opened h.boot (shard_of g) g (front_at last g) story opened) low opened
+
   logged_one : (p : Pass) (last : Pass) (g c : ℕ) (text : List ℕ) (l : Logs h.boot p last [] text) → IsPassOf h last → g < 2 ^ 32 → list_any (joins c) (past_in g (front_at p g)) ≡ true
       → HasCopy g (λ copy. HasJoin (journal_of h.boot copy) c) l.copies
   logged_one p last g c text l of low had =
-      let story = story_of h last g of in
-      let now = later (joins c) g (front_at p g) (front_at last g) (l.sees (shard_of g) (low_shard g)) had in
-      let opened = has_opened h.boot (shard_of g) g (joins c) (front_at last g) story now in
-      find_copy g (λ copy. HasJoin (journal_of h.boot copy) c) l.copies (copy_has p last g c l.copies l.each had) (l.all g (one_opened h.boot (shard_of g) g (front_at last g) story opened) low opened)
+      find_copy g (λ copy. HasJoin (journal_of h.boot copy) c) l.copies (copy_has p last g c l.copies l.each had) (among p last g (joins c) text l of low had)
 
   all_logged : (first p last : Pass) (xs : List (Settled K)) (text : List ℕ) (l : Logs h.boot p last [] text) → IsPassOf h last → AllByRecursion (IsSettled shows may tables h first) xs
       → ((g : ℕ) → AllByRecursion (λ o. StartsWith (at_shard p (shard_of g)).log (at_shard o (shard_of g)).log) (passes xs)) → AllByRecursion (IsLogged h.boot l.copies) xs

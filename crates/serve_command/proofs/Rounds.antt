@@ -20,6 +20,7 @@ use Rattle.serve_command.proofs.Doors.{are_out}
 use Rattle.serve_command.proofs.Groups.{copies_ended}
 use Rattle.serve_command.proofs.Logged.{logged}
 use Rattle.serve_command.proofs.Apart.{apart}
+use Rattle.serve_command.proofs.Connections.{hold}
 use Rattle.serve_command.proofs.Statuses.{rose_later}
 
 pub if_ok : {T E : Type 0} (P Q : T → Type 0) (r : Result T E) → ((x : T) → P x → Q x) → IfOk r P → IfOk r Q
@@ -58,6 +59,7 @@ module _ {K : Type 0} (shows : K → Shown) (may : Call → Bool → Ans → Typ
     over = over;
     logged = logged shows may tables h p over.last heard left most r logged_text over.logged over.last_pass round;
     apart = apart shows may tables h p heard left most r pass round;
+    holds = hold shows may tables h p over.last heard left most r logged_text over.logged over.last_pass round;
     ended = copies_ended shows may tables h p over.last heard left most r over.logged.copies round over.logged.each;
   }
 

@@ -24,11 +24,9 @@ abbrev pub Names : History → ℕ → Type 0
 Names j d = (list_any (joins d) j.past ≡ true) ⊎ (list_any (λ c. c == d) j.base.conns ≡ true) ⊎ (list_any (λ (k : BaseCall). k.asked.conn == d) j.base.calls ≡ true)
 
 module _ {K : Type 0} where
-  -- A printed journal each of whose connections is one of these ends with Shut, where its group has a connection.
+  -- A printed journal each of whose connections is one of these ends with Shut.
   abbrev pub EndsIfOurs : ℕ → List (Settled K) → Copy → Type 0
-  EndsIfOurs boot finished copy =
-      (c : ℕ) → list_any (joins c) (printed_past copy) ≡ true → ((d : ℕ) → Names (journal_of boot copy) d → HasConn copy.id d finished)
-      → EndsWithShut (printed_past copy)
+  EndsIfOurs boot finished copy = ((d : ℕ) → Names (journal_of boot copy) d → HasConn copy.id d finished) → EndsWithShut (printed_past copy)
 
 -- one of the printed journals is of that group, and this holds of it
 abbrev pub HasCopy : ℕ → (Copy → Type 0) → List Copy → Type 0

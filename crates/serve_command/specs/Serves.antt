@@ -23,6 +23,7 @@ use Rattle.serve_command.specs.Lines.{endings_in, status_with}
 use Rattle.serve_command.specs.Sums.{Prints}
 use Rattle.serve_command.specs.Doors.{links_in, TakesBack}
 use Rattle.serve_command.specs.Groups.{EndsIfOurs, IsLogged, AreApart}
+use Rattle.serve_command.specs.Connections.{HoldsByPrinted}
 
 -- the first pass of a hub of that boot word: no group was opened
 abbrev pub IsFirst : ℕ → Pass → Type 0
@@ -60,6 +61,8 @@ module _ {K : Type 0} (shows : K → Shown) (may : Call → Bool → Ans → Typ
     -- each that joined a group has its Join in that group's journal, and no two the same
     pub logged : AllByRecursion (IsLogged hub.boot over.logged.copies) round.finished.items
     pub apart : AreApart round.finished.items
+    -- what each entered and answered, and why its bind was refused, by the printed journals
+    pub holds : AllByRecursion (HoldsByPrinted shows may tables hub.boot over.logged.copies) round.finished.items
     -- a journal each of whose connections is one of theirs ends with Shut
     pub ended : AllByRecursion (EndsIfOurs hub.boot round.finished.items) over.logged.copies
 

@@ -47,7 +47,8 @@ use Rattle.turn_steps.proofs.Ending.{new_apart, made_waiting, made_tail, marked_
 use Rattle.server_line.specs.declared.line.Line.{Line}
 use Rattle.server_line.specs.Stops.{refused_as}
 use Rattle.server_line.specs.Held.{past_at}
-use Rattle.server_line.specs.Lines.{request, server, IsCalled, IsAsking, IsPrepared, IsWaiting, IsSettled}
+use Rattle.server_line.specs.Lines.{server}
+use Rattle.server_line.specs.Calls.{request, IsCalled, IsAsking, IsPrepared, IsWaiting, IsSettled}
 use Rattle.server_line.proofs.Suiting.{limit_small}
 use Rattle.server_line.proofs.Holding.{retired_still, Stepped, stepped, entered}
 use Rattle.server_line.proofs.Calling.{settled_refused}

@@ -54,7 +54,9 @@ use Rattle.turn_steps.proofs.Ending.{made_tail}
 use Rattle.turn_steps.proofs.Plain.{plain_refused, refused_so}
 use Rattle.server_line.specs.declared.line.Line.{Line}
 use Rattle.server_line.specs.Held.{past_at, Held}
-use Rattle.server_line.specs.Lines.{request, server, IsCalled, IsAsking, IsWaiting, IsCalledOff, IsTaken, IsSettled, TakesSo}
+use Rattle.server_line.specs.Lines.{server}
+use Rattle.server_line.specs.Calls.{request, IsCalled, IsAsking, IsWaiting, IsCalledOff, IsTaken, IsSettled}
+use Rattle.server_line.specs.Steps.{TakesSo}
 use Rattle.server_line.proofs.Suiting.{filled_first, first_small, taken_suits}
 use Rattle.server_line.proofs.Holding.{none_shut, one_shut, retired_still, Stepped, stepped, entered}
 
@@ -89,12 +91,12 @@ takes_plain home before es k (taking.Denied slot) t = one_shut es before (Deny k
 takes_plain home before es k taking.Dropped t = none_shut es before (past_is (whole home before) (whole home (es ++ before)) [] t.1)
 takes_plain home before es k (taking.Wait m) t = none_shut es before (past_is (whole home before) (whole home (es ++ before)) [] t.2)
 
-cancels_plain : (home : Home) (before es : List Entry) (k : ℕ) (answer : CancelAnswer) → Cancels (whole home before) k answer (whole home (es ++ before)) → list_any is_shut es ≡ false
+pub cancels_plain : (home : Home) (before es : List Entry) (k : ℕ) (answer : CancelAnswer) → Cancels (whole home before) k answer (whole home (es ++ before)) → list_any is_shut es ≡ false
 cancels_plain home before es k cancels.Ended t = one_shut es before (Cancel k) (past_is (whole home before) (whole home (es ++ before)) (Cancel k ∷ []) t.1) refl
 cancels_plain home before es k cancels.Flagged t = one_shut es before (Cancel k) (past_is (whole home before) (whole home (es ++ before)) (Cancel k ∷ []) t.1) refl
 cancels_plain home before es k cancels.Late t = none_shut es before (past_is (whole home before) (whole home (es ++ before)) [] t.2)
 
-orphans_plain : (home : Home) (before es : List Entry) (k : ℕ) (answer : OrphanAnswer) → Orphans (whole home before) k answer (whole home (es ++ before)) → list_any is_shut es ≡ false
+pub orphans_plain : (home : Home) (before es : List Entry) (k : ℕ) (answer : OrphanAnswer) → Orphans (whole home before) k answer (whole home (es ++ before)) → list_any is_shut es ≡ false
 orphans_plain home before es k orphans.Dropped t = one_shut es before (Orphan k) (past_is (whole home before) (whole home (es ++ before)) (Orphan k ∷ []) t.1) refl
 orphans_plain home before es k orphans.Running t = one_shut es before (Orphan k) (past_is (whole home before) (whole home (es ++ before)) (Orphan k ∷ []) t.1) refl
 orphans_plain home before es k orphans.Late t = none_shut es before (past_is (whole home before) (whole home (es ++ before)) [] t.2)
@@ -207,11 +209,14 @@ module _ {K : Type 0} (shows : K → Shown) (may : Call → Bool → Ans → Typ
         running = record {
           j = x.j;
           iface = x.iface;
+          offs = [];
           called = called_then l q k a x (taking.Run row serial) call pass still (filled (serial - 1) a.slots) (Running cookies) o.so.0 (o.so.4 ∙ same) o.so.5;
+          has = still.has_call l.group l.number k tt x.has;
           apart = x.apart;
           unmarked = x.unmarked;
           asked = ap (λ (z : Asked). record z { slots = filled (serial - 1) a.slots }) x.asked;
           runs = λ results suits. had.runs results (subst (λ ss. suit ss results ≡ true) (sym (seen ∙ same)) suits);
+          orphaned_is = refl;
         };
         opened = x.opened;
         fits = subst (λ (n : ℕ). (n - 1) + length (filter opens a.slots) < 2 ^ 32) (sym first) (omega arith);

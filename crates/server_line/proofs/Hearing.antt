@@ -37,7 +37,10 @@ use Rattle.turn_steps.proofs.Making.{IsPlain, plain_pending, made_plain}
 use Rattle.turn_steps.proofs.Plain.{plain_answer, one_more_off}
 use Rattle.server_line.specs.declared.line.Line.{Line}
 use Rattle.server_line.specs.Held.{past_at, Held}
-use Rattle.server_line.specs.Lines.{request, IsEarly, HeardEarly, server, IsReady, IsWaiting, IsCalledOff, HeardReady, HeardWaiting}
+use Rattle.server_line.specs.Early.{IsEarly, HeardEarly}
+use Rattle.server_line.specs.Lines.{server, IsReady}
+use Rattle.server_line.specs.Calls.{request, IsWaiting, IsCalledOff}
+use Rattle.server_line.specs.Steps.{HeardReady, HeardWaiting}
 use Rattle.server_line.proofs.Telling.{seen_more, quiet, halts_failed, halts_memory, halts_end}
 
 -- a turn without entries
@@ -54,12 +57,12 @@ held_plain s boot p q g c retired t turns plain due h = record {
   retired_is = h.retired_is;
 }
 
-no_off : (id : ℕ) (act : Act) → ((act ≡ acts.Cancel id) → ⊥) → ((act ≡ acts.Orphan id) → ⊥) → IsCallOff id act → ⊥
+pub no_off : (id : ℕ) (act : Act) → ((act ≡ acts.Cancel id) → ⊥) → ((act ≡ acts.Orphan id) → ⊥) → IsCallOff id act → ⊥
 no_off id act a b (inl e) = a e
 no_off id act a b (inr e) = b e
 
 module _ {K : Type 0} (shows : K → Shown) (tables : List TableForm) where
-  abbrev Listens : Wire K → Heard → Wire K → Type 0
+  abbrev pub Listens : Wire K → Heard → Wire K → Type 0
   Listens v h w = (events : List Event) (m : ConnState) → Lived shows (ids_of tables) v events m [] → Hears shows (ids_of tables) events m h w
 
   -- ---- before a bind

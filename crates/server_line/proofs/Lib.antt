@@ -7,3 +7,5 @@ pub mod Calling
 pub mod Accepting
 pub mod LeaveLemmas
 pub mod Closing
+pub mod Joining
+pub mod Besides

@@ -53,7 +53,11 @@ use Rattle.server_line.specs.declared.stop.Stop.TheVariants as stop
 use Rattle.server_line.specs.Stops.{stop_by, bound_by}
 use Rattle.server_line.specs.Held.{past_at, Held}
 use Rattle.server_line.specs.Told.{Halted}
-use Rattle.server_line.specs.Lines.{request, AsksGroup, IsClosing, IsAlone, server, HeldBy, IsJoined, IsIdle, IsReady, IsEnding, IsSettled, Says, GoesOn, IsStopping}
+use Rattle.server_line.specs.Early.{AsksGroup, IsClosing, IsAlone}
+use Rattle.server_line.specs.Lines.{server, HeldBy, IsJoined, IsIdle, IsReady, IsEnding}
+use Rattle.server_line.specs.Calls.{request, IsSettled, Says}
+use Rattle.server_line.specs.Endings.{IsStopping}
+use Rattle.server_line.specs.Steps.{GoesOn}
 use Rattle.server_line.proofs.Telling.{stopped_so, told_put, halts_put, halts_decided, halts_unput}
 use Rattle.server_line.proofs.Hearing.{held_plain}
 

@@ -1,7 +1,7 @@
 -- What a connection that is served has entered, and what its group's journal says of it.
 use Rattle.std.specs.Prelude.{◌≡◌, ◌≢◌, ℕ, Bool, Option, Some, List, [], ◌∷◌}
 use Rattle.handle_model.specs.declared.entry.Entry.{Entry}
-use Rattle.handle_model.specs.declared.entry.Entry.TheVariants.{Join}
+use Rattle.handle_model.specs.declared.entry.Entry.TheVariants.{Join, End}
 use Rattle.hub_story.specs.declared.item.Item.{Item}
 use Rattle.hub_story.specs.declared.item.Item.TheVariants.{Of, Listed}
 use Rattle.hub_story.specs.declared.item.Mark.TheVariants.{Retired as MarkedRetired}
@@ -15,6 +15,7 @@ use Rattle.shard.specs.declared.answer.Retired.{Retired}
 use Rattle.shard.specs.declared.answer.HubRest.{HubRest}
 use Rattle.shard.specs.declared.answer.HubRest.TheVariants.{Stays, Shut}
 use Rattle.group_joins.specs.Owning.{Grown}
+use Rattle.manager_calls.specs.declared.running.Answered.{Answered}
 use Rattle.conn_turns.specs.declared.turn.Turn.{Turn}
 use Rattle.conn_turns.specs.Stories.{Server, Made}
 use Rattle.server_ends.specs.Finishes.{retired_by}
@@ -34,6 +35,10 @@ pub record Held (server : Server) (boot : ℕ) (p q : Pass) (g c : ℕ) (retired
   pub joined : HasOwn (at_shard q (shard_of g)) (Of g (Join c))
   pub made : Made server (home_of boot g) c (past_at q g) gone turns mine
   pub retired_is : retired ≡ retired_by g mine
+
+-- the pass entered the call's End, which says what was answered
+abbrev pub HasItsEnd : Pass → ℕ → ℕ → Answered → Type 0
+HasItsEnd q g k a = HasOwn (at_shard q (shard_of g)) (Of g (End k a.results a.said))
 
 -- that a group was retired, behind an entry with which it ended or not
 abbrev pub retired_after : HubRest → Option Retired → Option Retired

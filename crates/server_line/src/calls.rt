@@ -3,7 +3,9 @@ ghost use Rattle.std.specs.Prelude.{◌≡◌};
 ghost use Rattle.handle_model.specs.declared.reply.Reply.TheVariants.{Never, Dropped};
 ghost use Rattle.handle_model.specs.Replies.{cancelled};
 ghost use Rattle.conn_turns.specs.declared.turn.Off.TheVariants as off;
-ghost use Rattle.server_line.specs.Lines.{IsSame, IsPrepared, IsWaiting, IsCalledOff, IsSettled, AcceptsSo, TakesSo};
+ghost use Rattle.server_line.specs.Lines.{IsSame};
+ghost use Rattle.server_line.specs.Calls.{IsPrepared, IsWaiting, IsCalledOff, IsSettled};
+ghost use Rattle.server_line.specs.Steps.{AcceptsSo, TakesSo};
 ghost use Rattle.server_line.specs.Stops.{refused_as};
 
 use crate::line::Line;

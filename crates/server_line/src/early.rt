@@ -7,7 +7,8 @@ ghost use Rattle.group_hub.specs.Passes.{IsPassOf};
 ghost use Rattle.server_ends.specs.Finishes.{Refuses};
 ghost use Rattle.served_calls.specs.Requests.{ids_of};
 ghost use Rattle.server_line.specs.Told.{Halted};
-ghost use Rattle.server_line.specs.Lines.{IsEarly, AsksGroup, IsClosing, HeardEarly, IsAlone, IsJoined};
+ghost use Rattle.server_line.specs.Early.{IsEarly, AsksGroup, IsClosing, HeardEarly, IsAlone};
+ghost use Rattle.server_line.specs.Lines.{IsJoined};
 ghost use Rattle.server_line.specs.Stops.{stop_by};
 
 use crate::line::Line;

@@ -1,17 +1,14 @@
-//! A call ends, and a connection leaves.
-ghost use Rattle.std.specs.Prelude.{◌≡◌, true, false};
-ghost use Rattle.handle_model.specs.declared.reply.Reply.TheVariants.{Ran};
-ghost use Rattle.handle_model.specs.Rules.{suit};
-ghost use Rattle.hub_story.specs.Histories.{home_of};
+//! A connection leaves, and its group ends.
+ghost use Rattle.std.specs.Prelude.{◌≡◌};
 ghost use Rattle.group_hub.specs.Passes.{IsPassOf, HasItsShut};
-ghost use Rattle.served_calls.specs.Ends.{Meets};
-ghost use Rattle.server_line.specs.Lines.{IsSame, IsRunning, IsSettled, IsStopping, IsLeft};
+ghost use Rattle.server_line.specs.Lines.{IsSame};
+ghost use Rattle.server_line.specs.Endings.{IsStopping, IsLeft};
 ghost use Rattle.server_line.specs.Held.{Settles, retired_after};
 
 use crate::line::Line;
 use crate::stop::Stop;
 use group_hub::{Hub, HubRest, Pass, Retired};
-use handle_model::{Asked, DueList, Outcomes, Said};
+use handle_model::DueList;
 use manager_calls::Manager;
 use rpc_outside::Link;
 use std::sync::Wait;
@@ -26,7 +23,7 @@ fn run_down<R: Wait, M: Manager>(rt: &R, manager: &M, due: DueList) {
 }
 
 /// Runs down the handles of a group that has ended and retires it, where it has: that it was retired, then or `before`.
-fn settle<R: Wait, M: Manager>(
+pub(crate) fn settle<R: Wait, M: Manager>(
     rt: &R,
     hub: &Hub,
     manager: &M,
@@ -50,29 +47,6 @@ fn settle<R: Wait, M: Manager>(
 }
 
 impl<K: Link> Line<K> {
-    /// Ends the running call, and the group where that is then due.
-    pub fn end<R: Wait, M: Manager>(
-        &mut self,
-        rt: &R,
-        hub: &Hub,
-        manager: &M,
-        call: u32,
-        _asked: &Asked,
-        _cookies: &[Option<u64>],
-        results: Outcomes,
-        said: Said,
-    )
-        requires running { IsRunning K.shows (M.may manager.now) (M.tables manager.now) hub.now self.old call _asked.now _cookies.now }
-        requires meets { Meets (home_of hub.now.boot self.old.group) (M.tables manager.now) (M.may manager.now) _asked.now _cookies.now false results said }
-        requires suit { suit _asked.now.slots results ≡ true }
-        ensures same { IsSame self.old self.new }
-        ensures settled { IsSettled K.shows (M.may manager.now) (M.tables manager.now) hub.now self.new (Ran said) }
-    {
-        let rest = hub.end(rt, &mut self.pass, self.group, call, results, said);
-        let before = self.retired;
-        self.retired = settle(rt, hub, manager, &mut self.pass, before, rest);
-    }
-
     /// Leaves the group, and ends it where that is then due.
     pub fn leave<R: Wait, M: Manager>(&mut self, rt: &R, hub: &Hub, manager: &M, _why: Stop)
         requires { IsStopping K.shows (M.may manager.now) (M.tables manager.now) hub.now self.old _why }

@@ -3,9 +3,11 @@
 //! it leads; the states are defined in `specs/`. Which step comes next is left to the caller.
 #![tactic(auto)]
 
+mod beside;
 mod calls;
 mod early;
 mod ending;
+mod gone;
 mod leaving;
 mod line;
 mod stop;
@@ -13,5 +15,6 @@ mod stop;
 pub use calls::accept_status;
 pub use early::{hear_early, join, nak, put_close};
 pub use ending::close;
+pub use gone::Gone;
 pub use line::Line;
 pub use stop::Stop;

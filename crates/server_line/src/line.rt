@@ -2,7 +2,10 @@
 ghost use Rattle.std.specs.Option.{option_copied};
 ghost use Rattle.conn_asks.specs.Answers.{FitsStub};
 ghost use Rattle.conn_turns.specs.Events.{word_of};
-ghost use Rattle.server_line.specs.Lines.{IsSame, IsJoined, IsIdle, IsReady, IsEnding, IsWaiting, IsSettled, IsStopping, HeardReady, HeardWaiting, GoesOn, Says};
+ghost use Rattle.server_line.specs.Lines.{IsSame, IsJoined, IsIdle, IsReady, IsEnding};
+ghost use Rattle.server_line.specs.Calls.{IsWaiting, IsSettled, Says};
+ghost use Rattle.server_line.specs.Endings.{IsStopping};
+ghost use Rattle.server_line.specs.Steps.{HeardReady, HeardWaiting, GoesOn};
 
 use crate::early::{put_close, stopped};
 use crate::stop::Stop;

@@ -72,7 +72,7 @@ pub(crate) struct Running<S: Service, K: Link> {
 }
 
 /// Serves a connection to its end, whose link is new.
-fn serve_one<R: Wait, S: Service, K: Link>(
+fn serve_one<R: Wait + Threads + Sync, S: Service + Sync, K: Link>(
     rt: &R,
     service: &S,
     hub: &Hub,
@@ -89,7 +89,7 @@ fn serve_one<R: Wait, S: Service, K: Link>(
 }
 
 /// Serves a connection, in whatever thread this is.
-fn serve_there<R: Wait + Threads + Sync + Copy, S: Service + Drop, K: Link>(
+fn serve_there<R: Wait + Threads + Sync + Copy, S: Service + Sync + Drop, K: Link>(
     rt: R,
     service: Arc<S, Global>,
     hub: Arc<Hub, Global>,

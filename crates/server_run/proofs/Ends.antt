@@ -1,10 +1,8 @@
 -- What a connection came to, by how it ended.
 use Rattle.std.proofs.Common.{◌≡◌, ℕ, ◌≤◌, Bool, true, false, Option, Some, None, List, [], ◌∷◌, refl, sym, ap, ◌∙◌, subst, append-nil, arith}
-use Rattle.std.specs.List.{AllByRecursion}
 use Rattle.std.specs.Io.KnownBytes.{append_known, prepend_known}
 use Rattle.rpc_outside.specs.Links.{Shown, Closes}
-use Rattle.handle_model.specs.declared.entry.Home.{Home}
-use Rattle.handle_model.specs.declared.entry.Entry.{Entry}
+use Rattle.handle_model.specs.declared.entry.Asked.{Asked}
 use Rattle.hub_story.specs.Histories.{home_of}
 use Rattle.group_hub.specs.declared.hub.Hub.{Hub}
 use Rattle.group_hub.specs.declared.pass.Pass.{Pass}
@@ -17,10 +15,7 @@ use Rattle.conn_asks.specs.declared.events.ConnFault.{ConnFault}
 use Rattle.conn_laws.proofs.Asking.{each_asks}
 use Rattle.conn_link.specs.declared.wire.Wire.{Wire}
 use Rattle.served_calls.specs.Requests.{ids_of}
-use Rattle.conn_turns.specs.declared.turn.Turn.{Turn}
 use Rattle.conn_turns.specs.declared.turn.Turn.TheVariants.{Closed}
-use Rattle.conn_turns.specs.Tales.{StandAll}
-use Rattle.turn_answers.specs.Laws.{IsOver as IsTurnOver}
 use Rattle.turn_steps.proofs.Ending.{quiet_all}
 use Rattle.server_ends.specs.declared.ended.Ending.{Ending}
 use Rattle.server_ends.specs.declared.ended.Ending.TheVariants as ending
@@ -31,7 +26,11 @@ use Rattle.server_line.specs.declared.line.Line.{Line}
 use Rattle.server_line.specs.declared.stop.Stop.{Stop}
 use Rattle.server_line.specs.Held.{past_at}
 use Rattle.server_line.specs.Told.{Halted}
-use Rattle.server_line.specs.Lines.{IsAlone, IsLeft}
+use Rattle.server_line.specs.declared.gone.Gone.{Gone}
+use Rattle.server_line.specs.Early.{IsAlone}
+use Rattle.server_line.specs.Endings.{IsLeft, HasEnded}
+use Rattle.server_run.specs.declared.beside.Departed.{Departed}
+use Rattle.server_run.specs.Running.{Closing, HasDeparted}
 
 known_none : (k : Option (List ℕ)) → append_known k [] ≡ k
 known_none None = refl
@@ -61,13 +60,7 @@ module _ {K : Type 0} (shows : K → Shown) (may : Call → Bool → Ans → Typ
   pub alone_closed : (p : Pass) (w : Wire K) (why : Stop) (octets : List ℕ) (f : ConnFault) → Halted shows (ids_of tables) w why (Closed octets f ∷ []) → IsAlone shows tables may boot p w p why
   alone_closed p w why octets f h = record { enters = none_at_all p; turns = Closed octets f ∷ []; quiet = (tt, tt); over = (tt, tt); due = (tt, tt); halted = h }
 
-  -- what a closed link tells of a connection
-  abbrev pub Closing : Wire K → Stop → K → Ending → Type 0
-  Closing w why k e =
-      (home : Home) (c : ℕ) (gone : Bool) (past : List Entry) (turns : List Turn) → Halted shows (ids_of tables) w why turns → StandAll c gone past turns → AllByRecursion IsTurnOver turns
-      → EndsAs (ids_of tables) home past turns (shows w.first.value) e (shows k)
-
-  pub ends_alone : (p q : Pass) (a : Shown) (w : Wire K) (why : Stop) (k : K) (e : Ending) → IsAlone shows tables may boot p w q why → shows w.first.value ≡ a → Closing w why k e
+  pub ends_alone : (p q : Pass) (a : Shown) (w : Wire K) (why : Stop) (k : K) (e : Ending) → IsAlone shows tables may boot p w q why → shows w.first.value ≡ a → Closing shows tables w why k e
       → Alone shows may tables boot p a (record { link = k; pass = q; joined = None; ending = e; retired = None })
   ends_alone p q a w why k e x first closing = record {
     enters = x.enters;
@@ -116,7 +109,7 @@ module _ {K : Type 0} (shows : K → Shown) (may : Call → Bool → Ans → Typ
       }
 
 -- it was in a group
-pub ends_member : {K : Type 0} (shows : K → Shown) (may : Call → Bool → Ans → Type 0) (tables : List TableForm) (hub : Hub) (l : Line K) (why : Stop) (k : K) (e : Ending) → IsLeft shows may tables hub l why → Closing shows may tables hub.boot l.wire why k e
+pub ends_member : {K : Type 0} (shows : K → Shown) (may : Call → Bool → Ans → Type 0) (tables : List TableForm) (hub : Hub) (l : Line K) (why : Stop) (k : K) (e : Ending) → IsLeft shows may tables hub l why → Closing shows tables l.wire why k e
     → AsMember shows may tables hub.boot l.began.value (shows l.wire.first.value) l.group l.number (record { link = k; pass = l.pass; joined = Some (l.group, l.number); ending = e; retired = l.retired })
 ends_member shows may tables hub l why k e x closing =
     let h = x.held in
@@ -131,3 +124,24 @@ ends_member shows may tables hub l why k e x closing =
       ends = closing (home_of hub.boot l.group) l.number true (past_at l.pass l.group) x.turns x.halted h.made.stand x.over;
       retired = h.retired_is;
     }
+
+-- it left while its call ran, which has ended
+pub ends_departed : {K : Type 0} (shows : K → Shown) (may : Call → Bool → Ans → Type 0) (tables : List TableForm) (hub : Hub) (old : Line K) (k : ℕ) (a : Asked) (cookies : List (Option ℕ)) (d : Departed K) (m : Gone K)
+    → HasDeparted shows may tables hub old k a cookies d → m.began.value ≡ d.gone.began.value → m.wire.value ≡ d.gone.wire.value → HasEnded shows may tables hub m d.why
+    → Finishes shows may tables hub.boot old.began.value (shows old.wire.first.value) (record { link = d.link; pass = m.pass; joined = Some (m.group, m.number); ending = d.ending; retired = m.retired })
+ends_departed shows may tables hub old k a cookies d m x began wire e =
+    let h = e.held in
+    let closing : Closing shows tables m.wire.value d.why d.link d.ending = subst (λ w. Closing shows tables w d.why d.link d.ending) (sym wire) x.closing in
+    finishes_same shows may tables hub.boot m.began.value old.began.value m.wire.value.first.value old.wire.first.value
+    (record { link = d.link; pass = m.pass; joined = Some (m.group, m.number); ending = d.ending; retired = m.retired }) (began ∙ x.began) (ap (λ w. w.first.value) wire ∙ x.first)
+    (record {
+      items = h.items;
+      grown = h.grown;
+      mine = h.mine;
+      own = h.own;
+      others = h.others;
+      turns = e.turns;
+      story = record { made = h.made; none_runs = e.none_runs };
+      ends = closing (home_of hub.boot m.group) m.number true (past_at m.pass m.group) e.turns e.halted h.made.stand e.over;
+      retired = h.retired_is;
+    })

@@ -1,5 +1,5 @@
 -- How a request is served.
-use Rattle.std.proofs.Common.{◌≡◌, ℕ, suc, Bool, true, false, ◌&&◌, Option, List, [], ◌∷◌, length, refl, sym, ap, subst}
+use Rattle.std.proofs.Common.{◌≡◌, ℕ, ◌-◌, ◌≤◌, suc, Bool, false, Option, List, [], ◌∷◌, length, refl, sym, ap, ◌∙◌, subst}
 use Rattle.handle_model.specs.declared.entry.Slot.{Slot}
 use Rattle.rpc_outside.specs.Links.{Shown}
 use Rattle.handle_model.specs.declared.entry.Asked.{Asked}
@@ -9,13 +9,32 @@ use Rattle.pdu_stream.specs.declared.joined.Joined.{Joined}
 use Rattle.table_form.specs.Tables.{TableForm}
 use Rattle.manager_api.specs.Answers.{Ans}
 use Rattle.manager_api.specs.Calls.{Call}
-use Rattle.served_call.specs.Suited.{Opened, suit_cookies}
+use Rattle.served_call.specs.Suited.{Opened}
 use Rattle.manager_calls.specs.declared.ready.Ready.{Ready}
 use Rattle.manager_calls.specs.Ready.{IsReady as IsMadeReady}
 use Rattle.manager_calls.specs.Ready.{request_of}
 use Rattle.conn_turns.specs.Entries.{asked_as}
 use Rattle.server_line.specs.declared.line.Line.{Line}
-use Rattle.server_line.specs.Lines.{IsAsking, IsPrepared}
+use Rattle.ndr_value.specs.declared.value.Message.{Message}
+use Rattle.ndr_value.specs.Values.{msg}
+use Rattle.served_calls.specs.Requests.{HasSlots, IsAsked}
+use Rattle.served_calls.specs.Ends.{row_of}
+use Rattle.conn_link.specs.declared.wire.Wire.{Wire}
+use Rattle.call_worker.specs.declared.working.Promised.{Promised}
+use Rattle.call_worker.specs.declared.working.Worked.{Worked}
+use Rattle.call_worker.specs.Works.{IsGiven, Works, Keeps}
+use Rattle.call_worker.proofs.Cookies.{suit_length}
+use Rattle.server_ends.specs.declared.ended.Finished.{Finished}
+use Rattle.server_line.specs.Lines.{IsSame}
+use Rattle.server_line.specs.Calls.{IsAsking, IsPrepared, IsTaken, IsRunning}
+use Rattle.server_line.specs.Endings.{IsGone}
+use Rattle.server_run.specs.declared.calling.Went.{Went}
+use Rattle.server_run.specs.declared.calling.Went.TheVariants as went
+use Rattle.server_run.specs.declared.beside.Departed.{Departed}
+use Rattle.server_run.specs.declared.beside.Beside.{Beside}
+use Rattle.server_run.specs.declared.beside.Beside.TheVariants as beside
+use Rattle.server_run.specs.Running.{IsRow, Closing, HasDeparted, RunsBeside, IsOverFrom, Goes}
+use Rattle.server_run.proofs.Ends.{finishes_same}
 
 -- a request whose call is ready
 pub prepared_so : {K : Type 0} (shows : K → Shown) (may : Call → Bool → Ans → Type 0) (tables : List TableForm) (hub : Hub) (l : Line K) (j : Joined) (iface : ℕ) (r : Ready) → IsAsking shows may tables hub l j iface
@@ -39,12 +58,74 @@ pub filled_length : (n : ℕ) (ss : List Slot) → length (filled n ss) ≡ leng
 filled_length n [] = refl
 filled_length n (s ∷ ss) = ap suc (filled_length (next_serial n s) ss)
 
-second : (a b : Bool) → (a && b) ≡ true → b ≡ true
-second true b h = h
-second false b h = absurd cc
+-- ---- a taken call
 
-pub suit_length : (ss : List Slot) (cs : List (Option ℕ)) → suit_cookies ss cs ≡ true → length cs ≡ length ss
-suit_length [] [] h = refl
-suit_length [] (c ∷ cs) h = absurd cc
-suit_length (s ∷ ss) [] h = absurd cc
-suit_length (s ∷ ss) (c ∷ cs) h = ap suc (suit_length ss cs (second _ (suit_cookies ss cs) h))
+module _ {K : Type 0} (shows : K → Shown) (may : Call → Bool → Ans → Type 0) (tables : List TableForm) (hub : Hub) where
+  -- it is run with its slots, numbered
+  pub given_so : (others : List TableForm) (l : Line K) (k : ℕ) (a b : Asked) (row : List (Option ℕ)) (serial : ℕ) (message again : Message) → tables ≡ others → b ≡ record a { slots = filled (serial - 1) a.slots } → IsTaken shows may tables hub l k a row serial
+      → IsAsked others a.iface a.op a.order a.stub (msg message) → IsAsked others a.iface a.op a.order a.stub (msg again) → IsGiven others b row message again
+  given_so others l k a b row serial message again same is t m n =
+      subst (λ (z : Asked). IsGiven others z row message again) (sym is)
+      (subst (λ (z : List TableForm). IsAsked z a.iface a.op a.order a.stub (msg message) → IsAsked z a.iface a.op a.order a.stub (msg again) → IsGiven z (record a { slots = filled (serial - 1) a.slots }) row message again) same
+      (λ m n. record {
+        slots = subst (λ (z : Asked). HasSlots tables z.iface z.op z.order z.stub z.slots) (sym t.running.asked) t.running.called.held.made.due.0.0;
+        few = subst (λ (x : ℕ). x ≤ 4) (sym (filled_length (serial - 1) a.slots)) t.opened.few;
+        suits = (t.cookies, t.row_is, t.suits);
+        message = m;
+        again = n;
+      }) m n)
+
+  pub running_so : (l : Line K) (k : ℕ) (a b : Asked) (row cookies : List (Option ℕ)) (serial : ℕ) (t : IsTaken shows may tables hub l k a row serial) → b ≡ record a { slots = filled (serial - 1) a.slots } → cookies ≡ t.cookies
+      → IsRunning shows may tables hub l k b cookies false
+  running_so l k a b row cookies serial t same is = subst (λ (z : Asked × List (Option ℕ)). IsRunning shows may tables hub l k z.0 z.1 false) (λ i. (sym same i, sym is i)) t.running
+
+  pub row_so : (l : Line K) (k : ℕ) (a b : Asked) (row cookies : List (Option ℕ)) (serial : ℕ) (t : IsTaken shows may tables hub l k a row serial) → b ≡ record a { slots = filled (serial - 1) a.slots } → cookies ≡ t.cookies → IsRow b cookies row
+  row_so l k a b row cookies serial t same is = record {
+    row_is = t.row_is ∙ ap (λ z. row_of z) (sym is);
+    count = ap (λ (z : List (Option ℕ)). length z) is ∙ (suit_length (filled (serial - 1) a.slots) t.cookies t.suits ∙ sym (ap (λ (z : Asked). length z.slots) same));
+  }
+
+-- ---- a worker's promise
+
+pub works_kept : {M : Type 0} (tables : M → List TableForm) (may : M → Call → Bool → Ans → Type 0) (p q : Promised M) (r : Worked) (m : M) (h : Hub) (a : Asked) (cookies : List (Option ℕ)) → p ≡ q → q.manager.value ≡ m → q.hub.value ≡ h → q.asked.value ≡ a
+    → IsRow a cookies q.row → Keeps tables may p r → Works (tables m) (may m) h q.group q.call a cookies r
+works_kept tables may p q r m h a cookies same manager hub asked row keeps =
+    let k : Keeps tables may q r = subst (λ z. Keeps tables may z r) same keeps in
+    let w = k cookies row.row_is (row.count ∙ ap (λ (z : Asked). length z.slots) (sym asked)) in
+    subst (λ z. Works (tables z) (may z) h q.group q.call a cookies r) manager
+    (subst (λ z. Works (tables q.manager.value) (may q.manager.value) z q.group q.call a cookies r) hub
+    (subst (λ z. Works (tables q.manager.value) (may q.manager.value) q.hub.value q.group q.call z cookies r) asked w))
+
+module _ {K : Type 0} (shows : K → Shown) (may : Call → Bool → Ans → Type 0) (tables : List TableForm) (hub : Hub) where
+  pub departed_so : (old l : Line K) (k : ℕ) (a : Asked) (cookies : List (Option ℕ)) (d : Departed K) (w : Wire K) → IsSame old l → l.group ≡ old.group → d.gone.began.value ≡ l.began.value → w.first.value ≡ l.wire.first.value → d.gone.wire.value ≡ w
+      → d.gone.group ≡ l.group → IsGone shows may tables hub d.gone d.why k a cookies → Closing shows tables w d.why d.link d.ending → HasDeparted shows may tables hub old k a cookies d
+  departed_so old l k a cookies d w same group began first wire of gone closing = record {
+    began = began ∙ same.0;
+    first = ap (λ z. z.first.value) wire ∙ (first ∙ same.1);
+    group = of ∙ group;
+    gone = gone;
+    closing = subst (λ z. Closing shows tables z d.why d.link d.ending) (sym wire) closing;
+  }
+
+-- ---- one after another
+
+pub same_then : {K : Type 0} (a b c : Line K) → IsSame a b → IsSame b c → IsSame a c
+same_then a b c x y = (y.0 ∙ x.0, y.1 ∙ x.1)
+
+module _ {K : Type 0} (shows : K → Shown) (may : Call → Bool → Ans → Type 0) (tables : List TableForm) (hub : Hub) where
+  pub over_from : (a b : Line K) (r : Finished K) → IsSame a b → IsOverFrom shows may tables hub b r → IsOverFrom shows may tables hub a r
+  over_from a b r same x = (x.0, finishes_same shows may tables hub.boot b.began.value a.began.value b.wire.first.value a.wire.first.value r same.0 same.1 x.1)
+
+  pub goes_from : (a b : Line K) (w : Went K) → IsSame a b → Goes shows may tables hub b w → Goes shows may tables hub a w
+  goes_from a b (went.On l) same x = (same_then a b l same x.0, x.1)
+  goes_from a b (went.Stop l why) same x = (same_then a b l same x.0, x.1)
+  goes_from a b (went.Over r) same x = over_from a b r same x
+
+  -- beside its call
+  pub beside_from : (a b : Line K) (k : ℕ) (asked : Asked) (cookies : List (Option ℕ)) (r : Beside K) → IsSame a b → b.group ≡ a.group → RunsBeside shows may tables hub b k asked cookies r → RunsBeside shows may tables hub a k asked cookies r
+  beside_from a b k asked cookies (beside.On l orphaned worked) same group x =
+      (same_then a b l same x.0, x.1 ∙ group, x.2, subst (λ (g : ℕ). Works tables may hub g k asked cookies worked) group x.3)
+  beside_from a b k asked cookies (beside.Left d worked) same group x = (
+    record { began = x.0.began ∙ same.0; first = x.0.first ∙ same.1; group = x.0.group ∙ group; gone = x.0.gone; closing = x.0.closing },
+    subst (λ (g : ℕ). Works tables may hub g k asked cookies worked) group x.1,
+  )

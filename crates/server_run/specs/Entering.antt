@@ -11,7 +11,10 @@ use Rattle.manager_api.specs.Calls.{Call}
 use Rattle.conn_asks.specs.Answers.{FitsStub}
 use Rattle.conn_turns.specs.Events.{word_of}
 use Rattle.server_line.specs.declared.line.Line.{Line}
-use Rattle.server_line.specs.Lines.{IsReady, IsStopping, IsSettled, IsTaken, IsAlone}
+use Rattle.server_line.specs.Early.{IsAlone}
+use Rattle.server_line.specs.Lines.{IsReady}
+use Rattle.server_line.specs.Calls.{IsSettled, IsTaken}
+use Rattle.server_line.specs.Endings.{IsStopping}
 use Rattle.server_run.specs.declared.binding.Entered.{Entered as EnteredAs}
 use Rattle.server_run.specs.declared.binding.Entered.TheVariants.{Joined, Stopped, Alone}
 use Rattle.server_run.specs.declared.calling.Awaited.{Awaited}

@@ -1,7 +1,7 @@
 //! A connection until it is in a group.
 ghost use Rattle.std.specs.Prelude.{◌≡◌, []};
 ghost use Rattle.group_hub.specs.Passes.{IsPassOf};
-ghost use Rattle.server_line.specs.Lines.{IsEarly, AsksGroup, IsClosing, IsAlone};
+ghost use Rattle.server_line.specs.Early.{IsEarly, AsksGroup, IsClosing, IsAlone};
 ghost use Rattle.server_run.specs.Entering.{Enters};
 
 use conn_asks::{Act, ConnFault};

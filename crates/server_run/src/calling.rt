@@ -1,12 +1,15 @@
 //! The calls of a connection, one after another.
-ghost use Rattle.std.specs.Prelude.{◌≡◌, ℕ};
-ghost use Rattle.pdu_stream.specs.declared.joined.Joined.{Joined as JoinedSpec};
+ghost use Rattle.std.specs.Prelude.{◌≡◌};
+ghost use Rattle.conn_asks.specs.Answers.{FitsStub};
+ghost use Rattle.conn_turns.specs.Events.{word_of};
 ghost use Rattle.served_tables.specs.Served.{tables_in};
 ghost use Rattle.manager_calls.specs.Ready.{IsReady as IsMadeReady};
-ghost use Rattle.server_line.specs.Lines.{IsSame, IsReady, IsAsking, IsPrepared, IsWaiting, IsStopping, GoesOn};
+ghost use Rattle.server_line.specs.Lines.{IsSame, IsReady};
+ghost use Rattle.server_line.specs.Calls.{IsAsking, IsPrepared, IsWaiting, IsSettled};
 ghost use Rattle.server_run.specs.Entering.{Awaits};
+ghost use Rattle.server_run.specs.Running.{Goes};
 
-use crate::running::run_call;
+use crate::running::{Ran, run_call};
 use conn_asks::Act;
 use conn_link::{Fault, Heard};
 use group_core::Taking;
@@ -17,10 +20,20 @@ use pdu_stream::Joined;
 use rpc_base::Status;
 use rpc_outside::Link;
 use served_tables::Served;
+use server_ends::Finished;
 use server_line::{Line, Stop};
 use std::alloc::Global;
 use std::sync::Wait;
+use std::sync::atomic::AtomicU64;
 use std::thread;
+use std::thread::Threads;
+use std::time::Duration;
+
+/// How many turns are given to other threads before a call that waits rests between its looks.
+const TURNS: u32 = 1_000;
+
+/// How long it then rests, in milliseconds.
+const REST: u64 = 1;
 
 /// What came of a call that waits.
 #[derive(Drop)]
@@ -31,6 +44,28 @@ pub(crate) enum Awaited {
     Told(Reply),
     /// The connection doesn't go on.
     Stop(Stop),
+}
+
+/// What became of a connection by what it heard.
+#[derive(Drop)]
+pub(crate) enum Went<K: Link> {
+    /// It goes on.
+    On(Line<K>),
+    /// It doesn't go on.
+    Stop(Line<K>, Stop),
+    /// It is over.
+    Over(Finished<K>),
+}
+
+/// Gives other threads a turn, or a while after so many turns where something came that has to wait: then no look at the link
+/// takes any time, and a call that waits for long would keep a processor busy.
+fn rest<R: Wait>(rt: &R, turns: &mut u32, is_held: bool) {
+    *turns = turns.saturating_add(1);
+    if is_held && *turns > TURNS {
+        AtomicU64::new(0).park_timeout(rt, 0, Duration::from_millis(REST));
+    } else {
+        thread::yield_now();
+    }
 }
 
 /// Waits until a call is taken or denied, and hears meanwhile whether it is called off.
@@ -46,6 +81,7 @@ fn await_turn<R: Wait, K: Link, M: Manager>(
     ensures same { IsSame line.old line.new }
     ensures awaits { Awaits K.shows (M.may manager.now) (M.tables manager.now) hub.now call asked.now result line.new }
 {
+    let mut turns = 0;
     for _ in rt.forever() {
         match line.take(rt, hub, manager, call, asked) {
             Taking::Run(row, serial) => return Awaited::Run(row, serial),
@@ -56,7 +92,7 @@ fn await_turn<R: Wait, K: Link, M: Manager>(
             Taking::Wait(_) => {}
         }
         match line.hear_waiting(hub, manager, call, asked) {
-            Heard::Nothing => thread::yield_now(),
+            Heard::Nothing => rest(rt, &mut turns, line.wire.conn.must_wait()),
             Heard::Does(Act::Cancel(_)) => {
                 line.cancel(rt, hub, manager, call);
                 return Awaited::Told(Reply::Never(Status::NCA_S_FAULT_CANCEL));
@@ -77,22 +113,35 @@ fn await_turn<R: Wait, K: Link, M: Manager>(
     unreachable!()
 }
 
+/// Answers a request that has its entries.
+fn answer<K: Link, M: Manager>(hub: &Hub, manager: &M, line: Line<K>, reply: &Reply) -> Went<K>
+    requires settled { IsSettled K.shows (M.may manager.now) (M.tables manager.now) hub.now line reply.now }
+    requires fits { FitsStub (word_of reply.now) }
+    ensures { Goes K.shows (M.may manager.now) (M.tables manager.now) hub.now line result }
+{
+    let mut line = line;
+    match line.answer(hub, manager, reply) {
+        Ok(()) => Went::On(line),
+        Err(why) => Went::Stop(line, why),
+    }
+}
+
 /// Serves a request whose call is ready to be accepted.
-fn serve_ready<R: Wait, K: Link, M: Manager>(
+#[tactic(auto, using(crate::proofs::Serving::goes_from, crate::proofs::Serving::same_then))]
+fn serve_ready<R: Wait + Threads + Sync, K: Link, M: Manager + Sync>(
     rt: &R,
     alloc: Global,
     served: &Served,
     manager: &M,
     hub: &Hub,
-    line: &mut Line<K>,
+    line: Line<K>,
     ready: Ready,
     marked: bool,
-) -> Result<(), Stop>
+) -> Went<K>
     requires served { M.tables manager.now ≡ tables_in served.now }
-    requires prepared { IsPrepared K.shows (M.may manager.now) (M.tables manager.now) hub.now line.old ready.asked marked }
+    requires prepared { IsPrepared K.shows (M.may manager.now) (M.tables manager.now) hub.now line ready.asked marked }
     requires ready { IsMadeReady (tables_in served.now) ready.asked ready }
-    ensures same { IsSame line.old line.new }
-    ensures goes { GoesOn K.shows (M.may manager.now) (M.tables manager.now) hub.now result line.new }
+    ensures { Goes K.shows (M.may manager.now) (M.tables manager.now) hub.now line result }
 {
     let Ready {
         given,
@@ -101,84 +150,80 @@ fn serve_ready<R: Wait, K: Link, M: Manager>(
         again,
         room,
     } = ready;
+    let mut line = line;
     match line.accept(rt, hub, manager, given, marked) {
-        Err(status) => line.answer(hub, manager, &Reply::Never(status)),
-        Ok(call) => match await_turn(rt, hub, manager, line, call, &asked) {
-            Awaited::Told(reply) => line.answer(hub, manager, &reply),
-            Awaited::Stop(why) => Err(why),
+        Err(status) => answer(hub, manager, line, &Reply::Never(status)),
+        Ok(call) => match await_turn(rt, hub, manager, &mut line, call, &asked) {
+            Awaited::Told(reply) => answer(hub, manager, line, &reply),
+            Awaited::Stop(why) => Went::Stop(line, why),
             Awaited::Run(row, serial) => {
-                let reply = run_call(
+                match run_call(
                     rt, alloc, served, manager, hub, line, call, asked, message, &again, &row,
                     serial, room,
-                );
-                line.answer(hub, manager, &reply)
+                ) {
+                    Ran::On(line, reply) => answer(hub, manager, line, &reply),
+                    Ran::Over(finished) => Went::Over(finished),
+                }
             }
         },
     }
 }
 
 /// Serves a request.
-fn serve_call<R: Wait, K: Link, M: Manager>(
+fn serve_call<R: Wait + Threads + Sync, K: Link, M: Manager + Sync>(
     rt: &R,
     alloc: Global,
     served: &Served,
     manager: &M,
     hub: &Hub,
-    line: &mut Line<K>,
+    line: Line<K>,
     joined: Joined,
     iface: u16,
-) -> Result<(), Stop>
+) -> Went<K>
     requires served { M.tables manager.now ≡ tables_in served.now }
-    requires asking { IsAsking K.shows (M.may manager.now) (M.tables manager.now) hub.now line.old joined iface }
-    ensures same { IsSame line.old line.new }
-    ensures goes { GoesOn K.shows (M.may manager.now) (M.tables manager.now) hub.now result line.new }
+    requires asking { IsAsking K.shows (M.may manager.now) (M.tables manager.now) hub.now line joined iface }
+    ensures { Goes K.shows (M.may manager.now) (M.tables manager.now) hub.now line result }
 {
     let marked = joined.cancel;
     match prepared(alloc, served, line.number, joined, iface) {
-        Err(status) => line.answer(hub, manager, &Reply::Never(status)),
+        Err(status) => answer(hub, manager, line, &Reply::Never(status)),
         Ok(ready) => serve_ready(rt, alloc, served, manager, hub, line, ready, marked),
     }
 }
 
-/// Serves the requests of a connection until it doesn't go on.
-pub(crate) fn serve_calls<R: Wait, K: Link, M: Manager>(
+/// Serves a connection by one look: what came next, if anything, is done.
+#[tactic(auto, using(crate::proofs::Serving::goes_from, crate::proofs::Serving::same_then))]
+pub(crate) fn serve_next<R: Wait + Threads + Sync, K: Link, M: Manager + Sync>(
     rt: &R,
     alloc: Global,
     served: &Served,
     manager: &M,
     hub: &Hub,
-    line: &mut Line<K>,
-) -> Stop
+    line: Line<K>,
+) -> Went<K>
     requires served { M.tables manager.now ≡ tables_in served.now }
-    requires ready { IsReady K.shows (M.may manager.now) (M.tables manager.now) hub.now line.old }
-    ensures same { IsSame line.old line.new }
-    ensures stops { IsStopping K.shows (M.may manager.now) (M.tables manager.now) hub.now line.new result }
+    requires ready { IsReady K.shows (M.may manager.now) (M.tables manager.now) hub.now line }
+    ensures { Goes K.shows (M.may manager.now) (M.tables manager.now) hub.now line result }
 {
-    for _ in rt.forever() {
-        match line.hear_ready(hub, manager) {
-            Heard::Nothing => {}
-            Heard::Does(Act::Answer(octets)) => {
-                match line.put(hub, manager, octets.as_slice()) {
-                    Ok(()) => {}
-                    Err(why) => return why,
-                }
-            }
-            Heard::Does(Act::Call(joined, iface)) => {
-                match serve_call(rt, alloc, served, manager, hub, line, joined, iface) {
-                    Ok(()) => {}
-                    Err(why) => return why,
-                }
-            }
-            Heard::Does(Act::Close(octets, fault)) => {
-                return line.refuse(hub, manager, octets.as_slice(), fault);
-            }
-            Heard::Does(Act::Group(_)) => unreachable!(),
-            Heard::Does(Act::Cancel(_)) => unreachable!(),
-            Heard::Does(Act::Orphan(_)) => unreachable!(),
-            Heard::End => return Stop::Ended,
-            Heard::Stop(Fault::Failed) => return Stop::Failed,
-            Heard::Stop(Fault::Memory) => return Stop::Memory,
+    let mut line = line;
+    match line.hear_ready(hub, manager) {
+        Heard::Nothing => Went::On(line),
+        Heard::Does(Act::Answer(octets)) => match line.put(hub, manager, octets.as_slice()) {
+            Ok(()) => Went::On(line),
+            Err(why) => Went::Stop(line, why),
+        },
+        Heard::Does(Act::Call(joined, iface)) => {
+            serve_call(rt, alloc, served, manager, hub, line, joined, iface)
         }
+        Heard::Does(Act::Close(octets, fault)) => {
+            let why = line.refuse(hub, manager, octets.as_slice(), fault);
+            Went::Stop(line, why)
+        }
+        Heard::Does(Act::Group(_)) => unreachable!(),
+        Heard::Does(Act::Cancel(_)) => unreachable!(),
+        Heard::Does(Act::Orphan(_)) => unreachable!(),
+        Heard::End => Went::Stop(line, Stop::Ended),
+        Heard::Stop(Fault::Failed) => Went::Stop(line, Stop::Failed),
+        Heard::Stop(Fault::Memory) => Went::Stop(line, Stop::Memory),
     }
-    unreachable!()
 }

@@ -4,10 +4,13 @@ ghost use Rattle.group_hub.specs.Passes.{IsPassOf};
 ghost use Rattle.served_tables.specs.Served.{tables_in};
 ghost use Rattle.server_ends.specs.Finishes.{Finishes};
 ghost use Rattle.group_hub.specs.declared.pass.Pass.{Pass as PassSpec};
-ghost use Rattle.server_line.specs.Lines.{IsAlone, IsStopping};
+ghost use Rattle.server_line.specs.Early.{IsAlone};
+ghost use Rattle.server_line.specs.Lines.{IsReady};
+ghost use Rattle.server_line.specs.Endings.{IsStopping};
+ghost use Rattle.server_run.specs.Running.{IsOverFrom};
 
 use crate::binding::{Entered, enter};
-use crate::calling::serve_calls;
+use crate::calling::{Went, serve_next};
 use conn_link::Wire;
 use group_hub::{Hub, Pass};
 use manager_calls::Manager;
@@ -17,6 +20,7 @@ use server_ends::{Ending, Finished};
 use server_line::{Line, Stop, close};
 use std::alloc::Global;
 use std::sync::Wait;
+use std::thread::Threads;
 
 /// A connection for which there is no memory at all.
 fn unserved<K: Link, M: Manager>(_manager: &M, _hub: &Hub, pass: Pass, link: K) -> Finished<K>
@@ -91,11 +95,37 @@ fn finish<R: Wait, K: Link, M: Manager>(
     }
 }
 
+/// Serves the requests of a connection until it is over.
+#[tactic(auto, using(crate::proofs::Serving::over_from, crate::proofs::Serving::same_then))]
+fn serve_calls<R: Wait + Threads + Sync, K: Link, M: Manager + Sync>(
+    rt: &R,
+    alloc: Global,
+    served: &Served,
+    manager: &M,
+    hub: &Hub,
+    line: Line<K>,
+) -> Finished<K>
+    requires served { M.tables manager.now ≡ tables_in served.now }
+    requires ready { IsReady K.shows (M.may manager.now) (M.tables manager.now) hub.now line }
+    ensures { IsOverFrom K.shows (M.may manager.now) (M.tables manager.now) hub.now line result }
+{
+    let mut line = line;
+    for _ in rt.forever() {
+        match serve_next(rt, alloc, served, manager, hub, line) {
+            Went::On(next) => line = next,
+            Went::Stop(line, why) => return finish(rt, hub, manager, line, why),
+            Went::Over(finished) => return finished,
+        }
+    }
+    unreachable!()
+}
+
 /// Serves a connection to its end: it answers its bind, and then one call after another, each by the manager of its
-/// interface. At its end it leaves its group, which is run down and retired where that was due, and its link is closed.
-/// Nothing else is done with the link, and the hub is entered by this pass alone. What it came to is told; `Memory`
-/// stands wherever there was no memory for an answer or for what came.
-pub fn serve_connection<R: Wait, K: Link, M: Manager>(
+/// interface, in a thread beside, unless it is brief. Meanwhile it hears whether the call is called off, of which the
+/// manager is told where it asks. At its end it leaves its group, which is run down and retired where that was due, and
+/// its link is closed. Nothing else is done with the link, and the hub is entered by this pass alone: a call's thread only
+/// asks. What it came to is told; `Memory` stands wherever there was no memory for an answer or for what came.
+pub fn serve_connection<R: Wait + Threads + Sync, K: Link, M: Manager + Sync>(
     rt: &R,
     alloc: Global,
     hub: &Hub,
@@ -119,11 +149,7 @@ pub fn serve_connection<R: Wait, K: Link, M: Manager>(
         Err(link) => return unserved(manager, hub, pass, link),
     };
     match enter(rt, hub, manager, wire, pass) {
-        Entered::Joined(line) => {
-            let mut line = line;
-            let why = serve_calls(rt, alloc, table, manager, hub, &mut line);
-            return finish(rt, hub, manager, line, why);
-        }
+        Entered::Joined(line) => return serve_calls(rt, alloc, table, manager, hub, line),
         Entered::Stopped(line, why) => return finish(rt, hub, manager, line, why),
         Entered::Alone(wire, pass, why) => return finish_alone(manager, hub, wire, pass, why),
     }

@@ -1,10 +1,16 @@
 //! Serves one connection to its end: it hears what its client asks, joins the group of its bind, has the group accept and
 //! take its calls and the managers answer them, and leaves (C706, "Connection-oriented RPC protocol machines", server).
+//!
+//! The connection's thread owns the link and the pass: it takes and puts all octets and enters all that is entered. A call
+//! that was taken runs in a worker, a thread of its own, whose pass only asks. The connection's thread hears meanwhile
+//! whether the call is called off, joins the worker and takes in its pass before it enters the call's end.
 #![tactic(auto)]
 
+mod beside;
 mod binding;
 mod calling;
 mod connection;
 mod running;
+mod watching;
 
 pub use connection::serve_connection;

@@ -2,7 +2,7 @@
 ghost use Rattle.std.specs.Prelude.{◌<◌, length, IfOk, IfSome};
 ghost use Rattle.socket_links.specs.Sockets.{Gives, IsSome};
 
-use crate::waiter::Waiter;
+use crate::waiter::{TURN, Waiter};
 use mio::Interest;
 use mio::net::TcpStream;
 use rpc_base::{Failed, OutFault};
@@ -10,14 +10,18 @@ use rpc_outside::Taken;
 use std::io::{ErrorKind, Read, Write};
 use std::net::Shutdown;
 
+/// How long a take waits at most behind octets, in milliseconds. Each further one waits twice as long, up to a turn.
+const SHORT: u64 = 1;
+
 /// How many turns a put waits at most.
 const MOST_TURNS: u32 = 6_000;
 
-/// How many turns a peer is waited for at most, once the connection is to end.
+/// How many whole turns a peer is waited for at most, once the connection is to end.
 const LAST_TURNS: u32 = 200;
 
-/// How often a peer that goes on sending is read from at most, once the connection is to end.
-const LAST_READS: u32 = 16_384;
+/// How often a peer that goes on sending is looked at at most, once the connection is to end: each of its
+/// pieces takes a read, and another that finds nothing more.
+const LAST_READS: u32 = 32_768;
 
 /// A connected socket, and what waits for it. It waits until octets come, but for a put that doesn't
 /// find room.
@@ -25,6 +29,8 @@ const LAST_READS: u32 = 16_384;
 pub(crate) struct Connection {
     stream: TcpStream,
     waiter: Waiter,
+    // How long the next take waits at most, in milliseconds.
+    pause: u64,
 }
 
 impl Connection {
@@ -34,7 +40,11 @@ impl Connection {
             return Err(OutFault::Failed);
         }
         match waiter.watch(&mut stream, Interest::READABLE) {
-            Ok(()) => Ok(Connection { stream, waiter }),
+            Ok(()) => Ok(Connection {
+                stream,
+                waiter,
+                pause: SHORT,
+            }),
             Err(Failed) => Err(OutFault::Failed),
         }
     }
@@ -44,7 +54,7 @@ impl Connection {
         self.waiter
             .watch_again(&mut self.stream, Interest::WRITABLE)?;
         for _ in 0..MOST_TURNS {
-            self.waiter.wait()?;
+            self.waiter.wait(TURN)?;
             if !matches!(self.stream.take_error(), Ok(None)) {
                 return Err(Failed);
             }
@@ -57,14 +67,15 @@ impl Connection {
         Err(Failed)
     }
 
-    /// Takes what came, and waits a turn where nothing did.
+    /// Takes what came, and waits where nothing did.
     pub(crate) fn take(&mut self, into: &mut [u8]) -> Result<Taken, Failed>
         requires { 0 < length into.old }
         ensures { Gives (length into.new) result }
     {
         match self.read(into)? {
             Taken::Quiet => {
-                self.waiter.wait()?;
+                self.waiter.wait(self.pause)?;
+                self.pause = self.pause.saturating_mul(2).min(TURN);
                 self.read(into)
             }
             taken => Ok(taken),
@@ -77,7 +88,10 @@ impl Connection {
     {
         match self.stream.read(into) {
             Ok(0) => Ok(Taken::End),
-            Ok(count) => Ok(Taken::Bytes(count)),
+            Ok(count) => {
+                self.pause = SHORT;
+                Ok(Taken::Bytes(count))
+            }
             Err(error) if is_passing(error.kind()) => Ok(Taken::Quiet),
             Err(_) => Err(Failed),
         }
@@ -106,7 +120,7 @@ impl Connection {
         self.waiter
             .watch_again(&mut self.stream, Interest::WRITABLE)?;
         for _ in 0..MOST_TURNS {
-            self.waiter.wait()?;
+            self.waiter.wait(TURN)?;
             if let Some(count) = self.write(piece)? {
                 return Ok(count);
             }
@@ -128,16 +142,24 @@ impl Connection {
 
     /// Ends the connection. What was put reaches the peer: the peer is told that no more comes, and
     /// what it still sends is read and dropped for some turns, since a socket that is closed with octets
-    /// unread takes back what the peer hasn't read yet.
+    /// unread takes back what the peer hasn't read yet. A turn that the peer cuts short by sending isn't
+    /// counted among these.
     pub(crate) fn part(mut self) {
         let _ = self.stream.shutdown(Shutdown::Write);
         let mut dropped = [0u8; 4096];
-        for _ in 0..LAST_TURNS {
-            match self.take(&mut dropped) {
+        let mut turns = 0;
+        for _ in 0..LAST_READS {
+            match self.read(&mut dropped) {
                 Ok(Taken::Bytes(_)) => {}
-                Ok(Taken::Quiet) => {}
-                Ok(Taken::End) => return,
-                Err(Failed) => return,
+                Ok(Taken::Quiet) if turns < LAST_TURNS => {
+                    if self.waiter.wait(TURN).is_err() {
+                        return;
+                    }
+                    if !self.waiter.was_woken() {
+                        turns += 1;
+                    }
+                }
+                Ok(Taken::Quiet | Taken::End) | Err(Failed) => return,
             }
         }
     }

@@ -2,7 +2,7 @@
 use crate::address::socket_address;
 use crate::connection::{Connection, is_passing};
 use crate::link::SocketLink;
-use crate::waiter::Waiter;
+use crate::waiter::{TURN, Waiter};
 use mio::Interest;
 use mio::net::TcpListener;
 use rpc_base::{Failed, OutFault};
@@ -54,7 +54,7 @@ impl Listening {
                 Err(OutFault::Failed) if failures < MOST_FAILURES => failures += 1,
                 Err(OutFault::Failed) => return Err(OutFault::Failed),
             }
-            if self.waiter.wait().is_err() {
+            if self.waiter.wait(TURN).is_err() {
                 return Err(OutFault::Failed);
             }
         }

@@ -7,7 +7,7 @@ use std::net::Net;
 use std::time::Duration;
 
 /// How long a turn lasts at most, in milliseconds.
-const TURN: u64 = 10;
+pub(crate) const TURN: u64 = 10;
 
 /// Waits until its one socket is ready, turn by turn.
 #[derive(Drop)]
@@ -46,12 +46,19 @@ impl Waiter {
         }
     }
 
-    /// Waits for a turn, or until the socket is ready.
-    pub(crate) fn wait(&mut self) -> Result<(), Failed> {
-        let turn = Duration::from_millis(TURN);
-        match self.poll.poll(&mut self.events, Some(turn)) {
+    /// Waits for so many milliseconds, or until the socket is ready.
+    pub(crate) fn wait(&mut self, time: u64) -> Result<(), Failed> {
+        match self
+            .poll
+            .poll(&mut self.events, Some(Duration::from_millis(time)))
+        {
             Ok(()) => Ok(()),
             Err(_) => Err(Failed),
         }
+    }
+
+    /// Whether the last wait ended since the socket was ready, and not for its time.
+    pub(crate) fn was_woken(&self) -> bool {
+        !self.events.is_empty()
     }
 }

@@ -1,12 +1,15 @@
 //! A door and a dial over sockets, and links over their connections. Each port is one that the system gave.
 ghost use Rattle.std.specs.Prelude.{◌≡◌, ◌<◌, false, length};
+ghost use Rattle.socket_links.specs.Sockets.{shown};
 
 use rpc_base::{Failed, OutFault};
 use rpc_outside::{Address, Dial, Door, Link, Taken, put_all};
-use socket_links::{SocketDial, SocketDoor};
+use socket_links::{SocketDial, SocketDoor, SocketLink};
+use std::alloc::Global;
 use std::io::{Read, Write};
 use std::net::{Ipv4Addr, Shutdown, TcpListener, TcpStream};
 use std::test::*;
+use std::{io, thread};
 
 fn at(port: u16) -> Address {
     Address {
@@ -92,6 +95,48 @@ fn the_last_answer_comes_where_octets_were_not_taken(rt: HostRuntime) -> Result<
     let mut answer = Vec::new(rt.alloc());
     client.read_to_end(&mut answer)?;
     assert_eq!(rt; answer.as_slice(), b"answer".as_slice());
+    door.back(link);
+    Ok(())
+}
+
+/// A link ends behind an answer.
+fn end_with_answer(mut link: SocketLink) -> SocketLink
+    requires { (shown link).closed ≡ false }
+{
+    let _ = put_all(&mut link, b"answer");
+    link.close();
+    link
+}
+
+/// Sends 32 MiB, reads nothing before, and then what came.
+fn send_much(alloc: Global, mut client: TcpStream) -> io::Result<Vec<u8>> {
+    for _ in 0..8_192 {
+        client.write_all(&[0u8; 4_096])?;
+    }
+    client.shutdown(Shutdown::Write)?;
+    let mut answer = Vec::new(alloc);
+    client.read_to_end(&mut answer)?;
+    Ok(answer)
+}
+
+#[test]
+fn the_last_answer_comes_where_much_is_sent_on(rt: HostRuntime) -> Result<(), Fail> {
+    let alloc = rt.alloc();
+    let port = free_port(&rt)?;
+    let mut door = SocketDoor::new(&rt, alloc);
+    door.listen(at(port))?;
+    let client = TcpStream::connect(&rt, (Ipv4Addr::LOCALHOST, port))?;
+    let Some(link) = door.next()? else {
+        return Err(Fail::new("nobody called"));
+    };
+    let (link, answer) = thread::join(
+        &rt,
+        || -> SocketLink
+            requires { (shown link).closed ≡ false }
+        { end_with_answer(link) },
+        || send_much(alloc, client),
+    );
+    assert_eq!(rt; answer?.as_slice(), b"answer".as_slice());
     door.back(link);
     Ok(())
 }

@@ -7,5 +7,5 @@ use Rattle.server_run.proofs.calling.serve_call.Goals as goal
 pub answer-requires-clause-settled : goal.answer-requires-clause-settled
 answer-requires-clause-settled g c κs within =
     let j = c.args.joined in
-    settled_early g.K.Link.shows (g.M.Manager.may c.args.manager.now) (g.M.Manager.tables c.args.manager.now) c.args.hub.now c.args.line.now j c.args.iface c.in-Err.status c.requires.asking
+    settled_early g.K.Link.shows (g.M.Manager.may c.args.manager.now) (g.M.Manager.tables c.args.manager.now) c.args.hub.now c.args.line j c.args.iface c.in-Err.status c.requires.asking
     (subst (λ t. IsRefused t c.args.iface j.op j.order j.stub never_full c.in-Err.status) (sym c.requires.served) c.in-Err.ensures)

@@ -1,9 +1,9 @@
-use Rattle.std.proofs.Common.{◌≡◌, ℕ, ◌-◌, ◌≤◌, true, Option, List, length, sym, ap, ◌∙◌, subst}
+use Rattle.std.proofs.Common.{◌≡◌, ℕ, ◌-◌, ◌≤◌, List, length, sym, ap, ◌∙◌, subst}
 use Rattle.handle_model.specs.declared.entry.Slot.{Slot}
 use Rattle.handle_model.specs.Rules.{filled}
-use Rattle.served_call.specs.Suited.{suit_cookies}
-use Rattle.server_line.specs.Lines.{IsRunning}
-use Rattle.server_run.proofs.Serving.{filled_length, suit_length}
+use Rattle.served_tables.specs.Served.{tables_in}
+use Rattle.call_worker.proofs.Cookies.{suit_length}
+use Rattle.server_run.proofs.Serving.{filled_length, given_so, running_so, row_so}
 use Rattle.server_run.proofs.running.run_call.Goals as goal
 
 pub first_cookies-cookies-requires : goal.first_cookies-cookies-requires
@@ -12,23 +12,28 @@ first_cookies-cookies-requires g c =
     let many : c.len.result ≡ length c.args.asked.slots = c.len.ensures ∙ (ap (λ (l : List Slot). length l) slots ∙ filled_length (c.args.serial - 1) c.args.asked.slots) in
     subst (λ (n : ℕ). n ≤ 4) (sym many) c.requires.taken.opened.few
 
-pub run-results-requires-clause-few : goal.run-results-requires-clause-few
-run-results-requires-clause-few g c =
-    let slots : c.number_slots.new.slots ≡ filled (c.args.serial - 1) c.args.asked.slots = c.number_slots.ensures ∙ ap (λ (n : ℕ). filled n c.args.asked.slots) c.saturating_sub.ensures in
-    subst (λ (n : ℕ). n ≤ 4) (sym (ap (λ (l : List Slot). length l) slots ∙ filled_length (c.args.serial - 1) c.args.asked.slots)) c.requires.taken.opened.few
-
-pub run-results-requires-clause-cookies : goal.run-results-requires-clause-cookies
-run-results-requires-clause-cookies g c =
+pub run_beside-requires-clause-running : goal.run_beside-requires-clause-running
+run_beside-requires-clause-running g c = λ κs within.
+    let a = c.args.asked in
     let t = c.requires.taken in
-    let slots : c.number_slots.new.slots ≡ filled (c.args.serial - 1) c.args.asked.slots = c.number_slots.ensures ∙ ap (λ (n : ℕ). filled n c.args.asked.slots) c.saturating_sub.ensures in
-    let cookies = c.first_cookies-cookies.ensures t.cookies t.row_is (suit_length (filled (c.args.serial - 1) c.args.asked.slots) t.cookies t.suits ∙ (ap (λ (l : List Slot). length l) (sym slots) ∙ sym c.len.ensures)) in
-    subst (λ (z : List Slot × List (Option ℕ)). suit_cookies z.0 z.1 ≡ true) (λ i. (sym slots i, sym cookies i)) t.suits
+    let slots : c.number_slots.new.slots ≡ filled (c.args.serial - 1) a.slots = c.number_slots.ensures ∙ ap (λ (n : ℕ). filled n a.slots) c.saturating_sub.ensures in
+    let cookies = c.first_cookies-cookies.ensures t.cookies t.row_is (suit_length (filled (c.args.serial - 1) a.slots) t.cookies t.suits ∙ (ap (λ (l : List Slot). length l) (sym slots) ∙ sym c.len.ensures)) in
+    running_so g.K.Link.shows (g.M.Manager.may c.args.manager.now) (g.M.Manager.tables c.args.manager.now) c.args.hub.now c.args.line c.args.call a (record a { slots = c.number_slots.new.slots }) c.args.row.now c.first_cookies-cookies.result.now c.args.serial t
+    (ap (λ (ss : List Slot). record a { slots = ss }) slots) cookies
 
-pub end-requires-clause-running : goal.end-requires-clause-running
-end-requires-clause-running g c = λ κs within.
+pub run_beside-requires-clause-row : goal.run_beside-requires-clause-row
+run_beside-requires-clause-row g c = λ κs within.
+    let a = c.args.asked in
     let t = c.requires.taken in
-    let slots : c.number_slots.new.slots ≡ filled (c.args.serial - 1) c.args.asked.slots = c.number_slots.ensures ∙ ap (λ (n : ℕ). filled n c.args.asked.slots) c.saturating_sub.ensures in
-    let cookies = c.first_cookies-cookies.ensures t.cookies t.row_is (suit_length (filled (c.args.serial - 1) c.args.asked.slots) t.cookies t.suits ∙ (ap (λ (l : List Slot). length l) (sym slots) ∙ sym c.len.ensures)) in
-    subst
-    (λ (z : List Slot × List (Option ℕ)). IsRunning g.K.Link.shows (g.M.Manager.may c.args.manager.now) (g.M.Manager.tables c.args.manager.now) c.args.hub.now c.args.line.now c.args.call (record c.args.asked { slots = z.0 }) z.1)
-    (λ i. (sym slots i, sym cookies i)) t.running
+    let slots : c.number_slots.new.slots ≡ filled (c.args.serial - 1) a.slots = c.number_slots.ensures ∙ ap (λ (n : ℕ). filled n a.slots) c.saturating_sub.ensures in
+    let cookies = c.first_cookies-cookies.ensures t.cookies t.row_is (suit_length (filled (c.args.serial - 1) a.slots) t.cookies t.suits ∙ (ap (λ (l : List Slot). length l) (sym slots) ∙ sym c.len.ensures)) in
+    row_so g.K.Link.shows (g.M.Manager.may c.args.manager.now) (g.M.Manager.tables c.args.manager.now) c.args.hub.now c.args.line c.args.call a (record a { slots = c.number_slots.new.slots }) c.args.row.now c.first_cookies-cookies.result.now c.args.serial t
+    (ap (λ (ss : List Slot). record a { slots = ss }) slots) cookies
+
+pub run_beside-requires-clause-given : goal.run_beside-requires-clause-given
+run_beside-requires-clause-given g c = λ κs within.
+    let a = c.args.asked in
+    let t = c.requires.taken in
+    let slots : c.number_slots.new.slots ≡ filled (c.args.serial - 1) a.slots = c.number_slots.ensures ∙ ap (λ (n : ℕ). filled n a.slots) c.saturating_sub.ensures in
+    given_so g.K.Link.shows (g.M.Manager.may c.args.manager.now) (g.M.Manager.tables c.args.manager.now) c.args.hub.now (tables_in c.args.served.now) c.args.line c.args.call a (record a { slots = c.number_slots.new.slots }) c.args.row.now c.args.serial
+    c.args.message c.args.again.now c.requires.served (ap (λ (ss : List Slot). record a { slots = ss }) slots) t c.requires.message c.requires.again

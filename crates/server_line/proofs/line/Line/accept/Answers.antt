@@ -3,7 +3,7 @@ use Rattle.hub_story.specs.Passes.{Serves}
 use Rattle.group_hub.specs.Shards.{shard_of}
 use Rattle.group_hub.specs.Passes.{at_shard}
 use Rattle.handle_model.specs.declared.reply.Reply.TheVariants.{Never}
-use Rattle.server_line.specs.Lines.{IsSettled}
+use Rattle.server_line.specs.Calls.{IsSettled}
 use Rattle.server_line.proofs.Accepting.{accepted_so, accepted_marked, unaccepted_so}
 use Rattle.server_line.proofs.line.Line.accept.Goals as goal
 

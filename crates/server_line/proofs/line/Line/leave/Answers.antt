@@ -1,5 +1,5 @@
 use Rattle.std.proofs.Common.{sym, subst}
-use Rattle.server_line.specs.Lines.{IsLeft}
+use Rattle.server_line.specs.Endings.{IsLeft}
 use Rattle.server_line.proofs.LeaveLemmas.{serves_stopping, left_as}
 use Rattle.server_line.proofs.line.Line.leave.Goals as goal
 

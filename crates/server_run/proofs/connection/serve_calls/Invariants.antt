@@ -1,5 +1,5 @@
 use Rattle.server_line.specs.Lines.{IsSame, IsReady}
-use Rattle.server_run.proofs.calling.serve_calls.Given as goal
+use Rattle.server_run.proofs.connection.serve_calls.Given as goal
 
 abbrev pub invariant-loop : goal.invariant-loop
 invariant-loop g l = IsSame l.initial.line l.line × IsReady g.K.Link.shows (g.M.Manager.may l.manager) (g.M.Manager.tables l.manager) l.hub l.line

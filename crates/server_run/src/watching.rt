@@ -1,0 +1,81 @@
+//! A call is watched while it runs.
+ghost use Rattle.std.specs.Prelude.{◌≡◌, false};
+ghost use Rattle.server_line.specs.Lines.{IsSame};
+ghost use Rattle.server_line.specs.Calls.{IsRunning};
+ghost use Rattle.server_run.specs.Running.{Watches};
+
+use conn_asks::Act;
+use conn_link::{Fault, Heard};
+use group_hub::Hub;
+use handle_model::Asked;
+use manager_calls::Manager;
+use rpc_outside::Link;
+use server_line::{Line, Stop};
+use std::sync::Wait;
+use std::sync::atomic::{AtomicBool, Ordering};
+use std::thread;
+
+/// How many turns a call is given to end before its connection's link is looked at, which may take a while.
+const TURNS: u32 = 1_000;
+
+/// What came of a call that runs.
+#[derive(Drop)]
+pub(crate) enum Watched {
+    /// Nothing more is heard until it ends. Its client no longer waits for it, or does.
+    Done(bool),
+    /// The connection doesn't go on.
+    Stop(Stop),
+}
+
+/// Gives other threads some turns, until the call is done: whether it is.
+fn is_soon_done(done: &AtomicBool) -> bool {
+    for _ in 0..TURNS {
+        if done.load(Ordering::SeqCst) {
+            return true;
+        }
+        thread::yield_now();
+    }
+    false
+}
+
+/// Hears whether a running call is called off, until it is done or something came that has to wait for its end.
+pub(crate) fn watch<R: Wait, K: Link, M: Manager>(
+    rt: &R,
+    hub: &Hub,
+    manager: &M,
+    line: &mut Line<K>,
+    call: u32,
+    asked: &Asked,
+    cookies: &[Option<u64>],
+    done: &AtomicBool,
+) -> Watched
+    requires { IsRunning K.shows (M.may manager.now) (M.tables manager.now) hub.now line.old call asked.now cookies.now false }
+    ensures same { IsSame line.old line.new }
+    ensures group { line.new.group ≡ line.old.group }
+    ensures watches { Watches K.shows (M.may manager.now) (M.tables manager.now) hub.now call asked.now cookies.now result line.new }
+{
+    let mut orphaned = false;
+    for _ in rt.forever() {
+        if is_soon_done(done) || line.wire.conn.must_wait() {
+            return Watched::Done(orphaned);
+        }
+        match line.hear_running(hub, manager, call, asked, cookies, orphaned) {
+            Heard::Nothing => {}
+            Heard::Does(Act::Cancel(_)) => {
+                line.cancel_running(rt, hub, manager, call, asked, cookies, orphaned);
+            }
+            Heard::Does(Act::Orphan(_)) => {
+                line.orphan_running(rt, hub, manager, call, asked, cookies, orphaned);
+                orphaned = true;
+            }
+            Heard::Does(Act::Answer(_)) => unreachable!(),
+            Heard::Does(Act::Group(_)) => unreachable!(),
+            Heard::Does(Act::Call(_, _)) => unreachable!(),
+            Heard::Does(Act::Close(_, _)) => unreachable!(),
+            Heard::End => return Watched::Stop(Stop::Ended),
+            Heard::Stop(Fault::Failed) => return Watched::Stop(Stop::Failed),
+            Heard::Stop(Fault::Memory) => return Watched::Stop(Stop::Memory),
+        }
+    }
+    unreachable!()
+}
