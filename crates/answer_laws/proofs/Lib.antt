@@ -1,3 +1,4 @@
 pub mod Slots
 pub mod Comes
 pub mod Texts
+pub mod Lines

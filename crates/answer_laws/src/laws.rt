@@ -1,5 +1,5 @@
 //! Laws of the texts of answers.
-ghost use Rattle.answer_laws.specs.Laws.{HasLine, HasText};
+ghost use Rattle.answer_laws.specs.Laws.{HasLine, HasText, OneLine};
 
 /// The values of a message of an operation have a text, once its handles have come.
 pub fn has_text()
@@ -9,4 +9,9 @@ pub fn has_text()
 /// So the outcome of a call that was done has a line.
 pub fn has_line()
     ensures { HasLine }
+{}
+
+/// An outcome is told in one way.
+pub fn one_line()
+    ensures { OneLine }
 {}

@@ -5,10 +5,10 @@ ghost use Rattle.client_asks.specs.States as states;
 ghost use Rattle.client_asks.specs.States.Outcome.{TDone};
 ghost use Rattle.call_answers.specs.Answers as spec;
 
-use call_texts::put_row;
+use call_texts::{Handles, put_row};
 use client_asks::Told;
 use ndr_value::Message;
-use rpc_base::{NoMemory, Status, WireHandle};
+use rpc_base::{NoMemory, Status};
 use rpc_words::{put, put_decimal, put_hex_u32};
 use std::alloc::Global;
 
@@ -48,7 +48,7 @@ fn put_fault(
 
 fn put_done(
     alloc: Global,
-    known: &[WireHandle],
+    known: &Handles,
     message: &Message,
     into: &mut Vec<u8>,
 ) -> Result<bool, NoMemory>
@@ -61,7 +61,7 @@ fn put_done(
 /// Adds what is said of an outcome. False where nothing is.
 fn put_said(
     alloc: Global,
-    known: &[WireHandle],
+    known: &Handles,
     told: &Told,
     into: &mut Vec<u8>,
 ) -> Result<bool, NoMemory>
@@ -82,7 +82,7 @@ fn put_said(
 #[tactic(auto, using(crate::proofs::Lines::tells))]
 pub fn put_answer(
     alloc: Global,
-    known: &[WireHandle],
+    known: &Handles,
     connection: u32,
     told: &Told,
     into: &mut Vec<u8>,

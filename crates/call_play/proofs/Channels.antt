@@ -1,33 +1,32 @@
 -- A channel behind one thing on its connection.
-use Rattle.std.proofs.Common.{◌≡◌, ◌≢◌, ℕ, ◌≤◌, true, false, Bool, inl, inr, Option, Some, None, Ok, Err, Result, List, [], ◌∷◌, ◌++◌, refl, sym, ap, ◌∙◌, subst, append_assoc, arith}
+use Rattle.std.proofs.Common.{◌≡◌, ℕ, ◌≤◌, true, false, inl, inr, Some, Ok, Err, List, [], ◌∷◌, ◌++◌, refl, sym, ap, ◌∙◌, subst, append_assoc, arith}
 use Rattle.std.proofs.lemmas.Bool.{false≢true}
 use Rattle.std.specs.Io.KnownBytes.{prepend_known}
 use Rattle.rpc_base.specs.Causes.{Rose}
 use Rattle.rpc_outside.specs.Links.{Shown, IsNew, Closes, Counts}
-use Rattle.pdu_codec.specs.declared.pdu.Pdu.{Pdu}
 use Rattle.table_form.specs.Tables.{TableForm}
 use Rattle.client_asks.specs.declared.told.Told.{Told}
 use Rattle.client_asks.specs.declared.told.Told.TheVariants as tolds
 use Rattle.client_asks.specs.declared.told.ClientFault.{ClientFault}
-use Rattle.client_asks.specs.States.{ClientState, at_start, told}
+use Rattle.client_asks.specs.States.{ClientState, told}
 use Rattle.client_asks.specs.States.Outcome.{TBroken}
-use Rattle.client_asks.specs.Histories.{ClientEvent, Happens}
+use Rattle.client_asks.specs.Histories.{ClientEvent}
 use Rattle.client_asks.specs.Histories.ClientEvent.{DidBind, Received}
 use Rattle.client_link.specs.declared.wire.Wire.{Wire}
 use Rattle.client_link.specs.declared.wire.BeginFault.{BeginFault}
 use Rattle.client_link.specs.declared.wire.BeginFault.TheVariants as begin
 use Rattle.client_link.specs.declared.wait.Stop.{Stop as Deaf}
 use Rattle.client_link.specs.declared.wait.Stop.TheVariants as deaf
-use Rattle.client_link.specs.Wires.{Stays, Lived, Spoken, Linked, Begins, Cause, Waits, RoseBy, most_quiets, AreSilent}
+use Rattle.client_link.specs.Wires.{Stays, Lived, Spoken, Begins, Cause, Waits, RoseBy, most_quiets, AreSilent}
 use Rattle.call_play.specs.declared.channel.Channel.{Channel}
 use Rattle.call_play.specs.declared.channel.Halt.{Halt}
 use Rattle.call_play.specs.declared.channel.Halt.TheVariants as halts
 use Rattle.call_play.specs.Worlds.{Association, with_event}
-use Rattle.call_play.specs.Steps.{Hears, group_of, bound_as}
-use Rattle.call_play.specs.Losses.{GoesUnheard, IsCutOff, IsGone, IsLostOn}
+use Rattle.call_play.specs.Steps.{group_of, bound_as}
+use Rattle.call_play.specs.Losses.{IsGone}
 use Rattle.call_play.specs.Losses.IsGone.{failed, ended, quiet, cut, broken}
 use Rattle.call_play.specs.Shows.{Holds, HoldsLost}
-use Rattle.call_play.specs.Plays.{BeginsOn, HearsOn, BindsOn, BindsFrom, LosesFrom, Halts, Silences}
+use Rattle.call_play.specs.Channels.{BeginsOn, HearsOn, BindsOn, Halts, Silences}
 
 later : (z a b : ℕ) → z ≤ a → Rose a b → Rose z b
 later z a b h r = omega arith

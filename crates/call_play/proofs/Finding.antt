@@ -1,7 +1,7 @@
 -- The channel that is bound by a name.
-use Rattle.std.proofs.Common.{◌≡◌, ℕ, ◌+◌, ◌<◌, ◌≤◌, ◌==◌, ◌&&◌, Bool, true, false, inl, inr, Option, Some, None, Ok, Err, Result, List, [], ◌∷◌, ◌++◌, length, refl, sym, ap, ◌∙◌, subst, arith}
+use Rattle.std.proofs.Common.{◌≡◌, ℕ, ◌<◌, ◌==◌, ◌&&◌, Bool, true, false, inr, Some, Ok, Err, Result, List, ◌++◌, length, refl, sym, ap, ◌∙◌, subst}
 use Rattle.std.specs.Prelude.{slice_get, slice_index_or}
-use Rattle.std.proofs.lemmas.Bool.{false≢true, eqb-true, eq-eqb, cases_lt}
+use Rattle.std.proofs.lemmas.Bool.{false≢true, eqb-true, eq-eqb}
 use Rattle.ndr_value.specs.declared.value.Message.{Message}
 use Rattle.ndr_value.specs.Values.{msg}
 use Rattle.client_asks.specs.Calls.{IsMessage}
@@ -15,9 +15,9 @@ use Rattle.call_play.specs.declared.player.Stop.{Stop}
 use Rattle.call_play.specs.declared.player.Stop.TheVariants as stops
 use Rattle.call_play.specs.declared.player.Player.{Player}
 use Rattle.call_play.specs.Losses.{lost_text}
-use Rattle.call_play.specs.Shows.{IsBoundAs, IsThere, IsNowhere}
+use Rattle.call_play.specs.Shows.{IsBoundAs, IsThere}
 use Rattle.call_play.specs.Steps.{HasOp, IsRequestOf, BarsCall}
-use Rattle.call_play.specs.Plays.{CanStart, BarsAt, IsCalling, AsksOf, TellsLost, LosesAt, StopsBy, Unbegun, Answered, Begun, IsIdle}
+use Rattle.call_play.specs.Players.{CanStart, BarsAt, IsCalling, AsksOf, TellsLost, LosesAt, StopsBy, Unbegun, Answered, Begun, IsIdle}
 use Rattle.call_play.proofs.Lists.{is_within, read_there}
 
 both : (a b : Bool) → true ≡ (a && b) → (a ≡ true) × (b ≡ true)
@@ -41,30 +41,6 @@ module _ {K : Type 0} where
   not_bound_as c name h b =
       let front : ((c.name == name) && c.is_open) ≡ true = ap (λ (x : Bool). x && c.is_open) (eq-eqb c.name name b.named) ∙ b.is_open in
       neither ((c.name == name) && c.is_open) (is_bound (state c.wire.client)) h front b.bound
-
-  -- none of those before a place is
-  abbrev pub NoneBefore : ℕ → ℕ → List (Channel K) → Type 0
-  NoneBefore name at cs = (k : ℕ) (c : Channel K) → k < at → slice_get cs k ≡ Some c → IsBoundAs name c → ⊥
-
-  pub none_at_first : (name : ℕ) (cs : List (Channel K)) → NoneBefore name 0 cs
-  none_at_first name cs k c low e b = absurd (omega arith)
-
-  pub none_more : (name at : ℕ) (cs : List (Channel K)) (d : Channel K) → NoneBefore name at cs → at < length cs → d ≡ slice_index_or cs at d → (IsBoundAs name d → ⊥) → NoneBefore name (at + 1) cs
-  none_more name at cs d none within e not k c low there b =
-      elim (cases_lt k at) [
-        | inl less ↦ none k c less there b
-        | inr more ↦ (let same : at ≡ k = omega arith in
-            let here : slice_get cs k ≡ Some d = subst (λ (n : ℕ). slice_get cs n ≡ Some d) same (read_there cs at d within e) in
-            let is : Some c ≡ Some d = sym there ∙ here in
-            let eq : c ≡ d = cc in
-            not (subst (λ (x : Channel K). IsBoundAs name x) eq b))
-      ]
-
-  pub none_at_all : (name at : ℕ) (cs : List (Channel K)) → NoneBefore name at cs → length cs ≤ at → IsNowhere name cs
-  none_at_all name at cs none all k c there b = let within = is_within cs k c there in none k c (omega (arith, within, all)) there b
-
-  pub found : (name at : ℕ) (cs : List (Channel K)) (d : Channel K) → at < length cs → d ≡ slice_index_or cs at d → true ≡ (((d.name == name) && d.is_open) && is_bound (state d.wire.client)) → IsThere name cs at
-  found name at cs d within e h = (d, read_there cs at d within e, is_bound_as d name h)
 
   -- ---- what is read of the one that is found
 

@@ -1,7 +1,9 @@
 mod Channels
+mod Telling
 mod Lists
 mod Dials
 mod Finding
+mod Index
 mod Asking
 mod Players
 mod LineLemmas

@@ -1,5 +1,5 @@
 -- What each line comes to.
-use Rattle.std.proofs.Common.{◌≡◌, ℕ, ◌+◌, ◌<◌, ◌||◌, Bool, true, false, inl, inr, Option, Some, None, Ok, Err, Result, List, [], ◌∷◌, ◌++◌, length, refl, sym, ap, ◌∙◌, subst, arith}
+use Rattle.std.proofs.Common.{◌≡◌, ℕ, ◌+◌, ◌<◌, Bool, true, false, inl, inr, Option, Some, Ok, Err, Result, List, [], ◌∷◌, ◌++◌, length, refl, sym, ap, ◌∙◌, subst, arith}
 use Rattle.std.specs.Prelude.{slice_get, slice_set}
 use Rattle.std.specs.declared.vec.Vec.{Vec}
 use Rattle.std.specs.declared.alloc.Global.{Global}
@@ -11,31 +11,30 @@ use Rattle.rpc_outside.specs.Links.{Shown}
 use Rattle.rpc_outside.specs.Dials.{DialShown, Opens}
 use Rattle.ndr_value.specs.declared.value.Message.{Message}
 use Rattle.ndr_value.specs.Values.{msg}
-use Rattle.table_form.specs.Tables.{OpForm, TableForm}
+use Rattle.table_form.specs.Tables.{TableForm}
 use Rattle.client_asks.specs.declared.told.Told.{Told}
 use Rattle.client_asks.specs.Calls.{IsMessage}
-use Rattle.client_asks.specs.States.{Outcome, ClientState, told, is_bound, is_calling}
-use Rattle.client_asks.specs.Histories.{ClientEvent}
-use Rattle.client_asks.specs.Histories.ClientEvent.{DidBind, DidCall, DidCancel}
+use Rattle.client_asks.specs.States.{ClientState, told, is_bound, is_calling}
+use Rattle.client_asks.specs.Histories.ClientEvent.{DidCall, DidCancel}
 use Rattle.client_core.specs.State.{state}
 use Rattle.client_link.specs.Wires.{IsOpen, IsTooLong}
-use Rattle.call_script.specs.declared.line.CallLine.{CallLine}
 use Rattle.call_script.specs.declared.line.CallLine.TheVariants as lines
 use Rattle.call_play.specs.declared.channel.Channel.{Channel}
 use Rattle.call_play.specs.declared.channel.Halt.{Halt}
-use Rattle.call_play.specs.declared.channel.Halt.TheVariants as halts
 use Rattle.call_play.specs.declared.player.Player.{Player}
 use Rattle.call_play.specs.declared.player.Stop.{Stop}
 use Rattle.call_play.specs.declared.player.Stop.TheVariants as stops
-use Rattle.call_play.specs.Worlds.{Association, World, fresh, with_event, IsBound, IsFree, AsksGroup}
-use Rattle.call_play.specs.Steps.{Prints, HasNoCall, Binds, Hears, HasOp, IsRequestOf, BarsCall, MayStart, HasCall, Begins, known_with, is_failure}
+use Rattle.call_play.specs.Worlds.{Association, World, fresh}
+use Rattle.call_play.specs.Steps.{HasNoCall, Binds, HasOp, IsRequestOf, BarsCall, MayStart, HasCall}
 use Rattle.call_play.specs.Steps.BarsCall.{too_long}
-use Rattle.call_play.specs.Losses.{IsCutOff, GoesUnheard, BindsInVain, Loses, lost_text}
-use Rattle.call_play.specs.Shows.{Holds, HoldsLost, Stands, HasWorld, IsBoundAs, IsThere, IsNowhere}
-use Rattle.call_play.specs.Plays.{BeginsOn, HearsOn, BindsOn, FromEach, CanStart, BarsAt, HasAt, Touches, IsCalling, IsIdle, AsksOf, AsksNone, TellsLost, Tells, Answered, Begun, Opened, Runs, HasLost, LineEnds, Adds, PlaysLine, PlaysAnywhere, BindsTo}
-use Rattle.call_play.proofs.Lists.{one_there, is_within, set_there, set_long, last_there, zip_set, zip_push, zip_long}
+use Rattle.call_play.specs.Shows.{Holds, Stands, HasWorld, IsBoundAs, IsThere, IsNowhere, IsIndex}
+use Rattle.call_play.specs.Channels.{BeginsOn, HearsOn, BindsOn, FromEach}
+use Rattle.call_play.specs.Players.{CanStart, BarsAt, HasAt, Touches, IsCalling, IsIdle, AsksOf, AsksNone, Answered, Begun}
+use Rattle.call_play.specs.Plays.{Opened, Runs, LineEnds, Adds, PlaysLine, PlaysAnywhere, BindsTo}
+use Rattle.call_play.proofs.Lists.{one_there, is_within, set_there, set_long, last_there, zip_push, zip_long}
 use Rattle.call_play.proofs.Dials.{opened_more, opened_same}
-use Rattle.call_play.proofs.Players.{bound_there, open_there, is_free, asks_group, Agrees, agrees, touched, told_line, lost_line, zipped, counted, there_now, stands_set, from_begins, line_begins}
+use Rattle.call_play.proofs.Index.{index_push, index_kept}
+use Rattle.call_play.proofs.Players.{bound_there, open_there, is_free, asks_group, Agrees, agrees, touched, told_line, lost_line, zipped, counted, there_now, indexed_now, stands_set, from_begins, line_begins}
 
 module _ {K : Type 0} (shows : K → Shown) where
   -- what was found is what was touched
@@ -43,6 +42,9 @@ module _ {K : Type 0} (shows : K → Shown) where
   same_bound p name at c d h k b = subst (λ (x : Channel K). IsBoundAs name x) (one_there p.channels.items at c d h k) b
 
   -- ---- where it is asked for
+
+  pub has_index : (p : Player K) → HasWorld shows p → IsIndex p.places p.channels.items
+  has_index p h = h.2.indexed
 
   pub there_within : (p : Player K) (name at : ℕ) → IsThere name p.channels.items at → at < length p.channels.items
   there_within p name at found = is_within p.channels.items at found.0 found.1
@@ -90,7 +92,7 @@ module _ {K : Type 0} (shows : K → Shown) where
         let Long : Type 0 = IsTooLong (state t.before.wire.client).interface op (msg m) in
         let as_here : state t.before.wire.client ≡ a.state = (x.2.lived x.1.is_open).0.at in
         let begun_there : Touches p at (λ c d. FromEach shows c (λ interface a. BeginsOn shows interface a (DidCall op (msg m)) Long done d)) q =
-        record { before = t.before; after = t.after; there = t.there; becomes = t.becomes; channels = t.channels; others = t.others } in
+        record { before = t.before; after = t.after; there = t.there; becomes = t.becomes; named = t.named; channels = t.channels; others = t.others } in
         let may : MayStart w name op_name text at a op (msg m) = record {
           bound = x.1;
           free = can_in.free;
@@ -100,7 +102,7 @@ module _ {K : Type 0} (shows : K → Shown) where
         } in
         from_begins shows interface address first now p q r w runs name at (lines.Start name op_name text) a (DidCall op (msg m)) Long
         (λ l. inr (at, a, x.1, too_long op (msg m) can_in.has_op can_in.request (subst (λ (s : ClientState). IsTooLong s.interface op (msg m)) as_here l))) (λ v h. (at, a, op, msg m, may, h)) (λ b v cut loses. (a, op, msg m, may, cut, loses)) result
-        (line_begins shows interface address first now p q r w runs name at a (DidCall op (msg m)) Long done x.1.there begun_there x.2 x.1.is_open result b)
+        (line_begins shows interface address first now p q r w runs name at a (DidCall op (msg m)) Long done x.1.there begun_there x.2 x.1.is_open (same_bound p name at found.0 t.before found.1 t.there found.2) result b)
 
   -- ---- a call is cancelled, or waited for
 
@@ -117,14 +119,17 @@ module _ {K : Type 0} (shows : K → Shown) where
   cancelled p q r name at done result calls t b interface address first now w runs =
       let x = has_call interface p w name at t.before runs.0 t.there calls in
       from_begins shows interface address first now p q r w runs name at (lines.Cancel name) x.0 DidCancel ⊥ (λ l. absurd l) (λ v h. (at, x.0, x.1, h)) (λ b v cut loses. (x.0, x.1, cut, loses)) result
-      (line_begins shows interface address first now p q r w runs name at x.0 DidCancel ⊥ done x.1.bound.there t x.2 x.1.bound.is_open result b)
+      (line_begins shows interface address first now p q r w runs name at x.0 DidCancel ⊥ done x.1.bound.there t x.2 x.1.bound.is_open (same_bound p name at calls.channel t.before calls.there t.there calls.bound) result b)
 
   module _ (p q r : Player K) (name at : ℕ) (answer : Result Told Halt) (calls : IsCalling p name at) (t : Touches p at (λ c d. FromEach shows c (λ interface a. HearsOn shows interface a answer d)) q) where
+    indexed : (interface : TableForm) (address : Address) (first now : DialShown K) (w : World) → Runs shows interface address first p now w → IsIndex q.places q.channels.items
+    indexed interface address first now w runs = indexed_now shows interface address first now p q r w runs name at t (same_bound p name at calls.channel t.before calls.there t.there calls.bound)
+
     pub waited : (u : Unit {0}) → Answered q name at answer (Ok u) r → PlaysAnywhere shows (lines.Wait name) p (Ok true) r
     waited u b interface address first now w runs =
         let x = has_call interface p w name at t.before runs.0 t.there calls in
         let y = subst (λ (z : Result Told Halt). HearsOn shows interface x.0 z t.after) b.1 (t.becomes interface x.0 x.2 x.1.bound.is_open) in
-        let l = told_line shows interface q r w name (told b.0) (slice_set w.associations at y.0) (zipped shows interface address first now p q r w runs name at t.after y.0 t.channels y.2) (touched shows interface p q at w t (agrees shows interface p w runs.0)) b.2 in
+        let l = told_line shows interface q r w name (told b.0) (slice_set w.associations at y.0) (zipped shows interface address first now p q r w runs name at t.after y.0 t.channels y.2) (touched shows interface p q at w t (agrees shows interface p w runs.0)) (indexed interface address first now w runs) b.2 in
         (l.0, (at, x.0, x.1, told b.0, y.0, y.1, l.1), (l.2, counted shows interface address first now p q r w runs name at t.after t.channels b.2.channels))
 
     pub waited_not : (why : Stop) → Answered q name at answer (Err why) r → PlaysAnywhere shows (lines.Wait name) p (Err why) r
@@ -132,7 +137,7 @@ module _ {K : Type 0} (shows : K → Shown) where
         let x = has_call interface p w name at t.before runs.0 t.there calls in
         let y = subst (λ (z : Result Told Halt). HearsOn shows interface x.0 z t.after) b.0 (t.becomes interface x.0 x.2 x.1.bound.is_open) in
         let l = lost_line shows interface q r w name at t.after y.0 (slice_set w.associations at y.0) (zipped shows interface address first now p q r w runs name at t.after y.0 t.channels y.2.holds)
-        (touched shows interface p q at w t (agrees shows interface p w runs.0)) (there_now shows interface address first now p q r w runs name at t.before t.after t.there t.channels) y.2 b.1 in
+        (touched shows interface p q at w t (agrees shows interface p w runs.0)) (indexed interface address first now w runs) (there_now shows interface address first now p q r w runs name at t.before t.after t.there t.channels) y.2 b.1 in
         let is : slice_get l.0.associations at ≡ Some y.0 = subst (λ (z : World). slice_get z.associations at ≡ Some y.0) (sym l.1) (set_there w.associations at y.0 x.0 x.1.bound.there) in
         (l.0, at, y.0, (x.0, x.1, y.1, l.1), is, (l.2, counted shows interface address first now p q r w runs name at t.after t.channels l.4), l.3)
     waited_not stops.Dial b interface address first now w runs = absurd b
@@ -178,7 +183,7 @@ module _ {K : Type 0} (shows : K → Shown) where
   pub closed : (p q : Player K) (name at : ℕ) → IsThere name p.channels.items at → Touches p at (λ c d. FromEach shows c (λ interface a. Holds shows interface d (record a { is_open = false }))) q → PlaysAnywhere shows (lines.Close name) p (Ok true) q
   closed p q name at found t interface address first now w runs =
       let x = bound_there shows interface p w name at t.before runs.0 t.there (same_bound p name at found.0 t.before found.1 t.there found.2) in
-      let s = stands_set shows interface address first now p q q w runs name at (record x.0 { is_open = false }) t (t.becomes interface x.0 x.2 x.1.is_open) in
+      let s = stands_set shows interface address first now p q q w runs name at (record x.0 { is_open = false }) t (same_bound p name at found.0 t.before found.1 t.there found.2) (t.becomes interface x.0 x.2 x.1.is_open) in
       (record w { associations = slice_set w.associations at (record x.0 { is_open = false }) }, (at, x.0, x.1, refl), (s, counted shows interface address first now p q q w runs name at t.after t.channels refl))
 
   -- ---- a connection binds
@@ -187,7 +192,8 @@ module _ {K : Type 0} (shows : K → Shown) where
   pub record Put (p q : Player K) (d : Channel K) (at : ℕ) : Type 0 where
     pub channels : q.channels.items ≡ p.channels.items ++ d ∷ []
     pub place : at ≡ length p.channels.items
-    pub others : q ≡ record p { channels = q.channels }
+    pub others : q ≡ record p { channels = q.channels; places = q.places }
+    pub indexed : IsIndex p.places p.channels.items → IsIndex q.places q.channels.items
 
   module _ (interface : TableForm) (address : Address) (p q r : Player K) (name : ℕ) (group : Option ℕ) (before now : DialShown K) (nowhere : IsNowhere name p.channels.items) (asked : ℕ) (asks : AsksOf p group asked) (c d : Channel K) (answer : Result Told Halt)
       (new : Holds shows interface c (fresh interface name)) (opens : Opens before now address) (binds : FromEach shows c (λ interface a. BindsOn shows interface a asked answer d)) (at : ℕ) (put : Put p q d at) where
@@ -205,7 +211,7 @@ module _ {K : Type 0} (shows : K → Shown) where
     pub bound_line : (u : Unit {0}) → Answered q name at answer (Ok u) r → (first : DialShown K) (w : World) → Runs shows interface address first p before w → LineEnds shows interface address first w (lines.Bind name group) (Ok true) before r now
     bound_line u b first w runs =
         let y = subst (λ (z : Result Told Halt). BindsOn shows interface (fresh interface name) asked z d) b.1 (binds interface (fresh interface name) new refl) in
-        let l = told_line shows interface q r w name (told b.0) (w.associations ++ y.0 ∷ []) (put_zipped w y.0 runs.0 y.2) (put_agrees w runs.0) b.2 in
+        let l = told_line shows interface q r w name (told b.0) (w.associations ++ y.0 ∷ []) (put_zipped w y.0 runs.0 y.2) (put_agrees w runs.0) (put.indexed runs.0.indexed) b.2 in
         let is : Binds interface name asked (told b.0) y.0 = record { octets = y.1.octets; state = y.1.state; begins = y.1.begins; answered = y.1.answered; hears = y.1.hears; bound = y.1.bound } in
         (l.0, (is_free shows interface p w name runs.0 nowhere, asked, asks_group shows interface p w group asked runs.0 asks, told b.0, y.0, is, l.1), (l.2, put_counted first runs.1 b.2.channels))
 
@@ -214,7 +220,7 @@ module _ {K : Type 0} (shows : K → Shown) where
     bound_not_line stops.Lost b first w runs =
         let y = subst (λ (z : Result Told Halt). BindsOn shows interface (fresh interface name) asked z d) b.0 (binds interface (fresh interface name) new refl) in
         let here : slice_get q.channels.items at ≡ Some d = subst (λ cs. slice_get cs at ≡ Some d) (sym put.channels) (subst (λ (n : ℕ). slice_get (p.channels.items ++ d ∷ []) n ≡ Some d) (sym put.place) (last_there p.channels.items d)) in
-        let l = lost_line shows interface q r w name at d y.0 (w.associations ++ y.0 ∷ []) (put_zipped w y.0 runs.0 y.2.holds) (put_agrees w runs.0) here y.2 b.1 in
+        let l = lost_line shows interface q r w name at d y.0 (w.associations ++ y.0 ∷ []) (put_zipped w y.0 runs.0 y.2.holds) (put_agrees w runs.0) (put.indexed runs.0.indexed) here y.2 b.1 in
         let place : at ≡ length w.associations = put.place ∙ zip_long (Holds shows interface) p.channels.items w.associations runs.0.channels in
         let is : slice_get l.0.associations at ≡ Some y.0 =
         subst (λ (z : World). slice_get z.associations at ≡ Some y.0) (sym l.1) (subst (λ (n : ℕ). slice_get (w.associations ++ y.0 ∷ []) n ≡ Some y.0) (sym place) (last_there w.associations y.0)) in
@@ -225,25 +231,36 @@ module _ {K : Type 0} (shows : K → Shown) where
   -- ---- a new connection
 
   module _ (interface : TableForm) (address : Address) (name : ℕ) (p o : Player K) (before now : DialShown K) where
-    pub put_of : (c d : Channel K) (v : Vec (Channel K) Global) (at : ℕ) → Adds shows interface address name p before (Ok c) o now → v.items ≡ o.channels.items ++ d ∷ [] → at ≡ length o.channels.items → Put p (record o { channels = v }) d at
-    put_of c d v at adds items place = record {
+    pub put_of : (c d : Channel K) (v : Vec (Channel K) Global) (at : ℕ) → IsNowhere name p.channels.items → d.name ≡ c.name → Adds shows interface address name p before (Ok c) o now → v.items ≡ o.channels.items ++ d ∷ []
+        → at ≡ length o.channels.items → Put p (record o { channels = v }) d at
+    put_of c d v at nowhere named adds items place = record {
       channels = items ∙ ap (λ xs. xs ++ d ∷ []) adds.4;
       place = place ∙ ap length adds.4;
-      others = ap (λ (y : Player K). record y { channels = v }) adds.6;
+      others = ap (λ (y : Player K). record y { channels = v }) adds.7;
+      indexed = λ is. index_push p.places o.places p.channels.items v.items name d (items ∙ ap (λ xs. xs ++ d ∷ []) adds.4) (named ∙ adds.0.name) nowhere adds.6 is;
     }
 
-    pub open_failed : (asked : ℕ) (why : Stop) → Adds shows interface address name p before (Err why) o now → BindsTo shows interface address name asked p before (Err why) o now
-    open_failed asked stops.Lost adds group asks first w runs = absurd adds
-    open_failed asked stops.Dial adds group asks first w runs =
-        (adds.0, subst (λ (cs : List (Channel K)). Opened address first (length cs) now) (sym adds.2) (opened_same address first (length p.channels.items) before now runs.1 adds.1))
-    open_failed asked stops.Memory adds group asks first w runs = subst (λ (cs : List (Channel K)). Opened address first (length cs) now) (sym adds.1) (opened_same address first (length p.channels.items) before now runs.1 adds.0)
+    pub open_failed : (asked : ℕ) (why : Stop) → IsNowhere name p.channels.items → Adds shows interface address name p before (Err why) o now → BindsTo shows interface address name asked p before (Err why) o now
+    open_failed asked stops.Lost nowhere adds group asks first w runs = absurd adds
+    open_failed asked stops.Dial nowhere adds group asks first w runs =
+        ((is_free shows interface p w name runs.0 nowhere, asked, asks_group shows interface p w group asked runs.0 asks), adds.0, (still w runs.0, subst (λ (cs : List (Channel K)). Opened address first (length cs) now) (sym adds.2) (opened_same address first (length p.channels.items) before now runs.1 adds.1)))
+      where
+        still : (w : World) → Stands shows interface p w → Stands shows interface o w
+        still w s = record {
+          channels = subst (λ cs. AllZip (Holds shows interface) cs w.associations) (sym adds.2) s.channels;
+          known = ap (λ (y : Player K). y.known) adds.4 ∙ s.known;
+          out = ap (λ (y : Player K). y.out.items) adds.4 ∙ s.out;
+          failed = ap (λ (y : Player K). y.failed) adds.4 ∙ s.failed;
+          indexed = subst (λ cs. IsIndex o.places cs) (sym adds.2) (index_kept p.places o.places p.channels.items name (length p.channels.items) nowhere adds.3 s.indexed);
+        }
+    open_failed asked stops.Memory nowhere adds group asks first w runs = subst (λ (cs : List (Channel K)). Opened address first (length cs) now) (sym adds.1) (opened_same address first (length p.channels.items) before now runs.1 adds.0)
 
   module _ (interface : TableForm) (address : Address) (name asked : ℕ) (p o r : Player K) (before now : DialShown K) (nowhere : IsNowhere name p.channels.items) (c d : Channel K) (answer : Result Told Halt) (adds : Adds shows interface address name p before (Ok c) o now)
-      (binds : FromEach shows c (λ interface a. BindsOn shows interface a asked answer d)) (v : Vec (Channel K) Global) (at : ℕ) (items : v.items ≡ o.channels.items ++ d ∷ []) (place : at ≡ length o.channels.items) where
+      (binds : FromEach shows c (λ interface a. BindsOn shows interface a asked answer d)) (named : d.name ≡ c.name) (v : Vec (Channel K) Global) (at : ℕ) (items : v.items ≡ o.channels.items ++ d ∷ []) (place : at ≡ length o.channels.items) where
     pub binds_to : (u : Unit {0}) → Answered (record o { channels = v }) name at answer (Ok u) r → BindsTo shows interface address name asked p before (Ok true) r now
     binds_to u b group asks first w runs =
-        bound_line interface address p (record o { channels = v }) r name group before now nowhere asked asks c d answer adds.0 adds.3 binds at (put_of interface address name p o before now c d v at adds items place) u b first w runs
+        bound_line interface address p (record o { channels = v }) r name group before now nowhere asked asks c d answer adds.0 adds.3 binds at (put_of interface address name p o before now c d v at nowhere named adds items place) u b first w runs
 
     pub binds_to_not : (why : Stop) → Answered (record o { channels = v }) name at answer (Err why) r → BindsTo shows interface address name asked p before (Err why) r now
     binds_to_not why b group asks first w runs =
-        bound_not_line interface address p (record o { channels = v }) r name group before now nowhere asked asks c d answer adds.0 adds.3 binds at (put_of interface address name p o before now c d v at adds items place) why b first w runs
+        bound_not_line interface address p (record o { channels = v }) r name group before now nowhere asked asks c d answer adds.0 adds.3 binds at (put_of interface address name p o before now c d v at nowhere named adds items place) why b first w runs

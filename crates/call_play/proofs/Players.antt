@@ -1,23 +1,16 @@
 -- A player behind a line.
-use Rattle.std.proofs.Common.{◌≡◌, ℕ, ◌+◌, ◌||◌, Bool, true, false, inl, inr, Option, Some, None, Ok, Err, Result, List, [], ◌∷◌, ◌++◌, length, refl, sym, ap, ◌∙◌, subst, arith}
+use Rattle.std.proofs.Common.{◌≡◌, ℕ, ◌||◌, Bool, true, false, Option, Some, None, Ok, Err, Result, List, ◌++◌, length, refl, sym, ap, ◌∙◌, subst}
 use Rattle.std.specs.Prelude.{slice_get, slice_set}
 use Rattle.std.specs.List.{AllZip}
-use Rattle.std.proofs.lemmas.List.{length-append}
 use Rattle.rpc_outside.specs.declared.address.Address.{Address}
 use Rattle.rpc_outside.specs.Links.{Shown}
 use Rattle.rpc_outside.specs.Dials.{DialShown}
-use Rattle.ndr_value.specs.declared.value.Message.{Message}
-use Rattle.ndr_value.specs.Values.{msg}
 use Rattle.table_form.specs.Tables.{TableForm}
-use Rattle.client_asks.specs.declared.told.Told.{Told}
-use Rattle.client_asks.specs.Calls.{IsMessage}
-use Rattle.client_asks.specs.States.{Outcome, ClientState, told, is_bound, is_calling}
+use Rattle.client_asks.specs.States.{Outcome, ClientState, is_bound, is_calling}
 use Rattle.client_asks.specs.Histories.{ClientEvent}
-use Rattle.client_asks.specs.Histories.ClientEvent.{DidBind, DidCall, DidCancel}
 use Rattle.client_core.specs.State.{state}
 use Rattle.client_link.specs.Wires.{IsOpen}
 use Rattle.call_script.specs.declared.line.CallLine.{CallLine}
-use Rattle.call_script.specs.declared.line.CallLine.TheVariants as lines
 use Rattle.call_answers.specs.Answers.{IsLine}
 use Rattle.call_play.specs.declared.channel.Channel.{Channel}
 use Rattle.call_play.specs.declared.channel.Halt.{Halt}
@@ -25,11 +18,14 @@ use Rattle.call_play.specs.declared.channel.Halt.TheVariants as halts
 use Rattle.call_play.specs.declared.player.Player.{Player}
 use Rattle.call_play.specs.declared.player.Stop.{Stop}
 use Rattle.call_play.specs.declared.player.Stop.TheVariants as stops
-use Rattle.call_play.specs.Worlds.{Association, World, fresh, with_event, IsBound, IsFree, AsksGroup}
-use Rattle.call_play.specs.Steps.{Steps, IsBarred, Prints, MayStart, HasCall, Begins, known_with, is_failure}
+use Rattle.call_play.specs.Worlds.{Association, World, with_event, IsBound, IsFree, AsksGroup}
+use Rattle.call_play.specs.Steps.{Steps, IsBarred, Prints, Begins, known_with, is_failure}
 use Rattle.call_play.specs.Losses.{IsCutOff, Loses, EndsAt, lost_text}
-use Rattle.call_play.specs.Shows.{Holds, HoldsLost, Stands, HasWorld, IsBoundAs, IsThere, IsNowhere}
-use Rattle.call_play.specs.Plays.{BeginsOn, HearsOn, FromEach, Touches, IsCalling, AsksOf, TellsLost, Tells, Answered, Begun, Opened, Runs, HasLost, LineEnds, PlaysAnywhere}
+use Rattle.call_play.specs.Shows.{Holds, HoldsLost, Stands, IsBoundAs, IsNowhere, IsIndex}
+use Rattle.call_play.specs.Channels.{BeginsOn, FromEach}
+use Rattle.call_play.specs.Players.{Touches, AsksOf, TellsLost, Tells, Begun}
+use Rattle.call_play.specs.Plays.{Opened, Runs, HasLost, LineEnds}
+use Rattle.call_play.proofs.Index.{index_set, same_index}
 use Rattle.call_play.proofs.Lists.{one_there, set_there, set_itself, set_long, zip_at, zip_from, zip_set}
 
 module _ {K : Type 0} (shows : K → Shown) (interface : TableForm) where
@@ -69,8 +65,8 @@ module _ {K : Type 0} (shows : K → Shown) (interface : TableForm) where
   pub touched : {R : Channel K → Channel K → Type 0} (p q : Player K) (at : ℕ) (w : World) → Touches p at R q → Agrees p w → Agrees q w
   touched p q at w t s = subst (λ (x : Player K). Agrees x w) (sym t.others) (record { known = s.known; out = s.out; failed = s.failed })
 
-  pub told_line : (q r : Player K) (w : World) (name : ℕ) (o : Outcome) (A : List Association) → AllZip (Holds shows interface) q.channels.items A → Agrees q w → Tells q name o r → (v : World) × Prints w name o A v × Stands shows interface r v
-  told_line q r w name o A z s t =
+  pub told_line : (q r : Player K) (w : World) (name : ℕ) (o : Outcome) (A : List Association) → AllZip (Holds shows interface) q.channels.items A → Agrees q w → IsIndex q.places q.channels.items → Tells q name o r → (v : World) × Prints w name o A v × Stands shows interface r v
+  told_line q r w name o A z s i t =
       let v : World = record { associations = A; known = known_with w.known o; out = w.out ++ t.line; failed = w.failed || is_failure o } in (
         v,
         record { line = t.line; is_line = subst (λ known. IsLine (known_with known o) name o t.line) s.known t.is_line; leads = refl },
@@ -79,12 +75,13 @@ module _ {K : Type 0} (shows : K → Shown) (interface : TableForm) where
           known = t.known ∙ ap (λ known. known_with known o) s.known;
           out = t.out ∙ ap (λ out. out ++ t.line) s.out;
           failed = t.failed ∙ ap (λ (b : Bool). b || is_failure o) s.failed;
+          indexed = same_index q r t.channels t.places i;
         },
       )
 
-  pub lost_line : (q r : Player K) (w : World) (name at : ℕ) (d : Channel K) (b : Association) (A : List Association) → AllZip (Holds shows interface) q.channels.items A → Agrees q w → slice_get q.channels.items at ≡ Some d
+  pub lost_line : (q r : Player K) (w : World) (name at : ℕ) (d : Channel K) (b : Association) (A : List Association) → AllZip (Holds shows interface) q.channels.items A → Agrees q w → IsIndex q.places q.channels.items → slice_get q.channels.items at ≡ Some d
       → HoldsLost shows interface d b → TellsLost q name at r → (v : World) × Loses w name A b v × Stands shows interface r v × HasLost shows interface r at b × (r.channels ≡ q.channels)
-  lost_line q r w name at d b A z s e h t =
+  lost_line q r w name at d b A z s i e h t =
       let same : t.channel ≡ d = one_there q.channels.items at t.channel d t.there e in
       let called : is_calling (state t.channel.wire.client) ≡ is_calling b.state = ap (λ (c : Channel K). is_calling (state c.wire.client)) same ∙ ap is_calling h.at in
       let channels : r.channels ≡ q.channels = ap (λ (x : Player K). x.channels) t.others in (
@@ -95,6 +92,7 @@ module _ {K : Type 0} (shows : K → Shown) (interface : TableForm) where
           known = ap (λ (x : Player K). x.known) t.others ∙ s.known;
           out = t.out ∙ (ap (λ out. out ++ lost_text name (is_calling (state t.channel.wire.client))) s.out ∙ ap (λ c. w.out ++ lost_text name c) called);
           failed = ap (λ (x : Player K). x.failed) t.others ∙ s.failed;
+          indexed = same_index q r channels (ap (λ (x : Player K). x.places) t.others) i;
         },
         (d, subst (λ cs. slice_get cs at ≡ Some d) (sym (ap (λ x. x.items) channels)) e, h),
         channels,
@@ -115,10 +113,16 @@ module _ {K : Type 0} (shows : K → Shown) (interface : TableForm) where
     pub there_now : (c d : Channel K) → slice_get p.channels.items at ≡ Some c → q.channels.items ≡ slice_set p.channels.items at d → slice_get q.channels.items at ≡ Some d
     there_now c d h e = subst (λ cs. slice_get cs at ≡ Some d) (sym e) (set_there p.channels.items at d c h)
 
-    pub stands_set : {R : Channel K → Channel K → Type 0} (b : Association) (t : Touches p at R q) → Holds shows interface t.after b → Stands shows interface q (record w { associations = slice_set w.associations at b })
-    stands_set b t h =
+    pub indexed_now : {R : Channel K → Channel K → Type 0} (t : Touches p at R q) → IsBoundAs name t.before → IsIndex q.places q.channels.items
+    indexed_now t bound =
+        let places : q.places ≡ p.places = ap (λ (x : Player K). x.places) t.others in
+        subst (λ ps. IsIndex ps q.channels.items) (sym places) (index_set p.places p.channels.items q.channels.items name at t.before t.after t.there t.channels t.named bound runs.0.indexed)
+
+    pub stands_set : {R : Channel K → Channel K → Type 0} (b : Association) (t : Touches p at R q) → IsBoundAs name t.before → Holds shows interface t.after b
+        → Stands shows interface q (record w { associations = slice_set w.associations at b })
+    stands_set b t bound h =
         let s = touched p q at w t (agrees p w runs.0) in
-        record { channels = zipped t.after b t.channels h; known = s.known; out = s.out; failed = s.failed }
+        record { channels = zipped t.after b t.channels h; known = s.known; out = s.out; failed = s.failed; indexed = indexed_now t bound }
 
     -- ---- something is begun
 
@@ -140,7 +144,7 @@ module _ {K : Type 0} (shows : K → Shown) (interface : TableForm) where
     from_begins line a event Long bars steps ends (Err stops.Dial) h = absurd h
     from_begins line a event Long bars steps ends (Err stops.Memory) h = h
 
-    module _ (a : Association) (event : List ℕ → ClientEvent) (Long : Type 0) (done : Result Unit Halt) (there : slice_get w.associations at ≡ Some a) (t : Touches p at (λ c d. FromEach shows c (λ interface a. BeginsOn shows interface a event Long done d)) q) (h : Holds shows interface t.before a) (o : a.is_open ≡ true) where
+    module _ (a : Association) (event : List ℕ → ClientEvent) (Long : Type 0) (done : Result Unit Halt) (there : slice_get w.associations at ≡ Some a) (t : Touches p at (λ c d. FromEach shows c (λ interface a. BeginsOn shows interface a event Long done d)) q) (h : Holds shows interface t.before a) (o : a.is_open ≡ true) (bound : IsBoundAs name t.before) where
       becomes : (x : Result Unit Halt) → done ≡ x → BeginsOn shows interface a event Long x t.after
       becomes x e = subst (λ (y : Result Unit Halt). BeginsOn shows interface a event Long y t.after) e (t.becomes interface a h o)
 
@@ -148,16 +152,16 @@ module _ {K : Type 0} (shows : K → Shown) (interface : TableForm) where
       line_begins (Ok true) b =
           let x = becomes (Ok tt) b.0 in
           let v : World = record w { associations = slice_set w.associations at (with_event a (event x.0) x.1) } in
-          let s : Stands shows interface q v = stands_set (with_event a (event x.0) x.1) t x.3 in
+          let s : Stands shows interface q v = stands_set (with_event a (event x.0) x.1) t bound x.3 in
           (v, (x.0, x.1, x.2, refl), (subst (λ (y : Player K). Stands shows interface y v) (sym b.1) s, counted t.after t.channels (ap (λ (y : Player K). y.channels) b.1)))
       line_begins (Ok false) b =
           let x = becomes (Err halts.TooLong) b.0 in
-          let s : Stands shows interface q (record w { associations = slice_set w.associations at a }) = stands_set a t x.1 in
+          let s : Stands shows interface q (record w { associations = slice_set w.associations at a }) = stands_set a t bound x.1 in
           let same : Stands shows interface q w = subst (λ xs. Stands shows interface q (record w { associations = xs })) (set_itself w.associations at a there) s in
           ((subst (λ (y : Player K). Stands shows interface y w) (sym b.1) same, counted t.after t.channels (ap (λ (y : Player K). y.channels) b.1)), x.0)
       line_begins (Err stops.Lost) b =
           let x = becomes (Err halts.Lost) b.0 in
-          let l = lost_line q r w name at t.after x.0 (slice_set w.associations at x.0) (zipped t.after x.0 t.channels x.2.holds) (touched p q at w t (agrees p w runs.0)) (there_now t.before t.after t.there t.channels) x.2 b.1 in
+          let l = lost_line q r w name at t.after x.0 (slice_set w.associations at x.0) (zipped t.after x.0 t.channels x.2.holds) (touched p q at w t (agrees p w runs.0)) (indexed_now t bound) (there_now t.before t.after t.there t.channels) x.2 b.1 in
           let is : slice_get l.0.associations at ≡ Some x.0 = subst (λ (y : World). slice_get y.associations at ≡ Some x.0) (sym l.1) (set_there w.associations at x.0 a there) in
           (l.0, x.0, x.1, l.1, is, (l.2, counted t.after t.channels l.4), l.3)
       line_begins (Err stops.Dial) b = absurd b

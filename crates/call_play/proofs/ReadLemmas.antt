@@ -1,6 +1,6 @@
 -- Lines of a text in a row.
 use Rattle.std.proofs.lemmas.Bool.{false≢true}
-use Rattle.std.proofs.Common.{◌≡◌, ◌≢◌, ◌⊎◌, inl, inr, ℕ, ◌+◌, ◌<◌, ◌≤◌, ◌==◌, Bool, true, false, Option, Some, None, Ok, Err, Result, List, [], ◌∷◌, ◌++◌, length, refl, sym, ap, ◌∙◌, subst, arith, append_assoc, length-append, append-nil}
+use Rattle.std.proofs.Common.{◌≡◌, ◌≢◌, ◌⊎◌, inl, inr, ℕ, ◌+◌, ◌<◌, ◌≤◌, ◌==◌, true, false, Some, None, Ok, Err, List, [], ◌∷◌, ◌++◌, length, refl, sym, ap, ◌∙◌, subst, arith, append_assoc, length-append, append-nil}
 use Rattle.std.specs.List.{flat_map}
 use Rattle.std.proofs.lemmas.Grind.{flat_map-append}
 use Rattle.rpc_base.specs.Causes.{Rose}
@@ -10,7 +10,6 @@ use Rattle.rpc_outside.specs.Dials.{DialShown}
 use Rattle.table_form.specs.Tables.{TableForm}
 use Rattle.call_script.specs.declared.line.CallLine.{CallLine}
 use Rattle.call_script.specs.Lines.{line_body, line_text, IsLine, BeginsWith, BeginsWithNoLine}
-use Rattle.call_play.specs.declared.calling.CallEnd.{CallEnd}
 use Rattle.call_play.specs.declared.calling.CallEnd.TheVariants as ends
 use Rattle.call_play.specs.declared.player.Player.{Player}
 use Rattle.call_play.specs.declared.player.Stop.{Stop}
@@ -18,8 +17,8 @@ use Rattle.call_play.specs.declared.player.Stop.TheVariants as stops
 use Rattle.call_play.specs.Worlds.{World, nothing_yet}
 use Rattle.call_play.specs.Steps.{Steps, IsBarred}
 use Rattle.call_play.specs.Scripts.{text_of_lines, AreLines, Leads, LeadsTo, HasNoNext, IsPlayed}
-use Rattle.call_play.specs.Shows.{Stands, HasWorld}
-use Rattle.call_play.specs.Plays.{Opened, Runs, NextEnds, PlaysLine, PlaysNext, AllEnds, stopped_as}
+use Rattle.call_play.specs.Shows.{HasWorld}
+use Rattle.call_play.specs.Plays.{Runs, PlaysLine, PlaysNext, AllEnds, stopped_as}
 
 length-line_text : (l : CallLine) → length (line_text l) ≡ length (line_body l) + 1
 unfolding line_text
@@ -68,7 +67,7 @@ module _ {K : Type 0} (shows : K → Shown) (interface : TableForm) (at : Addres
 
   pub next_failed : (why : Stop) → PlaysLine shows interface at line p before (Err why) q now → PlaysNext shows interface at text p before (Err why) q now
   next_failed stops.Lost plays first w runs = (line, rest, begins, plays first w runs)
-  next_failed stops.Dial plays first w runs = plays first w runs
+  next_failed stops.Dial plays first w runs = (line, rest, begins, plays first w runs)
   next_failed stops.Memory plays first w runs = plays first w runs
 
 -- no line begins the text
@@ -127,7 +126,7 @@ module _ {K : Type 0} (shows : K → Shown) (interface : TableForm) (address : A
     stopped stops.Lost plays =
         let n = plays first h.world h.runs in
         (n.3.0, n.3.1, n.3.2, record { lines = h.lines; before = h.world; rest = rest; plays = h.leads; line = n.0; after = n.1; begins = n.2; ends = n.3.3 }, n.3.4, n.3.5, n.3.6)
-    stopped stops.Dial plays = let n = plays first h.world h.runs in (later _ _ _ h.faults n.0, n.1)
+    stopped stops.Dial plays = let n = plays first h.world h.runs in (h.world, h.lines, rest, h.leads, later _ _ _ h.faults n.3.1, (n.0, n.1, n.2, n.3.0), n.3.2)
     stopped stops.Memory plays = plays first h.world h.runs
 
   pub all_played : (rest : List ℕ) (number : ℕ) (p : Player K) (now : DialShown K) → IsRead rest number p now → rest ≡ [] → (w : World) × IsPlayed interface text w × (p.failed ≡ w.failed) × Runs shows interface address first p now w

@@ -1,8 +1,9 @@
 -- What a whole script comes to, once its links are given back.
-use Rattle.std.proofs.Common.{◌≡◌, ℕ, ◌+◌, ◌-◌, ◌≤◌, true, false, Option, Some, None, Ok, Err, Result, List, [], ◌∷◌, ◌++◌, length, map, refl, sym, ap, ◌∙◌, subst, arith, append_assoc, append-nil}
+use Rattle.std.proofs.Common.{◌≡◌, ℕ, ◌+◌, ◌-◌, ◌≤◌, false, Option, Some, None, List, [], ◌∷◌, ◌++◌, length, map, refl, sym, ap, ◌∙◌, subst, arith, append_assoc, append-nil}
 use Rattle.std.specs.Prelude.{slice_get, replicate, IfSome}
 use Rattle.std.specs.List.{AllZip}
 use Rattle.std.specs.Option.{option_map}
+use Rattle.std.proofs.lemmas.List.{length-map}
 use Rattle.std.proofs.lemmas.Option.{slice_get-map}
 use Rattle.rpc_base.specs.Causes.{Rose}
 use Rattle.rpc_outside.specs.declared.address.Address.{Address}
@@ -15,9 +16,10 @@ use Rattle.call_play.specs.declared.calling.CallEnd.{CallEnd}
 use Rattle.call_play.specs.declared.calling.CallEnd.TheVariants as ends
 use Rattle.call_play.specs.declared.player.Player.{Player}
 use Rattle.call_play.specs.Worlds.{Association, World, nothing_yet}
-use Rattle.call_play.specs.Scripts.{GivesBack, Ends, IsLinkOf, IsLostLink}
-use Rattle.call_play.specs.Shows.{Holds, Stands}
-use Rattle.call_play.specs.Plays.{Opened, Runs, HasLost, AllEnds, link_of, HasOuts, Returns}
+use Rattle.call_play.specs.Scripts.{GivesBack, GivesLinks, Ends, IsLinkOf}
+use Rattle.call_play.specs.Shows.{Holds}
+use Rattle.call_play.specs.Plays.{Opened, Runs, AllEnds, link_of, HasOuts, Returns}
+use Rattle.call_play.proofs.Index.{index_of_none}
 use Rattle.call_play.proofs.Lists.{zip_long}
 use Rattle.call_play.proofs.Dials.{opened_none, returns_none, returns_more}
 
@@ -83,7 +85,7 @@ module _ {K : Type 0} where
 module _ {K : Type 0} (shows : K → Shown) (interface : TableForm) (at : Address) (first : DialShown K) where
   pub begins : (p : Player K) → p.channels.items ≡ [] → p.known ≡ [] → p.out.items ≡ [] → p.failed ≡ false → Runs shows interface at first p first nothing_yet
   begins p cs known out failed = (
-    record { channels = subst (λ x. AllZip (Holds shows interface) x []) (sym cs) tt; known = known; out = out; failed = failed },
+    record { channels = subst (λ x. AllZip (Holds shows interface) x []) (sym cs) tt; known = known; out = out; failed = failed; indexed = index_of_none p.places p.channels.items cs },
     subst (λ (n : ℕ). Opened at first n first) (sym (ap length cs)) (opened_none at first),
   )
 
@@ -93,7 +95,7 @@ module _ {K : Type 0} (shows : K → Shown) (interface : TableForm) (at : Addres
   opened_of text ends.Failed p h = h.3.1
   opened_of text ends.Lost p h = h.5.1
   opened_of text (ends.Line n) p h = h.6.1
-  opened_of text ends.DialFault p h = h.1
+  opened_of text ends.DialFault p h = h.6.1
   opened_of text ends.Memory p h = h
 
   pub has_outs : (text : List ℕ) (end : CallEnd) (p : Player K) → AllEnds shows interface at text first end p now → HasOuts p.channels.items now
@@ -111,6 +113,12 @@ module _ {K : Type 0} (shows : K → Shown) (interface : TableForm) (at : Addres
       are_links = links_held p.channels.items w.associations runs.0.channels;
       dialled = r.dialled ∙ (runs.1.dialled ∙ ap (λ n. option_map (λ addresses. addresses ++ replicate n at) first.dialled) (zip_long (Holds shows interface) p.channels.items w.associations runs.0.channels));
       back = r.back ∙ ap (λ b. option_map (λ before. before ++ map link_of p.channels.items) b) runs.1.back;
+    }
+
+    gives_links : Opened at first (length p.channels.items) now → GivesLinks first at (map link_of p.channels.items) last
+    gives_links o = record {
+      dialled = r.dialled ∙ (o.dialled ∙ ap (λ n. option_map (λ addresses. addresses ++ replicate n at) first.dialled) (sym (length-map p.channels.items link_of)));
+      back = r.back ∙ ap (λ b. option_map (λ before. before ++ map link_of p.channels.items) b) o.back;
     }
 
     lost_there : (place : ℕ) (c : Channel K) → slice_get p.channels.items place ≡ Some c → slice_get (map link_of p.channels.items) place ≡ Some c.wire.link
@@ -136,5 +144,5 @@ module _ {K : Type 0} (shows : K → Shown) (interface : TableForm) (at : Addres
       (shows h.6.0.wire.first.value, h.6.2.holds.first, h.6.2.lost),
     )
     comes_to text (ends.Line n) h = (h.0, map link_of p.channels.items, h.1, h.2, h.3, h.4, h.5, h.6.0.out, gives_back h.0 h.6)
-    comes_to text ends.DialFault h = rose_still _ _ _ h.0 r.faults
-    comes_to text ends.Memory h = tt
+    comes_to text ends.DialFault h = (h.0, map link_of p.channels.items, h.1, h.2, h.3, rose_still _ _ _ h.4 r.faults, h.5, h.6.0.out, gives_back h.0 h.6)
+    comes_to text ends.Memory h = (map link_of p.channels.items, gives_links h)

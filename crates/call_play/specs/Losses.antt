@@ -1,5 +1,5 @@
 -- What ends a call script before its last line: a connection is lost.
-use Rattle.std.specs.Prelude.{◌≡◌, ℕ, ◌++◌, Bool, true, false, Option, Some, List, [], ◌∷◌, length, slice_set, ◌⊎◌}
+use Rattle.std.specs.Prelude.{◌≡◌, ℕ, ◌++◌, Bool, true, false, Some, List, [], ◌∷◌, length, slice_set, ◌⊎◌}
 use Rattle.rpc_base.specs.Causes.{Rose}
 use Rattle.rpc_outside.specs.Links.{Shown, IsNothing}
 use Rattle.pdu_codec.specs.declared.pdu.Pdu.{Pdu}

@@ -1,5 +1,5 @@
 -- What a call script leads to.
-use Rattle.std.specs.Prelude.{◌≡◌, ◌≢◌, ℕ, ◌+◌, ◌++◌, Bool, true, false, Option, Some, List, [], ◌∷◌, length, replicate, slice_get, ⊤, ◌⊎◌}
+use Rattle.std.specs.Prelude.{◌≡◌, ◌≢◌, ℕ, ◌+◌, ◌++◌, true, false, Some, List, [], ◌∷◌, length, replicate, slice_get, ◌⊎◌}
 use Rattle.std.specs.List.{AllByRecursion, AllZip, flat_map}
 use Rattle.std.specs.Option.{option_map}
 use Rattle.rpc_base.specs.Causes.{Rose}
@@ -12,9 +12,8 @@ use Rattle.call_script.specs.declared.line.CallLine.{CallLine}
 use Rattle.call_script.specs.Lines.{line_text, IsLine, BeginsWith, BeginsWithNoLine}
 use Rattle.call_play.specs.declared.calling.CallEnd.{CallEnd}
 use Rattle.call_play.specs.declared.calling.CallEnd.TheVariants as ends
-use Rattle.call_play.specs.declared.calling.Called.{Called}
 use Rattle.call_play.specs.Worlds.{Association, World, nothing_yet}
-use Rattle.call_play.specs.Steps.{Steps, IsBarred}
+use Rattle.call_play.specs.Steps.{Steps, IsBarred, DialsFor}
 use Rattle.call_play.specs.Losses.{EndsAt, IsLostOn}
 
 unfoldable pub text_of_lines : List CallLine → List ℕ
@@ -22,6 +21,10 @@ text_of_lines lines = flat_map line_text lines
 
 abbrev pub AreLines : List CallLine → Type 0
 AreLines lines = AllByRecursion IsLine lines
+
+-- a link is dialled for the line that begins the rest
+abbrev pub DialsNext : World → List ℕ → Type 0
+DialsNext w rest = (line : CallLine) × (after : List ℕ) × BeginsWith line after rest × DialsFor w line
 
 module _ (interface : TableForm) where
   -- lines lead from one world to another
@@ -54,6 +57,11 @@ module _ (interface : TableForm) where
     pub begins : BeginsWith line after rest
     pub ends : EndsAt interface before line at b v
 
+-- Links were opened to the address, as many as these, which were given back in their order.
+pub record GivesLinks {K : Type 0} (a : DialShown K) (at : Address) (links : List K) (b : DialShown K) : Type 0 where
+  pub dialled : b.dialled ≡ option_map (λ addresses. addresses ++ replicate (length links) at) a.dialled
+  pub back : b.back ≡ option_map (λ before. before ++ links) a.back
+
 module _ {K : Type 0} (shows : K → Shown) (interface : TableForm) where
   -- Over a link that was new, this happened on the connection.
   abbrev pub IsLinkOf : Association → K → Type 0
@@ -78,5 +86,6 @@ module _ {K : Type 0} (shows : K → Shown) (interface : TableForm) where
       × (slice_get w.associations place ≡ Some lost) × (slice_get links place ≡ Some link) × IsLostLink lost link
   Ends text at a out (ends.Line n) b =
       (w : World) × (links : List K) × (lines : List CallLine) × (rest : List ℕ) × LeadsTo interface text lines w rest × (n ≡ length lines + 1) × HasNoNext interface w rest × (out ≡ w.out) × GivesBack a at w.associations links b
-  Ends text at a out ends.DialFault b = Rose a.faults b.faults
-  Ends text at a out ends.Memory b = ⊤
+  Ends text at a out ends.DialFault b =
+      (w : World) × (links : List K) × (lines : List CallLine) × (rest : List ℕ) × LeadsTo interface text lines w rest × Rose a.faults b.faults × DialsNext w rest × (out ≡ w.out) × GivesBack a at w.associations links b
+  Ends text at a out ends.Memory b = (links : List K) × GivesLinks a at links b

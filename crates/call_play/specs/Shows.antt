@@ -1,6 +1,8 @@
 -- What the program has of a world.
-use Rattle.std.specs.Prelude.{◌≡◌, ℕ, true, Option, Some, None, List, [], slice_get}
+use Rattle.std.specs.Prelude.{◌≡◌, ℕ, true, Some, List, [], slice_get}
 use Rattle.std.specs.List.{AllZip}
+use Rattle.std.specs.Ordering.{nat_cmp}
+use Rattle.std.specs.BTreeMap.{BTreeMap, get}
 use Rattle.rpc_outside.specs.Links.{Shown, IsNew}
 use Rattle.table_form.specs.Tables.{TableForm}
 use Rattle.client_asks.specs.States.{is_bound}
@@ -10,6 +12,16 @@ use Rattle.call_play.specs.declared.channel.Channel.{Channel}
 use Rattle.call_play.specs.declared.player.Player.{Player}
 use Rattle.call_play.specs.Worlds.{Association, World}
 use Rattle.call_play.specs.Losses.{IsLostOn}
+
+-- the channel is bound by that name
+pub record IsBoundAs {K : Type 0} (name : ℕ) (c : Channel K) : Type 0 where
+  pub named : c.name ≡ name
+  pub is_open : c.is_open ≡ true
+  pub bound : is_bound (state c.wire.client) ≡ true
+
+-- Of each channel that is bound the index has the place, by its name.
+abbrev pub IsIndex : {K : Type 0} → BTreeMap ℕ ℕ → List (Channel K) → Type 0
+IsIndex {K} places cs = (at : ℕ) (c : Channel K) → slice_get cs at ≡ Some c → IsBoundAs c.name c → get nat_cmp places c.name ≡ Some at
 
 module _ {K : Type 0} (shows : K → Shown) where
   -- a channel is that connection
@@ -33,16 +45,11 @@ module _ {K : Type 0} (shows : K → Shown) where
     pub known : p.known ≡ w.known
     pub out : p.out.items ≡ w.out
     pub failed : p.failed ≡ w.failed
+    pub indexed : IsIndex p.places p.channels.items
 
   -- it stands for some world
   abbrev pub HasWorld : Player K → Type 0
   HasWorld p = (interface : TableForm) × (w : World) × Stands interface p w
-
--- the channel is bound by that name
-pub record IsBoundAs {K : Type 0} (name : ℕ) (c : Channel K) : Type 0 where
-  pub named : c.name ≡ name
-  pub is_open : c.is_open ≡ true
-  pub bound : is_bound (state c.wire.client) ≡ true
 
 abbrev pub IsThere : {K : Type 0} → ℕ → List (Channel K) → ℕ → Type 0
 IsThere {K} name cs at = (c : Channel K) × (slice_get cs at ≡ Some c) × IsBoundAs name c

@@ -1,12 +1,12 @@
 -- What the lines of a call script do.
-use Rattle.std.specs.Prelude.{◌≡◌, ℕ, ◌++◌, ◌||◌, Bool, true, false, Option, Some, None, List, [], ◌∷◌, slice_get, slice_set, ◌⊎◌}
+use Rattle.std.specs.Prelude.{◌≡◌, ℕ, ◌++◌, ◌||◌, Bool, true, false, Some, List, [], ◌∷◌, slice_get, slice_set, ◌⊎◌}
 use Rattle.rpc_base.specs.declared.identifiers.WireHandle.{WireHandle}
 use Rattle.pdu_codec.specs.declared.pdu.Pdu.{Pdu}
 use Rattle.ndr_value.specs.Values.{Msg}
 use Rattle.table_form.specs.Tables.{OpForm, TableForm}
 use Rattle.client_asks.specs.Calls.{IsMessage}
 use Rattle.client_asks.specs.States.{Outcome, ClientState, at_start, is_calling}
-use Rattle.client_asks.specs.States.Outcome.{TBound, TNotBound, TDone, TFault, TBroken}
+use Rattle.client_asks.specs.States.Outcome.{TBound, TNotBound, TDone, TFault}
 use Rattle.client_asks.specs.Histories.{ClientEvent, Happens, Lives}
 use Rattle.client_asks.specs.Histories.ClientEvent.{DidBind, DidCall, DidCancel, Received}
 use Rattle.client_link.specs.Wires.{AreSilent, IsTooLong}
@@ -116,6 +116,11 @@ IsBarred w (lines.Start name op_name text) = IsFree w name ⊎ ((at : ℕ) × (a
 IsBarred w (lines.Cancel name) = HasNoCall w name
 IsBarred w (lines.Wait name) = HasNoCall w name
 IsBarred w (lines.Close name) = IsFree w name
+
+-- A link is dialled for the line: it binds, by a name that is free, to a group for which it may ask.
+abbrev pub DialsFor : World → CallLine → Type 0
+DialsFor w (lines.Bind name group) = IsFree w name × (asked : ℕ) × AsksGroup w group asked
+DialsFor w line = ⊥
 
 module _ (interface : TableForm) where
   -- what a line does

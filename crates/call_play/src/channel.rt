@@ -1,5 +1,5 @@
 //! A connection of a script, over its link.
-ghost use Rattle.std.specs.Prelude.{◌≡◌, ◌==◌, ◌&&◌, true, false};
+ghost use Rattle.std.specs.Prelude.{◌≡◌, ◌≢◌, ◌==◌, ◌&&◌, true, false, IfErr};
 ghost use Rattle.rpc_outside.specs.Links.{IsNew};
 ghost use Rattle.ndr_value.specs.Values.{msg};
 ghost use Rattle.table_form.specs.Shown.{shown};
@@ -12,7 +12,7 @@ ghost use Rattle.client_link.specs.Wires.{IsOpen, IsTooLong};
 ghost use Rattle.call_play.specs.Worlds.{fresh};
 ghost use Rattle.call_play.specs.Shows.{Holds};
 ghost use Rattle.call_play.specs.Steps as spec;
-ghost use Rattle.call_play.specs.Plays.{BeginsOn, HearsOn, BindsOn, FromEach, Halts, Silences};
+ghost use Rattle.call_play.specs.Channels.{BeginsOn, HearsOn, BindsOn, FromEach, Halts, Silences, IsWaited, IsTellable};
 
 use client_link::{BeginFault, Stop as Deaf, Told, Wire};
 use ndr_value::Message;
@@ -84,6 +84,8 @@ impl<K: Link> Channel<K> {
         requires free { is_bound (state self.old.wire.client) ≡ false }
         ensures begins { FromEach K.shows self.old (λ interface a. BeginsOn K.shows interface a (DidBind group) ⊥ result self.new) }
         ensures open { IsOpen K.shows self.new.wire.link }
+        ensures short { IfErr result (λ halt. halt ≢ Halt.TooLong) }
+        ensures name { self.new.name ≡ self.old.name }
     {
         match self.wire.bind(group) {
             Ok(()) => Ok(()),
@@ -95,7 +97,9 @@ impl<K: Link> Channel<K> {
     pub fn bind(&mut self, group: u32) -> Result<Told, Halt>
         requires open { IsOpen K.shows self.old.wire.link }
         requires free { is_bound (state self.old.wire.client) ≡ false }
-        ensures { FromEach K.shows self.old (λ interface a. BindsOn K.shows interface a group result self.new) }
+        ensures binds { FromEach K.shows self.old (λ interface a. BindsOn K.shows interface a group result self.new) }
+        ensures waited { IsWaited result }
+        ensures name { self.new.name ≡ self.old.name }
     {
         self.begin_bind(group)?;
         let told = self.wait()?;
@@ -109,7 +113,8 @@ impl<K: Link> Channel<K> {
         requires bound { is_bound (state self.old.wire.client) ≡ true }
         requires free { is_calling (state self.old.wire.client) ≡ false }
         requires message { IsMessage (state self.old.wire.client).interface op (msg message.now) }
-        ensures { FromEach K.shows self.old (λ interface a. BeginsOn K.shows interface a (DidCall op (msg message.now)) (IsTooLong (state self.old.wire.client).interface op (msg message.now)) result self.new) }
+        ensures name { self.new.name ≡ self.old.name }
+        ensures begins { FromEach K.shows self.old (λ interface a. BeginsOn K.shows interface a (DidCall op (msg message.now)) (IsTooLong (state self.old.wire.client).interface op (msg message.now)) result self.new) }
     {
         match self.wire.call(op, message) {
             Ok(()) => Ok(()),
@@ -121,7 +126,8 @@ impl<K: Link> Channel<K> {
     pub fn cancel(&mut self) -> Result<(), Halt>
         requires open { IsOpen K.shows self.old.wire.link }
         requires calling { is_calling (state self.old.wire.client) ≡ true }
-        ensures { FromEach K.shows self.old (λ interface a. BeginsOn K.shows interface a DidCancel ⊥ result self.new) }
+        ensures name { self.new.name ≡ self.old.name }
+        ensures begins { FromEach K.shows self.old (λ interface a. BeginsOn K.shows interface a DidCancel ⊥ result self.new) }
     {
         match self.wire.cancel() {
             Ok(()) => Ok(()),
@@ -145,7 +151,9 @@ impl<K: Link> Channel<K> {
     /// Waits for the outcome of what is out.
     pub fn wait(&mut self) -> Result<Told, Halt>
         requires { IsOpen K.shows self.old.wire.link }
-        ensures { FromEach K.shows self.old (λ interface a. HearsOn K.shows interface a result self.new) }
+        ensures hears { FromEach K.shows self.old (λ interface a. HearsOn K.shows interface a result self.new) }
+        ensures waited { IsWaited result }
+        ensures name { self.new.name ≡ self.old.name }
     {
         match self.wire.wait() {
             Ok(Told::Broken(_)) => {
@@ -160,7 +168,8 @@ impl<K: Link> Channel<K> {
     /// Closes it.
     pub fn close(&mut self)
         requires { IsOpen K.shows self.old.wire.link }
-        ensures { FromEach K.shows self.old (λ interface a. Holds K.shows interface self.new (record a { is_open = false })) }
+        ensures closes { FromEach K.shows self.old (λ interface a. Holds K.shows interface self.new (record a { is_open = false })) }
+        ensures name { self.new.name ≡ self.old.name }
     {
         self.is_open = false;
         self.wire.link.close();

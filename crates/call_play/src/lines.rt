@@ -1,5 +1,5 @@
 //! The lines of a script, each played over the links of a dial.
-ghost use Rattle.std.specs.Prelude.{◌≡◌, ◌<◌, true, false, length, Ok, Some, MatchOption};
+ghost use Rattle.std.specs.Prelude.{◌≡◌, ◌≢◌, ◌<◌, true, false, length, Ok, Some, MatchOption};
 ghost use Rattle.ndr_value.specs.Values.{msg};
 ghost use Rattle.table_form.specs.Shown.{shown};
 ghost use Rattle.client_asks.specs.Calls.{IsMessage};
@@ -8,8 +8,10 @@ ghost use Rattle.client_asks.specs.States.{is_bound, is_calling};
 ghost use Rattle.client_core.specs.State.{state};
 ghost use Rattle.client_link.specs.Wires.{IsOpen, IsTooLong};
 ghost use Rattle.call_script.specs.declared.line.CallLine.TheVariants as lines;
-ghost use Rattle.call_play.specs.Shows.{Holds, HasWorld, IsThere, IsNowhere};
-ghost use Rattle.call_play.specs.Plays.{FromEach, BeginsOn, HearsOn, HasAt, Touches, Answered, Begun, Unbegun, StopsBy, LosesAt, AsksOf, AsksNone, IsCalling, IsIdle, DialsNew, Adds, PlaysLine, PlaysAnywhere, BindsTo};
+ghost use Rattle.call_play.specs.Shows.{Holds, HasWorld, IsThere, IsNowhere, IsIndex};
+ghost use Rattle.call_play.specs.Channels.{FromEach, BeginsOn, HearsOn, IsWaited};
+ghost use Rattle.call_play.specs.Players.{HasAt, Touches, Answered, Begun, Unbegun, StopsBy, LosesAt, AsksOf, AsksNone, IsCalling, IsIdle};
+ghost use Rattle.call_play.specs.Plays.{DialsNew, Adds, PlaysLine, PlaysAnywhere, BindsTo};
 
 use crate::channel::{Channel, Halt};
 use crate::player::{Player, Stop};
@@ -34,12 +36,13 @@ fn dialled<Q: Dial>(dial: &mut Q, at: Address) -> Result<Q::Link, Stop>
 impl<K: Link> Player<K> {
     /// Why a script doesn't go on where something on the connection at that place comes to nothing. That it is lost is told.
     fn stopped(&mut self, name: u32, at: usize, halt: Halt) -> Stop
-        requires { at < length self.old.channels.items }
+        requires place { at < length self.old.channels.items }
+        requires short { halt ≢ Halt.TooLong }
         ensures { StopsBy self.old name at halt result self.new }
     {
         match halt {
             Halt::Lost => self.lose(name, at),
-            Halt::TooLong => Stop::Memory,
+            Halt::TooLong => unreachable!(),
             Halt::Memory => Stop::Memory,
         }
     }
@@ -58,7 +61,8 @@ impl<K: Link> Player<K> {
 
     /// What came of the wait for an outcome on the connection at that place is told.
     fn answered(&mut self, name: u32, at: usize, answer: Result<Told, Halt>) -> Result<(), Stop>
-        requires { at < length self.old.channels.items }
+        requires place { at < length self.old.channels.items }
+        requires waited { IsWaited answer }
         ensures { Answered self.old name at answer result self.new }
     {
         match answer {
@@ -94,6 +98,7 @@ impl<K: Link> Player<K> {
 
     /// The group that a bind asks for: None where the connection isn't bound whose group that is.
     fn asked(&self, group: Option<u32>) -> Option<u32>
+        requires { IsIndex self.now.places self.now.channels.items }
         ensures { MatchOption result (AsksNone self.now group) (AsksOf self.now group) }
     {
         match group {
@@ -104,6 +109,7 @@ impl<K: Link> Player<K> {
 
     /// The group that the connection of that name is bound to.
     fn group_of(&self, name: u32) -> Option<u32>
+        requires { IsIndex self.now.places self.now.channels.items }
         ensures { MatchOption result (IsNowhere name self.now.channels.items) (AsksOf self.now (Some name)) }
     {
         let at = self.find(name)?;
@@ -124,6 +130,10 @@ impl<K: Link> Player<K> {
         if self.channels.reserve(1).is_err() {
             return Err(Stop::Memory);
         }
+        let place = self.channels.len();
+        if self.places.insert(name, place).is_err() {
+            return Err(Stop::Memory);
+        }
         let link = dialled(dial, at)?;
         Ok(Channel::new(self.alloc, name, link, table))
     }
@@ -137,6 +147,7 @@ impl<K: Link> Player<K> {
         name: u32,
         group: Option<u32>,
     ) -> Result<bool, Stop>
+        requires { HasWorld K.shows self.old }
         ensures { PlaysLine K.shows (shown table.now) at (lines.Bind name group) self.old (Q.shows dial.old) result self.new (Q.shows dial.new) }
     {
         match self.find(name) {
@@ -154,7 +165,8 @@ impl<K: Link> Player<K> {
         name: u32,
         group: Option<u32>,
     ) -> Result<bool, Stop>
-        requires { IsNowhere name self.old.channels.items }
+        requires world { HasWorld K.shows self.old }
+        requires nowhere { IsNowhere name self.old.channels.items }
         ensures { PlaysLine K.shows (shown table.now) at (lines.Bind name group) self.old (Q.shows dial.old) result self.new (Q.shows dial.new) }
     {
         match self.asked(group) {
@@ -199,7 +211,8 @@ impl<K: Link> Player<K> {
 
     fn wait_at(&mut self, at: usize) -> Result<Told, Halt>
         requires { HasAt self.old at (λ c. IsOpen K.shows c.wire.link) }
-        ensures { Touches self.old at (λ c d. FromEach K.shows c (λ interface a. HearsOn K.shows interface a result d)) self.new }
+        ensures touches { Touches self.old at (λ c d. FromEach K.shows c (λ interface a. HearsOn K.shows interface a result d)) self.new }
+        ensures waited { IsWaited result }
     {
         self.channels[at].wait()
     }
@@ -236,6 +249,7 @@ impl<K: Link> Player<K> {
 
     /// The place of the connection that is bound by that name and has a call out.
     fn calling(&self, name: u32) -> Option<usize>
+        requires { IsIndex self.now.places self.now.channels.items }
         ensures { MatchOption result (IsIdle self.now name) (IsCalling self.now name) }
     {
         let at = self.find(name)?;

@@ -1,26 +1,29 @@
 //! What a script has led to.
-ghost use Rattle.std.specs.Prelude.{◌≡◌, ◌<◌, ◌++◌, ◌||◌, ℕ, [], false, length, MatchBool, MatchOption, IfOk, OnOk};
+ghost use Rattle.std.specs.Prelude.{◌≡◌, ◌<◌, ◌++◌, ◌||◌, ℕ, List, [], false, length, slice_get, option_copied, MatchBool, MatchOption, IfOk, OnOk};
 ghost use Rattle.table_form.specs.Shown.{shown};
 ghost use Rattle.ndr_value.specs.Values.{msg};
 ghost use Rattle.client_asks.specs.Calls.{IsMessage};
 ghost use Rattle.client_asks.specs.States as states;
 ghost use Rattle.client_core.specs.State.{state};
+ghost use Rattle.call_answers.specs.Answers.{IsLine};
 ghost use Rattle.call_play.specs.Steps as spec;
 ghost use Rattle.call_play.specs.Steps.{HasOp, IsRequestOf, IsNoMessage};
-ghost use Rattle.call_play.specs.Shows.{IsThere, IsNowhere};
+ghost use Rattle.call_play.specs.Shows.{IsThere, IsNowhere, IsIndex};
+ghost use Rattle.call_play.specs.Channels.{IsTellable};
 ghost use Rattle.call_play.specs.Losses.{lost_text};
-ghost use Rattle.call_play.specs.Plays.{Tells, CanStart, BarsAt};
+ghost use Rattle.call_play.specs.Players.{Tells, CanStart, BarsAt};
 
 use crate::channel::Channel;
 use call_answers::{put_answer, put_lost};
-use call_texts::{learn, read_row};
+use call_texts::{Handles, read_row};
 use client_core::Client;
 use client_link::Told;
-use ndr_value::{Message, Wires};
-use rpc_base::{NoMemory, WireHandle};
+use ndr_value::Message;
+use rpc_base::NoMemory;
 use rpc_outside::Link;
 use rpc_words::put;
 use std::alloc::Global;
+use std::collections::BTreeMap;
 use table_form::Table;
 
 /// Why a script doesn't go on.
@@ -48,7 +51,9 @@ impl From<NoMemory> for Stop {
 #[derive(Drop)]
 pub struct Player<K: Link> {
     pub channels: Vec<Channel<K>>,
-    pub known: Wires,
+    /// Where in the list the last connection of a name stands.
+    pub places: BTreeMap<u32, usize>,
+    pub known: Handles,
     pub out: Vec<u8>,
     pub failed: bool,
     pub alloc: Global,
@@ -81,7 +86,7 @@ fn is_named(table: &Table, op: u16, name: &[u8]) -> bool
 fn message_of(
     alloc: Global,
     client: &Client,
-    known: &[WireHandle],
+    known: &Handles,
     op: u16,
     text: &[u8],
 ) -> Result<Option<Message>, NoMemory>
@@ -103,16 +108,32 @@ fn message_of(
     }
 }
 
-/// The place of the first connection that is bound by that name.
-fn place_of<K: Link>(channels: &[Channel<K>], name: u32) -> Option<usize>
+fn channel_at<K: Link>(channels: &[Channel<K>], at: usize) -> Option<&Channel<K>>
+    ensures { option_copied result ≡ slice_get channels.now at }
+{
+    channels.get(at)
+}
+
+/// The place of the connection that is bound by that name.
+fn place_of<K: Link>(
+    places: &BTreeMap<u32, usize>,
+    channels: &[Channel<K>],
+    name: u32,
+) -> Option<usize>
+    requires { IsIndex places.now channels.now }
     ensures { MatchOption result (IsNowhere name channels.now) (λ at. IsThere name channels.now at) }
 {
-    for at in 0..channels.len() {
-        if channels[at].is_bound_as(name) {
-            return Some(at);
-        }
+    let Some(at) = places.get(&name) else {
+        return None;
+    };
+    let Some(channel) = channel_at(channels, *at) else {
+        return None;
+    };
+    if channel.is_bound_as(name) {
+        Some(*at)
+    } else {
+        None
     }
-    None
 }
 
 /// Whether an outcome is the refusal of a bind, or a failure.
@@ -122,6 +143,29 @@ fn is_failure(told: &Told) -> bool
     matches!(told, Told::NotBound(_) | Told::Fault { .. })
 }
 
+/// The handles that come with an outcome get their numbers.
+fn learn_of(known: &mut Handles, told: &Told) -> Result<(), NoMemory>
+    ensures { OnOk result (known.new ≡ spec.known_with known.old (states.told told.now)) }
+{
+    match told {
+        Told::Done(message) => known.learn(message.wires.as_slice()),
+        _ => Ok(()),
+    }
+}
+
+/// The line of an outcome that has one, where these handles have come.
+fn line_of(alloc: Global, known: &Handles, name: u32, told: &Told) -> Result<Vec<u8>, NoMemory>
+    requires { (line : List ℕ) × IsLine known.now name (states.told told.now) line }
+    ensures { IfOk result (λ line. IsLine known.now name (states.told told.now) line.items) }
+{
+    let mut line = Vec::new(alloc);
+    if put_answer(alloc, known, name, told, &mut line)? {
+        Ok(line)
+    } else {
+        unreachable!()
+    }
+}
+
 impl<K: Link> Player<K> {
     /// Nothing happened yet. It takes no memory.
     pub fn new(alloc: Global) -> Player<K>
@@ -129,7 +173,8 @@ impl<K: Link> Player<K> {
     {
         Player {
             channels: Vec::new(alloc),
-            known: Wires::new(alloc),
+            places: BTreeMap::new(alloc),
+            known: Handles::new(alloc),
             out: Vec::new(alloc),
             failed: false,
             alloc,
@@ -138,9 +183,10 @@ impl<K: Link> Player<K> {
 
     /// The place of the connection that is bound by that name.
     pub fn find(&self, name: u32) -> Option<usize>
+        requires { IsIndex self.now.places self.now.channels.items }
         ensures { MatchOption result (IsNowhere name self.now.channels.items) (λ at. IsThere name self.now.channels.items at) }
     {
-        place_of(self.channels.as_slice(), name)
+        place_of(&self.places, self.channels.as_slice(), name)
     }
 
     /// The operation and the message that a call on the connection at that place asks for: None where it has a call out, where
@@ -161,7 +207,7 @@ impl<K: Link> Player<K> {
         let Some(number) = op_of(client.table(), name) else {
             return Ok(None);
         };
-        match message_of(self.alloc, client, self.known.as_slice(), number, text)? {
+        match message_of(self.alloc, client, &self.known, number, text)? {
             Some(message) => Ok(Some((number, message))),
             None => Ok(None),
         }
@@ -169,16 +215,12 @@ impl<K: Link> Player<K> {
 
     /// An outcome is told: the handles that come with it get their numbers, and its line is printed.
     pub fn tell(&mut self, name: u32, told: &Told) -> Result<(), NoMemory>
+        requires { IsTellable (states.told told.now) }
         ensures tells { OnOk result (Tells self.old name (states.told told.now) self.new) }
         ensures channels { self.new.channels ≡ self.old.channels }
     {
-        if let Told::Done(message) = told {
-            learn(&mut self.known, message.wires.as_slice())?;
-        }
-        let mut line = Vec::new(self.alloc);
-        if !put_answer(self.alloc, self.known.as_slice(), name, told, &mut line)? {
-            return Err(NoMemory);
-        }
+        learn_of(&mut self.known, told)?;
+        let line = line_of(self.alloc, &self.known, name, told)?;
         put(&line, &mut self.out)?;
         self.failed = self.failed || is_failure(told);
         Ok(())

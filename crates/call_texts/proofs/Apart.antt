@@ -1,13 +1,13 @@
 -- The names of handles: no two handles that have names have the same.
-use Rattle.std.proofs.Common.{◌≡◌, ◌≢◌, ℕ, zero, suc, ◌+◌, ◌-◌, ◌^◌, ◌<◌, ◌≤◌, ◌==◌, Bool, true, false, List, [], ◌∷◌, ◌++◌, length, get_or, refl, ap, sym, ◌∙◌, subst, arith, decimal, codes, Some}
+use Rattle.std.proofs.Common.{◌≡◌, ℕ, zero, suc, ◌+◌, ◌-◌, ◌^◌, ◌<◌, ◌≤◌, ◌==◌, Bool, true, false, List, [], ◌∷◌, ◌++◌, length, refl, ap, sym, ◌∙◌, subst, arith, decimal, codes, Some}
 use Rattle.std.specs.Prelude.{slice_get, ◌||◌}
-use Rattle.std.specs.List.{All, list_any}
+use Rattle.std.specs.List.{All}
 use Rattle.std.proofs.lemmas.Bool.{and_parts}
 use Rattle.std.proofs.lemmas.Bool.Decides.{nat_tests}
 use Rattle.std.proofs.lemmas.Fmt.{decimal_injective}
 use Rattle.rpc_base.specs.declared.identifiers.WireHandle.{WireHandle}
 use Rattle.value_text.specs.Marks.{heads_digit}
-use Rattle.call_texts.specs.Handles.{name, has_name, place, is_null, is_same, is_that, is_among}
+use Rattle.call_texts.specs.Handles.{name, has_name, place, is_null, is_same, is_among}
 use Rattle.call_texts.proofs.Lacks.{head_is, tail_is, same_digits, decimal_digits}
 
 abbrev pub wire_of : ℕ → ℕ → WireHandle
@@ -32,11 +32,6 @@ one_null w v h k =
 
 pub null_from : (w v : WireHandle) → w.attributes ≡ 0 → w.id ≡ 0 → w ≡ v → is_null v ≡ true
 null_from w v a i e = let n : is_null w ≡ true = rw (a, i) refl in subst (λ (x : WireHandle). is_null x ≡ true) e n
-
-pub got_or : {A : Type 0} (xs : List A) (k : ℕ) (x d : A) → slice_get xs k ≡ Some x → get_or xs k d ≡ x
-got_or [] k x d e = absurd cc
-got_or (y ∷ xs) zero x d e = cc
-got_or (y ∷ xs) (suc k) x d e = got_or xs k x d e
 
 pub clash : {A : Type 0} (b : Bool) → b ≡ true → b ≡ false → A
 clash b e f = let g : true ≡ false = sym e ∙ f in absurd cc
@@ -77,10 +72,11 @@ pub among_is : (known : List WireHandle) (w : WireHandle) → is_null w ≡ fals
 among_is known w came has = let e : (false || is_among known w) ≡ true = sym (ap (λ (b : Bool). b || is_among known w) came) ∙ has in e
 
 -- the handle at that place
-pub came_is : (known : List WireHandle) (w : WireHandle) (number at : ℕ) (d : WireHandle) → is_among known w ≡ true → place known w ≡ number → at ≡ number - 1 → get_or known at d ≡ w
-came_is known w number at d h p e =
-    let f : place known w - 1 ≡ at = ap (λ (k : ℕ). k - 1) p ∙ sym e in
-    got_or known at w d (ap (slice_get known) (sym f) ∙ (at_place known w h).got)
+pub came_is : (known : List WireHandle) (w : WireHandle) (number at : ℕ) (v : WireHandle) → is_among known w ≡ true → place known w ≡ number → at ≡ number - 1 → slice_get known at ≡ Some v → v ≡ w
+came_is known w number at v h p e there =
+    let f : at ≡ place known w - 1 = e ∙ ap (λ (k : ℕ). k - 1) (sym p) in
+    let same : Some v ≡ Some w = sym there ∙ (ap (slice_get known) f ∙ (at_place known w h).got) in
+    cc
 
 -- handles at the same place are the same
 pub same_place : (known : List WireHandle) (w v : WireHandle) → is_among known w ≡ true → is_among known v ≡ true → place known w ≡ place known v → w ≡ v

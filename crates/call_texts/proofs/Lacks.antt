@@ -1,5 +1,5 @@
 -- What stands at the front of a text that is renamed: a handle, a text in quotes or another octet, in one way.
-use Rattle.std.proofs.Common.{◌≡◌, ◌≢◌, ℕ, zero, suc, ◌^◌, ◌<◌, Bool, true, false, List, [], ◌∷◌, ◌++◌, length, refl, ap, sym, ◌∙◌, subst, arith, decimal, Some}
+use Rattle.std.proofs.Common.{◌≡◌, ◌≢◌, ℕ, zero, suc, ◌^◌, ◌<◌, true, false, List, [], ◌∷◌, ◌++◌, length, refl, ap, sym, ◌∙◌, subst, arith, decimal, Some}
 use Rattle.std.specs.Prelude.{slice_get}
 use Rattle.std.specs.List.{All}
 use Rattle.std.specs.Str.Parse.{AllDigits}
@@ -10,7 +10,7 @@ use Rattle.std.proofs.lemmas.Fmt.{decimal_is_IsNumeral, decimal_injective}
 use Rattle.rpc_base.specs.declared.identifiers.WireHandle.{WireHandle}
 use Rattle.rpc_words.specs.Reads.{HasNo}
 use Rattle.value_text.specs.Marks.{is_digit, heads_digit}
-use Rattle.call_texts.specs.Handles.{name, has_name}
+use Rattle.call_texts.specs.Handles.{has_name}
 use Rattle.call_texts.specs.Texts.{Named}
 use Rattle.call_texts.specs.Texts.Named.{the_end, handle, quoted, other}
 
@@ -72,7 +72,7 @@ short_get (y ∷ xs) zero x e = omega arith
 short_get (y ∷ xs) (suc k) x e = let h = short_get xs k x e in omega (arith, h)
 
 -- one place is written so
-same_at : (wires : List WireHandle) (k j : ℕ) (w v : WireHandle) → length wires < 2 ^ 64 → decimal k ≡ decimal j → slice_get wires k ≡ Some w → slice_get wires j ≡ Some v → w ≡ v
+pub same_at : (wires : List WireHandle) (k j : ℕ) (w v : WireHandle) → length wires < 2 ^ 64 → decimal k ≡ decimal j → slice_get wires k ≡ Some w → slice_get wires j ≡ Some v → w ≡ v
 same_at wires k j w v few e g h =
     let a = short_get wires k w g in
     let b = short_get wires j v h in

@@ -1,5 +1,10 @@
+pub mod Index
 pub mod Renamed
 pub mod Lacks
 pub mod Apart
 pub mod Requests
-pub mod Items
+pub mod Lists
+pub mod Listed
+pub mod Pointers
+pub mod Once
+pub mod Messages

@@ -1,7 +1,10 @@
 -- Texts that are renamed piece by piece.
-use Rattle.std.proofs.Common.{◌≡◌, ◌≢◌, ℕ, true, false, List, [], ◌∷◌, ◌++◌, length, refl, ap, sym, ◌∙◌, subst, append_assoc, arith, decimal, Some}
-use Rattle.std.specs.Prelude.{slice_get}
-use Rattle.std.proofs.lemmas.List.{append-nil}
+use Rattle.std.proofs.Common.{◌≡◌, ◌≢◌, ℕ, true, false, List, [], ◌∷◌, ◌++◌, length, refl, ap, sym, ◌∙◌, subst, append_assoc, arith, decimal, Option, Some, None, take, drop, ◌+◌, ◌==◌, suc, Bool, nat_eq}
+use Rattle.std.specs.Prelude.{slice_get, MatchOption}
+use Rattle.std.specs.Cmp.Lexicographic.{pointwise, same_text, other_text}
+use Rattle.std.proofs.Math.Seq.{take-append_seam}
+use Rattle.std.proofs.lemmas.Bool.Decides.{nat_tests}
+use Rattle.std.proofs.lemmas.List.{append-nil, take-append-drop}
 use Rattle.rpc_base.specs.declared.identifiers.WireHandle.{WireHandle}
 use Rattle.rpc_words.specs.Reads.{HasNo}
 use Rattle.value_text.specs.Marks.{heads_digit}
@@ -16,6 +19,22 @@ nothing (x ∷ xs) e = absurd (omega arith)
 pub empty : (xs : List ℕ) → length xs ≡ 0 → xs ≡ []
 empty [] e = refl
 empty (x ∷ xs) e = absurd (omega arith)
+
+pub none_long : (xs : List ℕ) (b : Bool) → b ≡ (length xs == 0) → b ≡ true → xs ≡ []
+none_long [] b e t = refl
+none_long (x ∷ xs) b e t = let n : (suc (length xs) == 0) ≡ false = grind (arith, nat_tests) in let f : true ≡ false = sym t ∙ (e ∙ n) in absurd cc
+
+pub some_long : (xs : List ℕ) (b : Bool) → b ≡ (length xs == 0) → b ≡ false → xs ≡ [] → ⊥
+some_long [] b e f none = let g : false ≡ true = sym f ∙ e in absurd cc
+some_long (x ∷ xs) b e f none = absurd cc
+
+-- what stands behind a word, or doesn't
+pub stripped : {X : Type 0} (view : X → List ℕ) (found : Option X) (word text : List ℕ)
+    → MatchOption found (pointwise nat_eq (take (length word) text) word ≡ false) (λ x. (pointwise nat_eq (take (length word) text) word ≡ true) × (view x ≡ drop (length word) text) × (length (view x) + length word ≡ length text))
+    → MatchOption found ((rest : List ℕ) → text ≡ word ++ rest → ⊥) (λ x. text ≡ word ++ view x)
+stripped view None word text h = λ rest e. other_text (take (length word) text) word (sym h) (ap (take (length word)) e ∙ take-append_seam word rest)
+stripped view (Some x) word text h =
+    sym (take-append-drop (length word) text) ∙ (ap (λ (l : List ℕ). l ++ drop (length word) text) (same_text (take (length word) text) word (sym h.0)) ∙ ap (λ (l : List ℕ). word ++ l) (sym h.1))
 
 -- ---- from places to names: what is added so far, and what is left
 

@@ -1,15 +1,11 @@
 -- Texts of requests, whose handles are renamed piece by piece.
-use Rattle.std.proofs.Common.{◌≡◌, ◌≢◌, ℕ, suc, ◌+◌, ◌^◌, ◌<◌, true, false, List, [], ◌∷◌, ◌++◌, length, refl, ap, sym, ◌∙◌, subst, append_assoc, arith, decimal, Some, length-append}
-use Rattle.std.specs.Prelude.{slice_get}
+use Rattle.std.proofs.Common.{◌≡◌, ◌≢◌, ℕ, suc, ◌^◌, ◌<◌, true, false, List, [], ◌∷◌, ◌++◌, length, refl, ap, sym, ◌∙◌, subst, append_assoc, arith, decimal}
 use Rattle.std.proofs.lemmas.List.{append-nil}
 use Rattle.rpc_base.specs.declared.identifiers.WireHandle.{WireHandle}
 use Rattle.rpc_words.specs.Reads.{HasNo}
-use Rattle.ndr_value.specs.Forms.{Form, Forms}
-use Rattle.ndr_value.specs.Values.{Msg}
 use Rattle.value_text.specs.Marks.{heads_digit}
 use Rattle.call_texts.specs.Handles.{name, has_name}
-use Rattle.call_texts.specs.Texts.{Named, NamedFrom, IsCallText, IsRequestText}
-use Rattle.call_texts.specs.Texts.Named.{the_end as named_end, handle as named_handle, quoted as named_quoted, other as named_other}
+use Rattle.call_texts.specs.Texts.{NamedFrom}
 use Rattle.call_texts.specs.Texts.NamedFrom.{the_end, handle, quoted, other}
 use Rattle.call_texts.proofs.Lacks.{head_is, tail_is, same_inside, no_quote}
 use Rattle.call_texts.proofs.Apart.{same_name}
@@ -18,29 +14,13 @@ one_longer : (ws : List WireHandle) (w : WireHandle) → length (ws ++ w ∷ [])
 one_longer [] w = refl
 one_longer (v ∷ ws) w = ap suc (one_longer ws w)
 
-at_end : (ws : List WireHandle) (w : WireHandle) (more : List WireHandle) → slice_get (ws ++ w ∷ more) (length ws) ≡ Some w
-at_end [] w more = refl
-at_end (v ∷ ws) w more = at_end ws w more
-
 module _ (known : List WireHandle) where
   -- both texts begin with the same octet
-  same_head : (k : ℕ) (ws : List WireHandle) (a b : List ℕ) → NamedFrom known k ws a b → heads_digit a ≡ heads_digit b
+  pub same_head : (k : ℕ) (ws : List WireHandle) (a b : List ℕ) → NamedFrom known k ws a b → heads_digit a ≡ heads_digit b
   same_head k ws a b (the_end k') = refl
   same_head k ws a b (handle k' w ws' r s has behind n) = refl
   same_head k ws a b (quoted k' ws' i r s none n) = refl
   same_head k ws a b (other k' ws' c r s d e n) = refl
-
-  -- handles in order are handles of the wires
-  placed : (pre ws whole : List WireHandle) (k : ℕ) (a b : List ℕ) → whole ≡ pre ++ ws → length pre ≡ k → NamedFrom known k ws a b → Named known whole a b
-  placed pre ws whole k a b e l (the_end k') = named_end
-  placed pre ws whole k a b e l (handle k' w ws' r s has behind n) =
-      let at : slice_get whole k ≡ Some w = ap (slice_get whole) (sym l) ∙ (ap (λ (x : List WireHandle). slice_get x (length pre)) e ∙ at_end pre w ws') in
-      named_handle k w r s at has behind (placed (pre ++ w ∷ []) ws' whole (suc k) r s (e ∙ sym (append_assoc pre (w ∷ []) ws')) (one_longer pre w ∙ ap suc l) n)
-  placed pre ws whole k a b e l (quoted k' ws' i r s none n) = named_quoted i r s none (placed pre ws whole k r s e l n)
-  placed pre ws whole k a b e l (other k' ws' c r s off quote n) = named_other c r s off quote (placed pre ws whole k r s e l n)
-
-  pub call_text : (types : List Form) (shapes : Forms) (m : Msg) (text : List ℕ) → IsRequestText types shapes known m text → IsCallText known m.wires m.values text
-  call_text types shapes m text r = record { places = r.places; plain = r.row.whole; named = placed [] m.wires m.wires 0 r.places text refl refl r.named }
 
   -- ---- what stands at the front
 
@@ -73,10 +53,10 @@ module _ (known : List WireHandle) where
   on_handle k ws p t u (quoted k' ws' i r s none n) e = let h = head_is 34 36 (i ++ 34 ∷ s) u e in absurd (omega (arith, h))
   on_handle k ws p t u (other k' ws' c r s off quote n) e = absurd (off (head_is c 36 s u e))
 
-  abbrev Quoted : ℕ → List WireHandle → List ℕ → List ℕ → List ℕ → Type 0
+  abbrev pub Quoted : ℕ → List WireHandle → List ℕ → List ℕ → List ℕ → Type 0
   Quoted k ws p inside after = (left : List ℕ) × (p ≡ 34 ∷ inside ++ 34 ∷ left) × NamedFrom known k ws left after
 
-  on_quoted : (k : ℕ) (ws : List WireHandle) (p t inside after : List ℕ) → NamedFrom known k ws p t → t ≡ 34 ∷ inside ++ 34 ∷ after → HasNo 34 inside → Quoted k ws p inside after
+  pub on_quoted : (k : ℕ) (ws : List WireHandle) (p t inside after : List ℕ) → NamedFrom known k ws p t → t ≡ 34 ∷ inside ++ 34 ∷ after → HasNo 34 inside → Quoted k ws p inside after
   on_quoted k ws p t inside after (the_end k') e none = absurd cc
   on_quoted k ws p t inside after (handle k' w ws' r s has behind n) e none = let h = head_is 36 34 (name known w ++ s) (inside ++ 34 ∷ after) e in absurd (omega (arith, h))
   on_quoted k ws p t inside after (quoted k' ws' i r s free n) e none =
@@ -90,17 +70,17 @@ module _ (known : List WireHandle) where
   on_open k ws p t after (quoted k' ws' i r s free n) e none = no_quote i s after none (sym (tail_is 34 34 (i ++ 34 ∷ s) after e))
   on_open k ws p t after (other k' ws' c r s off quote n) e none = quote (head_is c 34 s after e)
 
-  abbrev Other : ℕ → List WireHandle → List ℕ → ℕ → List ℕ → Type 0
+  abbrev pub Other : ℕ → List WireHandle → List ℕ → ℕ → List ℕ → Type 0
   Other k ws p c after = (left : List ℕ) × (p ≡ c ∷ left) × NamedFrom known k ws left after
 
-  on_other : (k : ℕ) (ws : List WireHandle) (p t : List ℕ) (c : ℕ) (after : List ℕ) → NamedFrom known k ws p t → t ≡ c ∷ after → c ≢ 36 → c ≢ 34 → Other k ws p c after
+  pub on_other : (k : ℕ) (ws : List WireHandle) (p t : List ℕ) (c : ℕ) (after : List ℕ) → NamedFrom known k ws p t → t ≡ c ∷ after → c ≢ 36 → c ≢ 34 → Other k ws p c after
   on_other k ws p t c after (the_end k') e off quote = absurd cc
   on_other k ws p t c after (handle k' w ws' r s has behind n) e off quote = absurd (off (sym (head_is 36 c (name known w ++ s) after e)))
   on_other k ws p t c after (quoted k' ws' i r s free n) e off quote = absurd (quote (sym (head_is 34 c (i ++ 34 ∷ s) after e)))
   on_other k ws p t c after (other k' ws' d r s no_h no_q n) e off quote =
       (r, ap (λ (x : ℕ). x ∷ r) (head_is d c s after e), subst (λ (x : List ℕ). NamedFrom known k ws r x) (tail_is d c s after e) n)
 
-  on_end : (k : ℕ) (ws : List WireHandle) (p t : List ℕ) → NamedFrom known k ws p t → t ≡ [] → (ws ≡ []) × (p ≡ [])
+  pub on_end : (k : ℕ) (ws : List WireHandle) (p t : List ℕ) → NamedFrom known k ws p t → t ≡ [] → (ws ≡ []) × (p ≡ [])
   on_end k ws p t (the_end k') e = (refl, refl)
   on_end k ws p t (handle k' w ws' r s has behind n) e = absurd cc
   on_end k ws p t (quoted k' ws' i r s free n) e = absurd cc

@@ -1,5 +1,5 @@
 -- Texts that are renamed piece by piece. Only private clauses speak of this.
-use Rattle.std.specs.Prelude.{◌≡◌, ℕ, Bool, true, false, List, [], ◌++◌, ◌^◌, codes}
+use Rattle.std.specs.Prelude.{◌≡◌, ℕ, Bool, true, false, List, [], ◌∷◌, ◌++◌, ◌^◌, codes}
 use Rattle.rpc_base.specs.declared.identifiers.WireHandle.{WireHandle}
 use Rattle.ndr_value.specs.Forms.{Form}
 use Rattle.ndr_value.specs.Values.{Val}
@@ -14,6 +14,11 @@ IsRenamed known wires text before now = (named : List ℕ) × Named known wires 
 abbrev pub Renames : Bool → List WireHandle → List WireHandle → List ℕ → List ℕ → List ℕ → Type 0
 Renames true known wires text before now = IsRenamed known wires text before now
 Renames false known wires text before now = (named : List ℕ) → Named known wires text named → ⊥
+
+-- there is none
+abbrev pub is_none : {A : Type 0} → List A → Bool
+is_none [] = true
+is_none (x ∷ xs) = false
 
 -- what stands in front of an item
 abbrev pub item_mark : Bool → List ℕ

@@ -3,12 +3,13 @@ use Rattle.std.specs.Prelude.{◌≡◌, ◌≢◌, ℕ, suc, ◌^◌, List, [],
 use Rattle.rpc_base.specs.declared.identifiers.WireHandle.{WireHandle}
 use Rattle.rpc_words.specs.Reads.{HasNo}
 use Rattle.ndr_value.specs.Forms.{Form, Forms, no_form, then_form}
-use Rattle.ndr_value.specs.Values.{Msg, Vals, no_val}
+use Rattle.ndr_value.specs.Values.{Msg, Vals}
 use Rattle.ndr_value.specs.Typed.{EachTyped}
 use Rattle.table_form.specs.Tables.{ParamForm}
 use Rattle.value_text.specs.Marks.{heads_digit}
 use Rattle.value_text.specs.Texts.{list_text, AllSized}
 use Rattle.call_texts.specs.Handles.{name, has_name}
+use Rattle.call_texts.specs.Heaps.{each_aims, IsHeap}
 
 -- A text in which handles stand by their places among the wires (`$K`), and the same text in which they stand by their names
 -- (`$null`, `$hN`), which are those of handles that are null or came. What stands in double quotes stays as it is.
@@ -54,16 +55,18 @@ abbrev pub inwards : List ParamForm → Forms
 inwards [] = no_form
 inwards (p ∷ ps) = if p.inward then then_form p.shape (inwards ps) else inwards ps
 
--- the text of one value for each of the shapes, in order
-pub record IsRow (types : List Form) (shapes : Forms) (vs : Vals) (text : List ℕ) : Type 0 where
+-- one value for each of the shapes, in order, has the text at the front of this one, which goes on with the rest
+pub record IsRow (types : List Form) (shapes : Forms) (vs : Vals) (text rest : List ℕ) : Type 0 where
   pub typed : EachTyped types (2 ^ 32) 0 shapes vs
   pub sized : AllSized vs
-  pub whole : text ≡ row_text vs
+  pub whole : text ≡ row_text vs ++ rest
 
--- The text of a request's message: it has one value for each of the shapes, its handles have their names among those that came, and
--- its heap is empty.
+-- The text of a request's message: one value for each of the shapes, and behind them the items of its heap, where it has any. Each item
+-- is of the shape that the first full pointer to it points to, of those in the values and in the items before it. Its handles have their
+-- names among those that came.
 pub record IsRequestText (types : List Form) (shapes : Forms) (known : List WireHandle) (m : Msg) (text : List ℕ) : Type 0 where
   pub places : List ℕ
-  pub row : IsRow types shapes m.values places
+  pub behind : List ℕ
+  pub row : IsRow types shapes m.values places behind
+  pub heap : IsHeap types (each_aims types shapes m.values) m.heap behind
   pub named : NamedFrom known 0 m.wires places text
-  pub no_heap : m.heap ≡ no_val

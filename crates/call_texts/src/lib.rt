@@ -2,9 +2,14 @@
 //! handle stands by its name, `$null` or `$hN`.
 #![tactic(auto)]
 
+mod aims;
 mod handles;
+mod heaps;
+mod items;
+mod laws;
 mod names;
 mod rows;
 
-pub use handles::learn;
+pub use handles::Handles;
+pub use laws::{one_answer, one_message, one_request};
 pub use rows::{put_row, read_row};

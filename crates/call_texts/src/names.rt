@@ -6,7 +6,7 @@ ghost use Rattle.call_texts.specs.Handles as spec;
 ghost use Rattle.call_texts.specs.Texts.{NamedFrom};
 ghost use Rattle.call_texts.specs.Renaming.{Renames};
 
-use crate::handles::{has_name, place, put_name};
+use crate::handles::Handles;
 use ndr_value::Wires;
 use rpc_base::{NoMemory, WireHandle};
 use rpc_words::{cut_at, put, put_decimal, read_u64};
@@ -20,11 +20,11 @@ pub(crate) fn behind(octet: u8, text: &[u8]) -> Option<&[u8]>
     if *first == octet { Some(rest) } else { None }
 }
 
-/// What stands behind `null`.
-fn behind_null(text: &[u8]) -> Option<&[u8]>
-    ensures { MatchOption result ((rest : List ℕ) → text.now ≡ codes "null" ++ rest → ⊥) (λ rest. text.now ≡ codes "null" ++ rest.now) }
+/// What stands behind a word.
+pub(crate) fn behind_all<'a>(word: &[u8], text: &'a [u8]) -> Option<&'a [u8]>
+    ensures { MatchOption result ((rest : List ℕ) → text.now ≡ word.now ++ rest → ⊥) (λ rest. text.now ≡ word.now ++ rest.now) }
 {
-    behind(b'l', behind(b'l', behind(b'u', behind(b'n', text)?)?)?)
+    text.strip_prefix(word)
 }
 
 /// Whether a text begins with a digit.
@@ -50,7 +50,7 @@ fn cut_digits(text: &[u8]) -> (&[u8], &[u8])
 }
 
 /// The handle that came at the place that is written so, where that is its first.
-fn came_at(known: &[WireHandle], count: usize, digits: &[u8]) -> Option<WireHandle>
+fn came_at(known: &Handles, count: usize, digits: &[u8]) -> Option<WireHandle>
     requires { count ≡ length known.now }
     ensures few { length known.now < 2 ^ 64 }
     ensures found { MatchOption result
@@ -62,8 +62,8 @@ fn came_at(known: &[WireHandle], count: usize, digits: &[u8]) -> Option<WireHand
     if at >= count {
         return None;
     }
-    let wire = known[at];
-    if wire.is_null() || !has_name(known, &wire) || place(known, &wire) != number {
+    let wire = known.at(at);
+    if wire.is_null() || !known.has_name(&wire) || known.place(&wire) != number {
         return None;
     }
     Some(wire)
@@ -71,14 +71,14 @@ fn came_at(known: &[WireHandle], count: usize, digits: &[u8]) -> Option<WireHand
 
 /// The handle whose name stands at the front of a text, and what stands behind it.
 #[tactic(auto, unfolding(crate::specs::Handles::name))]
-fn read_name<'a>(known: &[WireHandle], text: &'a [u8]) -> Option<(WireHandle, &'a [u8])>
+fn read_name<'a>(known: &Handles, text: &'a [u8]) -> Option<(WireHandle, &'a [u8])>
     ensures few { length known.now < 2 ^ 64 }
     ensures found { MatchOption result
         ((w : WireHandle) (rest : List ℕ) → text.now ≡ spec.name known.now w ++ rest → marks.heads_digit rest ≡ false → spec.has_name known.now w ≡ true → ⊥)
         (λ x. (text.now ≡ spec.name known.now x.0 ++ x.1.now) × (marks.heads_digit x.1.now ≡ false) × (spec.has_name known.now x.0 ≡ true)) }
 {
     let count = known.len();
-    if let Some(rest) = behind_null(text) {
+    if let Some(rest) = behind_all(b"null", text) {
         if heads_digit(rest) {
             return None;
         }
@@ -93,7 +93,7 @@ fn read_name<'a>(known: &[WireHandle], text: &'a [u8]) -> Option<(WireHandle, &'
 /// handle, or a double quote isn't closed.
 pub(crate) fn with_places(
     alloc: Global,
-    known: &[WireHandle],
+    known: &Handles,
     text: &[u8],
 ) -> Result<Option<(Vec<u8>, Wires)>, NoMemory>
     ensures { IfOk result (λ found. MatchOption found
@@ -132,7 +132,7 @@ pub(crate) fn with_places(
 /// name.
 pub(crate) fn put_named(
     alloc: Global,
-    known: &[WireHandle],
+    known: &Handles,
     wires: &[WireHandle],
     text: &[u8],
     into: &mut Vec<u8>,
@@ -146,11 +146,11 @@ pub(crate) fn put_named(
             let Some(wire) = wire_at(wires, digits) else {
                 return Ok(false);
             };
-            if !has_name(known, &wire) {
+            if !known.has_name(&wire) {
                 return Ok(false);
             }
             put(b"$", into)?;
-            put_name(alloc, known, &wire, into)?;
+            known.put_name(alloc, &wire, into)?;
             rest = after;
         } else if *first == b'"' {
             let Some((inside, after)) = cut_at(b'"', after) else {

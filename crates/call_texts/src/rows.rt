@@ -1,20 +1,21 @@
 //! Rows of values in brackets.
-ghost use Rattle.std.specs.Prelude.{◌≡◌, ◌≢◌, ◌++◌, List, ℕ, map, codes, OnOk, IfOk, MatchBool, MatchOption};
-ghost use Rattle.ndr_value.specs.Forms.{form, types_of};
-ghost use Rattle.ndr_value.specs.Values.{Val, Vals, Msg, val, vals, msg};
+ghost use Rattle.std.specs.Prelude.{◌≡◌, ◌++◌, List, ℕ, map, OnOk, IfOk, MatchOption};
+ghost use Rattle.ndr_value.specs.Forms.{types_of};
+ghost use Rattle.ndr_value.specs.Values.{Vals, Msg, vals, msg};
 ghost use Rattle.table_form.specs.Tables.{param_form};
 ghost use Rattle.value_text.specs.Texts.{list_text, more_text};
-ghost use Rattle.value_text.specs.declared.departure.TextFault.TheVariants.{Memory};
 ghost use Rattle.call_texts.specs.Texts.{row_text, Writes, IsRow, IsRequestText, inwards};
-ghost use Rattle.call_texts.specs.Renaming.{item_mark, ItemStands};
 
+use crate::handles::Handles;
+use crate::heaps::read_heap;
+use crate::items::read_item;
 use crate::names::{behind, put_named, with_places};
-use ndr_value::{Message, Shape, Shapes, Value, Values};
-use rpc_base::{NoMemory, WireHandle};
+use ndr_value::{Message, Shapes, Value, Values};
+use rpc_base::NoMemory;
 use rpc_words::put;
 use std::alloc::Global;
 use table_form::Param;
-use value_text::{TextFault, print_value, read_value};
+use value_text::print_value;
 
 /// Adds values with a comma and a space between each two.
 #[tactic(auto, unfolding(value_text::specs::Texts::value_text))]
@@ -56,7 +57,7 @@ fn put_plain(alloc: Global, values: &[Value], into: &mut Vec<u8>) -> Result<(), 
 /// text: a handle of the message has no place among its wires, or no name; what is added then means nothing.
 pub fn put_row(
     alloc: Global,
-    known: &[WireHandle],
+    known: &Handles,
     message: &Message,
     into: &mut Vec<u8>,
 ) -> Result<bool, NoMemory>
@@ -67,61 +68,17 @@ pub fn put_row(
     put_named(alloc, known, message.wires.as_slice(), &plain, into)
 }
 
-/// What stands behind the comma and the space in front of an item, which the first one hasn't.
-fn behind_comma(first: bool, text: &[u8]) -> Option<&[u8]>
-    ensures { MatchOption result ((rest : List ℕ) → text.now ≡ item_mark first ++ rest → ⊥) (λ rest. text.now ≡ item_mark first ++ rest.now) }
-{
-    if first {
-        Some(text)
-    } else {
-        behind(b' ', behind(b',', text)?)
-    }
-}
-
-/// Hands want of memory on, and nothing else.
-fn unless_memory(fault: TextFault) -> Result<(), NoMemory>
-    ensures { OnOk result (fault ≢ Memory) }
-{
-    match fault {
-        TextFault::Memory => Err(NoMemory),
-        _ => Ok(()),
-    }
-}
-
-/// The value behind others, and what stands behind it.
-fn read_item<'a>(
-    alloc: Global,
-    types: &Shapes,
-    shape: &Shape,
-    first: bool,
-    text: &'a [u8],
-) -> Result<Option<(Value, &'a [u8])>, NoMemory>
-    ensures { IfOk result (λ found. MatchOption found
-        ((v : Val) (rest : List ℕ) → ItemStands (types_of types.now.items) (form shape.now) first text.now v rest → ⊥)
-        (λ x. ItemStands (types_of types.now.items) (form shape.now) first text.now (val x.0) x.1.now)) }
-{
-    let Some(text) = behind_comma(first, text) else {
-        return Ok(None);
-    };
-    match read_value(alloc, types, shape, text, 0) {
-        Ok((value, end)) => Ok(Some((value, text.split_at(end).1))),
-        Err(fault) => {
-            unless_memory(fault)?;
-            Ok(None)
-        }
-    }
-}
-
-/// Values of the shapes of the parameters that go in, in brackets, with a comma and a space between each two.
-fn read_values(
+/// Values of the shapes of the parameters that go in, in brackets, with a comma and a space between each two, and what stands behind
+/// them.
+fn read_values<'a>(
     alloc: Global,
     types: &Shapes,
     params: &[Param],
-    text: &[u8],
-) -> Result<Option<Values>, NoMemory>
+    text: &'a [u8],
+) -> Result<Option<(Values, &'a [u8])>, NoMemory>
     ensures { IfOk result (λ found. MatchOption found
-        ((vs : Vals) → IsRow (types_of types.now.items) (inwards (map param_form params.now)) vs text.now → ⊥)
-        (λ vs. IsRow (types_of types.now.items) (inwards (map param_form params.now)) (vals vs.items) text.now)) }
+        ((vs : Vals) (rest : List ℕ) → IsRow (types_of types.now.items) (inwards (map param_form params.now)) vs text.now rest → ⊥)
+        (λ x. IsRow (types_of types.now.items) (inwards (map param_form params.now)) (vals x.0.items) text.now x.1.now)) }
 {
     let Some(mut rest) = behind(b'(', text) else {
         return Ok(None);
@@ -139,28 +96,21 @@ fn read_values(
         }
         left = others;
     }
-    if is_closed(rest) {
-        Ok(Some(values))
-    } else {
-        Ok(None)
+    match behind(b')', rest) {
+        Some(after) => Ok(Some((values, after))),
+        None => Ok(None),
     }
 }
 
-/// Whether nothing is left but the closing bracket.
-fn is_closed(text: &[u8]) -> bool
-    ensures { MatchBool result (text.now ≡ codes ")") (text.now ≡ codes ")" → ⊥) }
-{
-    matches!(text, [b')'])
-}
-
-/// The message of a request that a text has: one value for each parameter that goes in, in order, in brackets, with handles by
-/// their names among those that came. They are its handles in the order in which they stand, and it has no heap. `None` where the
-/// text is that of no such message.
+/// The message of a request that a text has: one value for each parameter that goes in, in order, in brackets, and behind them
+/// ` heap ` and the items of its heap in square brackets, where it has any. Each item is of the shape that the first full pointer to
+/// it points to, of those that stand before it. Handles stand by their names among those that came, and are the message's in the
+/// order in which they stand. `None` where the text is that of no such message.
 pub fn read_row(
     alloc: Global,
     types: &Shapes,
     params: &[Param],
-    known: &[WireHandle],
+    known: &Handles,
     text: &[u8],
 ) -> Result<Option<Message>, NoMemory>
     ensures { IfOk result (λ found. MatchOption found
@@ -170,12 +120,15 @@ pub fn read_row(
     let Some((plain, wires)) = with_places(alloc, known, text)? else {
         return Ok(None);
     };
-    let Some(values) = read_values(alloc, types, params, &plain)? else {
+    let Some((values, rest)) = read_values(alloc, types, params, &plain)? else {
+        return Ok(None);
+    };
+    let Some(heap) = read_heap(alloc, types, params, &values, rest)? else {
         return Ok(None);
     };
     Ok(Some(Message {
         values,
-        heap: Vec::new(alloc),
+        heap,
         wires,
     }))
 }

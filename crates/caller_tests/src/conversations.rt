@@ -3,9 +3,9 @@ ghost use Rattle.std.specs.Prelude.{◌≡◌, false};
 ghost use Rattle.rpc_outside.specs.ScriptLinks.{shown};
 
 use call_answers::put_answer;
-use call_texts::{learn, read_row};
+use call_texts::{Handles, read_row};
 use client_link::{BeginFault, Stop, Told, Wire};
-use ndr_value::{Message, Wires};
+use ndr_value::Message;
 use rpc_base::{Items, NoMemory, Numbers, Octets};
 use rpc_outside::{LinkStep, LinkSteps, ScriptLink};
 use rpc_words::{cut_at, put, put_hex, read_hex, read_u16, read_u32, split_words};
@@ -47,7 +47,7 @@ impl Answers for Conversations {
         );
         let mut talk = Talk {
             wire: Wire::new(alloc, link, self.table.copy(alloc)?),
-            known: Wires::new(alloc),
+            known: Handles::new(alloc),
             alloc,
         };
         for deed in deeds.split(|octet| *octet == b'~') {
@@ -75,7 +75,7 @@ pub(crate) fn steps_of(alloc: Global, words: &[u8]) -> Result<LinkSteps, NoMemor
 #[derive(Drop)]
 struct Talk {
     wire: Wire<ScriptLink>,
-    known: Wires,
+    known: Handles,
     alloc: Global,
     ghost open: { (shown wire.link).closed ≡ false },
 }
@@ -103,13 +103,7 @@ impl Talk {
     fn message(&self, op: u16, text: &[u8]) -> Result<Option<Message>, NoMemory> {
         let table = self.wire.client.table();
         match table.op(op) {
-            Some(op) => read_row(
-                self.alloc,
-                table.types(),
-                &op.params,
-                self.known.as_slice(),
-                text,
-            ),
+            Some(op) => read_row(self.alloc, table.types(), &op.params, &self.known, text),
             None => Ok(None),
         }
     }
@@ -142,10 +136,10 @@ impl Talk {
             Err(stop) => return put_stop(stop, into),
         };
         if let Told::Done(message) = &told {
-            learn(&mut self.known, message.wires.as_slice())?;
+            self.known.learn(message.wires.as_slice())?;
         }
         let mut line = Vec::new(self.alloc);
-        if put_answer(self.alloc, self.known.as_slice(), 1, &told, &mut line)? {
+        if put_answer(self.alloc, &self.known, 1, &told, &mut line)? {
             line.pop();
             put(&line, into)?;
             put(b";", into)

@@ -1,7 +1,7 @@
 //! Rows of the values of requests: each is read, and what comes is written again.
 
-use call_texts::{put_row, read_row};
-use ndr_value::{Message, Shape, Shapes, Wires};
+use call_texts::{Handles, put_row, read_row};
+use ndr_value::{Message, Shape, Shapes};
 use rpc_base::{NoMemory, WireHandle};
 use rpc_words::{put, put_decimal};
 use std::alloc::Global;
@@ -30,6 +30,29 @@ row|($h1, \"\", $h1) heap []|none
 row||none
 ";
 
+/// Given is a full pointer to a node, which holds a number and a full pointer to a node. Answered is how many items the heap has.
+const HEAPS: &str = "
+heap|(null)|0
+heap|(@0) heap [{1, @1}, {2, @2}, {3, @0}]|3
+heap|(@0) heap [{1, @0}]|1
+heap|(@0) heap [{-5, null}]|1
+heap|(@0)|0
+heap|(@0) heap []|none
+heap|(@0) heap [{1, null}, {2, null}]|none
+heap|(@1) heap [{1, null}, {2, null}]|none
+heap|(@1) heap [{1, null}]|none
+heap|(null) heap [{1, null}]|none
+heap|(@0) heap [5]|none
+heap|(@0) heap [{1, null}|none
+heap|(@0) heap [{1, null}, ]|none
+heap|(@0) heap [{1, @1},{2, null}]|none
+heap|(@0) heap [{1, null}] |none
+heap|(@0)  heap [{1, null}]|none
+heap|(@0)heap [{1, null}]|none
+heap|(@0) Heap [{1, null}]|none
+heap|(@0) heap {{1, null}}|none
+";
+
 fn param(shape: Shape, inward: bool) -> Param {
     Param {
         shape,
@@ -39,11 +62,15 @@ fn param(shape: Shape, inward: bool) -> Param {
     }
 }
 
+fn wire(attributes: u32) -> WireHandle {
+    WireHandle { attributes, id: 1 }
+}
+
 /// The parameters of an operation, and the handles that came.
 #[derive(Drop)]
 struct Rows {
     params: Params,
-    known: Wires,
+    known: Handles,
 }
 
 impl Rows {
@@ -53,15 +80,8 @@ impl Rows {
         params.push(param(Shape::Text(None), true))?;
         params.push(param(Shape::Uint(4), false))?;
         params.push(param(Shape::Handle(1), true))?;
-        let mut known = Wires::new(alloc);
-        known.push(WireHandle {
-            attributes: 7,
-            id: 1,
-        })?;
-        known.push(WireHandle {
-            attributes: 8,
-            id: 1,
-        })?;
+        let mut known = Handles::new(alloc);
+        known.learn(&[wire(7), wire(8)])?;
         Ok(Rows { params, known })
     }
 
@@ -71,7 +91,7 @@ impl Rows {
         message: &Message,
         into: &mut Vec<u8>,
     ) -> Result<(), NoMemory> {
-        if !put_row(alloc, self.known.as_slice(), message, into)? {
+        if !put_row(alloc, &self.known, message, into)? {
             return put(b"no row", into);
         }
         for wire in message.wires.as_slice() {
@@ -91,11 +111,57 @@ impl Answers for Rows {
         into: &mut Vec<u8>,
     ) -> Result<(), NoMemory> {
         let types = Shapes::new(alloc);
-        match read_row(alloc, &types, &self.params, self.known.as_slice(), given)? {
+        match read_row(alloc, &types, &self.params, &self.known, given)? {
             Some(message) => self.put_message(alloc, &message, into),
             None => put(b"none", into),
         }
     }
+}
+
+/// The parameters of an operation, and the types that they name.
+#[derive(Drop)]
+struct Heaps {
+    types: Shapes,
+    params: Params,
+}
+
+impl Heaps {
+    fn new(alloc: Global) -> Result<Heaps, NoMemory> {
+        let mut node = Shapes::new(alloc);
+        node.push(Shape::Int(4))?;
+        node.push(Shape::Full(Box::new(alloc, Shape::Named(0, None))?))?;
+        let mut types = Shapes::new(alloc);
+        types.push(Shape::Struct(node))?;
+        let mut params = Params::new(alloc);
+        let head = Shape::Full(Box::new(alloc, Shape::Named(0, None))?);
+        params.push(param(head, true))?;
+        Ok(Heaps { types, params })
+    }
+}
+
+impl Answers for Heaps {
+    fn answer(
+        &mut self,
+        alloc: Global,
+        _word: &[u8],
+        given: &[u8],
+        into: &mut Vec<u8>,
+    ) -> Result<(), NoMemory> {
+        let none = Handles::new(alloc);
+        match read_row(alloc, &self.types, &self.params, &none, given)? {
+            Some(message) => put_decimal(alloc, message.heap.len() as u64, into),
+            None => put(b"none", into),
+        }
+    }
+}
+
+#[test]
+fn heaps_are_read(rt: HostRuntime) -> Result<(), Fail> {
+    let alloc = rt.alloc();
+    let mut heaps = Heaps::new(alloc)?;
+    let wrong = wrong_row(alloc, &mut heaps, HEAPS)?;
+    assert_eq!(rt; wrong.as_slice(), b"".as_slice());
+    Ok(())
 }
 
 #[test]
@@ -112,14 +178,13 @@ fn a_handle_without_a_name_has_no_row(rt: HostRuntime) -> Result<(), Fail> {
     let alloc = rt.alloc();
     let rows = Rows::new(alloc)?;
     let types = Shapes::new(alloc);
-    let known = rows.known.as_slice();
-    let Some(message) = read_row(alloc, &types, &rows.params, known, b"($h1, \"\", $h2)")? else {
+    let text = b"($h1, \"\", $h2)";
+    let Some(message) = read_row(alloc, &types, &rows.params, &rows.known, text)? else {
         panic!(rt; "no row");
     };
-    let Some((_, others)) = known.split_first() else {
-        panic!(rt; "no handle");
-    };
+    let mut others = Handles::new(alloc);
+    others.learn(&[wire(8)])?;
     let mut text = Vec::new(alloc);
-    assert!(rt; !put_row(alloc, others, &message, &mut text)?);
+    assert!(rt; !put_row(alloc, &others, &message, &mut text)?);
     Ok(())
 }

@@ -1,5 +1,5 @@
 -- A request is a stub of its message.
-use Rattle.std.proofs.Common.{◌≡◌, ℕ, ◌^◌, ◌≤◌, ◌<◌, Bool, true, false, List, length, Option, Some, None, Ok, Err, sym, ap, subst, ◌∙◌, arith}
+use Rattle.std.proofs.Common.{◌≡◌, ◌≢◌, ℕ, ◌^◌, ◌≤◌, ◌<◌, Bool, true, false, List, length, Option, Some, None, Ok, Err, sym, ap, subst, ◌∙◌, arith}
 use Rattle.std.specs.Prelude.{slice_get, Result, IfOk, IsTrue, ◌↔◌}
 use Rattle.std.specs.Option.{option_map}
 use Rattle.rpc_base.specs.declared.fault.NoMemory.{NoMemory}
@@ -9,11 +9,14 @@ use Rattle.ndr_value.specs.Values.{Msg}
 use Rattle.table_form.specs.Tables.{OpForm, TableForm, IsTable}
 use Rattle.table_form.specs.Nested.{IsShallow}
 use Rattle.ndr_model.specs.declared.way.Way.TheVariants.{Request}
+use Rattle.ndr_model.specs.declared.fault.NdrFault.{NdrFault}
+use Rattle.ndr_model.specs.declared.fault.NdrFault.TheVariants.{Memory}
 use Rattle.ndr_model.specs.Message.{IsStub}
 use Rattle.ndr_laws.specs.Laws.{IsOp}
 use Rattle.ndr_written.specs.Laws.{WrittenIsStub}
 use Rattle.ndr_model.specs.Fits.{IsOfOp}
 use Rattle.ndr_codec.specs.declared.written.EncodeFault.{EncodeFault}
+use Rattle.ndr_codec.specs.Faults.{IsThat}
 use Rattle.client_asks.specs.declared.begun.CallOut.{CallOut}
 use Rattle.client_asks.specs.Octets.{IsRequest}
 use Rattle.client_asks.specs.States.{ClientState, Calling, calling, next_id}
@@ -67,3 +70,11 @@ out_is s op m asked false id joining wanted is said fresh = λ i. Some (record {
 pub begins : (s n : ClientState) (op : ℕ) (o : OpForm) (m : Msg) (octets : List ℕ) (call : Option CallOut) → n ≡ record s { newest = next_id s; call = option_map calling call }
     → (length (asking s.interface o m) ≤ 2 ^ 26) × FindsCall s o op m (Ok (octets, call)) → CallsOp s o op m (Ok octets) n
 begins s n op o m octets call is f = (f.0, (f.1.0, is ∙ ap (λ (x : Option Calling). record s { newest = next_id s; call = x }) f.1.1))
+
+-- what is a stub of a message is read, unless memory runs out
+pub is_read : (t : TableForm) (op : ℕ) (stub : List ℕ) (fault : NdrFault) → op < length t.ops → ((o : OpForm) → slice_get t.ops op ≡ Some o → (m : Msg) × IsStub t.types o Request Little None m stub)
+    → ((o : OpForm) (m : Msg) → slice_get t.ops op ≡ Some o → IsStub t.types o Request Little None m stub → IsThat (Err fault) m) → fault ≢ Memory → ⊥
+is_read t op stub fault lt stubs only not =
+    let o = found_op t.ops op lt in
+    let m = stubs o.0 o.1 in
+    not (only o.0 m.0 o.1 m.1)

@@ -28,7 +28,7 @@ use Rattle.client_asks.specs.Hears.{answer_fragment, joined_so_far, Hears}
 use Rattle.client_core.specs.Parts.{joining_in, JoinsOut, Joins, JoinsEach, FragmentTells, FragmentTellsEach, HearsOut, ReadsStub, WholeTells, TellsEach}
 
 -- the call that is out
-by_call : (call : Option Calling) → is_some call ≡ true → (c : Calling) × (call ≡ Some c)
+pub by_call : (call : Option Calling) → is_some call ≡ true → (c : Calling) × (call ≡ Some c)
 by_call None h = absurd (cc (h))
 by_call (Some c) h = (c, refl)
 

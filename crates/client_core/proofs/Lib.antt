@@ -1,3 +1,4 @@
 pub mod Outs
 pub mod Heard
 pub mod Asked
+pub mod Answering

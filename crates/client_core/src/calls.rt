@@ -16,7 +16,7 @@ ghost use Rattle.client_core.specs.Parts.{HasOp, Finds, CallsEach};
 
 use crate::Client;
 use client_asks::{CallOut, Request};
-use ndr_codec::{EncodeFault, Way, decode, encode, fits};
+use ndr_codec::{EncodeFault, NdrFault, Way, decode, encode, fits};
 use ndr_value::Message;
 use ndr_written::written_is_stub;
 use pdu_stream::Joiner;
@@ -194,6 +194,7 @@ impl Client {
     /// The message of a request, read from its stub data.
     fn asked(&self, op: u16, stub: &[u8]) -> Result<Message, NoMemory>
         requires op { op < length (state self.now).interface.ops }
+        requires is { (o : OpForm) → slice_get (state self.now).interface.ops op ≡ Some o → (m : Msg) × IsStub (state self.now).interface.types o ways.Request Little None m stub.now }
         ensures { (o : OpForm) (m : Msg) → slice_get (state self.now).interface.ops op ≡ Some o → IsStub (state self.now).interface.types o ways.Request Little None m stub.now → IfOk result (λ asked. msg asked ≡ m) }
     {
         match decode(
@@ -206,7 +207,8 @@ impl Client {
             stub,
         ) {
             Ok(message) => Ok(message),
-            Err(_) => Err(NoMemory),
+            Err(NdrFault::Memory) => Err(NoMemory),
+            Err(_) => unreachable!(),
         }
     }
 }

@@ -1,13 +1,15 @@
 //! What a server's PDUs tell.
-ghost use Rattle.std.specs.Prelude.{◌≡◌, ◌≤◌, true, slice_get};
+ghost use Rattle.std.specs.Prelude.{◌≡◌, ◌≤◌, true, Some, slice_get, IfOk};
 ghost use Rattle.std.specs.Option.{option_map};
 ghost use Rattle.pdu_codec.specs.Constants.{least_fragment, most_fragment};
+ghost use Rattle.ndr_value.specs.Values.{msg};
 ghost use Rattle.client_asks.specs.declared.told.ClientFault.TheVariants.{Direction};
 ghost use Rattle.client_asks.specs.States.{told, is_calling, out_with, without, without_out};
-ghost use Rattle.client_asks.specs.States.Outcome.{TBroken};
+ghost use Rattle.client_asks.specs.States.Outcome.{TBroken, TDone};
 ghost use Rattle.client_asks.specs.Hears as spec;
 ghost use Rattle.client_core.specs.State.{state};
 ghost use Rattle.client_core.specs.Parts as parts;
+ghost use Rattle.client_core.specs.Answers.{AnswersOut};
 
 use crate::Client;
 use crate::responses::{join_to, read_response};
@@ -70,7 +72,8 @@ impl Client {
     /// `NoMemory` where there is no memory for the response. The call stays out; where its fragment couldn't
     /// be joined, that is the answer to further ones too.
     pub fn on_pdu(&mut self, pdu: Pdu) -> Result<Option<Told>, NoMemory>
-        ensures { spec.Hears (state self.old) pdu result (state self.new) }
+        ensures hears { spec.Hears (state self.old) pdu result (state self.new) }
+        ensures answer { IfOk result (λ t. AnswersOut (state self.old) (option_map told t)) }
     {
         let Pdu {
             minor: _,
@@ -188,7 +191,8 @@ impl Client {
         body: ResponseBody,
     ) -> Result<Option<Told>, NoMemory>
         requires { out ≡ out_with (state self.old) call_id }
-        ensures { parts.HearsOut (state self.old) out (spec.fragment_of order flags call_id body) result (state self.new) }
+        ensures hears { parts.HearsOut (state self.old) out (spec.fragment_of order flags call_id body) result (state self.new) }
+        ensures answer { IfOk result (λ t. AnswersOut (state self.old) (option_map told t)) }
     {
         match out {
             None => Ok(None),
@@ -206,7 +210,8 @@ impl Client {
         body: ResponseBody,
     ) -> Result<Option<Told>, NoMemory>
         requires { is_calling (state self.old) ≡ true }
-        ensures { parts.FragmentTellsEach (state self.old) (spec.fragment_of order flags call_id body) result (state self.new) }
+        ensures tells { parts.FragmentTellsEach (state self.old) (spec.fragment_of order flags call_id body) result (state self.new) }
+        ensures answer { IfOk result (λ t. AnswersOut (state self.old) (option_map told t)) }
     {
         match self.join(order, flags, call_id, body) {
             Ok(None) => Ok(None),
@@ -234,7 +239,8 @@ impl Client {
     /// The whole response.
     fn on_whole(&mut self, joined: &Joined) -> Result<Option<Told>, NoMemory>
         requires { is_calling (state self.old) ≡ true }
-        ensures { parts.TellsEach (state self.old) joined.now result (state self.new) }
+        ensures tells { parts.TellsEach (state self.old) joined.now result (state self.new) }
+        ensures answer { IfOk result (λ t. AnswersOut (state self.old) (option_map told t)) }
     {
         match self.response(joined) {
             Ok(message) => {
@@ -249,7 +255,8 @@ impl Client {
     /// The message of the whole response.
     fn response(&self, joined: &Joined) -> Result<Message, NdrFault>
         requires { is_calling (state self.now) ≡ true }
-        ensures { parts.ReadsEach (state self.now) joined.now result }
+        ensures reads { parts.ReadsEach (state self.now) joined.now result }
+        ensures of_op { IfOk result (λ m. AnswersOut (state self.now) (Some (TDone (msg m)))) }
     {
         match &self.call {
             Some(call) => read_response(self.alloc, &self.table, call, joined),

@@ -1,11 +1,13 @@
 //! Responses to the call that is out.
-ghost use Rattle.std.specs.Prelude.{◌≡◌, ◌<◌, true, is_some, length};
+ghost use Rattle.std.specs.Prelude.{◌≡◌, ◌<◌, true, is_some, length, IfOk};
 ghost use Rattle.std.specs.Option.{option_map};
+ghost use Rattle.ndr_value.specs.Values.{msg};
 ghost use Rattle.table_form.specs.Shown.{shown};
 ghost use Rattle.table_form.specs.Tables.{TableForm};
 ghost use Rattle.client_asks.specs.States.{calling};
 ghost use Rattle.client_asks.specs.Hears.{fragment_of};
 ghost use Rattle.client_core.specs.Parts.{HasOp, JoinsOut, ReadsStub};
+ghost use Rattle.client_core.specs.Answers.{IsOfCall};
 
 use client_asks::CallOut;
 use ndr_codec::{NdrFault, Way, decode};
@@ -49,7 +51,8 @@ pub(crate) fn read_response(
     joined: &Joined,
 ) -> Result<Message, NdrFault>
     requires { call.now.op < length (shown table.now).ops }
-    ensures { ReadsStub (shown table.now) (calling call.now) joined.now result }
+    ensures reads { ReadsStub (shown table.now) (calling call.now) joined.now result }
+    ensures of_op { IfOk result (λ m. IsOfCall (shown table.now) (calling call.now) (msg m)) }
 {
     let (way, asked) = (Way::Response, Some(&call.message));
     let stub = joined.stub.as_slice();

@@ -10,11 +10,12 @@ use Rattle.ndr_value.specs.Values.{Msg}
 use Rattle.table_form.specs.Tables.{OpForm, TableForm}
 use Rattle.client_asks.specs.Calls.{asking}
 use Rattle.client_asks.specs.declared.told.Told.{Told}
-use Rattle.client_asks.specs.States.{ClientState, at_start, told}
+use Rattle.client_asks.specs.States.{Outcome, ClientState, at_start, told}
 use Rattle.client_asks.specs.Hears.{HearsBody}
 use Rattle.client_asks.specs.Histories.{ClientEvent, Happens, Lives, sent}
 use Rattle.client_asks.specs.Histories.ClientEvent.{Received}
 use Rattle.client_core.specs.State.{state}
+use Rattle.client_core.specs.Answers.{AnswersOut}
 use Rattle.client_link.specs.declared.wire.Wire.{Wire}
 use Rattle.client_link.specs.declared.wire.BeginFault.{BeginFault}
 use Rattle.client_link.specs.declared.wire.BeginFault.TheVariants as begin
@@ -65,6 +66,14 @@ RoseBy times before now = min (before + times) (2 ^ 64 - 1) ≤ now
 -- the message's canonical octets are more than a stub may have
 abbrev pub IsTooLong : TableForm → ℕ → Msg → Type 0
 IsTooLong interface op m = (o : OpForm) × (slice_get interface.ops op ≡ Some o) × (2 ^ 26 < length (asking interface o m))
+
+-- an outcome that is told: where it has a message, that is one of the operation of a call, as a response
+abbrev pub MayBeTold : Outcome → Type 0
+MayBeTold t = (s : ClientState) × AnswersOut s (Some t)
+
+abbrev pub LooksRightly : Look → Type 0
+LooksRightly (look.Tells t) = MayBeTold (told t)
+LooksRightly _ = ⊤
 
 -- where nothing came, the quiets rose
 abbrev pub IsQuieter : ℕ → ℕ → Look → Type 0

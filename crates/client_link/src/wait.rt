@@ -3,9 +3,9 @@ ghost use Rattle.std.specs.Prelude.{◌≡◌, ◌≢◌, ◌⊎◌, ℕ, List, 
 ghost use Rattle.rpc_outside.specs.Links.{Counts};
 ghost use Rattle.pdu_stream.specs.Cuts.{IsPartial};
 ghost use Rattle.table_form.specs.Tables.{TableForm};
-ghost use Rattle.client_asks.specs.States.{ClientState};
+ghost use Rattle.client_asks.specs.States.{ClientState, told};
 ghost use Rattle.client_asks.specs.Histories.{ClientEvent};
-ghost use Rattle.client_link.specs.Wires.{IsOpen, Stays, Lived, Looks, Waits, IsQuieter};
+ghost use Rattle.client_link.specs.Wires.{IsOpen, Stays, Lived, Looks, Waits, IsQuieter, MayBeTold, LooksRightly};
 
 use crate::wire::Wire;
 use client_core::Told;
@@ -66,6 +66,7 @@ impl<K: Link> Wire<K> {
         ensures quieter { IfOk result (IsQuieter (K.shows self.old.link).quiets (K.shows self.new.link).quiets) }
         ensures looks { (interface : TableForm) (events : List ClientEvent) (m : ClientState) → Lived K.shows interface self.old events m []
             → Looks K.shows interface events m self.old result self.new }
+        ensures answer { IfOk result LooksRightly }
     {
         let mut octets = [0; MOST];
         match self.link.take(&mut octets) {
@@ -88,6 +89,7 @@ impl<K: Link> Wire<K> {
         ensures quieter { IfOk result (IsQuieter (K.shows self.old.link).quiets (K.shows self.new.link).quiets) }
         ensures looks { (interface : TableForm) (events : List ClientEvent) (m : ClientState) → Lived K.shows interface self.old events m []
             → Looks K.shows interface events m self.old result self.new }
+        ensures answer { IfOk result LooksRightly }
     {
         match self.feed.next() {
             Ok(Some(pdu)) => match self.client.on_pdu(pdu) {
@@ -112,6 +114,7 @@ impl<K: Link> Wire<K> {
         ensures open { IsOpen K.shows self.new.link }
         ensures waits { (interface : TableForm) (events : List ClientEvent) (m : ClientState) → Lived K.shows interface self.old events m []
             → Waits K.shows interface events m self.old result self.new }
+        ensures answer { IfOk result (λ t. MayBeTold (told t)) }
     {
         let mut quiets = 0;
         for _ in 0..u64::MAX {

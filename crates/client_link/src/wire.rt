@@ -1,5 +1,5 @@
 //! A connection on its link, and what it begins.
-ghost use Rattle.std.specs.Prelude.{◌≡◌, ◌<◌, ◌^◌, ℕ, List, [], ⊤, Ok, Err, false, true, length, slice_get};
+ghost use Rattle.std.specs.Prelude.{◌≡◌, ◌≢◌, ◌<◌, ◌^◌, ℕ, List, [], ⊤, Ok, Err, false, true, length, slice_get, IfErr};
 ghost use Rattle.table_form.specs.Shown.{shown};
 ghost use Rattle.table_form.specs.Tables.{OpForm, TableForm};
 ghost use Rattle.ndr_value.specs.Values.{msg};
@@ -88,6 +88,7 @@ impl<K: Link> Wire<K> {
         ensures stays { Stays self.old self.new }
         ensures begins { (interface : TableForm) (events : List ClientEvent) (m : ClientState) → Lived K.shows interface self.old events m []
             → Begins K.shows interface events m (DidBind group) ⊥ self.old result self.new }
+        ensures short { IfErr result (λ fault. fault ≢ BeginFault.TooLong) }
         ensures open { IsOpen K.shows self.new.link }
     {
         let octets = self.client.bind(group)?;

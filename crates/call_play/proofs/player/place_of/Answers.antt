@@ -1,15 +1,18 @@
-use Rattle.call_play.proofs.Finding.{not_bound_as, none_at_first, none_more, none_at_all, found}
+use Rattle.std.proofs.Common.{sym}
+use Rattle.call_play.proofs.Index.{no_place, none_at, not_bound, bound_at}
 use Rattle.call_play.proofs.player.place_of.Goals as goal
 
-pub loop-at-init : goal.loop-at-init
-loop-at-init g c = none_at_first c.args.name c.args.channels.now
+pub returns-in_default : goal.returns-in_default
+returns-in_default g c = no_place c.args.places.now c.args.channels.now c.args.name c.requires (sym (rw c.in_default.is at c.get.ensures.value))
 
-pub loop-at-preserved : goal.loop-at-preserved
-loop-at-preserved g c =
-    none_more c.args.name c.loop-at.at c.args.channels.now c.index-channels-at.result c.loop-at.invariant c.loop-at-test.true c.index-channels-at.is (not_bound_as c.index-channels-at.result c.args.name c.if-is_bound_as.ensures)
+pub returns-in_default-channel_at : goal.returns-in_default-channel_at
+returns-in_default-channel_at g c =
+    none_at c.args.places.now c.args.channels.now c.args.name c.in-Some.at.now c.requires (sym (rw c.in-Some.is at c.get.ensures.value)) (sym (rw c.in_default-channel_at.is at c.channel_at.ensures))
 
 pub returns-then-is_bound_as : goal.returns-then-is_bound_as
-returns-then-is_bound_as g c = found c.args.name c.loop-at.at c.args.channels.now c.index-channels-at.result c.loop-at-test.true c.index-channels-at.is c.if-is_bound_as.ensures
+returns-then-is_bound_as g c = bound_at c.args.channels.now c.args.name c.in-Some.at.now c.in-Some-channel_at.channel.now (sym (rw c.in-Some-channel_at.is at c.channel_at.ensures)) c.if-is_bound_as.ensures
 
-pub returns : goal.returns
-returns g c = none_at_all c.args.name c.loop-at.at c.args.channels.now c.loop-at.invariant c.loop-at-test.false
+pub returns-else-is_bound_as : goal.returns-else-is_bound_as
+returns-else-is_bound_as g c =
+    not_bound c.args.places.now c.args.channels.now c.args.name c.in-Some.at.now c.requires (sym (rw c.in-Some.is at c.get.ensures.value)) c.in-Some-channel_at.channel.now (sym (rw c.in-Some-channel_at.is at c.channel_at.ensures))
+    c.if-is_bound_as.ensures

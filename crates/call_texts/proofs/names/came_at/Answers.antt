@@ -1,9 +1,7 @@
-use Rattle.std.proofs.Common.{◌≡◌, ◌+◌, ◌-◌, ◌≤◌, ◌<◌, ◌^◌, length, ℕ, Some, arith, sym, ◌∙◌, ap, subst, List, get_or, refl, true, false}
-use Rattle.std.specs.Prelude.{slice_get}
+use Rattle.std.proofs.Common.{◌≡◌, ◌≤◌, ℕ, arith, sym, ◌∙◌, ap, subst, refl}
 use Rattle.std.proofs.lemmas.Fmt.{decimal_injective}
-use Rattle.rpc_base.specs.declared.identifiers.WireHandle.{WireHandle}
 use Rattle.call_texts.specs.Handles as spec
-use Rattle.call_texts.proofs.Apart.{At, at_place, among_is, few_of, small_place, null_from, came_is, wire_of, clash}
+use Rattle.call_texts.proofs.Apart.{at_place, among_is, few_of, small_place, null_from, came_is, clash}
 use Rattle.call_texts.proofs.names.came_at.Goals as goal
 use Rattle.call_texts.proofs.names.came_at.Goals.{then-is_null-via-then-is_null, then-is_null-via-else-is_null+then-not-has_name, then-is_null-via-else-is_null+else-not-has_name+then-place-number}
 
@@ -42,7 +40,7 @@ returns-then-is_null-clause-found c = λ w n h e.
     let a = among_is c.args.known.now w n h in
     let s = small_place c.args.known.now few w a in
     let p : spec.place c.args.known.now w ≡ c.in_ok-number.number = decimal_injective (spec.place c.args.known.now w) c.in_ok-number.number s c.in_ok-number.ensures.0 (e ∙ sym c.in_ok-number.ensures.1) in
-    let same = came_is c.args.known.now w c.in_ok-number.number _ (wire_of 0 0) a p c.in_ok-at.ensures.1 in
+    let same = came_is c.args.known.now w c.in_ok-number.number c.in_ok-at.at c.at-wire.result a p c.in_ok-at.ensures.1 c.at-wire.ensures in
     elim c.then-is_null.branch [
       | then-is_null-via-then-is_null x ↦
           clash (spec.is_null w) (null_from _ w (x.if-is_null.ensures.0 refl).0 (x.if-is_null.ensures.0 refl).1 same) n

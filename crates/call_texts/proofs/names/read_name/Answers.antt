@@ -1,4 +1,4 @@
-use Rattle.std.proofs.Common.{◌≡◌, ◌∷◌, ◌++◌, refl, ap, sym, ◌∙◌, List, ℕ, decimal}
+use Rattle.std.proofs.Common.{◌≡◌, ◌++◌, refl, sym, ◌∙◌, decimal}
 use Rattle.call_texts.specs.Handles as spec
 use Rattle.call_texts.proofs.Apart.{comes_by, no_other}
 use Rattle.call_texts.proofs.Lacks.{tail_is}

@@ -1,4 +1,4 @@
-use Rattle.std.proofs.Common.{◌≡◌, ◌<◌, ◌^◌, length, List, ℕ, Some, arith, sym, ◌∙◌}
+use Rattle.std.proofs.Common.{◌<◌, ◌^◌, length, arith, sym, ◌∙◌}
 use Rattle.std.proofs.lemmas.Fmt.{decimal_injective}
 use Rattle.call_texts.proofs.Lacks.{short_get}
 use Rattle.call_texts.proofs.names.wire_at.Goals as goal

@@ -1,5 +1,5 @@
 use Rattle.std.proofs.Common.{◌∷◌, [], ◌++◌, ◌∙◌, ap, List, ℕ, length, decimal}
-use Rattle.call_texts.proofs.Requests.{goes_handle, goes_quoted, goes_other, goes_end, back_start, back_handle, back_quoted, back_other, back_end, on_handle, on_open}
+use Rattle.call_texts.proofs.Requests.{goes_handle, goes_quoted, goes_other, goes_end, back_handle, back_quoted, back_other, back_end, on_handle, on_open}
 use Rattle.call_texts.proofs.Renamed.{empty}
 use Rattle.call_texts.proofs.names.with_places.Goals as goal
 

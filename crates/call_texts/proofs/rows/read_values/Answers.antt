@@ -1,11 +1,11 @@
-use Rattle.std.proofs.Common.{◌≡◌, ◌==◌, ap, sym, subst, ◌∙◌, ◌∷◌, List, ℕ, Bool, length, map, codes}
+use Rattle.std.proofs.Common.{◌≡◌, ◌==◌, ap, subst, List, ℕ, Bool, length, map}
 use Rattle.ndr_value.specs.Forms.{form, types_of}
 use Rattle.ndr_value.specs.Values.{Val}
 use Rattle.table_form.specs.declared.operation.Param.{Param}
 use Rattle.table_form.specs.Tables.{param_form}
 use Rattle.call_texts.specs.Renaming.{ItemStands}
 use Rattle.call_texts.proofs.Renamed.{nothing}
-use Rattle.call_texts.proofs.Items.{Reached, no_row, row_start, row_more, row_stops, row_end, row_open, none_is, is_none}
+use Rattle.call_texts.proofs.Lists.{Reached, no_row, row_start, row_more, row_stops, row_end, row_open, none_is}
 use Rattle.call_texts.proofs.rows.read_values.Goals as goal
 
 pub returns-in_default : goal.returns-in_default
@@ -41,12 +41,12 @@ loop-param-preserved-in_ok-push c =
     c.in-Some-2.after.now c.in-Some-2.value c.if-param.true reached
     (subst (λ (b : Bool). ItemStands (types_of c.args.types.now.items) (form c.in-Some-split_first.param.now.shape) b c.loop-param.rest.now (Rattle.ndr_value.specs.Values.val c.in-Some-2.value) c.in-Some-2.after.now) is item))
 
-pub returns-then-is_closed : goal.returns-then-is_closed
-returns-then-is_closed c =
-    row_end (types_of c.args.types.now.items) (map param_form c.args.params.now) c.args.text.now c.loop-param.values.items (map param_form c.loop-param.left.now) c.loop-param.rest.now
-    (ap (map param_form) (nothing c.loop-param.left.now c.in_default-split_first.ensures.cases)) c.if-is_closed.ensures c.loop-param.invariant
+pub returns-in-Some-behind : goal.returns-in-Some-behind
+returns-in-Some-behind c =
+    row_end (types_of c.args.types.now.items) (map param_form c.args.params.now) c.args.text.now c.loop-param.values.items (map param_form c.loop-param.left.now) c.loop-param.rest.now c.in-Some-behind.after.now
+    (ap (map param_form) (nothing c.loop-param.left.now c.in_default-split_first.ensures.cases)) c.in-Some-behind.ensures c.loop-param.invariant
 
-pub returns-else-is_closed : goal.returns-else-is_closed
-returns-else-is_closed c =
+pub returns : goal.returns
+returns c =
     row_open (types_of c.args.types.now.items) (map param_form c.args.params.now) c.args.text.now c.loop-param.values.items (map param_form c.loop-param.left.now) c.loop-param.rest.now
-    (ap (map param_form) (nothing c.loop-param.left.now c.in_default-split_first.ensures.cases)) c.if-is_closed.ensures c.loop-param.invariant
+    (ap (map param_form) (nothing c.loop-param.left.now c.in_default-split_first.ensures.cases)) c.in-None.ensures c.loop-param.invariant

@@ -7,13 +7,13 @@ use Rattle.client_asks.specs.Histories.ClientEvent.{DidCall}
 use Rattle.call_play.proofs.Channels.{begun, halted}
 use Rattle.call_play.proofs.channel.Channel.start.Goals as goal
 
-pub returns-in-Ok : goal.returns-in-Ok
-returns-in-Ok g c = λ interface a h o.
+pub returns-in-Ok-clause-begins : goal.returns-in-Ok-clause-begins
+returns-in-Ok-clause-begins g c = λ interface a h o.
     begun g.K.Link.shows interface c.args.self.now a c.call.new.self h o c.call.ensures.stays (DidCall c.args.op (msg c.args.message.now)) (IsTooLong a.state.interface c.args.op (msg c.args.message.now)) (IsTooLong (state c.args.self.now.wire.client).interface c.args.op (msg c.args.message.now))
     (c.in-Ok.ensures.begins interface a.events a.state (h.lived o).0)
 
-pub returns-in-Err : goal.returns-in-Err
-returns-in-Err g c = λ interface a h o.
+pub returns-in-Err-clause-begins : goal.returns-in-Err-clause-begins
+returns-in-Err-clause-begins g c = λ interface a h o.
     halted g.K.Link.shows interface c.args.self.now a c.call.new.self h o c.call.ensures.stays (DidCall c.args.op (msg c.args.message.now)) (IsTooLong a.state.interface c.args.op (msg c.args.message.now)) (IsTooLong (state c.args.self.now.wire.client).interface c.args.op (msg c.args.message.now))
     (λ x. subst (λ (s : ClientState). IsTooLong s.interface c.args.op (msg c.args.message.now)) (sym (h.lived o).0.at) x) c.in-Err.fault c.halt.result
     c.halt.new.self (c.in-Err.ensures.begins interface a.events a.state (h.lived o).0) c.halt.ensures

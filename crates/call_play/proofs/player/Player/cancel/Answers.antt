@@ -1,5 +1,8 @@
-use Rattle.call_play.proofs.LineLemmas.{cancel_ready, touched_within, cancelled, cancel_barred}
+use Rattle.call_play.proofs.LineLemmas.{has_index, cancel_ready, touched_within, cancelled, cancel_barred}
 use Rattle.call_play.proofs.player.Player.cancel.Goals as goal
+
+pub calling-requires-after_bounds : goal.calling-requires-after_bounds
+calling-requires-after_bounds g c κs within = has_index g.K.Link.shows c.args.self.now c.requires
 
 pub cancel_at-begun-requires-after_bounds : goal.cancel_at-begun-requires-after_bounds
 cancel_at-begun-requires-after_bounds g c κs within = cancel_ready g.K.Link.shows c.args.self.now c.args.name c.in-Some.at c.requires c.in-Some.ensures

@@ -1,5 +1,8 @@
-use Rattle.call_play.proofs.LineLemmas.{close_ready, closed, close_barred}
+use Rattle.call_play.proofs.LineLemmas.{has_index, close_ready, closed, close_barred}
 use Rattle.call_play.proofs.player.Player.close.Goals as goal
+
+pub find-requires-after_bounds : goal.find-requires-after_bounds
+find-requires-after_bounds g c κs within = has_index g.K.Link.shows c.args.self.now c.requires
 
 pub close_at-requires-after_bounds : goal.close_at-requires-after_bounds
 close_at-requires-after_bounds g c κs within = close_ready g.K.Link.shows c.args.self.now c.args.name c.in-Some.at c.requires c.in-Some.ensures

@@ -1,9 +1,6 @@
-use Rattle.std.proofs.Common.{ℕ, List, sym, subst, ◌∙◌}
-use Rattle.rpc_base.specs.declared.identifiers.WireHandle.{WireHandle}
-use Rattle.ndr_value.specs.Values.{msg}
+use Rattle.std.proofs.Common.{ℕ, sym, subst, ◌∙◌}
 use Rattle.table_form.specs.Tables.{TableForm}
-use Rattle.client_core.specs.State.{state}
-use Rattle.call_play.specs.Steps.{HasOp, IsRequestOf, IsNoMessage}
+use Rattle.call_play.specs.Steps.{HasOp}
 use Rattle.call_play.specs.Steps.BarsCall.{calling, no_op, no_message}
 use Rattle.call_play.proofs.Finding.{can_start, bars_at}
 use Rattle.call_play.proofs.player.Player.message.Goals as goal
@@ -21,12 +18,11 @@ pub returns-in-None : goal.returns-in-None
 returns-in-None g c =
     let none = rw c.in-None.is at c.in_ok-message.ensures in
     bars_at c.args.self.now c.args.at c.args.name.now c.args.text.now c.index.result.now c.requires c.index.ensures
-    (no_message c.in-Some.number (subst (λ (t : TableForm). HasOp t c.in-Some.number c.args.name.now) c.table.ensures c.in-Some.ensures)
-    (subst (λ (known : List WireHandle). IsNoMessage (state c.index.result.now.wire.client).interface c.in-Some.number known c.args.text.now) c.as_slice.ensures none))
+    (no_message c.in-Some.number (subst (λ (t : TableForm). HasOp t c.in-Some.number c.args.name.now) c.table.ensures c.in-Some.ensures) none)
 
 pub returns-in-Some-2 : goal.returns-in-Some-2
 returns-in-Some-2 g c =
     let x = rw c.in-Some-2.is at c.in_ok-message.ensures in
     can_start c.args.self.now c.args.at c.args.name.now c.args.text.now c.in-Some.number c.in-Some-2.message c.index.result.now c.requires c.index.ensures (sym c.if-is_calling.false ∙ c.is_calling.ensures)
     (subst (λ (t : TableForm). HasOp t c.in-Some.number c.args.name.now) c.table.ensures c.in-Some.ensures)
-    (subst (λ (known : List WireHandle). IsRequestOf (state c.index.result.now.wire.client).interface c.in-Some.number known (msg c.in-Some-2.message) c.args.text.now) c.as_slice.ensures x.0, x.1)
+    x

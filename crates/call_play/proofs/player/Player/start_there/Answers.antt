@@ -1,4 +1,4 @@
-use Rattle.call_play.proofs.LineLemmas.{there_within, start_ready, touched_within, started, start_barred}
+use Rattle.call_play.proofs.LineLemmas.{start_ready, touched_within, started, start_barred}
 use Rattle.call_play.proofs.player.Player.start_there.Goals as goal
 
 pub start_at-begun-requires-after_bounds : goal.start_at-begun-requires-after_bounds

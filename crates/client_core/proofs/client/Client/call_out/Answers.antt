@@ -9,3 +9,6 @@ returns-clause-call c o found =
     let wanted : c.args.maybe ≡ false = search rules in
     let m = msg c.args.message.now in
     out_is (state c.args.self.now) c.args.op m (msg c.in_ok-asked.asked) c.args.maybe c.next_id.result c.new.result wanted c.next_id.ensures (c.in_ok-asked.ensures o m found (c.requires.is o found)) c.new.ensures
+
+pub asked-requires-clause-is : goal.asked-requires-clause-is
+asked-requires-clause-is c o found = (msg c.args.message.now, c.requires.is o found)

@@ -10,7 +10,7 @@ on_fragment-requires c =
     let is : c.args.out ≡ Some Call = search rules in
     call_is_out (state c.args.self.now) c.args.call_id (sym c.requires ∙ is)
 
-pub returns-in-Some-Call : goal.returns-in-Some-Call
-returns-in-Some-Call c =
+pub returns-in-Some-Call-clause-hears : goal.returns-in-Some-Call-clause-hears
+returns-in-Some-Call-clause-hears c =
     let is : c.args.out ≡ Some Call = search rules in
-    rw is (of_the_call (state c.args.self.now) (state c.on_fragment.new.self) _ _ (call_is_out (state c.args.self.now) c.args.call_id (sym c.requires ∙ is)) c.on_fragment.ensures)
+    rw is (of_the_call (state c.args.self.now) (state c.on_fragment.new.self) _ _ (call_is_out (state c.args.self.now) c.args.call_id (sym c.requires ∙ is)) c.on_fragment.ensures.tells)

@@ -58,3 +58,6 @@ loop-preserved g c =
 
 pub returns-clause-waits : goal.returns-clause-waits
 returns-clause-waits g c = λ interface events m l. ends_short g.K.Link.shows interface c.args.self.now c.loop.self events m (c.loop.invariant.waited interface events m l)
+
+pub returns-in-Tells-clause-answer : goal.returns-in-Tells-clause-answer
+returns-in-Tells-clause-answer g c = rw c.in-Tells.is at c.in_ok-told.ensures.answer

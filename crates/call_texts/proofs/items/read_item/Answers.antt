@@ -1,7 +1,6 @@
-use Rattle.std.proofs.Common.{◌≡◌, ap, List, ℕ}
 use Rattle.ndr_value.specs.Forms.{form, types_of}
-use Rattle.call_texts.proofs.Items.{item_none}
-use Rattle.call_texts.proofs.rows.read_item.Goals as goal
+use Rattle.call_texts.proofs.Lists.{item_none}
+use Rattle.call_texts.proofs.items.read_item.Goals as goal
 
 pub returns-in_ok-unless_memory-in-Err : goal.returns-in_ok-unless_memory-in-Err
 returns-in_ok-unless_memory-in-Err c =
