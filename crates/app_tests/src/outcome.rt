@@ -21,7 +21,7 @@ fn octets(alloc: Global, text: &[u8]) -> Result<Octets, NoMemory> {
     Ok(Octets::from_vec(text.to_vec(alloc)?))
 }
 
-/// The status, or 9 for connections, what is on out, and what is on log, behind the words `words`, where the files `f` and `i` have these texts.
+/// The status, or 9 for connections and calls, what is on out, and what is on log, behind the words `words`, where the files `f` and `i` have these texts.
 pub fn outcome(
     alloc: Global,
     words: &str,
@@ -46,7 +46,7 @@ pub fn outcome(
     let mut log = VecSink::new(alloc, numbers(alloc, faults[2])?);
     let status = match obey(alloc, list.as_slice(), &mut shelf, &mut out, &mut log) {
         Obeyed::Done(status) => status,
-        Obeyed::Serve(_) => 9,
+        Obeyed::Serve(_) | Obeyed::Call(_) => 9,
     };
     let head = format!(in alloc; "{status}\n")?;
     let mut text = head.as_bytes().to_vec(alloc)?;

@@ -7,7 +7,7 @@
 mod outside;
 
 use outside::{FileShelf, Output};
-use socket_links::SocketDoor;
+use socket_links::{SocketDial, SocketDoor};
 use std::alloc::Global;
 use std::process::ExitCode;
 use std::rt::{Clock, Env};
@@ -51,10 +51,11 @@ fn main(rt: HostRuntime) -> ExitCode {
             let mut out = Output::new(io::writer(&rt));
             let mut log = Output::new(rt.stderr());
             let mut door = SocketDoor::new(&rt, alloc);
+            let mut dial = SocketDial::new(&rt, alloc);
             let words = words.as_slice();
             let boot = boot_word(&rt);
             rpc_app::run(
-                &rt, alloc, words, boot, &mut shelf, &mut door, &mut out, &mut log,
+                &rt, alloc, words, boot, &mut shelf, &mut door, &mut dial, &mut out, &mut log,
             )
         }
         Err(status) => status,

@@ -11,7 +11,7 @@ use Rattle.rpc_app.specs.declared.command.Command.TheVariants.{Replay, Idl, Audi
 use Rattle.rpc_outside.specs.declared.address.Address.{Address}
 use Rattle.address_text.specs.Texts.{Host, FitsHost, host_text}
 use Rattle.address_text.proofs.Parts.{one_host}
-use Rattle.rpc_app.specs.Asks.{FileTask, Task, OfFile, OfLoad, ServeTask, Wanted, ToDo, ToServe, IsInRange, IsWithin, Asks, AsksFor, AsksToServe, AsksForNothing, wanted_of}
+use Rattle.rpc_app.specs.Asks.{FileTask, Task, OfFile, OfLoad, ServeTask, Wanted, ToDo, ToServe, ToCall, IsInRange, IsWithin, Asks, AsksFor, AsksToServe, AsksForNothing, wanted_of}
 use Rattle.rpc_app.specs.declared.words.Wanted.{Wanted as WantedHere}
 use Rattle.rpc_app.specs.Words.{told_wanted}
 
@@ -26,6 +26,10 @@ second_in (first ∷ rest) = first_in rest
 abbrev option_in : List (List ℕ × Option (List ℕ)) → Option (List ℕ)
 option_in [] = None
 option_in (o ∷ rest) = o.1
+
+abbrev third_in : List (List ℕ) → List ℕ
+third_in [] = []
+third_in (first ∷ rest) = second_in rest
 
 abbrev command_in : List ℕ → Command
 command_in word = if bytes_eq word (codes "replay") then Replay else (if bytes_eq word (codes "idl") then Idl else Audit)
@@ -62,8 +66,8 @@ same_kind a b e = by_its_word a ∙ ap kind_in e ∙ sym (by_its_word b)
 
 -- ---- what a line asks for
 
-abbrev by_line : Line → Option Wanted
-by_line l = Some (ToDo (OfFile (record { command = command_in l.word; file = first_in l.operands; idl = option_in l.options })))
+abbrev by_line : Line → Wanted
+by_line l = ToDo (OfFile (record { command = command_in l.word; file = first_in l.operands; idl = option_in l.options }))
 
 by_its_line : (a : Asked) → kind a ≡ 0 → wanted_of a ≡ by_line (line_of a)
 by_its_line (asks.Replay file idl) e = refl
@@ -81,16 +85,24 @@ one_number n m low less e = decimal_injective n m low less e
 
 one_load : (n s m t : ℕ) → line.IsInRange (asks.Load n s) → line.IsInRange (asks.Load m t) → line_of (asks.Load n s) ≡ line_of (asks.Load m t) → wanted_of (asks.Load n s) ≡ wanted_of (asks.Load m t)
 one_load n s m t fits also e =
-    ap₂ (λ x y. Some (ToDo (OfLoad x y))) (one_number n m fits.0 also.0 (ap (λ (l : Line). first_in l.operands) e))
+    ap₂ (λ x y. ToDo (OfLoad x y)) (one_number n m fits.0 also.0 (ap (λ (l : Line). first_in l.operands) e))
     (one_number s t (omega (arith, fits.1)) (omega (arith, also.1)) (ap (λ (l : Line). second_in l.operands) e))
 
-abbrev served : Host → ℕ → Option (List ℕ) → Option Wanted
-served host most idl = Some (ToServe (record { at = record { ip = host.0; port = host.1 }; most = most; idl = idl }))
+abbrev served : Host → ℕ → Option (List ℕ) → Wanted
+served host most idl = ToServe (record { at = record { ip = host.0; port = host.1 }; most = most; idl = idl })
 
 one_server : (a b : Asked) (x y : Host) (n m : ℕ) (i j : Option (List ℕ)) → FitsHost x → FitsHost y → n ≤ 1000000 → m ≤ 1000000 → host_text x ≡ host_text y → decimal n ≡ decimal m → i ≡ j
     → wanted_of a ≡ served x n i → wanted_of b ≡ served y m j → wanted_of a ≡ wanted_of b
 one_server a b x y n m i j fits also low less host number idl is are =
     is ∙ ap (λ z. served z n i) (one_host x y fits also host) ∙ ap (λ z. served y z i) (one_number n m (omega arith) (omega arith) number) ∙ ap (served y m) idl ∙ sym are
+
+abbrev called : Host → List ℕ → List ℕ → Wanted
+called host idl script = ToCall (record { at = record { ip = host.0; port = host.1 }; idl = idl; script = script })
+
+one_caller : (a b : Asked) (x y : Host) (i j s t : List ℕ) → FitsHost x → FitsHost y → host_text x ≡ host_text y → i ≡ j → s ≡ t
+    → wanted_of a ≡ called x i s → wanted_of b ≡ called y j t → wanted_of a ≡ wanted_of b
+one_caller a b x y i j s t fits also host idl script is are =
+    is ∙ ap (λ z. called z i s) (one_host x y fits also host) ∙ ap (λ z. called y z s) idl ∙ ap (called y j) script ∙ sym are
 
 one_wanted : (a b : Asked) → line.IsInRange a → line.IsInRange b → line_of a ≡ line_of b → wanted_of a ≡ wanted_of b
 one_wanted (asks.Replay file idl) b fits also e = one_file (asks.Replay file idl) b refl e
@@ -102,41 +114,30 @@ one_wanted (asks.Serve ip port n idl) (asks.Serve jp qort m jdl) fits also e =
     one_server (asks.Serve ip port n idl) (asks.Serve jp qort m jdl) (ip, port) (jp, qort) n m (option_map (λ text. text.now) idl) (option_map (λ text. text.now) jdl) fits.0 also.0 fits.2 also.2
     (ap (λ (l : Line). first_in l.operands) e) (ap (λ (l : Line). text_in (option_in l.options)) e) (ap (λ (l : Line). second_option l.options) e) refl refl
 one_wanted (asks.Serve ip port n idl) b fits also e = absurd (omega (arith, same_kind (asks.Serve ip port n idl) b e))
-one_wanted (asks.Call ip port idl script) (asks.Call jp qort jdl tcript) fits also e = refl
+one_wanted (asks.Call ip port idl script) (asks.Call jp qort jdl tcript) fits also e =
+    one_caller (asks.Call ip port idl script) (asks.Call jp qort jdl tcript) (ip, port) (jp, qort) idl.now jdl.now script.now tcript.now fits also
+    (ap (λ (l : Line). first_in l.operands) e) (ap (λ (l : Line). second_in l.operands) e) (ap (λ (l : Line). third_in l.operands) e) refl refl
 one_wanted (asks.Call ip port idl script) b fits also e = absurd (omega (arith, same_kind (asks.Call ip port idl script) b e))
 
-some_one : (x y : Wanted) → Some x ≡ Some y → x ≡ y
-some_one x y e = cc
-
-module _ (words : List (List ℕ)) (a : Asked) (w : Wanted) (is : wanted_of a ≡ Some w) where
+module _ (words : List (List ℕ)) (a : Asked) (w : Wanted) (is : wanted_of a ≡ w) where
   pub asked : line.AsksFor words a → Asks words w
   asked asks = (a, asks, is)
 
   -- it is the only one
   pub alone : line.AsksFor words a → ((other : Asked) → line.AsksFor words other → line_of other ≡ line_of a) → (other : Wanted) → Asks words other → other ≡ w
-  alone own only other h = some_one other w (sym h.2 ∙ one_wanted h.0 a h.1.1 own.1 (only h.0 h.1) ∙ is)
+  alone own only other h = sym h.2 ∙ one_wanted h.0 a h.1.1 own.1 (only h.0 h.1) ∙ is
 
 pub unasked : (words : List (List ℕ)) → line.AsksForNothing words → AsksForNothing words
 unasked words none w h = none h.0 h.1
-
--- what is asked for is nothing of what is done here
-pub unknown : (words : List (List ℕ)) (a : Asked) → wanted_of a ≡ None → line.AsksFor words a → ((other : Asked) → line.AsksFor words other → line_of other ≡ line_of a) → AsksForNothing words
-unknown words a is own only w h = absurd (no_one w (sym h.2 ∙ one_wanted h.0 a h.1.1 own.1 (only h.0 h.1) ∙ is))
-  where
-    no_one : (x : Wanted) → Some x ≡ None → ⊥
-    no_one x e = absurd (cc)
 
 -- ---- its range
 
 abbrev IsFit : Wanted → Type 0
 IsFit (ToDo task) = IsInRange task
 IsFit (ToServe task) = IsWithin task
+IsFit (ToCall task) = Unit {0}
 
-abbrev AreFit : Option Wanted → Type 0
-AreFit None = Unit {0}
-AreFit (Some w) = IsFit w
-
-range_of : (a : Asked) → line.IsInRange a → AreFit (wanted_of a)
+range_of : (a : Asked) → line.IsInRange a → IsFit (wanted_of a)
 range_of (asks.Replay file idl) fits = tt
 range_of (asks.Idl file) fits = tt
 range_of (asks.Audit file) fits = tt
@@ -145,7 +146,7 @@ range_of (asks.Serve ip port n idl) fits = (fits.1, fits.2)
 range_of (asks.Call ip port idl script) fits = tt
 
 is_fit : (words : List (List ℕ)) (w : Wanted) → Asks words w → IsFit w
-is_fit words w h = subst AreFit h.2 (range_of h.0 h.1.1)
+is_fit words w h = subst IsFit h.2 (range_of h.0 h.1.1)
 
 pub in_range : (words : List (List ℕ)) (t : Task) → AsksFor words t → IsInRange t
 in_range words t h = is_fit words (ToDo t) h

@@ -1,6 +1,7 @@
 pub mod Carried
-pub mod Wants
 pub mod Served
+pub mod Called
+pub mod Ran
 pub mod Loads
 pub mod Audited
 pub mod Made

@@ -3,7 +3,7 @@ use Rattle.std.proofs.Common.{◌≡◌, ◌≢◌, ◌⊎◌, ℕ, ◌<◌, Opt
 use Rattle.rpc_base.specs.Causes.{Rose}
 use Rattle.rpc_base.specs.Shelves.{Tells}
 use Rattle.table_form.specs.Tables.{TableForm}
-use Rattle.rpc_app.specs.Asks.{FileTask, Task, OfFile, OfLoad, ServeTask, Wanted, ToDo, ToServe, Asks, AsksFor, AsksToServe, AsksForNothing}
+use Rattle.rpc_app.specs.Asks.{FileTask, Task, OfFile, OfLoad, ServeTask, CallTask, Wanted, ToDo, ToServe, ToCall, Asks, AsksFor, AsksToServe, AsksToCall, AsksForNothing}
 use Rattle.rpc_app.specs.Obeys.{Obeys, Shelf, Output, IsKept, Put, HasDone, HasRefused, WasCutShort, IsTaken, TellsText, NoneFailed}
 use Rattle.rpc_app.specs.Runs.{Gains, GainsFront, words_refusal}
 use Rattle.rpc_app.proofs.Told.{task_refused, task_done, task_short, task_text}
@@ -131,9 +131,16 @@ memory given store out log kept quiet = record {
   load_complete = λ number steps a none. inr refl;
 }
 
--- words that ask for a task, or for nothing, don't ask for connections
-pub no_server : (given : List (List ℕ)) (task : Task) (status : ℕ) → ((other : Wanted) → Asks given other → other ≡ ToDo task) → (server : ServeTask) → AsksToServe given server → status ≡ 5
-no_server given task status alone server a = absurd (differ server task (alone (ToServe server) a))
-  where
-    differ : (x : ServeTask) (y : Task) → ToServe x ≡ ToDo y → ⊥
-    differ x y e = absurd (cc)
+-- words that ask for a task, or for nothing, ask neither for connections nor for calls
+module _ (given : List (List ℕ)) (task : Task) (status : ℕ) (alone : (other : Wanted) → Asks given other → other ≡ ToDo task) where
+  pub no_server : (server : ServeTask) → AsksToServe given server → status ≡ 5
+  no_server server a = absurd (differ server task (alone (ToServe server) a))
+    where
+      differ : (x : ServeTask) (y : Task) → ToServe x ≡ ToDo y → ⊥
+      differ x y e = absurd (cc)
+
+  pub no_caller : (caller : CallTask) → AsksToCall given caller → status ≡ 5
+  no_caller caller a = absurd (differ caller task (alone (ToCall caller) a))
+    where
+      differ : (x : CallTask) (y : Task) → ToCall x ≡ ToDo y → ⊥
+      differ x y e = absurd (cc)

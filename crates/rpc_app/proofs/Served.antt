@@ -6,10 +6,10 @@ use Rattle.rpc_outside.specs.Links.{Shown}
 use Rattle.rpc_outside.specs.Doors.{DoorShown}
 use Rattle.table_form.specs.Tables.{TableForm}
 use Rattle.rpc_app.specs.declared.command.Command.TheVariants.{Idl}
-use Rattle.rpc_app.specs.Asks.{ServeTask, Wanted, ToServe, Asks, AsksToServe}
+use Rattle.rpc_app.specs.Asks.{ServeTask}
 use Rattle.rpc_app.specs.Runs.{Gains, GainsFront, Serves, RefusesText}
-use Rattle.rpc_app.specs.Obeys.{Shelf, Output, IsKept, Put, TellsText, IsTaken, NoneFailed, Obeys}
-use Rattle.rpc_app.specs.Serving.{RunsAs, Doorway, IsUnused, IsSilent, PutBoth, PutInPart, IsPut, RefusesInterface, NoDoorFailed, HasServedWith, HasServed, ServesWith, ServesFor}
+use Rattle.rpc_app.specs.Obeys.{Shelf, Output, IsKept, Put, TellsText, IsTaken, NoneFailed}
+use Rattle.rpc_app.specs.Serving.{Doorway, IsUnused, IsSilent, PutBoth, PutInPart, IsPut, RefusesInterface, NoDoorFailed, HasServedWith, HasServed, ServesWith, ServesFor}
 use Rattle.service_desks.specs.State.{tables_with}
 use Rattle.locked_desks.specs.Calls.{May}
 use Rattle.rpc_app.proofs.Told.{text_refused, text_served}
@@ -200,29 +200,6 @@ module _ {K : Type 0} (shows : K → Shown) (task : ServeTask) (boot : ℕ) (sto
     served_for result (inl w) = by_put w.0 result w.1 w.1.put
     served_for result (inr (silent, inl why)) = subst (ServesFor shows task boot store door out log) (sym why.0) (door_failed why.1 (inl silent))
     served_for result (inr (silent, inr none)) = subst (ServesFor shows task boot store door out log) (sym none) (memory_out silent)
-
--- ---- the program
-
-module _ {K : Type 0} (shows : K → Shown) (given : List (List ℕ)) (boot : ℕ) where
-  -- a status without connections
-  pub run_done : (store : Shelf) (door : Doorway K) (out log : Output) (status : ℕ) → Obeys given store out log status → ((task : ServeTask) → AsksToServe given task → status ≡ 5)
-      → IsUnused door → RunsAs shows given boot store door out log status
-  run_done store door out log status o five unused = record {
-    obeys = λ none. (o, unused);
-    serves = λ task a. let e = five task a in
-        subst (ServesFor shows task boot store door out log) (sym e) (memory_out shows task boot store door out log (o.silent (inr e), o.quiet (inr e)));
-  }
-
-  one_server : (x y : ServeTask) → ToServe x ≡ ToServe y → x ≡ y
-  one_server x y e = cc
-
-  -- and with them
-  pub run_served : (store : Shelf) (door : Doorway K) (out log : Output) (status : ℕ) (task : ServeTask) → AsksToServe given task → ((other : Wanted) → Asks given other → other ≡ ToServe task)
-      → ServesFor shows task boot store door out log status → RunsAs shows given boot store door out log status
-  run_served store door out log status task asks alone s = record {
-    obeys = λ none. absurd (none task asks);
-    serves = λ other a. subst (λ t. ServesFor shows t boot store door out log status) (sym (one_server other task (alone (ToServe other) a))) s;
-  }
 
 module _ {K F S L : Type 0} (shows : K → Shown) (task : ServeTask) (boot : ℕ) (door : Doorway K) (status : ℕ) (files : F → Option Files) (faults : F → ℕ) (out_faults : S → ℕ) (out_has : S → Option (List ℕ))
     (log_faults : L → ℕ) (log_has : L → Option (List ℕ)) where

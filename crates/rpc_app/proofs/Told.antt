@@ -21,7 +21,7 @@ told_has None name octets P t h = absurd t
 told_has (Some files) name octets P t h = some_has (files name) octets P t h
 
 -- the file that is told is the one that was loaded
-told_is : (told : Option Files) (name octets loaded : List ℕ) → Tells told name octets → HasFile told name (λ file. file ≡ loaded) → octets ≡ loaded
+pub told_is : (told : Option Files) (name octets loaded : List ℕ) → Tells told name octets → HasFile told name (λ file. file ≡ loaded) → octets ≡ loaded
 told_is told name octets loaded t h = told_has told name octets (λ file. file ≡ loaded) t h
 
 module _ (files : Option Files) where

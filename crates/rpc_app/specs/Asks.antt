@@ -1,5 +1,5 @@
 -- What the words ask to be done.
-use Rattle.std.specs.Prelude.{◌≡◌, ◌≤◌, ℕ, List, Option, Some, None, option_map, ⊤}
+use Rattle.std.specs.Prelude.{◌≡◌, ◌≤◌, ℕ, List, Option, None, option_map, ⊤}
 use Rattle.rpc_outside.specs.declared.address.Address.{Address}
 use Rattle.command_line.specs.declared.command.Asked.{Asked}
 use Rattle.command_line.specs.declared.command.Asked.TheVariants as asks
@@ -25,22 +25,29 @@ pub record ServeTask : Type 0 where
   pub most : ℕ
   pub idl : Option (List ℕ)
 
--- One of the two.
+-- That the calls of a script be made: where the server is, the interface text that has the operations, and the script.
+pub record CallTask : Type 0 where
+  pub at : Address
+  pub idl : List ℕ
+  pub script : List ℕ
+
+-- One of the three.
 pub data Wanted : Type 0 where
   ToDo : Task → Wanted
   ToServe : ServeTask → Wanted
+  ToCall : CallTask → Wanted
 
-abbrev pub of_file : Command → List ℕ → Option (List ℕ) → Option Wanted
-of_file command file idl = Some (ToDo (OfFile (record { command = command; file = file; idl = idl })))
+abbrev pub of_file : Command → List ℕ → Option (List ℕ) → Wanted
+of_file command file idl = ToDo (OfFile (record { command = command; file = file; idl = idl }))
 
-abbrev pub wanted_of : Asked → Option Wanted
+abbrev pub wanted_of : Asked → Wanted
 wanted_of (asks.Replay file idl) = of_file Replay file.now (option_map (λ text. text.now) idl)
 wanted_of (asks.Idl file) = of_file Idl file.now None
 wanted_of (asks.Audit file) = of_file Audit file.now None
-wanted_of (asks.Load number steps) = Some (ToDo (OfLoad number steps))
+wanted_of (asks.Load number steps) = ToDo (OfLoad number steps)
 wanted_of (asks.Serve ip port connections idl) =
-    Some (ToServe (record { at = record { ip = ip; port = port }; most = connections; idl = option_map (λ text. text.now) idl }))
-wanted_of (asks.Call ip port idl script) = None
+    ToServe (record { at = record { ip = ip; port = port }; most = connections; idl = option_map (λ text. text.now) idl })
+wanted_of (asks.Call ip port idl script) = ToCall (record { at = record { ip = ip; port = port }; idl = idl.now; script = script.now })
 
 -- a load has 100,000 steps at most
 abbrev pub IsInRange : Task → Type 0
@@ -53,13 +60,16 @@ IsWithin task = (1 ≤ task.most) × (task.most ≤ 1000000)
 
 -- the words ask for that
 abbrev pub Asks : List (List ℕ) → Wanted → Type 0
-Asks words wanted = (asked : Asked) × line.AsksFor words asked × (wanted_of asked ≡ Some wanted)
+Asks words wanted = (asked : Asked) × line.AsksFor words asked × (wanted_of asked ≡ wanted)
 
 abbrev pub AsksFor : List (List ℕ) → Task → Type 0
 AsksFor words task = Asks words (ToDo task)
 
 abbrev pub AsksToServe : List (List ℕ) → ServeTask → Type 0
 AsksToServe words task = Asks words (ToServe task)
+
+abbrev pub AsksToCall : List (List ℕ) → CallTask → Type 0
+AsksToCall words task = Asks words (ToCall task)
 
 -- they ask for none of it
 abbrev pub AsksForNothing : List (List ℕ) → Type 0

@@ -24,6 +24,10 @@ limit Replay = 67108864
 limit Idl = 1048576
 limit Audit = 67108864
 
+-- and the longest script of calls
+abbrev pub call_limit : ℕ
+call_limit = 67108864
+
 -- The text has a tree that breaks no rule, whose canonical text this is.
 pub record IsPrinted (text printed : List ℕ) : Type 0 where
   pub tree : Ast

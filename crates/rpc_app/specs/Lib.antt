@@ -6,3 +6,5 @@ pub mod Runs
 pub mod Making
 pub mod Obeys
 pub mod Serving
+pub mod Calling
+pub mod Running

@@ -41,9 +41,9 @@ pub record MakesOf (files : Option Files) (echo : Option TableForm) (command : C
   pub loaded : IsLoaded (limit command) files name octets
   pub makes : Makes echo command octets printed logged
 
--- The file is too long, and that is said.
-pub record IsTooLong (files : Option Files) (command : Command) (name said : List ℕ) : Type 0 where
-  pub file : HasFile files name (λ file. limit command < length file)
+-- The file is longer than that, and that is said.
+pub record IsTooLong (files : Option Files) (most : ℕ) (name said : List ℕ) : Type 0 where
+  pub file : HasFile files name (λ file. most < length file)
   pub said_is : said ≡ long_refusal
 
 -- The file departs from what the command takes, and where it does is said.
@@ -54,7 +54,7 @@ pub record IsOutside (files : Option Files) (echo : Option TableForm) (command :
 
 -- The command refuses the file, and this is said of it.
 abbrev pub RefusesFile : Option Files → Option TableForm → Command → List ℕ → List ℕ → Type 0
-RefusesFile files echo command name said = IsTooLong files command name said ⊎ IsOutside files echo command name said
+RefusesFile files echo command name said = IsTooLong files (limit command) name said ⊎ IsOutside files echo command name said
 
 -- ---- tasks
 

@@ -1,17 +1,14 @@
 -- What the program does for words that ask for connections to be served.
-use Rattle.std.specs.Prelude.{◌≡◌, ◌≢◌, ◌⊎◌, ℕ, ◌<◌, ◌≤◌, List, Option, Some, None, ⊤}
+use Rattle.std.specs.Prelude.{◌≡◌, ◌≢◌, ◌⊎◌, ℕ, ◌<◌, ◌≤◌, List, Option, Some, None}
 use Rattle.rpc_base.specs.Causes.{Rose}
 use Rattle.rpc_base.specs.Shelves.{Files, Tells}
 use Rattle.rpc_outside.specs.Links.{Shown}
 use Rattle.rpc_outside.specs.Doors.{DoorShown}
 use Rattle.table_form.specs.Tables.{TableForm}
 use Rattle.rpc_app.specs.declared.command.Command.TheVariants.{Idl}
-use Rattle.rpc_app.specs.declared.top.Obeyed.{Obeyed}
-use Rattle.rpc_app.specs.declared.top.Obeyed.TheVariants as obeyed
-use Rattle.rpc_app.specs.Asks.{ServeTask, Wanted, ToServe, Asks, AsksToServe}
-use Rattle.rpc_app.specs.Words.{told_server}
+use Rattle.rpc_app.specs.Asks.{ServeTask}
 use Rattle.rpc_app.specs.Runs.{Gains, GainsFront, EndsEarly, Growth, Serves, RefusesText}
-use Rattle.rpc_app.specs.Obeys.{Shelf, Output, IsKept, Put, TellsText, IsTaken, NoneFailed, Obeys}
+use Rattle.rpc_app.specs.Obeys.{Shelf, Output, IsKept, Put, TellsText, IsTaken, NoneFailed}
 use Rattle.service_desks.specs.State.{tables_with}
 use Rattle.locked_desks.specs.Calls.{May}
 use Rattle.serve_command.specs.Serves as command
@@ -37,11 +34,14 @@ abbrev pub PutInPart : Output → Output → List ℕ → List ℕ → Type 0
 PutInPart out log printed logged =
     EndsEarly out.had out.has log.had log.has printed logged × (Rose out.before out.after ⊎ Rose log.before log.after)
 
--- The texts were put, and the status is theirs; or an output failed, which a failed door outweighs.
+-- the status where an output failed: 4, which a failed door or dial outweighs
+abbrev pub Outweighs : ℕ → ℕ → Type 0
+Outweighs status result = ((status ≡ 7) × (result ≡ 7)) ⊎ ((status ≢ 7) × (result ≡ 4))
+
+-- The texts were put, and the status is theirs; or an output failed.
 abbrev pub IsPut : Output → Output → List ℕ → List ℕ → ℕ → ℕ → Type 0
 IsPut out log printed logged status result =
-    (PutBoth out log printed logged × (result ≡ status))
-    ⊎ (PutInPart out log printed logged × (((status ≡ 7) × (result ≡ 7)) ⊎ ((status ≢ 7) × (result ≡ 4))))
+    (PutBoth out log printed logged × (result ≡ status)) ⊎ (PutInPart out log printed logged × Outweighs status result)
 
 -- the interface text is refused, as the command `idl` refuses it; that is said, and nothing else
 pub record RefusesInterface (grows : Growth) (task : ServeTask) (store : Shelf) (out log : Output) : Type 0 where
@@ -92,17 +92,3 @@ module _ {K : Type 0} (shows : K → Shown) where
     pub refused : (name octets : List ℕ) → task.idl ≡ Some name → Tells store.files name octets → (IsTaken None Idl octets → ⊥) → (status ≢ 0) × (status ≢ 8)
     -- and connections are served, unless an object of the outside failed or memory ran out
     pub complete : (echo : Option TableForm) → TellsText store.files task.idl echo → NoneFailed store out log → NoDoorFailed door → (status ≡ 0) ⊎ (status ≡ 5) ⊎ (status ≡ 8)
-
-  -- What comes of the program: words that ask for connections are done so, and all others as said of them, with the door unused.
-  pub record RunsAs (given : List (List ℕ)) (boot : ℕ) (store : Shelf) (door : Doorway K) (out log : Output) (status : ℕ) : Type 0 where
-    pub obeys : ((task : ServeTask) → AsksToServe given task → ⊥) → Obeys given store out log status × IsUnused door
-    pub serves : (task : ServeTask) → AsksToServe given task → ServesFor task boot store door out log status
-
--- the status, where the words ask for no connections, unless memory ran out; or the task that they ask for, alone
-abbrev pub Comes : List (List ℕ) → Shelf → Output → Output → Obeyed → Type 0
-Comes given store out log (obeyed.Done status) = Obeys given store out log status × ((task : ServeTask) → AsksToServe given task → status ≡ 5)
-Comes given store out log (obeyed.Serve task) = AsksToServe given (told_server task) × ((other : Wanted) → Asks given other → other ≡ ToServe (told_server task)) × (task.most ≤ 1000000)
-
-abbrev pub IsLeft : Obeyed → Type 0
-IsLeft (obeyed.Done status) = ⊥
-IsLeft (obeyed.Serve task) = ⊤

@@ -1,6 +1,7 @@
 //! The commands of the program.
 #![tactic(auto)]
 
+mod calling;
 mod carry;
 mod command;
 mod idl;
@@ -15,4 +16,4 @@ mod verdicts;
 mod words;
 
 pub use top::{Obeyed, obey, run};
-pub use words::ServeTask;
+pub use words::{CallTask, ServeTask};

@@ -4,6 +4,9 @@ ghost use Rattle.rpc_app.specs.Commands as spec;
 
 use crate::command::Command;
 
+/// The longest script of calls, in octets: 64 MiB.
+pub const CALL_LIMIT: usize = 67_108_864;
+
 /// The longest file that a command takes, in octets: 64 MiB of a script or of journals, 1 MiB of an
 /// interface text.
 pub fn limit(command: Command) -> usize

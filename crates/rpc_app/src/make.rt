@@ -33,8 +33,9 @@ impl From<NoMemory> for MakeFault {
     }
 }
 
+/// The refusal of a script's line, by its number, from 1.
 #[tactic(auto, unfolding(crate::specs::Commands::line_refusal))]
-fn line_refusal(alloc: Global, line: usize) -> Result<Vec<u8>, NoMemory>
+pub fn line_refusal(alloc: Global, line: usize) -> Result<Vec<u8>, NoMemory>
     ensures { IfOk result (λ text. text.items ≡ line_refusal line) }
 {
     let mut text = Vec::new(alloc);

@@ -1,6 +1,7 @@
 //! What is put on the outputs.
 ghost use Rattle.std.specs.Prelude.{◌≡◌, ◌⊎◌, ◌<◌};
 ghost use Rattle.rpc_base.specs.Causes.{Rose};
+ghost use Rattle.rpc_app.specs.Calling.{IsSaid};
 ghost use Rattle.rpc_app.specs.Runs.{Gains, GainsFront, EndsEarly};
 
 use rpc_base::{Sink, put_all};
@@ -17,6 +18,20 @@ pub fn refuse<S: Sink>(out: &mut S, text: &[u8], status: u8) -> u8
         Ok(()) => status,
         Err(_) => 4,
     }
+}
+
+/// Puts a text behind which the program ends with that status, and answers it; where the output fails 4, which 7 outweighs.
+pub fn end_with<S: Sink>(out: &mut S, text: &[u8], status: u8) -> u8
+    ensures { IsSaid (record { before = S.faults out.old; after = S.faults out.new; had = S.written out.old; has = S.written out.new })
+        text.now status result }
+{
+    if put_all(out, text).is_ok() {
+        return status;
+    }
+    if status == 7 {
+        return 7;
+    }
+    4
 }
 
 /// Puts a text on out, and then one on log.

@@ -34,8 +34,8 @@ fn put_served<S: Sink, L: Sink>(printed: &Printed, out: &mut S, log: &mut L) -> 
     put
 }
 
-/// Puts the refusal of an interface text.
-fn refuse_text<S: Sink>(out: &mut S, line: Vec<u8>) -> u8
+/// Puts the refusal of an interface text, or of a script.
+pub fn refuse_text<S: Sink>(out: &mut S, line: Vec<u8>) -> u8
     ensures known { (result ≡ 2) ⊎ (result ≡ 4) }
     ensures said { result ≡ 2 → Gains (S.written out.old) (S.written out.new) line.items }
     ensures failed { result ≡ 4 → Rose (S.faults out.old) (S.faults out.new) }

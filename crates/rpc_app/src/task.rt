@@ -1,5 +1,5 @@
 //! A task is done, but for the outputs.
-ghost use Rattle.std.specs.Prelude.{◌≡◌, ◌≤◌, [], Some, None, option_map, IfOk, IfErr};
+ghost use Rattle.std.specs.Prelude.{◌≡◌, ◌+◌, ◌<◌, ◌≤◌, ◌^◌, [], Some, None, option_map, IfOk, IfErr};
 ghost use Rattle.table_form.specs.Shown.{shown};
 ghost use Rattle.service_desks.specs.Shows.{shown_by};
 ghost use Rattle.replay_service.specs.Service.{service_of};
@@ -8,7 +8,6 @@ ghost use Rattle.rpc_app.specs.Asks.{IsInRange};
 ghost use Rattle.rpc_app.specs.Making.{WhyNot, WhyNotFile, WhyNotFiles, WhyNotTask};
 ghost use Rattle.rpc_app.specs.Runs.{IsLoaded, IsTooLong, MakesOf, ServesText, Serves, RefusesText, DoesFiles, DoesTask};
 ghost use Rattle.rpc_app.specs.Runs as runs;
-ghost use Rattle.rpc_app.specs.Commands as spec;
 ghost use Rattle.rpc_app.specs.Words.{told_files, told_task};
 
 use crate::command::Command;
@@ -67,19 +66,20 @@ fn long_refusal(alloc: Global) -> Result<Vec<u8>, NoMemory>
     Ok(text)
 }
 
-/// Loads the file of a command.
-fn load<F: Shelf>(
+/// Loads a file of at most this many octets.
+pub fn load<F: Shelf>(
     alloc: Global,
-    command: Command,
+    most: usize,
     name: &str,
     shelf: &mut F,
 ) -> Result<Vec<u8>, TaskFault>
-    ensures loaded { IfOk result (λ octets. IsLoaded (spec.limit command) (F.files shelf.old) name.now octets.items) }
+    requires { most + 1 < 2 ^ 64 }
+    ensures loaded { IfOk result (λ octets. IsLoaded most (F.files shelf.old) name.now octets.items) }
     ensures files { F.files shelf.new ≡ F.files shelf.old }
     ensures later { F.faults shelf.old ≤ F.faults shelf.new }
-    ensures fault { IfErr result (WhyNot (IsTooLong (F.files shelf.old) command name.now) (F.faults shelf.old) (F.faults shelf.new)) }
+    ensures fault { IfErr result (WhyNot (IsTooLong (F.files shelf.old) most name.now) (F.faults shelf.old) (F.faults shelf.new)) }
 {
-    match load_file(alloc, shelf, name, limit(command)) {
+    match load_file(alloc, shelf, name, most) {
         Ok(octets) => Ok(octets),
         Err(LoadFault::Failed) => Err(TaskFault::Failed),
         Err(LoadFault::TooLong) => Err(TaskFault::Refused(long_refusal(alloc)?)),
@@ -88,13 +88,13 @@ fn load<F: Shelf>(
 }
 
 /// The table of the interface of an interface text.
-fn text_echo<F: Shelf>(alloc: Global, name: &str, shelf: &mut F) -> Result<Table, TaskFault>
+pub fn text_table<F: Shelf>(alloc: Global, name: &str, shelf: &mut F) -> Result<Table, TaskFault>
     ensures made { IfOk result (λ t. ServesText (F.files shelf.old) name.now (Some (shown t))) }
     ensures files { F.files shelf.new ≡ F.files shelf.old }
     ensures later { F.faults shelf.old ≤ F.faults shelf.new }
     ensures fault { IfErr result (WhyNotFile None Command.Idl (F.files shelf.old) name.now (F.faults shelf.old) (F.faults shelf.new)) }
 {
-    let octets = load(alloc, Command::Idl, name, shelf)?;
+    let octets = load(alloc, limit(Command::Idl), name, shelf)?;
     let table = interface(alloc, octets.as_slice())?;
     Ok(table)
 }
@@ -113,7 +113,7 @@ pub fn echo_of<F: Shelf>(
     match name {
         None => Ok(None),
         Some(name) => {
-            let table = text_echo(alloc, name, shelf)?;
+            let table = text_table(alloc, name, shelf)?;
             Ok(Some(table))
         }
     }
@@ -130,7 +130,7 @@ fn file_made<F: Shelf>(
     ensures made { IfOk result (λ r. MakesOf (F.files shelf.old) (shown_by (λ t. t.now) echo.entry) command name.now r.out r.log) }
     ensures fault { IfErr result (WhyNotFile (shown_by (λ t. t.now) echo.entry) command (F.files shelf.old) name.now (F.faults shelf.old) (F.faults shelf.new)) }
 {
-    let octets = load(alloc, command, name, shelf)?;
+    let octets = load(alloc, limit(command), name, shelf)?;
     let made = make(alloc, command, echo, octets.as_slice())?;
     Ok(made)
 }

@@ -1,13 +1,14 @@
 //! The top call: does what the words ask, over the outside that is handed in.
 ghost use Rattle.std.specs.Prelude.{◌≡◌, map, string_bytes};
-ghost use Rattle.rpc_app.specs.Serving.{Comes, IsLeft, RunsAs};
+ghost use Rattle.rpc_app.specs.Running.{Comes, IsLeft, RunsAs};
 
+use crate::calling::call_for;
 use crate::carry::carry_out;
 use crate::say::refuse;
 use crate::serving::serve_for;
-use crate::words::{ServeTask, Wanted, asked};
+use crate::words::{CallTask, ServeTask, Wanted, asked};
 use rpc_base::{NoMemory, Shelf, Sink};
-use rpc_outside::{Door, Link};
+use rpc_outside::{Dial, Door, Link};
 use std::alloc::Global;
 use std::sync::Wait;
 use std::thread::Threads;
@@ -20,6 +21,8 @@ pub enum Obeyed<'a> {
     Done(u8),
     /// The words ask for connections to be served. Nothing was done.
     Serve(ServeTask<'a>),
+    /// The words ask for calls to be made. Nothing was done.
+    Call(CallTask<'a>),
 }
 
 /// Does what the words ask, where that is a task of files. It always returns.
@@ -44,20 +47,23 @@ pub fn obey<'a, F: Shelf, S: Sink, L: Sink>(
     match wanted {
         Some(Wanted::Task(task)) => Obeyed::Done(carry_out(alloc, task, shelf, out, log)),
         Some(Wanted::Serve(task)) => Obeyed::Serve(task),
+        Some(Wanted::Call(task)) => Obeyed::Call(task),
         None => Obeyed::Done(refuse(out, b"refused: words\n", 1)),
     }
 }
 
-/// The program: does what the words ask, and answers the status: those of `obey`, and where connections are served 0 where
-/// each ended behind a whole PDU, 8 where one didn't, and 7 where the door failed, which outweighs the others. `boot` is the
+/// The program: does what the words ask, and answers the status: those of `obey`; where connections are served 0 where each
+/// ended behind a whole PDU, 8 where one didn't, and 7 where the door failed, which outweighs the others; where calls are made
+/// 6 where a bind was refused or a call failed, 8 where a connection was lost, and 7 where the dial failed. `boot` is the
 /// server's boot word.
-pub fn run<R, F, D, S, L>(
+pub fn run<R, F, D, Q, S, L>(
     rt: &R,
     alloc: Global,
     words: &[String],
     boot: u64,
     shelf: &mut F,
     door: &mut D,
+    dial: &mut Q,
     out: &mut S,
     log: &mut L,
 ) -> u8
@@ -66,11 +72,13 @@ where
     F: Shelf,
     D: Door,
     D::Link: 'static,
+    Q: Dial,
     S: Sink,
     L: Sink,
-    ensures { RunsAs D.Link.shows (map string_bytes words.now) boot
+    ensures { RunsAs D.Link.shows Q.Link.shows (map string_bytes words.now) boot
         (record { files = F.files shelf.old; before = F.faults shelf.old; after = F.faults shelf.new })
         (record { before = D.shows door.old; after = D.shows door.new })
+        (record { before = Q.shows dial.old; after = Q.shows dial.new })
         (record { before = S.faults out.old; after = S.faults out.new; had = S.written out.old; has = S.written out.new })
         (record { before = L.faults log.old; after = L.faults log.new; had = L.written log.old; has = L.written log.new })
         result }
@@ -78,5 +86,6 @@ where
     match obey(alloc, words, shelf, out, log) {
         Obeyed::Done(status) => status,
         Obeyed::Serve(task) => serve_for(rt, alloc, boot, task, shelf, door, out, log),
+        Obeyed::Call(task) => call_for(alloc, task, shelf, dial, out),
     }
 }

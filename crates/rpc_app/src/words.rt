@@ -35,6 +35,15 @@ pub struct ServeTask<'a> {
     pub idl: Option<&'a str>,
 }
 
+/// Calls that are to be made: the address of the server, the name of the interface text that has the operations, and that of
+/// the script.
+#[derive(Clone, Copy, Debug)]
+pub struct CallTask<'a> {
+    pub at: Address,
+    pub idl: &'a str,
+    pub script: &'a str,
+}
+
 /// What is wanted.
 #[derive(Clone, Copy, Debug)]
 pub enum Wanted<'a> {
@@ -42,6 +51,8 @@ pub enum Wanted<'a> {
     Task(Task<'a>),
     /// Connections are to be served.
     Serve(ServeTask<'a>),
+    /// Calls are to be made.
+    Call(CallTask<'a>),
 }
 
 /// A command with a file, and the interface text beside it.
@@ -52,25 +63,34 @@ fn of_file<'a>(command: Command, file: &'a str, idl: Option<&'a str>) -> Wanted<
 }
 
 /// What is wanted where that is asked.
-fn wanted_in(asked: Asked<'_>) -> Option<Wanted<'_>>
-    ensures { option_map told_wanted result ≡ wanted_of asked.entry }
+fn wanted_in(asked: Asked<'_>) -> Wanted<'_>
+    ensures { told_wanted result ≡ wanted_of asked.entry }
 {
     match asked {
-        Asked::Replay { file, idl } => Some(of_file(Command::Replay, file, idl)),
-        Asked::Idl { file } => Some(of_file(Command::Idl, file, None)),
-        Asked::Audit { file } => Some(of_file(Command::Audit, file, None)),
-        Asked::Load { number, steps } => Some(Wanted::Task(Task::Load { number, steps })),
+        Asked::Replay { file, idl } => of_file(Command::Replay, file, idl),
+        Asked::Idl { file } => of_file(Command::Idl, file, None),
+        Asked::Audit { file } => of_file(Command::Audit, file, None),
+        Asked::Load { number, steps } => Wanted::Task(Task::Load { number, steps }),
         Asked::Serve {
             ip,
             port,
             connections,
             idl,
-        } => Some(Wanted::Serve(ServeTask {
+        } => Wanted::Serve(ServeTask {
             at: Address { ip, port },
             most: connections,
             idl,
-        })),
-        Asked::Call { .. } => None,
+        }),
+        Asked::Call {
+            ip,
+            port,
+            idl,
+            script,
+        } => Wanted::Call(CallTask {
+            at: Address { ip, port },
+            idl,
+            script,
+        }),
     }
 }
 
@@ -81,7 +101,7 @@ pub fn asked(alloc: Global, words: &[String]) -> Result<Option<Wanted<'_>>, NoMe
     ensures nothing { IfOk result (λ o. IfNone o (AsksForNothing (map string_bytes words.now))) }
 {
     match command_line::asked(alloc, words)? {
-        Some(asked) => Ok(wanted_in(asked)),
+        Some(asked) => Ok(Some(wanted_in(asked))),
         None => Ok(None),
     }
 }

@@ -19,11 +19,21 @@ fn octets(alloc: Global, text: &str) -> Result<Octets, NoMemory> {
 }
 
 /// The steps of a peer that sends each text once it was answered to the one before, and then ends.
-fn steps(alloc: Global, texts: &[&str]) -> Result<LinkSteps, NoMemory> {
+pub fn steps(alloc: Global, texts: &[&str]) -> Result<LinkSteps, NoMemory> {
     let mut all = Items::new(alloc);
     for text in texts {
         all.push(LinkStep::Give(octets(alloc, text)?))?;
         all.push(LinkStep::AwaitPut)?;
+    }
+    Ok(all)
+}
+
+/// The steps of a peer that sends each text once something was put on the link, and then ends.
+fn answers(alloc: Global, texts: &[&str]) -> Result<LinkSteps, NoMemory> {
+    let mut all = Items::new(alloc);
+    for text in texts {
+        all.push(LinkStep::AwaitPut)?;
+        all.push(LinkStep::Give(octets(alloc, text)?))?;
     }
     Ok(all)
 }
@@ -70,5 +80,27 @@ pub fn failing(alloc: Global, text: &str) -> Result<Links, NoMemory>
 {
     let mut links = Links::new(alloc);
     links.push(link(alloc, last_step(alloc, text)?, 20, 2)?)?;
+    Ok(links)
+}
+
+/// Two to servers that answer with these texts.
+pub fn servers(alloc: Global, texts: &[&str]) -> Result<Links, NoMemory>
+    ensures { IfOk result (λ links. are_new links.items ≡ true) }
+{
+    let mut links = Links::new(alloc);
+    links.push(link(alloc, answers(alloc, texts)?, 4_096, 0)?)?;
+    links.push(link(alloc, answers(alloc, texts)?, 4_096, 0)?)?;
+    Ok(links)
+}
+
+/// One to a server that answers with a text and then says nothing, and whose put of that number fails, from 1.
+pub fn silent(alloc: Global, text: &str, fault: u64) -> Result<Links, NoMemory>
+    ensures { IfOk result (λ links. are_new links.items ≡ true) }
+{
+    let mut steps = last_step(alloc, text)?;
+    steps.push(LinkStep::AwaitPut)?;
+    steps.push(LinkStep::AwaitPut)?;
+    let mut links = Links::new(alloc);
+    links.push(link(alloc, steps, 4_096, fault)?)?;
     Ok(links)
 }

@@ -4,7 +4,7 @@ ghost use Rattle.rpc_outside.specs.LinkLists.{are_new};
 
 use rpc_app::run;
 use rpc_base::{MapShelf, NoMemory, Numbers, ShelfFiles, VecSink};
-use rpc_outside::{Links, ScriptDoor};
+use rpc_outside::{Links, ScriptDial, ScriptDoor};
 use std::alloc::Global;
 use std::sync::Wait;
 use std::thread::Threads;
@@ -30,12 +30,13 @@ pub fn outcome<R: Wait + Threads + Send + Sync + Copy + 'static>(
     let mut faults = Numbers::new(alloc);
     faults.push(failing)?;
     let mut door = ScriptDoor::new(alloc, links, faults);
+    let mut dial = ScriptDial::new(alloc, Links::new(alloc), Numbers::new(alloc));
     let mut shelf = MapShelf::new(ShelfFiles::new(alloc), Numbers::new(alloc));
     let mut out = VecSink::new(alloc, Numbers::new(alloc));
     let mut log = VecSink::new(alloc, Numbers::new(alloc));
     let words = list.as_slice();
     let status = run(
-        rt, alloc, words, BOOT, &mut shelf, &mut door, &mut out, &mut log,
+        rt, alloc, words, BOOT, &mut shelf, &mut door, &mut dial, &mut out, &mut log,
     );
     let back = door.given_back().len();
     let head = format!(in alloc; "{status} {back}\n")?;
