@@ -2,7 +2,8 @@
 # Times `dcerpc replay`: scripts of 2,000 to 16,000 rounds that open a handle each, with the ratio of
 # each time to the one before; a file of 64 MiB that is refused at its last line; and files of nearly
 # 64 MiB that are taken, each with the most memory that its replay has, by the size of the file: appends
-# to files of the store, appends in fragments, and requests that come octet by octet. Then it times
+# to files of the store, appends in fragments, and requests that come octet by octet; and one that opens
+# a million connections, on which nothing comes, with the memory by the connection too. Then it times
 # `dcerpc load` of 25,000 to 100,000 steps.
 set -eu
 top=$(cd "$(dirname "$0")/.." && pwd)
@@ -101,13 +102,29 @@ long_script() { # appends|fragments|octets
         }'
 }
 
+# Times a file that is taken, and prints the most memory that its replay has.
+show_taken() { # WHAT [CONNECTIONS]
+    local time
+    time=$(least 0 "$program" replay "$work/long")
+    show "$1" "$time"
+    /usr/bin/time -f %M -o "$work/most" "$program" replay "$work/long" >/dev/null 2>&1
+    awk -v most="$(cat "$work/most")" -v size="$(stat -c %s "$work/long")" -v count="${2-}" 'BEGIN {
+        printf "%-24s %9.2f times the file", "most memory", most * 1024 / size
+        if (count > 0) printf ", %.0f octets a connection", most * 1024 / count
+        printf "\n"
+    }'
+}
+
 for kind in appends fragments octets; do
     long_script "$kind" >"$work/long"
-    time=$(least 0 "$program" replay "$work/long")
-    show "64 MiB of $kind" "$time"
-    /usr/bin/time -f %M -o "$work/most" "$program" replay "$work/long" >/dev/null 2>&1
-    awk -v most="$(cat "$work/most")" -v size="$(stat -c %s "$work/long")" 'BEGIN { printf "%-24s %9.2f times the file\n", "most memory", most * 1024 / size }'
+    show_taken "64 MiB of $kind"
 done
+
+{
+    echo 'boot 0000000000000001'
+    seq -f 'open %.0f' 1000000
+} >"$work/long"
+show_taken '1,000,000 connections' 1000000
 
 before=
 for steps in 25000 50000 100000; do

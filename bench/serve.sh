@@ -9,55 +9,13 @@ set -eu
 top=$(cd "$(dirname "$0")/.." && pwd)
 source "$top/bench/timing.sh"
 work=$(mktemp -d)
-server=
-stop() {
-    [ -z "$server" ] || kill "$server" 2>/dev/null || true
-    rm -rf "$work"
-}
+source "$top/bench/serving.sh"
 trap stop EXIT
 
 build_dcerpc
 program=$top/crates/dcerpc/out/dcerpc
 load=$top/crates/serve_load/out/serve_load
 (cd "$top/crates/serve_load" && rt run >/dev/null) # builds it where it is stale
-
-is_listening() { # PORT
-    grep -q "0100007F:$(printf %04X "$1") 00000000:0000 0A" /proc/net/tcp
-}
-
-# Starts a server of so many connections at the first port from 21900 on that isn't taken, and sets `server` and `port`.
-start() { # CONNECTIONS
-    local tries
-    for port in {21900..21919}; do
-        if is_listening "$port"; then continue; fi
-        "$program" serve "127.0.0.1:$port" --connections "$1" >"$work/out" 2>"$work/log" &
-        server=$!
-        for tries in {1..200}; do
-            if is_listening "$port"; then return 0; fi
-            if ! kill -0 "$server" 2>/dev/null; then break; fi
-            sleep 0.05
-        done
-        wait "$server" || true
-    done
-    echo "no server listens: $(cat "$work/out")" >&2
-    return 1
-}
-
-# The server's resident memory, in KiB.
-resident() {
-    awk '$1 == "VmRSS:" { print $2 }' "/proc/$server/status"
-}
-
-# The server ends once its last connection has; another status than 0 ends the script.
-finish() {
-    local status=0
-    wait "$server" || status=$?
-    server=
-    if [ "$status" != 0 ]; then
-        echo "status $status of the server: $(tail -n 1 "$work/out")" >&2
-        return 1
-    fi
-}
 
 # The least microseconds of three runs of a load. A run that fails ends the script.
 told() { # CONNECTIONS ROUNDS OCTETS
@@ -79,10 +37,10 @@ for case in "0 20000 probe" "4 20000 store, 4 octets" "4096 1200 store, 4,096 oc
     for connections in 1 4 16; do
         start $((3 * connections + 1))
         time=$(told "$connections" $((rounds / connections)) "$octets")
-        memory=$(resident)
+        memory=$(memory VmRSS)
         exec 3<>"/dev/tcp/127.0.0.1/$port" # the last connection
         exec 3>&-
-        finish
+        finish 0
         awk -v what="$what, $connections connections" -v calls=$((rounds / connections * connections * 2)) \
             -v time="$time" -v memory="$memory" -v one="$one" 'BEGIN {
             rate = calls * 1e6 / time
@@ -96,16 +54,16 @@ done
 
 count=200
 start "$count"
-before=$(resident)
+before=$(memory VmRSS)
 descriptors=()
 for ((n = 0; n < count; n++)); do
     exec {descriptor}<>"/dev/tcp/127.0.0.1/$port"
     descriptors+=("$descriptor")
 done
 sleep 2
-after=$(resident)
+after=$(memory VmRSS)
 for descriptor in "${descriptors[@]}"; do exec {descriptor}>&-; done
-finish
+finish 0
 awk -v count="$count" -v before="$before" -v after="$after" 'BEGIN {
     printf "%-36s %8.1f KiB a connection\n", "connections that say nothing", (after - before) / count
 }'
