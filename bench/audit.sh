@@ -1,7 +1,7 @@
 #!/usr/bin/env bash
 # Times the audit of a text of journals that is nearly all lines of one kind: 1 to 64 MiB of calls of a base, of
-# Joins, of Accepts, of Accepts with a Take and an End after each, and of groups, with the ratio of each time to the one
-# before.
+# Joins, of Joins with a Leave after each, of Accepts, of Accepts with a Cancel after each or with a Take and an End, and
+# of groups, with the ratio of each time to the one before.
 # Then that of journals that hold much open at once: calls that all run before the first of them ends; calls of one
 # handle, shared by all, or used by one after the other while the others wait; connections that leave with a call
 # waiting; and handles that are closed from the first on. Each time is the least of three.
@@ -30,8 +30,10 @@ journal() { # KIND OCTETS
         } else {
             put("join 1")
             for (k = 1; n < octets; k++) {
-                if (kind == "joins") put("join " k + 1)
+                if (kind == "joins" || kind == "leaves") put("join " k + 1)
                 else accept(k)
+                if (kind == "leaves") put("leave " k + 1)
+                if (kind == "cancels") put("cancel " k)
                 if (kind == "calls") { put("take " k " -"); put("end " k " - out:-") }
             }
         }
@@ -72,7 +74,7 @@ held() { # KIND COUNT
     }'
 }
 
-for kind in base-calls joins accepts calls groups; do
+for kind in base-calls joins leaves accepts cancels calls groups; do
     before=
     for mib in 1 4 16 64; do
         journal "$kind" $((mib * 1048576)) >"$text"

@@ -4,6 +4,7 @@
 # octets are appended to a file and read. Each rate is the greatest of three, from when all connections are bound until
 # the last call is answered. A file has 16 MiB at most, and the three runs append no more than that. Behind each rate
 # stands how it is to that of one connection, and the memory that the server has then, the files of all three among it.
+# Then what a call of the probe costs behind many calls, and beside connections that say nothing.
 # Last, what a connection costs that says nothing, of 200. Servers and clients share the processors of the machine.
 set -eu
 top=$(cd "$(dirname "$0")/.." && pwd)
@@ -51,6 +52,33 @@ for case in "0 20000 probe" "4 20000 store, 4 octets" "4096 1200 store, 4,096 oc
         if [ -z "$one" ]; then one=$(awk -v calls=$((rounds * 2)) -v time="$time" 'BEGIN { print time / calls }'); fi
     done
 done
+
+# Calls of the probe over one connection, behind more and more calls, and beside more and more connections that say
+# nothing: what one costs, and how it is to the one before.
+cost() { # WHAT ROUNDS IDLE
+    local time descriptor descriptors=()
+    start $((4 + $3))
+    for ((n = 0; n < $3; n++)); do
+        exec {descriptor}<>"/dev/tcp/127.0.0.1/$port"
+        descriptors+=("$descriptor")
+    done
+    time=$(told 1 "$2" 0)
+    for descriptor in "${descriptors[@]}"; do exec {descriptor}>&-; done
+    exec 3<>"/dev/tcp/127.0.0.1/$port" # the last connection
+    exec 3>&-
+    finish 0
+    awk -v what="$1" -v time="$time" -v calls=$((2 * $2)) -v before="$before" 'BEGIN {
+        printf "%-36s %8.2f microseconds a call", what, time / calls
+        if (before != "") printf ", %.2f times the one before", time / calls / before
+        printf "\n"
+    }'
+    before=$(awk -v time="$time" -v calls=$((2 * $2)) 'BEGIN { print time / calls }')
+}
+
+before=
+for rounds in 20000 40000 80000; do cost "$((2 * rounds)) calls" "$rounds" 0; done
+before=
+for idle in 0 100 200 400; do cost "$idle connections that say nothing" 20000 "$idle"; done
 
 count=200
 start "$count"

@@ -1,9 +1,18 @@
-//! Fields, words and script lines in their spellings: tables of what is read and what is written.
+//! Fields, words and script lines, the program's words, towers, and links, doors and dials in memory: tables of what is
+//! read, what is written and what is asked.
 #![tactic(auto)]
 
+#[cfg(test)]
+mod asks;
+#[cfg(test)]
+mod doors;
 #[cfg(test)]
 mod fields;
 #[cfg(test)]
 mod lines;
+#[cfg(test)]
+mod links;
+#[cfg(test)]
+mod towers;
 #[cfg(test)]
 mod words;

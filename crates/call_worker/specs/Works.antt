@@ -12,12 +12,16 @@ use Rattle.ndr_value.specs.Values.{msg}
 use Rattle.table_form.specs.Tables.{TableForm}
 use Rattle.manager_api.specs.Answers.{Ans}
 use Rattle.manager_api.specs.Calls.{Call}
-use Rattle.served_calls.specs.Requests.{HasSlots, IsAsked}
-use Rattle.served_calls.specs.Ends.{Meets, row_of}
+use Rattle.conn_histories.specs.Requests.{HasSlots, IsAsked}
+use Rattle.conn_histories.specs.Ends.{Meets, row_of}
+use Rattle.served_tables.specs.Served.{tables_in}
 use Rattle.served_call.specs.Suited.{suit_cookies}
-use Rattle.call_worker.specs.Passes.{OwnsNone, HasAsked}
+use Rattle.call_worker.specs.Passes.{OwnsNone, HasAsked, MayAsk}
 use Rattle.call_worker.specs.declared.working.Worked.{Worked}
 use Rattle.call_worker.specs.declared.working.Promised.{Promised}
+use Rattle.call_worker.specs.declared.working.RunningCall.{RunningCall}
+use Rattle.call_worker.specs.declared.working.Server.{Server}
+use Rattle.call_worker.specs.declared.working.Task.{Task}
 
 -- the row has cookies for the slots
 abbrev pub Suits : List Slot → List (Option ℕ) → Type 0
@@ -31,6 +35,17 @@ pub record IsGiven (tables : List TableForm) (a : Asked) (row : List (Option ℕ
   pub message : IsAsked tables a.iface a.op a.order a.stub (msg m)
   pub again : IsAsked tables a.iface a.op a.order a.stub (msg n)
 
+-- the manager has the tables that are served
+abbrev pub Serves : {M : Type 0} → (M → List TableForm) → Server M → Type 0
+Serves tables s = tables s.manager.now ≡ tables_in s.served.now
+
+-- A call is ready to be run: the manager has the tables that are served, the pass may ask for the call, and the call has all
+-- that it is run with.
+pub record IsReadyToRun {M : Type 0} (tables : M → List TableForm) (s : Server M) (c : RunningCall) (t : Task) : Type 0 where
+  pub served : Serves tables s
+  pub asks : MayAsk s.hub.now c.group c.call t.pass
+  pub given : IsGiven (tables_in s.served.now) c.asked.now c.row t.message t.again
+
 -- The call k of the group g ends so as its manager answered it. The manager was told of a cancel only where the pass has
 -- seen one, and the pass has entered nothing.
 pub record Works (tables : List TableForm) (may : Call → Bool → Ans → Type 0) (hub : Hub) (g k : ℕ) (a : Asked) (cookies : List (Option ℕ)) (r : Worked) : Type 0 where
@@ -43,7 +58,13 @@ pub record Works (tables : List TableForm) (may : Call → Bool → Ans → Type
   pub same : r.answered.told ≡ r.answered.said
   pub fits : FitsStub (Some r.answered.said)
 
--- the same of what was promised, with the cookies of the row
+-- a call of a server was worked off so, with the cookies of its row
+abbrev pub WorksBy : {M : Type 0} → (M → List TableForm) → (M → Call → Bool → Ans → Type 0) → Server M → RunningCall → Worked → Type 0
+WorksBy tables may s c r =
+    (cookies : List (Option ℕ)) → c.row ≡ row_of cookies → length cookies ≡ length c.asked.now.slots
+    → Works (tables s.manager.now) (may s.manager.now) s.hub.now c.group c.call c.asked.now cookies r
+
+-- the same of what was promised
 abbrev pub Keeps : {M : Type 0} → (M → List TableForm) → (M → Call → Bool → Ans → Type 0) → Promised M → Worked → Type 0
 Keeps tables may p r =
     (cookies : List (Option ℕ)) → p.row ≡ row_of cookies → length cookies ≡ length p.asked.value.slots

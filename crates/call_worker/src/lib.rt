@@ -7,4 +7,4 @@ mod probing;
 mod working;
 
 pub use probing::{HubProbe, Place};
-pub use working::{Promised, Worked, work};
+pub use working::{Promised, RunningCall, Server, Task, Worked, work};

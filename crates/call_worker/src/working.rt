@@ -1,9 +1,6 @@
 //! A call runs.
-ghost use Rattle.std.specs.Prelude.{◌≡◌, ℕ, Option, List, length};
-ghost use Rattle.served_calls.specs.Ends.{row_of};
 ghost use Rattle.served_tables.specs.Served.{tables_in};
-ghost use Rattle.call_worker.specs.Passes.{MayAsk};
-ghost use Rattle.call_worker.specs.Works.{IsGiven, Works};
+ghost use Rattle.call_worker.specs.Works.{IsReadyToRun, WorksBy};
 
 use crate::probing::HubProbe;
 use group_hub::{Hub, Pass};
@@ -12,11 +9,50 @@ use manager_calls::{Answered, Manager, run};
 use ndr_value::Message;
 use served_call::{Room, first_cookies};
 use served_tables::Served;
-use std::alloc::Global;
+use std::alloc::{AllocError, Global};
 use std::snapshot::Snapshot;
 use std::sync::Wait;
 use std::sync::atomic::{AtomicBool, Ordering};
 use std::thread::Promise;
+
+/// What serves the calls of a connection: the tables of the interfaces, their manager, and the hub of the groups.
+pub struct Server<'a, M> {
+    pub alloc: Global,
+    pub served: &'a Served,
+    pub manager: &'a M,
+    pub hub: &'a Hub,
+}
+
+impl<'a, M> Clone for Server<'a, M> {
+    fn clone(&self) -> Result<Server<'a, M>, AllocError> {
+        Ok(*self)
+    }
+}
+
+impl<'a, M> Copy for Server<'a, M> {}
+
+/// A call that was taken, as the thread that runs it and the one that waits for it see it.
+#[derive(Clone, Copy)]
+pub struct RunningCall<'a> {
+    /// The group, and the call's number there.
+    pub group: u32,
+    pub call: u32,
+    pub asked: &'a Asked,
+    /// The row of its cookies.
+    pub row: CookieRow,
+    /// Whether it is done. No clause speaks of it.
+    pub done: &'a AtomicBool,
+}
+
+/// What a call uses up as it runs: a pass that has seen it accepted and entered nothing, its message, once for its manager
+/// and once for its end, and the room for its results.
+#[derive(Drop)]
+pub struct Task {
+    pub pass: Pass,
+    pub message: Message,
+    pub again: Message,
+    pub room: Room,
+}
 
 /// How a call ends that ran, and the pass with which its manager asked.
 #[derive(Drop)]
@@ -42,39 +78,44 @@ impl<M: Manager> Promise<Worked> for Promised<M> {
     ghost kept_by = { λ p r. Keeps M.tables M.may p r };
 }
 
-/// Has the manager answer a call that was taken with the cookies of that row, by a pass that has seen it accepted and
-/// entered nothing, and says that it is done. `message` and `again` are the call's message.
+/// Has the manager answer a call that was taken, with the cookies of its row, and says that it is done. By the task's pass
+/// the manager asks meanwhile whether it was cancelled.
 pub fn work<R: Wait, M: Manager>(
     rt: &R,
-    alloc: Global,
-    served: &Served,
-    manager: &M,
-    hub: &Hub,
-    pass: Pass,
-    group: u32,
-    call: u32,
-    asked: &Asked,
-    message: Message,
-    again: &Message,
-    row: &CookieRow,
-    room: Room,
-    done: &AtomicBool,
+    server: Server<'_, M>,
+    running: RunningCall<'_>,
+    task: Task,
 ) -> Worked
-    requires served { M.tables manager.now ≡ tables_in served.now }
-    requires asks { MayAsk hub.now group call pass }
-    requires given { IsGiven (tables_in served.now) asked.now row.now message again.now }
-    ensures { (cookies : List (Option ℕ)) → row.now ≡ row_of cookies → length cookies ≡ length asked.now.slots → Works (M.tables manager.now) (M.may manager.now) hub.now group call asked.now cookies result }
+    requires { IsReadyToRun M.tables server running task }
+    ensures { WorksBy M.tables M.may server.entry running.entry result }
 {
-    let cookies = first_cookies(row, asked.slots.len());
+    let Task {
+        pass,
+        message,
+        again,
+        room,
+    } = task;
+    let asked = running.asked;
+    let cookies = first_cookies(&running.row, asked.slots.len());
     let home = Home {
-        boot: hub.boot(),
-        group,
+        boot: server.hub.boot(),
+        group: running.group,
     };
-    let mut probe = HubProbe::new(rt, hub, pass, group, call);
+    let mut probe = HubProbe::new(rt, server.hub, pass, running.group, running.call);
     let answered = run(
-        rt, alloc, served, manager, home, asked, message, again, cookies, room, &mut probe,
+        rt,
+        server.alloc,
+        server.served,
+        server.manager,
+        home,
+        asked,
+        message,
+        &again,
+        cookies,
+        room,
+        &mut probe,
     );
-    done.store(true, Ordering::SeqCst);
-    let pass = probe.into_pass(hub, group, call);
+    running.done.store(true, Ordering::SeqCst);
+    let pass = probe.into_pass(server.hub, running.group, running.call);
     Worked { answered, pass }
 }

@@ -1,2 +1,9 @@
 pub mod Histories
 pub mod Plays
+pub mod Requests
+pub mod Ends
+pub mod Entries
+pub mod Events
+pub mod Tales
+pub mod Stories
+pub mod Answers

@@ -11,12 +11,12 @@ use Rattle.handle_model.specs.Folds.{base_of, advance, fold}
 use Rattle.handle_model.specs.History.{History, IsSound, since, size}
 use Rattle.handle_model.specs.Journal.{Legal, asked, waits, runs, is_shut, due}
 use Rattle.journal_laws.specs.Further.{with_entries}
-use Rattle.journal_folds.specs.Laws.{HasBegun, BaseBegun}
-use Rattle.journal_folds.proofs.Going.{goes_on}
-use Rattle.journal_folds.proofs.Sounds.{base_sound}
-use Rattle.journal_folds.proofs.Stood.{stands, asked_newer}
-use Rattle.journal_folds.proofs.Advanced.{has_begun, advance_since, advance_twice}
-use Rattle.journal_folds.proofs.Folded.{front_legal, says_same}
+use Rattle.journal_tables.specs.Folding.{HasBegun, BaseBegun}
+use Rattle.journal_tables.proofs.Going.{goes_on}
+use Rattle.journal_tables.proofs.Sounds.{base_sound}
+use Rattle.journal_tables.proofs.Stood.{stands, asked_newer}
+use Rattle.journal_tables.proofs.Advanced.{has_begun, advance_since, advance_twice}
+use Rattle.journal_tables.proofs.Folded.{front_legal, says_same}
 use Rattle.fold_laws.specs.FoldOf.{IsFoldOf, StandsFor}
 
 -- WHAT BOTH ARE

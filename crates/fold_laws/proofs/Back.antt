@@ -10,13 +10,13 @@ use Rattle.journal_laws.specs.Further.{with_entries}
 use Rattle.journal_tables.specs.Tables.{Admits}
 use Rattle.journal_tables.specs.Shown.{tables_of}
 use Rattle.journal_tables.proofs.Shown.{admits_shown, follows, base_shown}
-use Rattle.journal_folds.specs.Unplaced.{unplaced}
-use Rattle.journal_folds.specs.Laws.{Stands, BaseBegun}
-use Rattle.journal_folds.proofs.Places.{admits_alike, entered_alike}
-use Rattle.journal_folds.proofs.Sounds.{base_sound}
-use Rattle.journal_folds.proofs.Stood.{stands}
-use Rattle.journal_folds.proofs.Advanced.{has_begun, advance_since}
-use Rattle.journal_folds.proofs.Folded.{front_legal}
+use Rattle.journal_tables.specs.Unplaced.{unplaced}
+use Rattle.journal_tables.specs.Folding.{Stands, BaseBegun}
+use Rattle.journal_tables.proofs.Places.{admits_alike, entered_alike}
+use Rattle.journal_tables.proofs.Sounds.{base_sound}
+use Rattle.journal_tables.proofs.Stood.{stands}
+use Rattle.journal_tables.proofs.Advanced.{has_begun, advance_since}
+use Rattle.journal_tables.proofs.Folded.{front_legal}
 use Rattle.fold_laws.specs.FoldOf.{IsFoldOf}
 
 record GoesBack (base : Base) (j : History) (newer : List Entry) : Type 0 where

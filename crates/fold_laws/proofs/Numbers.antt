@@ -13,10 +13,10 @@ use Rattle.handle_model.specs.History.{History, since}
 use Rattle.handle_model.specs.Journal.{Legal, joins, asked, join_count, accept_count}
 use Rattle.handle_model.proofs.Held.{or_cases, or_right}
 use Rattle.journal_laws.specs.Calls.{accepts}
-use Rattle.journal_folds.specs.Laws.{BaseBegun}
-use Rattle.journal_folds.proofs.Advanced.{advance_since}
-use Rattle.journal_folds.proofs.Folded.{front_legal}
-use Rattle.journal_folds.proofs.Sounds.{conn_since}
+use Rattle.journal_tables.specs.Folding.{BaseBegun}
+use Rattle.journal_tables.proofs.Advanced.{advance_since}
+use Rattle.journal_tables.proofs.Folded.{front_legal}
+use Rattle.journal_tables.proofs.Sounds.{conn_since}
 use Rattle.fold_laws.specs.FoldOf.{IsFoldOf}
 use Rattle.fold_laws.specs.Kept.{Keeps}
 use Rattle.fold_laws.proofs.Alike.{folds_stand}

@@ -17,7 +17,7 @@ use Rattle.handle_model.proofs.Held.{and_right}
 use Rattle.journal_laws.proofs.Older.{older_since}
 use Rattle.journal_laws.proofs.Stages.{since_right, undecided}
 use Rattle.call_table.proofs.Calls.{decided_within, ended_taken}
-use Rattle.journal_folds.specs.Laws.{BaseBegun}
+use Rattle.journal_tables.specs.Folding.{BaseBegun}
 use Rattle.fold_laws.specs.FoldOf.{IsFoldOf}
 use Rattle.fold_laws.proofs.Alike.{folds_stand}
 use Rattle.journal_laws.specs.Calls.{accepts}

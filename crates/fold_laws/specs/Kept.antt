@@ -10,7 +10,7 @@ use Rattle.handle_model.specs.Journal.{Legal, joins, is_open, runs, asked, join_
 use Rattle.handle_model.specs.Replies.{replies}
 use Rattle.journal_laws.specs.Further.{with_entries}
 use Rattle.journal_laws.specs.Calls.{accepts}
-use Rattle.journal_folds.specs.Laws.{BaseBegun}
+use Rattle.journal_tables.specs.Folding.{BaseBegun}
 use Rattle.fold_laws.specs.FoldOf.{IsFoldOf}
 
 -- NUMBERS

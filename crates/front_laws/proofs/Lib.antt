@@ -1,1 +1,3 @@
 mod PrefixLemmas
+mod OpenLemmas
+mod OwnLemmas

@@ -1,16 +1,15 @@
 -- Folds of one journal at two moments.
-use Rattle.std.proofs.Common.{◌≡◌, ◌⊎◌, ℕ, suc, ◌+◌, ◌≤◌, List, [], ◌∷◌, ◌++◌, length, refl, sym, ◌∙◌, ap, subst, inl, inr, arith, length-append}
+use Rattle.std.proofs.Common.{◌≡◌, ◌⊎◌, ℕ, ◌≤◌, List, [], ◌∷◌, ◌++◌, length, refl, sym, ◌∙◌, ap, subst, inl, inr, arith, length-append}
 use Rattle.std.proofs.lemmas.List.{append_assoc}
 use Rattle.turn_lock.specs.Histories.{StartsWith}
 use Rattle.handle_model.specs.declared.entry.Home.{Home}
 use Rattle.handle_model.specs.declared.entry.Entry.{Entry}
-use Rattle.handle_model.specs.declared.base.Base.{Base}
 use Rattle.handle_model.specs.Bases.{empty_base}
 use Rattle.handle_model.specs.Folds.{advance}
 use Rattle.handle_model.specs.History.{History, since, size}
 use Rattle.handle_model.specs.Journal.{Legal}
 use Rattle.journal_laws.proofs.Older.{older_since}
-use Rattle.journal_folds.proofs.Advanced.{advance_twice}
+use Rattle.journal_tables.proofs.Advanced.{advance_twice}
 use Rattle.fold_laws.specs.FoldOf.{IsFoldOf}
 use Rattle.hub_story.specs.declared.item.Item.{Item}
 use Rattle.hub_story.specs.Histories.{home_of, past_in, journal_in, IsStory}
@@ -132,7 +131,7 @@ front_on boot g front rest later is l =
     subst (λ p. IsFoldedPrefix (kept_in boot g front) (kept_since (home_of boot g) p)) (sym past)
     (kept_on (home_of boot g) (past_in g rest) (past_in g front) (subst (λ p. Legal (since (home_of boot g) empty_base p)) past l))
 
-front_legal : (boot s g : ℕ) (history front : List Item) → IsStory boot s history → StartsWith history front → Legal (journal_in boot g front)
+pub front_legal : (boot s g : ℕ) (history front : List Item) → IsStory boot s history → StartsWith history front → Legal (journal_in boot g front)
 front_legal boot s g history front story starts =
     let past : past_in g history ≡ past_in g starts.0 ++ past_in g front = ap (past_in g) starts.1 ∙ past-append g front starts.0 in
     older_since (home_of boot g) empty_base (past_in g starts.0) (past_in g front) (subst (λ p. Legal (since (home_of boot g) empty_base p)) past (story.sound g).legal)

@@ -1,5 +1,6 @@
-//! Fronts go on.
+//! Fronts go on, and what is open stays.
 ghost use Rattle.front_laws.specs.Laws.{CallsGoOn, FrontsCompare, FrontsGoOn, KeptGoesOn};
+ghost use Rattle.front_laws.specs.Open.{AcceptsStay, CallsStay, FoldedEnded, FoldedLeft, JoinsStay, OwnStays, ShutsStay, TakesStay};
 
 /// What a group keeps of its journal at one moment is a prefix of what it keeps later.
 pub fn kept_goes_on()
@@ -20,4 +21,46 @@ pub fn calls_go_on()
 /// Of two fronts at one shard, in whatever passes, one is a prefix of the other.
 pub fn fronts_compare()
     ensures { FrontsCompare }
+{}
+
+/// The Join of an open connection stays among the entries that a group keeps, with all that came after it,
+/// however often the group folded its journal.
+pub fn joins_stay()
+    ensures { JoinsStay }
+{}
+
+/// So does the Accept of each call of an open connection, whether the call is over or not.
+pub fn calls_stay()
+    ensures { CallsStay }
+{}
+
+/// So does the Accept of a call that waits or runs.
+pub fn accepts_stay()
+    ensures { AcceptsStay }
+{}
+
+/// The Take of a call that runs stays, until its End.
+pub fn takes_stay()
+    ensures { TakesStay }
+{}
+
+/// A Shut stays, since no connection joins behind it.
+pub fn shuts_stay()
+    ensures { ShutsStay }
+{}
+
+/// So a connection whose Join was folded away has left.
+pub fn folded_left()
+    ensures { FoldedLeft }
+{}
+
+/// And a call whose Take was folded away has ended.
+pub fn folded_ended()
+    ensures { FoldedEnded }
+{}
+
+/// What a pass entered and is still open stands in what each front since then has of the group, as the group
+/// keeps it: a Join whose Leave isn't the pass's own, a Take whose End isn't, a Shut.
+pub fn own_stays()
+    ensures { OwnStays }
 {}

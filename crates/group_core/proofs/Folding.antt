@@ -16,15 +16,15 @@ use Rattle.handle_model.specs.Journal.{Legal, is_shut, least}
 use Rattle.call_table.specs.declared.row.Row.{Row}
 use Rattle.call_table.specs.Rows.{running_places}
 use Rattle.call_table.specs.Shown.{rows_of}
-use Rattle.journal_laws.specs.Further.{with_entries}
+use Rattle.journal_tables.specs.Folding.{with_entries}
 use Rattle.journal_tables.specs.declared.conns.OpenConn.{OpenConn}
 use Rattle.journal_tables.specs.Floor.{open_places, lesser_of}
 use Rattle.journal_tables.specs.Shown.{conns_of}
 use Rattle.journal_tables.proofs.Floors.{floor_shown}
-use Rattle.journal_folds.specs.Laws.{BaseBegun}
-use Rattle.journal_folds.proofs.Folded.{Moved, moved, front_legal}
-use Rattle.journal_folds.proofs.Fronts.{sound_base}
-use Rattle.journal_folds.proofs.Advanced.{advance_since}
+use Rattle.journal_tables.specs.Folding.{BaseBegun}
+use Rattle.journal_tables.proofs.Folded.{Moved, moved, front_legal}
+use Rattle.journal_tables.proofs.Fronts.{sound_base}
+use Rattle.journal_tables.proofs.Advanced.{advance_since}
 use Rattle.group_core.specs.Kept.{Logged, logged}
 use Rattle.group_core.specs.Folds.{older_count, base_after, rest_after}
 

@@ -27,7 +27,7 @@ use Rattle.journal_tables.specs.declared.conns.OpenConn.{OpenConn}
 use Rattle.journal_tables.specs.Conns as open_conns
 use Rattle.journal_tables.specs.Conns.{OpenConns}
 use Rattle.journal_tables.proofs.Joined.{none_shown}
-use Rattle.journal_folds.specs.Laws.{BaseBegun}
+use Rattle.journal_tables.specs.Folding.{BaseBegun}
 use Rattle.group_core.specs.declared.answer.Rest.{Rest}
 use Rattle.group_core.specs.declared.answer.Rest.TheVariants as rest
 use Rattle.group_core.specs.declared.counts.Counts.{Counts}

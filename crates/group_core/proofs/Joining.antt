@@ -14,7 +14,7 @@ use Rattle.handle_table.specs.Handles.{Handles}
 use Rattle.call_table.specs.declared.row.Row.{Row}
 use Rattle.call_table.specs.Rows.{OpenCalls, openings_of}
 use Rattle.journal_tables.specs.Conns.{OpenConns}
-use Rattle.journal_folds.specs.Laws.{BaseBegun}
+use Rattle.journal_tables.specs.Folding.{BaseBegun}
 use Rattle.group_core.specs.declared.counts.Counts.{Counts}
 use Rattle.group_core.specs.Adds.{Adds}
 use Rattle.group_core.specs.Owed.{owed}

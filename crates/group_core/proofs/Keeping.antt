@@ -15,7 +15,7 @@ use Rattle.handle_model.proofs.Tests.{and_left, or_right}
 use Rattle.handle_model.proofs.Steps.{accept_sound, take_sound, deny_sound, cancel_sound, orphan_sound}
 use Rattle.handle_table.specs.Handles.{Handles}
 use Rattle.call_table.specs.Rows.{OpenCalls, openings_of, with_start, with_cancel, with_orphan, without}
-use Rattle.journal_folds.specs.Laws.{BaseBegun}
+use Rattle.journal_tables.specs.Folding.{BaseBegun}
 use Rattle.group_core.specs.declared.counts.Counts.{Counts}
 use Rattle.group_core.specs.Owed.{owed}
 use Rattle.group_core.specs.Kept.{IsKept, Logged, Came, Same, logged, Shows}

@@ -20,14 +20,14 @@ use Rattle.handle_model.proofs.Tests.{or_cases}
 use Rattle.call_table.specs.Rows.{row_at}
 use Rattle.call_table.specs.Shown.{rows_of}
 use Rattle.call_table.proofs.Calls.{cancels_decided, decided_within, runs_taken, runs_asked, waits_asked}
-use Rattle.journal_laws.specs.Further.{with_entries}
+use Rattle.journal_tables.specs.Folding.{with_entries}
 use Rattle.journal_tables.specs.Tables.{Tables, waits_in, runs_in}
 use Rattle.journal_tables.specs.Shown.{tables_of}
 use Rattle.journal_tables.proofs.Shown.{waits_row, runs_row}
-use Rattle.journal_folds.specs.Unplaced.{unplaced}
-use Rattle.journal_folds.specs.Laws.{Stands}
-use Rattle.journal_folds.proofs.Places.{row_waits, row_runs}
-use Rattle.journal_folds.proofs.Going.{goes_on}
+use Rattle.journal_tables.specs.Unplaced.{unplaced}
+use Rattle.journal_tables.specs.Folding.{Stands}
+use Rattle.journal_tables.proofs.Places.{row_waits, row_runs}
+use Rattle.journal_tables.proofs.Going.{goes_on}
 use Rattle.group_core.specs.Stages.{is_asked_since}
 use Rattle.group_core.proofs.Owing.{waits_untaken}
 

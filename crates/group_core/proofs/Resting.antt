@@ -19,8 +19,8 @@ use Rattle.journal_tables.specs.declared.conns.OpenConn.{OpenConn}
 use Rattle.journal_tables.specs.Floor.{open_places, lesser_of}
 use Rattle.journal_tables.specs.Tables.{Tables}
 use Rattle.journal_tables.specs.Shown.{open_conn, conns_of}
-use Rattle.journal_folds.specs.Laws.{BaseBegun}
-use Rattle.journal_folds.proofs.Stood.{stands}
+use Rattle.journal_tables.specs.Folding.{BaseBegun}
+use Rattle.journal_tables.proofs.Stood.{stands}
 use Rattle.group_core.specs.Owed.{owed, shut_owed}
 use Rattle.group_core.specs.Stages.{is_asked_since}
 use Rattle.group_core.specs.Marks.{Marked, Tells}

@@ -23,8 +23,8 @@ use Rattle.journal_tables.specs.Floor.{open_places, lesser_of}
 use Rattle.journal_tables.specs.Shown.{open_conn, conns_of}
 use Rattle.journal_tables.specs.Shown.{place_since as conn_place}
 use Rattle.journal_tables.proofs.Joined.{open_listed}
-use Rattle.journal_folds.specs.Unplaced.{row_unplaced}
-use Rattle.journal_folds.proofs.Sounds.{conn_since}
+use Rattle.journal_tables.specs.Unplaced.{row_unplaced}
+use Rattle.journal_tables.proofs.Sounds.{conn_since}
 
 -- ONE PLACE
 

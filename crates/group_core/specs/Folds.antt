@@ -12,7 +12,7 @@ use Rattle.call_table.specs.declared.row.Row.{Row}
 use Rattle.call_table.specs.Rows.{OpenCalls, running_places}
 use Rattle.journal_tables.specs.declared.conns.OpenConn.{OpenConn}
 use Rattle.journal_tables.specs.Floor.{open_places, lesser_of}
-use Rattle.journal_folds.specs.Laws.{BaseBegun}
+use Rattle.journal_tables.specs.Folding.{BaseBegun}
 use Rattle.group_core.specs.declared.counts.Counts.{Counts}
 use Rattle.group_core.specs.Owed.{owed}
 use Rattle.group_core.specs.Marks.{Marked, is_marked}

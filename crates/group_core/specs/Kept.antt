@@ -11,7 +11,7 @@ use Rattle.handle_table.specs.Handles.{Handles}
 use Rattle.call_table.specs.Rows.{OpenCalls, openings_of}
 use Rattle.call_table.specs.Shown.{rows_of}
 use Rattle.journal_tables.specs.Shown.{conns_of}
-use Rattle.journal_folds.specs.Laws.{BaseBegun}
+use Rattle.journal_tables.specs.Folding.{BaseBegun}
 use Rattle.group_core.specs.declared.counts.Counts.{Counts}
 use Rattle.group_core.specs.Owed.{owed}
 use Rattle.group_core.specs.Stages.{is_asked_since}

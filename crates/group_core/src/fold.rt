@@ -12,8 +12,7 @@ use crate::log::Log;
 use call_table::CallTable;
 use handle_model::Home;
 use handle_table::HandleTable;
-use journal_folds::folded_base;
-use journal_tables::ConnTable;
+use journal_tables::{ConnTable, folded_base};
 use rpc_base::NoMemory;
 use std::alloc::Global;
 

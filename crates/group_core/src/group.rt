@@ -6,7 +6,7 @@ ghost use Rattle.handle_model.specs.Journal as journal;
 ghost use Rattle.handle_model.specs.Bases.{empty_base};
 ghost use Rattle.handle_model.specs.History.{IsSound, since};
 ghost use Rattle.call_table.specs.Laws.{open_asked};
-ghost use Rattle.journal_folds.specs.Laws.{BaseBegun};
+ghost use Rattle.journal_tables.specs.Folding.{BaseBegun};
 ghost use Rattle.group_core.specs.Stages as stages;
 
 use crate::answer::{Cancelled, JoinRefusal, Orphaned, Stage, Taking};

@@ -7,7 +7,7 @@ use Rattle.shard.specs.declared.answer.HubRest.{HubRest}
 use Rattle.shard.specs.declared.answer.HubRest.TheVariants.{Stays, Shut}
 use Rattle.hub_story.specs.Calls.{Enters, Calls}
 use Rattle.shard_lock.specs.declared.lock.ShardLock.{ShardLock}
-use Rattle.shard_lock.specs.Passes.{unseen, IsOf}
+pub use Rattle.shard_lock.specs.Passes.{unseen, IsOf}
 use Rattle.group_hub.specs.declared.hub.Hub.{Hub}
 use Rattle.group_hub.specs.declared.pass.Pass.{Pass}
 use Rattle.group_hub.specs.Shards.{shard_of}

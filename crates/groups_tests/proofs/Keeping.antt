@@ -28,7 +28,7 @@ use Rattle.replay_groups.specs.declared.opening.OpenRefusal.{OpenRefusal}
 use Rattle.replay_groups.specs.declared.opening.OpenRefusal.TheVariants.{Full, Memory}
 use Rattle.replay_groups.specs.Keeps.{GroupsView, home_in, past_at, Keeps, Has, Known, GoesOn, Answers, Opens, group_at}
 use Rattle.replay_groups.proofs.Keeping.{here_is, sound_is}
-use Rattle.replay_binds.specs.Binds.{AreKept}
+use Rattle.replay_groups.specs.Binds.{AreKept}
 
 -- ---- some journals are kept
 

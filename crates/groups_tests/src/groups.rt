@@ -4,8 +4,7 @@ use crate::kept::{accept, cancel, end, join, leave, open, orphan, take};
 use crate::octets::octets_of;
 use group_core::Rest;
 use handle_model::{Asked, DueItem, Outcome, Outcomes, Rundown, Said, Slot, Slots};
-use replay_binds::{bind, goes_on, has, has_ended, is_asked, last_said, log, stage};
-use replay_groups::Groups;
+use replay_groups::{Groups, bind, goes_on, has, has_ended, is_asked, last_said, log, stage};
 use rpc_base::{NoMemory, Order};
 use std::alloc::Global;
 use std::marker::Model;
@@ -149,7 +148,7 @@ struct Play {
 
 impl Model for Play {
     ghost use Rattle.replay_groups.specs.Keeps.{GroupsView};
-    ghost use Rattle.replay_binds.specs.Binds.{AreKept};
+    ghost use Rattle.replay_groups.specs.Binds.{AreKept};
 
     ghost Value = { GroupsView };
 

@@ -14,7 +14,7 @@ use Rattle.handle_model.specs.declared.entry.Entry.{Entry}
 use Rattle.handle_model.specs.declared.base.Base.{Base}
 use Rattle.handle_model.specs.Bases.{empty_base}
 use Rattle.handle_model.specs.History.{History, IsSound, since, history_of}
-use Rattle.journal_folds.specs.Laws.{BaseBegun}
+use Rattle.journal_tables.specs.Folding.{BaseBegun}
 use Rattle.fold_laws.proofs.Alike.{folds_stand}
 use Rattle.group_core.specs.Kept.{Logged}
 use Rattle.hub_story.specs.declared.item.Item.{Item}

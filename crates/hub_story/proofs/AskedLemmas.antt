@@ -9,11 +9,11 @@ use Rattle.handle_model.specs.Folds.{base_of, advance}
 use Rattle.handle_model.specs.History.{History, since}
 use Rattle.handle_model.specs.Journal.{Legal, asked, is_shut, waits, runs, due}
 use Rattle.handle_model.proofs.Tests.{and_right}
-use Rattle.journal_folds.specs.Laws.{BaseBegun}
-use Rattle.journal_folds.proofs.Sounds.{base_sound}
-use Rattle.journal_folds.proofs.Stood.{stands}
-use Rattle.journal_folds.proofs.Advanced.{has_begun, advance_since}
-use Rattle.journal_folds.proofs.Folded.{front_legal}
+use Rattle.journal_tables.specs.Folding.{BaseBegun}
+use Rattle.journal_tables.proofs.Sounds.{base_sound}
+use Rattle.journal_tables.proofs.Stood.{stands}
+use Rattle.journal_tables.proofs.Advanced.{has_begun, advance_since}
+use Rattle.journal_tables.proofs.Folded.{front_legal}
 use Rattle.call_table.proofs.Calls.{runs_asked}
 use Rattle.group_core.specs.Stages.{is_asked, is_asked_since}
 use Rattle.group_core.proofs.Pruning.{asked_stays}

@@ -11,15 +11,15 @@ use Rattle.handle_model.specs.History.{History, IsSound, since}
 use Rattle.handle_model.specs.Journal.{Legal, asked, is_join, is_shut, waits, runs, due}
 use Rattle.journal_laws.specs.Further.{with_entries}
 use Rattle.journal_tables.specs.Shown.{tables_of}
-use Rattle.journal_folds.specs.Unplaced.{unplaced}
-use Rattle.journal_folds.specs.Laws.{BaseBegun, SaysSame}
-use Rattle.journal_folds.proofs.Going.{goes_on}
-use Rattle.journal_folds.proofs.Sounds.{base_sound}
-use Rattle.journal_folds.proofs.Stood.{stands, asked_newer}
-use Rattle.journal_folds.proofs.Advanced.{has_begun, advance_since}
-use Rattle.journal_folds.proofs.Folded.{front_legal, Moved, moved}
+use Rattle.journal_tables.specs.Unplaced.{unplaced}
+use Rattle.journal_tables.specs.Folding.{BaseBegun, SaysSame}
+use Rattle.journal_tables.proofs.Going.{goes_on}
+use Rattle.journal_tables.proofs.Sounds.{base_sound}
+use Rattle.journal_tables.proofs.Stood.{stands, asked_newer}
+use Rattle.journal_tables.proofs.Advanced.{has_begun, advance_since}
+use Rattle.journal_tables.proofs.Folded.{front_legal, Moved, moved}
 use Rattle.fold_laws.specs.FoldOf.{IsFoldOf, StandsFor}
-use Rattle.fold_laws.proofs.Alike.{folds_stand, folds_once, folds_on, folds_twice, folds_again}
+pub use Rattle.fold_laws.proofs.Alike.{folds_stand, folds_once, folds_on, folds_twice, folds_again}
 use Rattle.fold_laws.proofs.Back.{folds_back}
 use Rattle.handle_model.specs.Bases.{empty_base}
 use Rattle.handle_model.specs.Folds.{folded, floor}

@@ -27,8 +27,8 @@ use Rattle.call_table.proofs.Counts.{count_shown, openings_shown}
 use Rattle.journal_laws.specs.Further.{with_entries}
 use Rattle.journal_tables.specs.Tables.{Tables}
 use Rattle.journal_tables.specs.Shown.{tables_of}
-use Rattle.journal_folds.specs.Unplaced.{row_unplaced, unplaced}
-use Rattle.journal_folds.specs.Laws.{BaseBegun, SaysSame}
+use Rattle.journal_tables.specs.Unplaced.{row_unplaced, unplaced}
+use Rattle.journal_tables.specs.Folding.{BaseBegun, SaysSame}
 use Rattle.group_core.specs.declared.answer.AcceptRefusal.TheVariants as refusal
 use Rattle.group_core.specs.declared.answer.JoinRefusal.TheVariants as join_refusal
 use Rattle.group_core.specs.declared.answer.AcceptRefusal.{AcceptRefusal}

@@ -1,9 +1,21 @@
-//! Groups at one shard's lock: one thread, and two; and two threads at two shards.
+//! Groups at one shard's lock and at a hub of sixteen shards: one thread, two on one handle, and sixteen.
 #![tactic(auto)]
 
 #[cfg(test)]
-mod hold;
+mod beside;
 #[cfg(test)]
-mod lock;
+mod looks;
+#[cfg(test)]
+mod play;
+#[cfg(test)]
+mod rows;
+#[cfg(test)]
+mod shards;
+#[cfg(test)]
+mod shared;
 #[cfg(test)]
 mod threads;
+#[cfg(test)]
+mod turns;
+#[cfg(test)]
+mod visit;

@@ -1,14 +1,16 @@
--- One walk over specs and what they hold, in the order of the text. A reader says what it makes of the parts; the walk reads them to it,
--- and X_at gives what the reader has of an X at a place, and what it keeps behind it.
+-- One walk over declarations, specs and what they hold, in the order of the text. A reader says what it makes of the parts; the walk reads
+-- them to it, and X_at gives what the reader has of an X at a place, and what it keeps behind it.
 use Rattle.std.specs.Prelude.{ℕ, List, [], ◌∷◌, Option, Some, None}
 use Rattle.idl_tree.specs.declared.leaf.Ident.{Ident}
+use Rattle.idl_tree.specs.declared.leaf.Num.{Num}
 use Rattle.idl_tree.specs.declared.leaf.Pk.{Pk}
+use Rattle.idl_tree.specs.declared.leaf.Base.{Base}
 use Rattle.idl_tree.specs.declared.leaf.Dtor.{Dtor}
 use Rattle.idl_tree.specs.declared.spec.Label.{Label}
-use Rattle.idl_forms.specs.Forms.{SpecForm, a_spec, KindForm, OfStruct, OfUnion, SwitchForm, no_switch, a_switch, MemberForm, a_member, MemberForms, no_member, then_member, ArmForm, member_arm, empty_arm, ArmForms, no_arm, then_arm, AttrKindForm, OfSwitchType, AttrForm, an_attr, AttrForms, no_attr, then_attr}
+use Rattle.idl_forms.specs.Forms.{SpecForm, a_spec, KindForm, OfStruct, OfUnion, SwitchForm, no_switch, a_switch, MemberForm, a_member, MemberForms, no_member, then_member, ArmForm, member_arm, empty_arm, ArmForms, no_arm, then_arm, AttrKindForm, OfSwitchType, AttrForm, an_attr, AttrForms, no_attr, then_attr, ParamForm, DeclKindForm, OfConst, OfTypedef, OfLone, OfOp, DeclForm}
 use Rattle.idl_names.specs.declared.place.Place.{Place}
 use Rattle.idl_names.specs.declared.place.Place.TheVariants as places
-use Rattle.idl_names.specs.Members.{dtors_of}
+use Rattle.idl_names.specs.Members.{dtors_of, lone_member, result_member, param_member}
 
 -- ---- what a reader keeps. S: what it knows at a place of the text; T: what a spec stands for; X: what an attribute gives; C: what stands
 -- around a spec; G: what gives a union its tag
@@ -57,7 +59,7 @@ pub record Reader (S T X C G : Type 0) : Type 0 where
   pub labelled : List Label → S → S
   pub sized : List Dtor → S → S
 
--- ---- the walk. default: the pointer class of the interface
+-- ---- the walk over specs. default: the pointer class of the interface
 
 module _ {S T X C G : Type 0} (r : Reader S T X C G) where
   -- around a spec without attributes and declarators
@@ -126,3 +128,52 @@ module _ {S T X C G : Type 0} (r : Reader S T X C G) where
         let first : ReadArm S T X × S = arm_at default a p in
         let others : List (ReadArm S T X) × S = arms_at default rest first.1 in
         (first.0 ∷ others.0, others.1)
+
+-- ---- declarations: what each holds is read as a member at its place. D: what a reader keeps of them
+
+pub record TextReader (S T X C G D : Type 0) : Type 0 where
+  pub specs : Reader S T X C G
+  -- what is known behind them
+  pub known : D → S
+  pub constant : Base → Ident → Num → D → D
+  -- a typedef, or a spec without a declarator
+  pub own : Pk → Place → ReadMember S T X → D → D
+  -- an operation's name is declared behind its result and before its parameters
+  pub named : Ident → S → S
+  -- an operation, by its result and its parameters
+  pub operation : Pk → Ident → List ParamForm → ReadMember S T X → List (ReadMember S T X) × S → D → D
+
+module _ {S T X C G D : Type 0} (r : TextReader S T X C G D) where
+  abbrev pub read_as : Pk → Place → MemberForm → S → ReadMember S T X
+  read_as default place m p = (m, read_at r.specs default (r.specs.around default place) m p)
+
+  -- behind a member
+  abbrev pub after : ReadMember S T X → S
+  after x = behind r.specs x.0 x.1
+
+  abbrev pub params_at : Pk → List ParamForm → S → List (ReadMember S T X) × S
+  params_at default [] p = ([], p)
+  params_at default (n ∷ ns) p =
+      let first : ReadMember S T X = read_as default places.Parameter (param_member n) p in
+      let others : List (ReadMember S T X) × S = params_at default ns (after first) in
+      (first ∷ others.0, others.1)
+
+  -- a typedef, or a spec without a declarator
+  abbrev pub own_at : Pk → Place → MemberForm → D → D
+  own_at default place m d = r.own default place (read_as default place m (r.known d)) d
+
+  -- an operation; m: its result
+  abbrev pub op_at : Pk → MemberForm → Ident → List ParamForm → D → D
+  op_at default m name ns d =
+      let result : ReadMember S T X = read_as default places.Operation m (r.known d) in
+      r.operation default name ns result (params_at default ns (r.named name (after result))) d
+
+  abbrev pub decl_at : Pk → DeclKindForm → D → D
+  decl_at default (OfConst base name value) d = r.constant base name value d
+  decl_at default (OfTypedef as' s ds) d = own_at default places.Typedef (a_member as' s ds) d
+  decl_at default (OfLone as' s) d = own_at default places.Alone (lone_member as' s) d
+  decl_at default (OfOp as' s name void ns) d = op_at default (result_member as' s name) name ns d
+
+  abbrev pub decls_at : Pk → List DeclForm → D → D
+  decls_at default [] d = d
+  decls_at default (x ∷ xs) d = decls_at default xs (decl_at default x.what d)

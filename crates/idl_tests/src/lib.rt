@@ -1,6 +1,9 @@
-//! Tests of the interface language's lexer, reader, printer and copies.
+//! Tests of the interface language's lexer, reader, printer and copies, of the checker, and of marshalling tables, over
+//! texts.
 #![tactic(auto)]
 
+#[cfg(test)]
+mod checks;
 #[cfg(test)]
 mod faults;
 #[cfg(test)]
@@ -9,5 +12,7 @@ mod large;
 mod printing;
 #[cfg(test)]
 mod reading;
+#[cfg(test)]
+mod tables;
 #[cfg(test)]
 mod tokens;

@@ -2,7 +2,7 @@
 ghost use Rattle.std.specs.Prelude.{◌≡◌, map, IfOk, OnOk};
 ghost use Rattle.idl_names.specs.declared.place.Place.TheVariants as places;
 ghost use Rattle.idl_forms.specs.Forms.{a_member, spec_form, attrs_form, param_form, decl_kind_form, decl_form, tree_form};
-ghost use Rattle.idl_names.specs.Members.{lone_member, result_member, param_member};
+ghost use Rattle.idl_names.specs.Members.{result_member, param_member};
 ghost use Rattle.idl_outline.specs.Outline as outlines;
 ghost use Rattle.idl_outline.specs.Specs as walks;
 
@@ -52,31 +52,20 @@ fn field(
     )
 }
 
-fn typedef(
+// A typedef, or a spec without a declarator.
+fn own(
     alloc: Global,
     default: Pk,
+    place: Place,
     attrs: &[Attr],
     spec: &Spec,
     dtors: &[Dtor],
     outline: &mut Outline,
 ) -> Result<(), NoMemory>
-    ensures { OnOk result (outline.new ≡ outlines.typedef_past default (a_member (attrs_form attrs.now) (spec_form spec.now) dtors.now) outline.old) }
+    ensures { OnOk result (outline.new ≡ outlines.own_past default place (a_member (attrs_form attrs.now) (spec_form spec.now) dtors.now) outline.old) }
 {
-    let field = field(alloc, default, Place::Typedef, attrs, spec, dtors, outline)?;
+    let field = field(alloc, default, place, attrs, spec, dtors, outline)?;
     types_declared(alloc, field.declared.as_slice(), outline)?;
-    outline.happen(Event::Single(field))
-}
-
-fn lone(
-    alloc: Global,
-    default: Pk,
-    attrs: &[Attr],
-    spec: &Spec,
-    outline: &mut Outline,
-) -> Result<(), NoMemory>
-    ensures { OnOk result (outline.new ≡ outlines.lone_past default (lone_member (attrs_form attrs.now) (spec_form spec.now)) outline.old) }
-{
-    let field = field(alloc, default, Place::Alone, attrs, spec, &[], outline)?;
     outline.happen(Event::Single(field))
 }
 
@@ -184,9 +173,11 @@ fn declaration(
             })
         }
         DeclKind::Typedef { attrs, spec, dtors } => {
-            typedef(alloc, default, attrs, spec, dtors, outline)
+            own(alloc, default, Place::Typedef, attrs, spec, dtors, outline)
         }
-        DeclKind::Lone { attrs, spec } => lone(alloc, default, attrs, spec, outline),
+        DeclKind::Lone { attrs, spec } => {
+            own(alloc, default, Place::Alone, attrs, spec, &[], outline)
+        }
         DeclKind::Op {
             attrs,
             spec,

@@ -4,3 +4,12 @@ pub mod Issues
 pub mod Joined
 pub mod Made
 pub mod Shown
+pub mod Advanced
+pub mod Apart
+pub mod Folded
+pub mod Fronts
+pub mod Going
+pub mod Places
+pub mod Sounds
+pub mod Stood
+pub mod Unmoved

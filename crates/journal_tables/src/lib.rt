@@ -1,5 +1,6 @@
 //! The tables of a journal: its live handles, the calls that wait or run, its open connections and its
-//! counts. They judge each entry, and follow it, at a cost that the journal's length has no part in.
+//! counts. They judge each entry, and follow it, at a cost that the journal's length has no part in. Of a journal that is
+//! folded they give the base, which is what is kept where older entries are moved into it.
 #![tactic(auto)]
 
 mod admits;
@@ -7,6 +8,8 @@ mod conns;
 mod enter;
 mod fits;
 mod fold;
+mod folding;
+mod front;
 mod laws;
 mod tables;
 
@@ -14,5 +17,7 @@ pub use conns::{ConnTable, OpenConn};
 pub use fits::{
     call_runs, comes_next, fits_cancel, fits_deny, fits_end, fits_orphan, fits_slots, fits_take,
 };
+pub use folding::{advances_to, advances_twice, folds, gives_sound, keeps_legal};
+pub use front::{folded_base, tables_after};
 pub use laws::{admits_allowed, follows_entries, shows_base, shows_conns, shows_due, shows_floor};
 pub use tables::Tables;

@@ -8,7 +8,7 @@ use crate::words::HOME;
 use base_rules::is_sound_base;
 use handle_model::{Base, Entry, Home};
 use handle_rules::{Verdict, audited};
-use journal_folds::folded_base;
+use journal_tables::folded_base;
 use std::alloc::Global;
 
 fn any_shut(entries: &[Entry]) -> bool

@@ -1,8 +1,12 @@
--- Messages of a table's operations.
+-- Messages of a table's operations, and their stubs.
 use Rattle.std.specs.Prelude.{◌≡◌, ℕ, slice_get, Some, None}
 use Rattle.ndr_value.specs.Values.{Msg}
 use Rattle.table_form.specs.Tables.{OpForm, TableForm}
-use Rattle.ndr_model.specs.declared.way.Way.TheVariants.{Request, Response}
+pub use Rattle.ndr_model.specs.declared.way.Way.TheVariants.{Request, Response}
+pub use Rattle.ndr_model.specs.declared.departure.Departure.{Departure}
+pub use Rattle.ndr_model.specs.Message.{IsStub, read_stub}
+pub use Rattle.ndr_model.specs.Faults.{fault_of, status_of}
+pub use Rattle.ndr_model.specs.Written.{stub}
 use Rattle.ndr_model.specs.Fits.{IsOfOp}
 
 -- P of the operation of that number

@@ -10,13 +10,13 @@ use Rattle.ndr_value.specs.Values.{Msg}
 use Rattle.table_form.specs.Tables.{TableForm, OpForm}
 use Rattle.manager_api.specs.Answers.{Ans, AOut, AFault}
 use Rattle.manager_api.specs.Calls.{Call}
-use Rattle.served_calls.specs.Requests.{IsRefused, no_memory}
-use Rattle.served_calls.specs.Ends.{Says, call_with, row_of}
+use Rattle.conn_histories.specs.Requests.{IsRefused, no_memory}
+use Rattle.conn_histories.specs.Ends.{Says, call_with, row_of}
 use Rattle.served_tables.specs.Calls.{IsCall, Owed}
 use Rattle.served_call.specs.Suited.{Opened, never_full}
 use Rattle.handle_model.specs.declared.entry.Home.{Home}
 use Rattle.handle_model.specs.declared.entry.Outcome.{Outcome}
-use Rattle.conn_turns.specs.Entries.{asked_as}
+use Rattle.conn_histories.specs.Entries.{asked_as}
 use Rattle.manager_calls.specs.declared.ready.Ready.{Ready}
 use Rattle.manager_calls.specs.Ready.{request_of, IsReady, Repeats}
 

@@ -7,11 +7,11 @@ use Rattle.handle_model.specs.declared.entry.Said.TheVariants.{Out, Fault}
 use Rattle.pdu_stream.specs.declared.joined.Joined.{Joined}
 use Rattle.ndr_value.specs.Values.{msg}
 use Rattle.table_form.specs.Tables.{TableForm}
-use Rattle.served_calls.specs.Requests.{IsAsked, IsRefused, no_memory}
+use Rattle.conn_histories.specs.Requests.{IsAsked, IsRefused, no_memory}
 use Rattle.served_call.specs.Suited.{Opened, never_full}
-use Rattle.conn_turns.specs.declared.turn.Deed.TheVariants.{Pending}
-use Rattle.conn_turns.specs.declared.turn.Request.{Request}
-use Rattle.conn_turns.specs.Entries.{asked_as}
+use Rattle.conn_histories.specs.declared.turn.Deed.TheVariants.{Pending}
+use Rattle.conn_histories.specs.declared.turn.Request.{Request}
+use Rattle.conn_histories.specs.Entries.{asked_as}
 use Rattle.manager_calls.specs.declared.ready.Ready.{Ready}
 
 -- a request of an interface, to which nothing has come yet

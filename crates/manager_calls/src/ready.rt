@@ -1,6 +1,6 @@
 //! What is made ready for a call before it is accepted.
 ghost use Rattle.std.specs.Prelude.{◌≡◌, IfOk};
-ghost use Rattle.conn_turns.specs.Entries.{asked_as as asked_as_spec};
+ghost use Rattle.conn_histories.specs.Entries.{asked_as as asked_as_spec};
 ghost use Rattle.served_tables.specs.Served.{tables_in};
 ghost use Rattle.served_call.specs.Suited.{Opened};
 ghost use Rattle.manager_calls.specs.Ready.{request_of, ComesReady, IsReady};

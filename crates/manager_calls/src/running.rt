@@ -3,8 +3,8 @@ ghost use Rattle.std.specs.Prelude.{◌≡◌, ◌≤◌, length, true, false, S
 ghost use Rattle.handle_model.specs.Journal.{suit};
 ghost use Rattle.conn_asks.specs.Answers.{FitsStub};
 ghost use Rattle.ndr_value.specs.Values.{msg};
-ghost use Rattle.served_calls.specs.Requests.{HasSlots, IsAsked};
-ghost use Rattle.served_calls.specs.Ends.{Meets};
+ghost use Rattle.conn_histories.specs.Requests.{HasSlots, IsAsked};
+ghost use Rattle.conn_histories.specs.Ends.{Meets};
 ghost use Rattle.served_tables.specs.Served.{tables_in};
 ghost use Rattle.served_call.specs.Suited.{suit_cookies};
 ghost use Rattle.manager_calls.specs.Ready.{Repeats};

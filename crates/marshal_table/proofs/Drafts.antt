@@ -20,7 +20,7 @@ use Rattle.table_scope.specs.declared.said.Terms.{Terms}
 use Rattle.table_scope.specs.Scopes.{Sense, Scope, handle_sense}
 use Rattle.table_scope.specs.Declarators.{terms, declared}
 use Rattle.table_specs.specs.Specs.{within, attrs_within, member_within, sense_at}
-use Rattle.table_laws.specs.Interfaces.{Listed, Draft, is_binding, param_names, listed_at, param_at, params_at, sort_result, op_of, op_at, typed, typedef_one, typedef_all, typedef_at, decl_at, decls_at, nothing_declared, declared_in}
+use Rattle.table_laws.specs.Interfaces.{Listed, Draft, is_binding, param_names, listed_as, param_at, params_at, sort_result, op_of, op_at, typed, typedef_one, typedef_all, own_at, decl_at, decls_at, nothing_declared, declared_in}
 use Rattle.marshal_table.proofs.Fitting.{both_of, and_of, less_of, or_left, or_right, fits_more, declared_fits}
 use Rattle.marshal_table.proofs.Sounds.{SenseFits, put_all, Sound, Goes, reach_near, reach_far, pointed_not, shapes_fit, sense_sound}
 
@@ -30,38 +30,26 @@ all_more f (x ∷ xs) ys h k = let e = both_of (f x) (list_all f xs) h in and_of
 
 -- ---- parameters
 
-abbrev if_listed : Bool → ℕ → ℕ
-if_listed true n = 0
-if_listed false n = n
-
-abbrev param_within : idl.ParamForm → ℕ
-param_within n = if_listed (is_binding n.spec) (member_within (param_member n))
-
 abbrev params_within : List idl.ParamForm → ℕ
 params_within [] = 0
-params_within (n ∷ ns) = param_within n + params_within ns
+params_within (n ∷ ns) = member_within (param_member n) + params_within ns
 
 abbrev ListedSound : ℕ → ℕ → Scope → Listed × Scope → Type 0
 ListedSound far n p q = Goes far n p q.1 × (list_all (param_below far) q.0.0 ≡ true)
 
-listed_any : (far n : ℕ) (p : Scope) (b : Bool) (x : Listed × Scope) → Sound far p → (b ≡ false → ListedSound far n p x) → ListedSound far (if_listed b n) p (if b then (([], []), p) else x)
-listed_any far n p true x ok h = (record { count = omega arith; sound = ok }, refl)
-listed_any far n p false x ok h = h refl
+listed_any : (far : ℕ) (b : Bool) (x : Listed) → list_all (param_below far) x.0 ≡ true → list_all (param_below far) (if b then ([], []) else x).0 ≡ true
+listed_any far true x h = refl
+listed_any far false x h = h
 
-listed_room : (b : Bool) (m n far : ℕ) → m + if_listed b n ≤ far → b ≡ false → m + n ≤ far
-listed_room true m n far h e = absurd cc
-listed_room false m n far h e = h
-
-param_sound : (far : ℕ) (k : Pk) (names : List Ident) (n : idl.ParamForm) (p : Scope) → Sound far p → length p.types + param_within n ≤ far → ListedSound far (param_within n) p (param_at k names n p)
+param_sound : (far : ℕ) (k : Pk) (names : List Ident) (n : idl.ParamForm) (p : Scope) → Sound far p → length p.types + member_within (param_member n) ≤ far → ListedSound far (member_within (param_member n)) p (param_at k names n p)
 param_sound far k names n p ok room =
     let m : idl.MemberForm = param_member n in
     let q : Sense × Scope = sense_at k m p in
-    listed_any far (member_within m) p (is_binding n.spec) (listed_at k names n.attrs n.dtor q) ok (λ e.
-    let h = sense_sound far k m p ok (listed_room (is_binding n.spec) (length p.types) (member_within m) far room e) in
+    let h = sense_sound far k m p ok room in
     let few = h.0.sound.few in
     let shape : Form = declared (terms k places.Parameter names n.attrs) q.1.symbols.constants q.0.shape n.dtor in
     let fit : is_below (length q.1.types) far shape ≡ true = (shapes_fit far k places.Parameter names m q few h.1).0 in
-    (h.0, and_of (is_below far far shape) true (fits_more (length q.1.types) far far few shape fit) refl))
+    (h.0, listed_any far (is_binding n.spec) (listed_as k names m q) (and_of (is_below far far shape) true (fits_more (length q.1.types) far far few shape fit) refl))
 
 params_sound : (far : ℕ) (k : Pk) (names : List Ident) (ns : List idl.ParamForm) (p : Scope) → Sound far p → length p.types + params_within ns ≤ far → ListedSound far (params_within ns) p (params_at k names ns p)
 params_sound far k names [] p ok room = (record { count = omega arith; sound = ok }, refl)
@@ -154,8 +142,8 @@ typedef_sound far false serialised t m (d ∷ ds) p ok here e =
     (λ h. here (or_right (d.stars == 0) (list_any (λ x. x.stars == 0) ds) h)) e in
     record { count = rest.count; sound = rest.sound }
 
-typedef_at_sound : (far : ℕ) (k : Pk) (m : idl.MemberForm) (p : Scope) → Sound far p → length p.types + member_within m ≤ far → Goes far (member_within m) p (typedef_at k m p)
-typedef_at_sound far k m p ok room =
+own_sound : (far : ℕ) (k : Pk) (m : idl.MemberForm) (p : Scope) → Sound far p → length p.types + member_within m ≤ far → Goes far (member_within m) p (own_at k m p)
+own_sound far k m p ok room =
     let h = sense_sound far k m p ok room in
     let q : Sense × Scope = sense_at k m p in
     let before = h.0.count in
@@ -183,8 +171,8 @@ in_draft far n d p ok goes = record { count = goes.count; sound = record { scope
 decl_sound : (far : ℕ) (k : Pk) (x : idl.DeclKindForm) (d : Draft) → DraftSound far d → length d.scope.types + decl_within x ≤ far → DraftGoes far (decl_within x) d (decl_at k x d)
 decl_sound far k (idl.OfConst base name value) d ok room =
     record { count = omega arith; sound = record { scope = record { types = ok.scope.types; few = ok.scope.few; named = ok.scope.named; tags = ok.scope.tags }; few = ok.few; of_each = ok.of_each; few_uses = ok.few_uses; ops = ok.ops } }
-decl_sound far k (idl.OfTypedef as' s ds) d ok room = in_draft far _ d _ ok (typedef_at_sound far k (idl.a_member as' s ds) d.scope ok.scope room)
-decl_sound far k (idl.OfLone as' s) d ok room = in_draft far _ d _ ok (sense_sound far k (lone_member as' s) d.scope ok.scope room).0
+decl_sound far k (idl.OfTypedef as' s ds) d ok room = in_draft far _ d _ ok (own_sound far k (idl.a_member as' s ds) d.scope ok.scope room)
+decl_sound far k (idl.OfLone as' s) d ok room = in_draft far _ d _ ok (own_sound far k (lone_member as' s) d.scope ok.scope room)
 decl_sound far k (idl.OfOp as' s name void ps) d ok room = op_sound far k (result_member as' s name) name ps d ok room
 
 decls_sound : (far : ℕ) (k : Pk) (xs : List idl.DeclForm) (d : Draft) → DraftSound far d → length d.scope.types + decls_within xs ≤ far → DraftGoes far (decls_within xs) d (decls_at k xs d)

@@ -1,8 +1,6 @@
 //! Declarations, and the interface's own attributes.
 ghost use Rattle.std.specs.Prelude.{◌≡◌, map, IfOk, OnOk};
 ghost use Rattle.idl_forms.specs.Forms.{a_member, spec_form, attrs_form, decl_kind_form, decl_form, file_kind_form, file_form};
-ghost use Rattle.idl_names.specs.Members.{lone_member};
-ghost use Rattle.table_specs.specs.Specs.{sense_at};
 ghost use Rattle.table_scope.specs.Scopes.{sense, scope};
 ghost use Rattle.name_map.specs.Named.{at_name};
 ghost use Rattle.table_laws.specs.Interfaces as spec;
@@ -92,7 +90,8 @@ fn typedef_all(
     Ok(())
 }
 
-fn typedef(
+// A typedef, or a spec without a declarator.
+fn own(
     attrs: &[Attr],
     of: &Spec,
     dtors: &[Dtor],
@@ -100,27 +99,13 @@ fn typedef(
     known: &mut Known,
     default: Pk,
 ) -> Result<(), NoMemory>
-    ensures { OnOk result (scope known.new ≡ spec.typedef_at default (a_member (attrs_form attrs.now) (spec_form of.now) dtors.now) (scope known.old)) }
+    ensures { OnOk result (scope known.new ≡ spec.own_at default (a_member (attrs_form attrs.now) (spec_form of.now) dtors.now) (scope known.old)) }
 {
     let meaning = meaning_of(attrs, of, dtors, alloc, known, default)?;
     let terms = terms(attrs, default, Place::Typedef, &[])?;
     let handle = says(attrs, Word::Handle);
     let serialised = is_serialised(attrs);
     typedef_all(dtors, alloc, known, handle, serialised, &terms, &meaning)
-}
-
-// A spec without a declarator.
-fn lone(
-    attrs: &[Attr],
-    of: &Spec,
-    alloc: Global,
-    known: &mut Known,
-    default: Pk,
-) -> Result<(), NoMemory>
-    ensures { OnOk result (scope known.new ≡ (sense_at default (lone_member (attrs_form attrs.now) (spec_form of.now)) (scope known.old)).1) }
-{
-    meaning_of(attrs, of, &[], alloc, known, default)?;
-    Ok(())
 }
 
 fn declaration(
@@ -138,8 +123,8 @@ fn declaration(
             attrs,
             spec: of,
             dtors,
-        } => typedef(attrs, of, dtors, alloc, known, default),
-        DeclKind::Lone { attrs, spec: of } => lone(attrs, of, alloc, known, default),
+        } => own(attrs, of, dtors, alloc, known, default),
+        DeclKind::Lone { attrs, spec: of } => own(attrs, of, &[], alloc, known, default),
         DeclKind::Op {
             attrs,
             spec: of,

@@ -5,6 +5,7 @@ ghost use Rattle.table_form.specs.Tables.{param_form};
 ghost use Rattle.idl_forms.specs.Forms as idl;
 ghost use Rattle.idl_forms.specs.Forms.{spec_form, kind_form, attrs_form};
 ghost use Rattle.idl_names.specs.declared.place.Place.TheVariants as places;
+ghost use Rattle.idl_names.specs.Members.{param_member};
 ghost use Rattle.table_scope.specs.Scopes.{sense, scope};
 ghost use Rattle.table_scope.specs.Declarators as declarators;
 ghost use Rattle.idl_names.specs.Attributes as attributes;
@@ -120,7 +121,7 @@ fn add_listed(
     meaning: &Meaning,
     into: &mut Listing,
 ) -> Result<(), NoMemory>
-    ensures { OnOk result (lists.listing into.new ≡ spec.joined (lists.listing into.old) (spec.listed_at default names.now (attrs_form node.now.attrs.items) node.now.dtor (sense meaning.now, scope known.now)).0) }
+    ensures { OnOk result (lists.listing into.new ≡ spec.joined (lists.listing into.old) (spec.listed_as default names.now (param_member (idl.param_form node.now)) (sense meaning.now, scope known.now))) }
 {
     let constants = &known.symbols.constants;
     let shape = &meaning.shape;
@@ -138,7 +139,7 @@ fn add_listed(
     Ok(())
 }
 
-// Adds a parameter, unless it is a `handle_t`.
+// Reads a parameter, and adds it unless it is a `handle_t`.
 fn param(
     node: &ParamNode,
     alloc: Global,
@@ -150,11 +151,11 @@ fn param(
     ensures value { OnOk result (lists.listing into.new ≡ spec.joined (lists.listing into.old) (spec.param_at default names.now (idl.param_form node.now) (scope known.old)).0) }
     ensures past { OnOk result (scope known.new ≡ (spec.param_at default names.now (idl.param_form node.now) (scope known.old)).1) }
 {
+    let dtors = slice::from_ref(&node.dtor);
+    let meaning = meaning_of(&node.attrs, &node.spec, dtors, alloc, known, default)?;
     if is_binding(&node.spec) {
         return Ok(());
     }
-    let dtors = slice::from_ref(&node.dtor);
-    let meaning = meaning_of(&node.attrs, &node.spec, dtors, alloc, known, default)?;
     add_listed(node, alloc, known, default, names, &meaning, into)
 }
 

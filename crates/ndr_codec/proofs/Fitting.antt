@@ -17,7 +17,7 @@ use Rattle.ndr_laws.proofs.Stubs.{read_stands, stub_found}
 use Rattle.ndr_written.specs.Laws.{HasIds}
 use Rattle.ndr_model.specs.Written.{stub}
 use Rattle.ndr_model.specs.Fits.{IsOfOp}
-use Rattle.ndr_written.proofs.Stubs.{stub_suits, written_stub}
+pub use Rattle.ndr_written.proofs.Stubs.{stub_suits, written_stub}
 use Rattle.ndr_model.specs.declared.fault.NdrFault.{NdrFault}
 use Rattle.ndr_model.specs.declared.fault.NdrFault.TheVariants.{Memory}
 use Rattle.ndr_model.specs.Faults.{IsFault}

@@ -12,7 +12,7 @@ use Rattle.replay_world.specs.Worlds.Printed.{Answered}
 use Rattle.replay_world.specs.Printing.{IsOnePdu, printed_text, out_text}
 use Rattle.replay_world.specs.Counting.{ArePackets}
 use Rattle.hex.specs.Hex.{IsBytes}
-use Rattle.load_answers.specs.Answered.{FitsPrinted}
+use Rattle.replay_world.specs.Answered.{FitsPrinted}
 use Rattle.packet_counts.specs.Pieces.{ArePdus, IsFirstPdu, BeginWithPdu, Prints}
 use Rattle.packet_counts.proofs.Heads.{pdu_packet}
 

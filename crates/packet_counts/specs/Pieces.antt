@@ -6,7 +6,7 @@ use Rattle.pdu_codec.specs.Pdus.{IsPdu, AreSpelled}
 use Rattle.replay_world.specs.Worlds.Printed.{Answered}
 use Rattle.replay_world.specs.Printing.{IsOnePdu, out_text}
 use Rattle.replay_world.specs.Counting.{ArePackets}
-use Rattle.load_answers.specs.Answered.{FitsPrinted}
+use Rattle.replay_world.specs.Answered.{FitsPrinted}
 use Rattle.packet_counts.specs.Packets.{PacketsView, Stands}
 
 -- the octets can be cut into PDUs

@@ -11,12 +11,12 @@ use Rattle.handle_model.specs.Journal.{Legal, joins, leaves, takes, ends, has_jo
 use Rattle.handle_model.proofs.Held.{and_right, or_right, or_cases}
 use Rattle.journal_laws.proofs.Accepted.{asked_kept, accepts_new}
 use Rattle.journal_laws.proofs.Joins.{joins_new}
-use Rattle.conn_turns.specs.declared.turn.Deed.{Deed}
-use Rattle.conn_turns.specs.declared.turn.Deed.TheVariants.{Pending, Refused, Accepted}
-use Rattle.conn_turns.specs.declared.turn.Turn.{Turn}
-use Rattle.conn_turns.specs.declared.turn.Turn.TheVariants.{Binding, Bound, NotBound, Answered, Called, Closed}
-use Rattle.conn_turns.specs.Entries.{turn_runs, deed_number, numbers_of}
-use Rattle.conn_turns.specs.Tales.{whole, of_call, of_conn, accepted_of, calls_of, StandAll}
+use Rattle.conn_histories.specs.declared.turn.Deed.{Deed}
+use Rattle.conn_histories.specs.declared.turn.Deed.TheVariants.{Pending, Refused, Accepted}
+use Rattle.conn_histories.specs.declared.turn.Turn.{Turn}
+use Rattle.conn_histories.specs.declared.turn.Turn.TheVariants.{Binding, Bound, NotBound, Answered, Called, Closed}
+use Rattle.conn_histories.specs.Entries.{turn_runs, deed_number, numbers_of}
+use Rattle.conn_histories.specs.Tales.{whole, of_call, of_conn, accepted_of, calls_of, StandAll}
 use Rattle.turn_laws.specs.Laws.{AreOfOthers, DeedEnded, IsEnded}
 use Rattle.turn_laws.proofs.TaleFacts.{same_number}
 use Rattle.turn_laws.proofs.Ending.{turns_have_ended}

@@ -16,17 +16,17 @@ use Rattle.handle_model.proofs.Held.{and_left, or_right, or_cases}
 use Rattle.journal_laws.specs.Calls.{accepts}
 use Rattle.fold_laws.specs.FoldOf.{IsFoldOf}
 use Rattle.fold_laws.proofs.Told.{keeps_replies}
-use Rattle.conn_turns.specs.declared.turn.Off.{Off}
-use Rattle.conn_turns.specs.declared.turn.Off.TheVariants as off
-use Rattle.conn_turns.specs.declared.turn.Fate.{Fate}
-use Rattle.conn_turns.specs.declared.turn.Fate.TheVariants.{Waiting, Denied, Cancelled, Orphaned, LeftWaiting, Running, LeftRunning, Ended, LeftEnded}
-use Rattle.conn_turns.specs.declared.turn.Deed.{Deed}
-use Rattle.conn_turns.specs.declared.turn.Deed.TheVariants.{Pending, Refused, Accepted}
-use Rattle.conn_turns.specs.declared.turn.Request.{Request}
-use Rattle.conn_turns.specs.declared.turn.Turn.{Turn}
-use Rattle.conn_turns.specs.declared.turn.Turn.TheVariants.{Binding, Bound, NotBound, Answered, Called, Closed}
-use Rattle.conn_turns.specs.Entries.{entry_off, marks, taken, asked_as, fate_entries, has_left, leave_behind, deed_number, numbers_of}
-use Rattle.conn_turns.specs.Tales.{whole, of_conn, is_about, tale, accepted_of, calls_of, DeedStands, Stands, StandAll}
+use Rattle.conn_histories.specs.declared.turn.Off.{Off}
+use Rattle.conn_histories.specs.declared.turn.Off.TheVariants as off
+use Rattle.conn_histories.specs.declared.turn.Fate.{Fate}
+use Rattle.conn_histories.specs.declared.turn.Fate.TheVariants.{Waiting, Denied, Cancelled, Orphaned, LeftWaiting, Running, LeftRunning, Ended, LeftEnded}
+use Rattle.conn_histories.specs.declared.turn.Deed.{Deed}
+use Rattle.conn_histories.specs.declared.turn.Deed.TheVariants.{Pending, Refused, Accepted}
+use Rattle.conn_histories.specs.declared.turn.Request.{Request}
+use Rattle.conn_histories.specs.declared.turn.Turn.{Turn}
+use Rattle.conn_histories.specs.declared.turn.Turn.TheVariants.{Binding, Bound, NotBound, Answered, Called, Closed}
+use Rattle.conn_histories.specs.Entries.{entry_off, marks, taken, asked_as, fate_entries, has_left, leave_behind, deed_number, numbers_of}
+use Rattle.conn_histories.specs.Tales.{whole, of_conn, is_about, tale, accepted_of, calls_of, DeedStands, Stands, StandAll}
 use Rattle.turn_laws.specs.Laws.{DeedReplied, IsReplied}
 use Rattle.turn_laws.proofs.TaleFacts.{same_number, any_first, any_rest, in_tale}
 use Rattle.turn_laws.proofs.MarkFacts.{marks_none}

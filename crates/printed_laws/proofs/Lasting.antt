@@ -7,14 +7,14 @@ use Rattle.handle_model.specs.Journal.{Legal}
 use Rattle.table_form.specs.Tables.{TableForm}
 use Rattle.manager_api.specs.Answers.{Ans}
 use Rattle.manager_api.specs.Calls.{Call}
-use Rattle.served_calls.specs.Requests.{ids_of}
+use Rattle.conn_histories.specs.Requests.{ids_of}
 use Rattle.hub_story.specs.declared.item.Item.{Item}
 use Rattle.hub_story.specs.Histories.{past_in, home_of, IsStory}
 use Rattle.hub_story.proofs.ItemLemmas.{past-append}
 use Rattle.group_hub.specs.declared.pass.Pass.{Pass}
 use Rattle.group_hub.specs.Shards.{shard_of}
 use Rattle.group_hub.specs.Passes.{at_shard}
-use Rattle.conn_turns.specs.Tales.{whole}
+use Rattle.conn_histories.specs.Tales.{whole}
 use Rattle.turn_laws.proofs.Keeping.{finished_stay}
 use Rattle.server_ends.specs.declared.ended.Finished.{Finished}
 use Rattle.server_ends.specs.Finishes.{serving, never_refused, AsMember}

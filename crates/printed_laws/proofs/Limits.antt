@@ -16,8 +16,8 @@ use Rattle.hub_story.specs.Directories.{opened_by, opened_ids, open_ids, is_open
 use Rattle.hub_story.specs.Histories.{marks_in, past_in, home_of, journal_in, IsStory}
 use Rattle.hub_story.proofs.ItemLemmas.{past-append, marks-append}
 use Rattle.shard.proofs.TellLemmas.{opened_among, first_there}
-use Rattle.group_joins.specs.Joins.{NoRoom}
-use Rattle.conn_turns.specs.Tales.{whole}
+use Rattle.server_ends.specs.Joins.{NoRoom}
+use Rattle.conn_histories.specs.Tales.{whole}
 
 fewer : {X : Type 0} (p : X → Bool) (xs : List X) → length (filter p xs) ≤ length xs
 fewer p [] = omega arith

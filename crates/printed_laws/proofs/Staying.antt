@@ -18,13 +18,13 @@ use Rattle.conn_asks.specs.declared.events.Ask.{Ask}
 use Rattle.conn_asks.specs.declared.events.Ask.TheVariants as asks
 use Rattle.conn_asks.specs.States.{caller_of}
 use Rattle.conn_histories.specs.Plays.{Negotiated, offering, results}
-use Rattle.conn_turns.specs.declared.turn.Off.{Off}
-use Rattle.conn_turns.specs.declared.turn.Deed.{Deed}
-use Rattle.conn_turns.specs.declared.turn.Deed.TheVariants.{Pending, Refused, Accepted}
-use Rattle.conn_turns.specs.declared.turn.Turn.{Turn}
-use Rattle.conn_turns.specs.declared.turn.Turn.TheVariants.{Binding, Bound, NotBound, Answered, Called, Closed}
-use Rattle.conn_turns.specs.Tales.{whole, StandAll}
-use Rattle.conn_turns.specs.Answers.{AreOctetsOf, Piece, IsLost, AnswersBind, AnswersRequest, AnswersCall, AnswersAll, Answers}
+use Rattle.conn_histories.specs.declared.turn.Off.{Off}
+use Rattle.conn_histories.specs.declared.turn.Deed.{Deed}
+use Rattle.conn_histories.specs.declared.turn.Deed.TheVariants.{Pending, Refused, Accepted}
+use Rattle.conn_histories.specs.declared.turn.Turn.{Turn}
+use Rattle.conn_histories.specs.declared.turn.Turn.TheVariants.{Binding, Bound, NotBound, Answered, Called, Closed}
+use Rattle.conn_histories.specs.Tales.{whole, StandAll}
+use Rattle.conn_histories.specs.Answers.{AreOctetsOf, Piece, IsLost, AnswersBind, AnswersRequest, AnswersCall, AnswersAll, Answers}
 use Rattle.turn_laws.specs.Laws.{AreOfOthers, DeedReplied, IsReplied}
 use Rattle.turn_laws.proofs.Staying.{turns_stay}
 use Rattle.turn_laws.proofs.Replying.{turns_are_replied}

@@ -9,18 +9,18 @@ use Rattle.handle_model.specs.declared.entry.Entry.{Entry}
 use Rattle.table_form.specs.Tables.{TableForm}
 use Rattle.manager_api.specs.Answers.{Ans}
 use Rattle.manager_api.specs.Calls.{Call}
-use Rattle.served_calls.specs.Requests.{IsRefused}
-use Rattle.served_calls.specs.Requests.IsRefused.{no_operation, no_stub, no_room, full}
-use Rattle.conn_turns.specs.declared.turn.Off.{Off}
-use Rattle.conn_turns.specs.declared.turn.Fate.{Fate}
-use Rattle.conn_turns.specs.declared.turn.Fate.TheVariants.{Waiting, Denied, Cancelled, Orphaned, LeftWaiting, Running, LeftRunning, Ended, LeftEnded}
-use Rattle.conn_turns.specs.declared.turn.Deed.{Deed}
-use Rattle.conn_turns.specs.declared.turn.Deed.TheVariants.{Pending, Refused, Accepted}
-use Rattle.conn_turns.specs.declared.turn.Request.{Request}
-use Rattle.conn_turns.specs.declared.turn.Turn.{Turn}
-use Rattle.conn_turns.specs.declared.turn.Turn.TheVariants.{Binding, Bound, NotBound, Answered, Called, Closed}
-use Rattle.conn_turns.specs.Entries.{asked_as}
-use Rattle.conn_turns.specs.Stories.{WasFull, FateIsDue, DeedIsDue, IsDue, AllDue}
+use Rattle.conn_histories.specs.Requests.{IsRefused}
+use Rattle.conn_histories.specs.Requests.IsRefused.{no_operation, no_stub, no_room, full}
+use Rattle.conn_histories.specs.declared.turn.Off.{Off}
+use Rattle.conn_histories.specs.declared.turn.Fate.{Fate}
+use Rattle.conn_histories.specs.declared.turn.Fate.TheVariants.{Waiting, Denied, Cancelled, Orphaned, LeftWaiting, Running, LeftRunning, Ended, LeftEnded}
+use Rattle.conn_histories.specs.declared.turn.Deed.{Deed}
+use Rattle.conn_histories.specs.declared.turn.Deed.TheVariants.{Pending, Refused, Accepted}
+use Rattle.conn_histories.specs.declared.turn.Request.{Request}
+use Rattle.conn_histories.specs.declared.turn.Turn.{Turn}
+use Rattle.conn_histories.specs.declared.turn.Turn.TheVariants.{Binding, Bound, NotBound, Answered, Called, Closed}
+use Rattle.conn_histories.specs.Entries.{asked_as}
+use Rattle.conn_histories.specs.Stories.{WasFull, FateIsDue, DeedIsDue, IsDue, AllDue}
 use Rattle.server_ends.specs.Finishes.{serving}
 
 refused_so : (tables : List TableForm) (iface op : ℕ) (order : Order) (stub : List ℕ) (Full Fuller : List Slot → Type 0) (status : Status) → ((slots : List Slot) → Full slots → Fuller slots)

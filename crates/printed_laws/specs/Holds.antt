@@ -10,17 +10,17 @@ use Rattle.rpc_outside.specs.Links.{Shown}
 use Rattle.table_form.specs.Tables.{TableForm}
 use Rattle.manager_api.specs.Answers.{Ans}
 use Rattle.manager_api.specs.Calls.{Call}
-use Rattle.served_calls.specs.Requests.{ids_of}
+use Rattle.conn_histories.specs.Requests.{ids_of}
 use Rattle.hub_story.specs.Histories.{home_of}
 use Rattle.group_hub.specs.declared.pass.Pass.{Pass}
-use Rattle.conn_turns.specs.declared.turn.Off.{Off}
-use Rattle.conn_turns.specs.declared.turn.Deed.{Deed}
-use Rattle.conn_turns.specs.declared.turn.Deed.TheVariants.{Accepted}
-use Rattle.conn_turns.specs.declared.turn.Turn.{Turn}
-use Rattle.conn_turns.specs.declared.turn.Turn.TheVariants.{Called}
-use Rattle.conn_turns.specs.Events.{fate_reply}
-use Rattle.conn_turns.specs.Tales.{of_conn, StandAll}
-use Rattle.conn_turns.specs.Stories as stories
+use Rattle.conn_histories.specs.declared.turn.Off.{Off}
+use Rattle.conn_histories.specs.declared.turn.Deed.{Deed}
+use Rattle.conn_histories.specs.declared.turn.Deed.TheVariants.{Accepted}
+use Rattle.conn_histories.specs.declared.turn.Turn.{Turn}
+use Rattle.conn_histories.specs.declared.turn.Turn.TheVariants.{Called}
+use Rattle.conn_histories.specs.Events.{fate_reply}
+use Rattle.conn_histories.specs.Tales.{of_conn, StandAll}
+use Rattle.conn_histories.specs.Stories as stories
 use Rattle.server_ends.specs.declared.ended.Finished.{Finished}
 use Rattle.server_ends.specs.Endings.{EndsAs}
 use Rattle.server_ends.specs.Finishes.{serving, never_refused, AsMember}

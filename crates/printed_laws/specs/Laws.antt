@@ -20,10 +20,10 @@ use Rattle.hub_story.specs.Histories.{marks_in, past_in, journal_in, IsStory}
 use Rattle.group_hub.specs.declared.pass.Pass.{Pass}
 use Rattle.group_hub.specs.Shards.{shard_of}
 use Rattle.group_hub.specs.Passes.{at_shard}
-use Rattle.group_joins.specs.Joins.{NoRoom}
-use Rattle.conn_turns.specs.declared.turn.Turn.{Turn}
-use Rattle.conn_turns.specs.Entries.{turn_runs}
-use Rattle.conn_turns.specs.Tales.{whole, of_conn, StandAll}
+use Rattle.server_ends.specs.Joins.{NoRoom}
+use Rattle.conn_histories.specs.declared.turn.Turn.{Turn}
+use Rattle.conn_histories.specs.Entries.{turn_runs}
+use Rattle.conn_histories.specs.Tales.{whole, of_conn, StandAll}
 use Rattle.turn_laws.specs.Laws.{AreOfOthers}
 use Rattle.server_ends.specs.declared.ended.Ending.{Ending}
 use Rattle.server_ends.specs.declared.ended.Finished.{Finished}

@@ -1,3 +1,10 @@
 pub mod Once
 pub mod Read
 pub mod Whole
+pub mod Hands
+pub mod Each
+pub mod Prints
+pub mod Sound
+pub mod AtEnd
+pub mod Growing
+pub mod Stepping

@@ -16,11 +16,11 @@ use Rattle.replay_world.specs.Services.{Service}
 use Rattle.replay_world.specs.Worlds.{World, booted}
 use Rattle.replay_world.specs.Plays.{MayCome}
 use Rattle.replay_world.specs.Replays.{Leads, PlaysTo, IsReplay, IsCause}
-use Rattle.replay_service.specs.Service.{service_of, IsEcho}
-use Rattle.replay_service.proofs.Determined.{determined}
+use Rattle.replay_realm.specs.Service.{service_of, IsEcho}
+use Rattle.replay_realm.proofs.Determined.{determined}
 use Rattle.replay_events.specs.declared.player.Player.{Player}
 use Rattle.replay_events.specs.Standing.{Stands}
-use Rattle.replay_lines.specs.Lines.{HasWorld, PlaysLine}
+use Rattle.replay.specs.Lines.{HasWorld, PlaysLine}
 use Rattle.replay.specs.Reading.{HasNoBoot, Continues, Stops, LeadsTo, Reads, Played, GoesNowhere, Halts}
 use Rattle.replay.specs.Departures.{BeginsWithNoBoot, HaltsBehind, StopsAt}
 use Rattle.replay.proofs.Once.{leads_more, leads_rest}

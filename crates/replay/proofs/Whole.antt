@@ -6,11 +6,11 @@ use Rattle.replay_script.specs.declared.line.Line.TheVariants as lines
 use Rattle.replay_script.specs.Lines.{line_text, text_of_lines, BeginsWith}
 use Rattle.replay_world.specs.Worlds.{booted}
 use Rattle.replay_world.specs.Replays.{Replays}
-use Rattle.replay_service.specs.Service.{service_of}
+use Rattle.replay_realm.specs.Service.{service_of}
 use Rattle.replay_events.specs.declared.player.Player.{Player}
 use Rattle.replay_events.specs.Standing.{Stands}
 use Rattle.replay_promises.specs.Laws.{ReplaysServeAll, ServesAll}
-use Rattle.replay_lines.specs.Closing.{IsLeft}
+use Rattle.replay.specs.Closing.{IsLeft}
 use Rattle.replay.specs.Reading.{Played}
 
 whole_text : (word : ℕ) (text first : List ℕ) (ls : List Line) → BeginsWith (lines.Boot word) first text → first ≡ text_of_lines ls ++ [] → text ≡ text_of_lines (lines.Boot word ∷ ls)

@@ -1,4 +1,5 @@
--- The line at which a text departs from the scripts: what stands before it is played, and there no line that may come follows.
+-- The line at which a text departs from the scripts: what stands before it is played, and there no line that may come
+-- follows. Of a text that doesn't depart, `ServesAll` says how the played script served its connections.
 use Rattle.std.specs.Prelude.{◌≡◌, ◌≢◌, ℕ, ◌+◌, List, [], ◌++◌, length, ◌⊎◌, ⊤}
 use Rattle.replay_script.specs.declared.line.Line.{Line}
 use Rattle.replay_script.specs.declared.line.Line.TheVariants.{Boot}
@@ -9,6 +10,7 @@ use Rattle.replay_world.specs.Services.{Service}
 use Rattle.replay_world.specs.Worlds.{World}
 use Rattle.replay_world.specs.Plays.{MayCome}
 use Rattle.replay_world.specs.Replays.{PlaysTo}
+pub use Rattle.replay_promises.specs.Laws.{ServesAll}
 
 -- no line with a boot word begins the text
 abbrev pub BeginsWithNoBoot : List ℕ → Type 0

@@ -9,10 +9,10 @@ use Rattle.replay_world.specs.declared.fault.ReplayFault.{ReplayFault}
 use Rattle.replay_world.specs.declared.fault.ReplayFault.TheVariants as faults
 use Rattle.replay_world.specs.Worlds.{World}
 use Rattle.replay_world.specs.Replays.{Leads}
-use Rattle.replay_service.specs.Service.{service_of}
+use Rattle.replay_realm.specs.Service.{service_of}
 use Rattle.replay_events.specs.declared.player.Player.{Player}
 use Rattle.replay_events.specs.Standing.{Stands}
-use Rattle.replay_lines.specs.Lines.{PlaysLine, BarsLine}
+use Rattle.replay.specs.Lines.{PlaysLine, BarsLine}
 
 -- it isn't such a line
 abbrev pub HasNoBoot : Line → Type 0

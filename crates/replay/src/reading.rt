@@ -3,12 +3,12 @@ ghost use Rattle.std.specs.Prelude.{◌≡◌, IfOk, IfErr, OnOk, MatchOption};
 ghost use Rattle.replay_script.specs.Lines.{BeginsWith, BeginsWithNoLine};
 ghost use Rattle.replay_script.specs.declared.line.Line.TheVariants as lines;
 ghost use Rattle.replay_world.specs.declared.fault.ReplayFault.TheVariants as faults;
-ghost use Rattle.replay_lines.specs.Lines.{HasWorld, Comes};
+ghost use Rattle.replay.specs.Lines.{HasWorld, Comes};
 ghost use Rattle.replay.specs.Departures.{BeginsWithNoBoot};
 ghost use Rattle.replay.specs.Reading.{HasNoBoot, Continues, Stops, Played, Halts};
 
+use crate::lines::play_line;
 use replay_events::Player;
-use replay_lines::play_line;
 use replay_script::{Line, next_line};
 use replay_world::ReplayFault;
 use rpc_base::NoMemory;

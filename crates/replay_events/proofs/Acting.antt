@@ -13,7 +13,7 @@ use Rattle.conn_asks.specs.declared.events.Act.TheVariants as acts
 use Rattle.conn_asks.specs.declared.events.ConnFault.{ConnFault}
 use Rattle.conn_histories.specs.Histories.{Event}
 use Rattle.conn_histories.specs.Histories.Event.{Did}
-use Rattle.conn_turns.specs.Entries.{asked_as}
+use Rattle.conn_histories.specs.Entries.{asked_as}
 use Rattle.service_desks.specs.State.{Services}
 use Rattle.replay_world.specs.declared.peer.Member.{Member}
 use Rattle.replay_world.specs.declared.peer.Unanswered.{Unanswered}
@@ -22,7 +22,7 @@ use Rattle.replay_world.specs.declared.peer.Standing.TheVariants.{Open, Closed}
 use Rattle.replay_world.specs.Worlds.{Peer, World, peer_at, past_of, home_of, journal}
 use Rattle.replay_world.specs.Groups.{CancelsIn, OrphansIn}
 use Rattle.replay_world.specs.Events.{is_word_due, awaiting, closed, OfMember, OfCall, LeavesIts, request, Requests, ActMeans, Means, HappensOn}
-use Rattle.replay_service.specs.Service.{service_of}
+use Rattle.replay_realm.specs.Service.{service_of}
 use Rattle.replay_moments.specs.Moments.{IsAs}
 use Rattle.replay_moments.proofs.Pasts.{asked_grows}
 use Rattle.replay_moments.proofs.Keep.{some_is}

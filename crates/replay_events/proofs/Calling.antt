@@ -19,13 +19,13 @@ use Rattle.handle_model.specs.Calls.{slots_in}
 use Rattle.handle_model.specs.Journal.{Legal, asked, slots, cookies_for, waits, runs, is_open, has_left, leaves, due, is_orphaned}
 use Rattle.handle_model.specs.Replies.{replies, is_lost, context_mismatch}
 use Rattle.journal_laws.proofs.ReplyStays.{denied_reply, ended_reply}
-use Rattle.conn_turns.specs.Tales.{whole}
-use Rattle.desk_calls.specs.Rows.{AreIn, HasCookies}
-use Rattle.desk_calls.specs.Rows as rows
-use Rattle.desk_calls.proofs.Taken.{taken_suit}
+use Rattle.conn_histories.specs.Tales.{whole}
+use Rattle.replay_realm.specs.Rows.{AreIn, HasCookies}
+use Rattle.replay_realm.specs.Rows as rows
+use Rattle.replay_realm.proofs.Taken.{taken_suit}
 use Rattle.manager_api.specs.Answers.{Ans}
 use Rattle.manager_api.specs.Calls.{Call as Given}
-use Rattle.served_calls.specs.Ends.{Meets}
+use Rattle.conn_histories.specs.Ends.{Meets}
 use Rattle.served_tables.specs.Served.{tables_in}
 use Rattle.service_desks.specs.State.{Services, tables_with, tables_of}
 use Rattle.service_desks.specs.Views.{services}
@@ -45,8 +45,8 @@ use Rattle.replay_world.specs.Groups.{GoesOn, taken_with}
 use Rattle.replay_world.specs.Plays.{MayAnswer, Ends}
 use Rattle.replay_world.specs.Printing.{out_text}
 use Rattle.replay_world.specs.Counting.{CountAll}
-use Rattle.load_answers.specs.Answered.{FitsPrinted}
-use Rattle.replay_service.specs.Service.{service_of}
+use Rattle.replay_world.specs.Answered.{FitsPrinted}
+use Rattle.replay_realm.specs.Service.{service_of}
 use Rattle.replay_moments.specs.Moments.{IsAs, Coheres}
 use Rattle.replay_moments.proofs.Pasts.{asked_grows}
 use Rattle.replay_moments.proofs.Keep.{some_is}

@@ -16,19 +16,19 @@ use Rattle.handle_model.specs.Journal.{Legal, asked, runs, is_open, has_left, le
 use Rattle.handle_model.specs.Replies.{replies, is_lost}
 use Rattle.handle_model.proofs.Held.{open_not_due}
 use Rattle.journal_laws.proofs.ReplyStays.{ended_reply}
-use Rattle.conn_turns.specs.Tales.{whole}
+use Rattle.conn_histories.specs.Tales.{whole}
 use Rattle.group_core.specs.declared.answer.Rest.{Rest}
 use Rattle.group_core.specs.declared.answer.Rest.TheVariants as rest
 use Rattle.group_core.specs.declared.answer.Stage.{Stage}
 use Rattle.group_core.specs.declared.answer.Stage.TheVariants as stage
 use Rattle.group_core.specs.Stages.{is_asked, stage_of}
 use Rattle.group_core.specs.Conns.{Settles}
-use Rattle.desk_calls.specs.Rows.{AreIn, HasCookies}
-use Rattle.desk_calls.specs.Rows as rows
+use Rattle.replay_realm.specs.Rows.{AreIn, HasCookies}
+use Rattle.replay_realm.specs.Rows as rows
 use Rattle.manager_api.specs.Answers.{Ans}
 use Rattle.manager_api.specs.Calls.{Call as Given}
-use Rattle.served_calls.specs.Requests.{HasSlots}
-use Rattle.served_calls.specs.Ends.{Meets}
+use Rattle.conn_histories.specs.Requests.{HasSlots}
+use Rattle.conn_histories.specs.Ends.{Meets}
 use Rattle.served_tables.specs.Served.{tables_in}
 use Rattle.service_desks.specs.State.{Services, tables_with, tables_of}
 use Rattle.service_desks.specs.Views.{services}
@@ -40,7 +40,7 @@ use Rattle.replay_world.specs.Worlds.{Peer, World, home_of, past_of, journal}
 use Rattle.replay_world.specs.Plays.{MayAnswer, Ends}
 use Rattle.replay_world.specs.Groups.{SettlesIn, taken_with}
 use Rattle.replay_world.specs.Counting.{CountAll}
-use Rattle.replay_service.specs.Service.{service_of}
+use Rattle.replay_realm.specs.Service.{service_of}
 use Rattle.replay_moments.proofs.Pasts.{open_unleft}
 use Rattle.replay_moments.proofs.Keep.{some_is}
 use Rattle.replay_moments.proofs.Lines.{ends_keep}

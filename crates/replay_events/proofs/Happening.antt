@@ -12,8 +12,8 @@ use Rattle.replay_world.specs.Worlds.{Peer, Printed, World, is_named, put_peer, 
 use Rattle.replay_world.specs.Printing.{ArePrinted, printed_text, out_text}
 use Rattle.replay_world.specs.Counting.{CountAll}
 use Rattle.replay_world.specs.Events.{Means, lived, HappensOn}
-use Rattle.load_answers.specs.Answered.{FitsPrinted}
-use Rattle.replay_service.specs.Service.{service_of}
+use Rattle.replay_world.specs.Answered.{FitsPrinted}
+use Rattle.replay_realm.specs.Service.{service_of}
 use Rattle.replay_moments.specs.Moments.{AreSound, Coheres}
 use Rattle.replay_moments.proofs.Peers.{found_name, put_found, put_others}
 use Rattle.replay_moments.proofs.Events.{events_keep}

@@ -11,8 +11,8 @@ use Rattle.replay_world.specs.Events.{LeavesIts}
 use Rattle.replay_world.specs.Plays.{Loses, lost}
 use Rattle.replay_world.specs.Printing.{out_text}
 use Rattle.replay_world.specs.Counting.{CountAll}
-use Rattle.load_answers.specs.Answered.{FitsPrinted}
-use Rattle.replay_service.specs.Service.{service_of}
+use Rattle.replay_world.specs.Answered.{FitsPrinted}
+use Rattle.replay_realm.specs.Service.{service_of}
 use Rattle.replay_moments.proofs.Lines.{loses_keep}
 use Rattle.replay_moments.proofs.Peers.{put_found, put_others}
 use Rattle.replay_peers.specs.declared.played.Played.{Played}

@@ -15,7 +15,7 @@ use Rattle.handle_model.proofs.Tests.{and_left}
 use Rattle.journal_laws.proofs.Accepted.{fresh_unasked}
 use Rattle.journal_laws.proofs.Stages.{undecided, decided_some}
 use Rattle.journal_laws.proofs.ReplyStays.{cancelled_reply, orphaned_reply, denied_reply}
-use Rattle.conn_turns.specs.Tales.{whole}
+use Rattle.conn_histories.specs.Tales.{whole}
 use Rattle.service_desks.specs.State.{Services}
 use Rattle.group_core.specs.Calls.{Cancels, Orphans}
 use Rattle.group_core.specs.declared.answer.Cancelled.TheVariants as cancels

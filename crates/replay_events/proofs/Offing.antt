@@ -16,7 +16,7 @@ use Rattle.replay_world.specs.declared.peer.Standing.TheVariants.{Closed}
 use Rattle.replay_world.specs.Worlds.{Peer, World, past_of, home_of, journal}
 use Rattle.replay_world.specs.Groups.{CancelsIn, OrphansIn, taken_with}
 use Rattle.replay_world.specs.Events.{awaiting, closed, LeavesIts}
-use Rattle.replay_service.specs.Service.{service_of}
+use Rattle.replay_realm.specs.Service.{service_of}
 use Rattle.replay_moments.proofs.Pasts.{asked_grows}
 use Rattle.replay_moments.proofs.Keep.{some_is}
 use Rattle.replay_peers.specs.declared.played.Kept.{Kept}

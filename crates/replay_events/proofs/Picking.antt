@@ -6,7 +6,7 @@ use Rattle.table_form.specs.Tables.{TableForm}
 use Rattle.rpc_base.specs.declared.identifiers.SyntaxId.{SyntaxId}
 use Rattle.handle_model.specs.declared.reply.Reply.{Reply}
 use Rattle.call_stats.specs.Numbers.{none_yet}
-use Rattle.served_calls.specs.Requests.{ids_of}
+use Rattle.conn_histories.specs.Requests.{ids_of}
 use Rattle.served_tables.specs.Served.{tables_in}
 use Rattle.service_desks.specs.Start.{at_start}
 use Rattle.service_desks.specs.State.{Services, tables_with}
@@ -14,7 +14,7 @@ use Rattle.replay_world.specs.Worlds.{Peer, World, booted, is_named, put_peer, p
 use Rattle.replay_world.specs.Plays.{Opens}
 use Rattle.replay_world.specs.Printing.{out_text}
 use Rattle.replay_world.specs.Counting.{CountAll}
-use Rattle.replay_service.specs.Service.{service_of}
+use Rattle.replay_realm.specs.Service.{service_of}
 use Rattle.replay_moments.specs.Moments.{AreSound, Coheres}
 use Rattle.replay_moments.proofs.Keep.{some_is}
 use Rattle.replay_moments.proofs.Peers.{found_name, put_found, put_others}

@@ -10,7 +10,7 @@ use Rattle.handle_model.specs.declared.entry.Entry.{Entry}
 use Rattle.handle_model.specs.declared.entry.Entry.TheVariants.{Join, Accept, Take, Deny, Cancel, Orphan, End, Leave, Shut}
 use Rattle.handle_model.specs.History.{History}
 use Rattle.handle_model.specs.Journal.{is_orphaned, cookies_for, slots}
-use Rattle.conn_turns.specs.Tales.{whole}
+use Rattle.conn_histories.specs.Tales.{whole}
 use Rattle.group_core.specs.declared.answer.Taking.{Taking}
 use Rattle.group_core.specs.declared.answer.Taking.TheVariants as taking
 use Rattle.group_core.specs.declared.answer.Cancelled.{Cancelled}

@@ -9,7 +9,7 @@ use Rattle.replay_world.specs.declared.peer.Standing.{Standing}
 use Rattle.replay_world.specs.declared.peer.Standing.TheVariants.{Open, Closed, Lost}
 use Rattle.replay_world.specs.Worlds.{Peer, World, peer_at}
 use Rattle.replay_world.specs.Events.{is_word_due, HappensOn, RestsAt, Rests, HappenOn, GoesOnAt}
-use Rattle.replay_service.specs.Service.{service_of}
+use Rattle.replay_realm.specs.Service.{service_of}
 use Rattle.replay_peers.specs.declared.played.Played.{Played}
 use Rattle.replay_events.specs.declared.player.Player.{Player}
 use Rattle.replay_events.specs.Standing.{Handles}

@@ -8,7 +8,7 @@ use Rattle.handle_model.specs.Replies.{replies}
 use Rattle.conn_histories.specs.Histories.{Decision, Event}
 use Rattle.conn_histories.specs.Histories.Event.{Decided}
 use Rattle.conn_histories.specs.Histories.Decision.{ToGroup, RefuseGroup, Reply as Answer}
-use Rattle.conn_turns.specs.Events.{word_of, has_run}
+use Rattle.conn_histories.specs.Events.{word_of, has_run}
 use Rattle.service_desks.specs.State.{Services}
 use Rattle.replay_world.specs.declared.peer.Member.{Member}
 use Rattle.replay_world.specs.declared.peer.Unanswered.{Unanswered}
@@ -17,8 +17,8 @@ use Rattle.replay_world.specs.declared.peer.Standing.TheVariants.{Open, Closed}
 use Rattle.replay_world.specs.Worlds.{Peer, World, journal}
 use Rattle.replay_world.specs.Groups.{member_for, joined}
 use Rattle.replay_world.specs.Events.{is_word_due, is_call_over, awaiting, closed, bound, Says, Decides, HappensOn}
-use Rattle.replay_service.specs.Service.{service_of}
-use Rattle.replay_binds.specs.declared.binding.BindRefusal.TheVariants as binding
+use Rattle.replay_realm.specs.Service.{service_of}
+use Rattle.replay_groups.specs.declared.binding.BindRefusal.TheVariants as binding
 use Rattle.replay_peers.specs.declared.played.Played.{Played}
 use Rattle.replay_peers.specs.Living.{IsPlayed}
 use Rattle.replay_realm.specs.declared.realm.Realm.{Realm}

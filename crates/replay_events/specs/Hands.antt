@@ -12,7 +12,7 @@ use Rattle.replay_world.specs.Worlds.{Peer, World, is_named, peer_at, journal}
 use Rattle.replay_world.specs.Groups.{GoesOn}
 use Rattle.replay_world.specs.Events.{HappensOn, GoesOnAt}
 use Rattle.replay_world.specs.Plays.{Opens, Ends, Loses}
-use Rattle.replay_service.specs.Service.{service_of}
+use Rattle.replay_realm.specs.Service.{service_of}
 use Rattle.replay_peers.specs.declared.played.Played.{Played}
 use Rattle.replay_peers.specs.Tables.{ShowAll}
 use Rattle.replay_events.specs.declared.player.Player.{Player}

@@ -11,9 +11,9 @@ use Rattle.service_desks.specs.State.{Services}
 use Rattle.replay_world.specs.declared.peer.Standing.TheVariants.{Open}
 use Rattle.replay_world.specs.Worlds.{World}
 use Rattle.replay_world.specs.Events.{is_word_due, HappensOn, Rests}
-use Rattle.replay_binds.specs.declared.binding.BindRefusal.{BindRefusal}
-use Rattle.replay_binds.specs.declared.binding.BindRefusal.TheVariants.{Refused}
-use Rattle.replay_service.specs.Service.{service_of}
+use Rattle.replay_groups.specs.declared.binding.BindRefusal.{BindRefusal}
+use Rattle.replay_groups.specs.declared.binding.BindRefusal.TheVariants.{Refused}
+use Rattle.replay_realm.specs.Service.{service_of}
 use Rattle.replay_peers.specs.declared.played.Played.{Played}
 use Rattle.replay_peers.specs.Living.{Moment, Lives, Decides}
 use Rattle.replay_events.specs.declared.player.Player.{Player}

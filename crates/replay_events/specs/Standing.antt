@@ -9,14 +9,14 @@ use Rattle.handle_model.specs.History.{History}
 use Rattle.handle_model.specs.Journal as journals
 use Rattle.handle_model.specs.Replies.{replies}
 use Rattle.service_desks.specs.State.{Services}
-use Rattle.desk_calls.specs.Rows.{AreIn}
+use Rattle.replay_realm.specs.Rows.{AreIn}
 use Rattle.replay_world.specs.declared.peer.Member.{Member}
 use Rattle.replay_world.specs.declared.peer.Unanswered.TheVariants.{Call}
 use Rattle.replay_world.specs.Worlds.{Peer, World, peer_at, journal}
 use Rattle.replay_world.specs.Groups.{taken_with}
 use Rattle.replay_world.specs.Printing.{out_text}
 use Rattle.replay_world.specs.Counting.{CountAll}
-use Rattle.load_answers.specs.Answered.{FitsPrinted}
+use Rattle.replay_world.specs.Answered.{FitsPrinted}
 use Rattle.replay_moments.specs.Moments.{Coheres}
 use Rattle.replay_peers.specs.declared.played.Kept.{Kept}
 use Rattle.replay_peers.specs.declared.played.Played.{Played}

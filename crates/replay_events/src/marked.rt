@@ -1,7 +1,7 @@
 //! A call is cancelled or orphaned.
 ghost use Rattle.std.specs.Prelude.{◌≡◌, ◌≤◌, IfOk, OnOk, ⊤};
 ghost use Rattle.replay_world.specs.Events.{LeavesIts};
-ghost use Rattle.replay_service.specs.Service.{service_of};
+ghost use Rattle.replay_realm.specs.Service.{service_of};
 ghost use Rattle.replay_realm.specs.Holding.{Known, Moves};
 ghost use Rattle.replay_events.specs.Marked as spec;
 ghost use Rattle.replay_realm.specs.Holding.{Known, Moves};

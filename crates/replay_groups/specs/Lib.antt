@@ -1,1 +1,4 @@
 pub mod Keeps
+pub mod Said
+pub mod Binds
+pub mod Laws

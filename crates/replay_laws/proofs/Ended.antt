@@ -15,8 +15,8 @@ use Rattle.manager_api.specs.declared.answer.Kept.{Kept}
 use Rattle.manager_api.specs.Answers.{Ans, AOut, AFault}
 use Rattle.call_stats.specs.Numbers.{Numbers}
 use Rattle.group_core.specs.Stages.{is_asked}
-use Rattle.served_calls.specs.Requests.{types_of, no_memory}
-use Rattle.served_calls.specs.Ends.{results_of, wires_at, with_wires, SaysStub, Says, call_with, Meets}
+use Rattle.conn_histories.specs.Requests.{types_of, no_memory}
+use Rattle.conn_histories.specs.Ends.{results_of, wires_at, with_wires, SaysStub, Says, call_with, Meets}
 use Rattle.replay_world.specs.declared.peer.Member.{Member}
 use Rattle.replay_world.specs.Services.{Service, IsDetermined}
 use Rattle.replay_world.specs.Worlds.{World, home_of, journal}

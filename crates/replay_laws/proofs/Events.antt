@@ -15,7 +15,7 @@ use Rattle.conn_histories.specs.Histories.Event.{Came, Paused, Did, Decided}
 use Rattle.conn_histories.specs.Histories.Decision.{ToGroup, RefuseGroup, Reply}
 use Rattle.conn_laws.proofs.OneAct.{one_act}
 use Rattle.conn_laws.proofs.Decided.{one_answer}
-use Rattle.conn_turns.specs.Entries.{asked_as}
+use Rattle.conn_histories.specs.Entries.{asked_as}
 use Rattle.group_core.specs.Calls.{Accepts}
 use Rattle.replay_world.specs.declared.peer.Member.{Member}
 use Rattle.replay_world.specs.declared.peer.Unanswered.{Unanswered}

@@ -7,9 +7,9 @@ use Rattle.handle_model.specs.declared.entry.Entry.TheVariants.{Accept, Deny, Sh
 use Rattle.handle_model.specs.Slots.{with_serial}
 use Rattle.handle_model.specs.History.{History, since, with_entry}
 use Rattle.handle_model.specs.Journal.{waits, blocker, fault, opened, due, filled}
-use Rattle.conn_turns.specs.declared.turn.Request.{Request}
-use Rattle.conn_turns.specs.Entries.{asked_as}
-use Rattle.conn_turns.specs.Tales.{whole}
+use Rattle.conn_histories.specs.declared.turn.Request.{Request}
+use Rattle.conn_histories.specs.Entries.{asked_as}
+use Rattle.conn_histories.specs.Tales.{whole}
 use Rattle.group_core.specs.declared.answer.Taking.{Taking}
 use Rattle.group_core.specs.declared.answer.Taking.TheVariants as taking
 use Rattle.group_core.specs.declared.answer.Cancelled.{Cancelled}

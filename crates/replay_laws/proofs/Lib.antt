@@ -8,3 +8,5 @@ pub mod Events
 pub mod Lines
 pub mod Once
 pub mod Coming
+pub mod LoadsOnce
+pub mod Replays

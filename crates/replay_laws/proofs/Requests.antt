@@ -17,8 +17,8 @@ use Rattle.ndr_model.specs.Message.{IsStub, read_stub}
 use Rattle.ndr_laws.specs.Laws.{IsOp}
 use Rattle.ndr_laws.proofs.Stubs.{one_stub, stub_found}
 use Rattle.ndr_model.specs.Faults.{fault_of, status_of}
-use Rattle.served_calls.specs.Requests.{types_in, op_in, types_of, op_of, uses_of, slots_for, IsAsked, HasSlots, IsRefused, no_memory}
-use Rattle.served_calls.specs.Requests.IsRefused.{no_operation, no_stub, no_room, full}
+use Rattle.conn_histories.specs.Requests.{types_in, op_in, types_of, op_of, uses_of, slots_for, IsAsked, HasSlots, IsRefused, no_memory}
+use Rattle.conn_histories.specs.Requests.IsRefused.{no_operation, no_stub, no_room, full}
 use Rattle.replay_world.specs.Services.{IsWhole}
 use Rattle.replay_laws.proofs.Basics.{some_is, at_index}
 

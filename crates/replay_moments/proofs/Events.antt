@@ -23,8 +23,8 @@ use Rattle.conn_asks.specs.States.{ConnState}
 use Rattle.conn_histories.specs.Histories.{Decision, Event}
 use Rattle.conn_histories.specs.Histories.Event.{Came, Paused, Did, Decided}
 use Rattle.conn_histories.specs.Histories.Decision.{ToGroup, RefuseGroup, Reply}
-use Rattle.conn_turns.specs.Entries.{asked_as}
-use Rattle.conn_turns.specs.Tales.{whole}
+use Rattle.conn_histories.specs.Entries.{asked_as}
+use Rattle.conn_histories.specs.Tales.{whole}
 use Rattle.group_core.specs.declared.answer.Rest.TheVariants as rest
 use Rattle.group_core.specs.declared.answer.Rest.{Rest}
 use Rattle.group_core.specs.Calls.{numbered}

@@ -7,7 +7,7 @@ use Rattle.handle_model.specs.Journal.{has_joined}
 use Rattle.group_core.specs.declared.answer.Taking.{Taking}
 use Rattle.group_core.specs.Calls.{Takes}
 use Rattle.conn_asks.specs.States.{ConnState}
-use Rattle.served_calls.specs.Requests.{ids_of}
+use Rattle.conn_histories.specs.Requests.{ids_of}
 use Rattle.replay_world.specs.declared.peer.Member.{Member}
 use Rattle.replay_world.specs.declared.peer.Standing.TheVariants.{Open, Lost}
 use Rattle.replay_world.specs.declared.peer.Unanswered.TheVariants.{Call}

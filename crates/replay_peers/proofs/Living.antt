@@ -18,7 +18,7 @@ use Rattle.replay_world.specs.Worlds.{Peer}
 use Rattle.replay_world.specs.Worlds.Printed.{Answered}
 use Rattle.replay_world.specs.Printing.{IsOnePdu, out_text}
 use Rattle.replay_world.specs.Counting.{ArePackets, ends_call}
-use Rattle.load_answers.specs.Answered.{FitsPrinted}
+use Rattle.replay_world.specs.Answered.{FitsPrinted}
 use Rattle.packet_counts.specs.declared.place.NewPackets.{NewPackets}
 use Rattle.packet_counts.specs.Packets.{PacketsView, at_start, Stands, AreMany, Comes}
 use Rattle.packet_counts.specs.Pieces.{ArePdus}

@@ -7,7 +7,7 @@ use Rattle.conn_asks.specs.declared.events.Act.{Act}
 use Rattle.conn_histories.specs.Histories.{act_octets}
 use Rattle.replay_world.specs.Worlds.Printed.{Answered}
 use Rattle.replay_world.specs.Printing.{IsOnePdu, out_text}
-use Rattle.load_answers.specs.Answered.{FitsPrinted}
+use Rattle.replay_world.specs.Answered.{FitsPrinted}
 
 -- the octets of an act, if there is one
 abbrev pub act_octets_of : Option Act → List ℕ

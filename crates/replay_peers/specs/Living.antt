@@ -9,7 +9,7 @@ use Rattle.conn_histories.specs.Histories.{Decision, Event, Happens, stream, put
 use Rattle.conn_histories.specs.Histories.Event.{Came, Paused, Did, Decided}
 use Rattle.replay_world.specs.Worlds.{Peer, Printed}
 use Rattle.replay_world.specs.Printing.{ArePrinted, out_text}
-use Rattle.load_answers.specs.Answered.{FitsPrinted}
+use Rattle.replay_world.specs.Answered.{FitsPrinted}
 use Rattle.replay_world.specs.Counting.{ArePackets, ends_call}
 use Rattle.replay_peers.specs.declared.played.Played.{Played}
 use Rattle.replay_peers.specs.Showing.{Shows}

@@ -7,14 +7,14 @@ use Rattle.handle_model.specs.declared.entry.Slot.{Slot}
 use Rattle.handle_model.specs.declared.entry.Said.{Said}
 use Rattle.handle_model.specs.declared.entry.Entry.{Entry}
 use Rattle.pdu_stream.specs.declared.joined.Joined.{Joined}
-use Rattle.conn_turns.specs.declared.turn.Off.{Off}
-use Rattle.conn_turns.specs.declared.turn.Fate.{Fate}
-use Rattle.conn_turns.specs.declared.turn.Deed.{Deed}
-use Rattle.conn_turns.specs.declared.turn.Turn.{Turn}
-use Rattle.conn_turns.specs.Stories.{Server}
-use Rattle.conn_turns.specs.declared.turn.Fate.TheVariants.{Waiting, Denied, Cancelled, Orphaned, LeftWaiting, Running, LeftRunning, Ended, LeftEnded}
-use Rattle.conn_turns.specs.declared.turn.Deed.TheVariants as deeds
-use Rattle.conn_turns.specs.declared.turn.Turn.TheVariants.{Answered, Closed as ClosedTurn}
+use Rattle.conn_histories.specs.declared.turn.Off.{Off}
+use Rattle.conn_histories.specs.declared.turn.Fate.{Fate}
+use Rattle.conn_histories.specs.declared.turn.Deed.{Deed}
+use Rattle.conn_histories.specs.declared.turn.Turn.{Turn}
+use Rattle.conn_histories.specs.Stories.{Server}
+use Rattle.conn_histories.specs.declared.turn.Fate.TheVariants.{Waiting, Denied, Cancelled, Orphaned, LeftWaiting, Running, LeftRunning, Ended, LeftEnded}
+use Rattle.conn_histories.specs.declared.turn.Deed.TheVariants as deeds
+use Rattle.conn_histories.specs.declared.turn.Turn.TheVariants.{Answered, Closed as ClosedTurn}
 use Rattle.conn_asks.specs.declared.events.ConnFault.{ConnFault}
 use Rattle.conn_asks.specs.declared.events.Act.{Act}
 use Rattle.conn_asks.specs.declared.events.Waits.{Waits}
@@ -22,7 +22,7 @@ use Rattle.conn_asks.specs.declared.events.Waits.TheVariants as waiting
 use Rattle.conn_asks.specs.Asks.{is_bound}
 use Rattle.conn_asks.specs.States.{ConnState, at_start, caller_of}
 use Rattle.conn_histories.specs.Histories.{Event, Happens, Lives, seen}
-use Rattle.served_calls.specs.Requests.{ids_of}
+use Rattle.conn_histories.specs.Requests.{ids_of}
 use Rattle.replay_world.specs.declared.peer.Member.{Member}
 use Rattle.replay_world.specs.declared.peer.Unanswered.{Unanswered}
 use Rattle.replay_world.specs.declared.peer.Unanswered.TheVariants.{Nothing, Bind, Refused, Call}
@@ -40,11 +40,11 @@ use Rattle.conn_asks.specs.States.{Goes}
 use Rattle.conn_laws.specs.Serving.{IsCallOff}
 use Rattle.conn_laws.proofs.Along.{one_more, put_in_order}
 use Rattle.conn_laws.proofs.Called.{calls_stay}
-use Rattle.served_calls.specs.Requests.{IsRefused}
-use Rattle.served_calls.specs.Requests.IsRefused.{no_operation, no_stub, no_room, full}
-use Rattle.conn_turns.specs.Entries.{is_orphan, asked_as, has_left, is_open, is_running, turn_left}
-use Rattle.conn_turns.specs.Events.{fate_reply, all_events}
-use Rattle.conn_turns.specs.Stories.{IsDue, Made}
+use Rattle.conn_histories.specs.Requests.{IsRefused}
+use Rattle.conn_histories.specs.Requests.IsRefused.{no_operation, no_stub, no_room, full}
+use Rattle.conn_histories.specs.Entries.{is_orphan, asked_as, has_left, is_open, is_running, turn_left}
+use Rattle.conn_histories.specs.Events.{fate_reply, all_events}
+use Rattle.conn_histories.specs.Stories.{IsDue, Made}
 use Rattle.turn_laws.proofs.TaleFacts.{any_first}
 use Rattle.turn_laws.proofs.Replying.{turns_are_replied}
 use Rattle.replay_world.specs.Events.{is_over, lived}

@@ -14,9 +14,9 @@ use Rattle.replay_moments.specs.Moments.{AreSound, Coheres}
 use Rattle.replay_world.specs.Plays.{Ends, GoesOnIfOpen, EndsAt, IfRuns, Finishes, lost}
 use Rattle.handle_model.specs.Journal.{runs}
 use Rattle.conn_asks.specs.States.{ConnState}
-use Rattle.conn_turns.specs.declared.turn.Turn.{Turn}
-use Rattle.conn_turns.specs.declared.turn.Turn.TheVariants.{Binding, Bound, NotBound, Answered, Called, Closed as ClosedTurn}
-use Rattle.conn_turns.specs.Entries.{turn_runs}
+use Rattle.conn_histories.specs.declared.turn.Turn.{Turn}
+use Rattle.conn_histories.specs.declared.turn.Turn.TheVariants.{Binding, Bound, NotBound, Answered, Called, Closed as ClosedTurn}
+use Rattle.conn_histories.specs.Entries.{turn_runs}
 use Rattle.replay_script.specs.declared.line.Line.{Line}
 use Rattle.replay_script.specs.declared.line.Line.TheVariants.{Boot}
 use Rattle.replay_world.specs.Replays.{name_of, names_of, Leads, LosesIfOpen, LosesAll, FinishesAll, PlaysTo, EndsAs}

@@ -4,11 +4,11 @@ use Rattle.std.specs.List.{list_any}
 use Rattle.handle_model.specs.declared.entry.Asked.{Asked}
 use Rattle.handle_model.specs.declared.entry.Entry.{Entry}
 use Rattle.handle_model.specs.declared.entry.Entry.TheVariants.{Join, Accept, Take, Deny, Cancel, Orphan, End, Leave, Shut}
-use Rattle.conn_turns.specs.declared.turn.Off.{Off}
-use Rattle.conn_turns.specs.declared.turn.Off.TheVariants as off
-use Rattle.conn_turns.specs.declared.turn.Fate.TheVariants.{Running, LeftRunning}
-use Rattle.conn_turns.specs.Entries.{is_cancel, is_orphan, marks, fate_entries}
-use Rattle.conn_turns.specs.Tales.{is_about, tale}
+use Rattle.conn_histories.specs.declared.turn.Off.{Off}
+use Rattle.conn_histories.specs.declared.turn.Off.TheVariants as off
+use Rattle.conn_histories.specs.declared.turn.Fate.TheVariants.{Running, LeftRunning}
+use Rattle.conn_histories.specs.Entries.{is_cancel, is_orphan, marks, fate_entries}
+use Rattle.conn_histories.specs.Tales.{is_about, tale}
 use Rattle.replay_world.specs.Groups.{taken_with}
 use Rattle.turn_laws.proofs.TaleFacts.{same_number}
 use Rattle.turn_laws.proofs.MarkFacts.{ran, ran_is}

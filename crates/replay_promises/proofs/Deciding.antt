@@ -5,13 +5,13 @@ use Rattle.handle_model.specs.declared.entry.Entry.{Entry}
 use Rattle.handle_model.specs.declared.entry.Entry.TheVariants.{Join}
 use Rattle.handle_model.specs.Bases.{empty_base}
 use Rattle.pdu_stream.specs.declared.joined.Joined.{Joined}
-use Rattle.conn_turns.specs.declared.turn.Off.{Off}
-use Rattle.conn_turns.specs.declared.turn.Deed.{Deed}
-use Rattle.conn_turns.specs.declared.turn.Turn.{Turn}
-use Rattle.conn_turns.specs.Stories.{Server}
-use Rattle.conn_turns.specs.Tales.{whole}
-use Rattle.conn_turns.specs.declared.turn.Deed.TheVariants as deeds
-use Rattle.conn_turns.specs.declared.turn.Turn.TheVariants.{Binding, Bound, NotBound}
+use Rattle.conn_histories.specs.declared.turn.Off.{Off}
+use Rattle.conn_histories.specs.declared.turn.Deed.{Deed}
+use Rattle.conn_histories.specs.declared.turn.Turn.{Turn}
+use Rattle.conn_histories.specs.Stories.{Server}
+use Rattle.conn_histories.specs.Tales.{whole}
+use Rattle.conn_histories.specs.declared.turn.Deed.TheVariants as deeds
+use Rattle.conn_histories.specs.declared.turn.Turn.TheVariants.{Binding, Bound, NotBound}
 use Rattle.conn_asks.specs.declared.events.Act.TheVariants as acts
 use Rattle.conn_asks.specs.Asks.{is_bound}
 use Rattle.conn_asks.specs.States.{ConnState}
@@ -37,8 +37,8 @@ use Rattle.handle_model.specs.Journal.{Legal, has_joined, join_count}
 use Rattle.handle_model.specs.Limits.{join_limit}
 use Rattle.handle_model.specs.Replies.{replies}
 use Rattle.handle_model.proofs.Held.{joined_within}
-use Rattle.conn_turns.specs.Events.{fate_reply, word_of, has_run, acts_off, all_events}
-use Rattle.conn_turns.specs.Stories.{IsItsGroup, Made}
+use Rattle.conn_histories.specs.Events.{fate_reply, word_of, has_run, acts_off, all_events}
+use Rattle.conn_histories.specs.Stories.{IsItsGroup, Made}
 use Rattle.turn_laws.proofs.TaleFacts.{same_number}
 use Rattle.replay_world.specs.Worlds.{goes_on, is_open_group, open_groups}
 use Rattle.replay_world.specs.Promised.{WasFull, WasCrowded, MayRefuse}

@@ -7,16 +7,16 @@ use Rattle.handle_model.specs.declared.entry.Entry.{Entry}
 use Rattle.handle_model.specs.declared.entry.Entry.TheVariants.{Leave}
 use Rattle.handle_model.specs.History.{History}
 use Rattle.pdu_stream.specs.declared.joined.Joined.{Joined}
-use Rattle.conn_turns.specs.declared.turn.Off.{Off}
-use Rattle.conn_turns.specs.declared.turn.Off.TheVariants as off
-use Rattle.conn_turns.specs.declared.turn.Fate.{Fate}
-use Rattle.conn_turns.specs.declared.turn.Deed.{Deed}
-use Rattle.conn_turns.specs.declared.turn.Turn.{Turn}
-use Rattle.conn_turns.specs.Stories.{Server}
-use Rattle.conn_turns.specs.Tales.{whole}
-use Rattle.conn_turns.specs.declared.turn.Fate.TheVariants.{Waiting, Denied, Cancelled, Orphaned, LeftWaiting, Running, LeftRunning, Ended, LeftEnded}
-use Rattle.conn_turns.specs.declared.turn.Deed.TheVariants as deeds
-use Rattle.conn_turns.specs.declared.turn.Turn.TheVariants.{Binding, Bound, NotBound, Answered, Called, Closed as ClosedTurn}
+use Rattle.conn_histories.specs.declared.turn.Off.{Off}
+use Rattle.conn_histories.specs.declared.turn.Off.TheVariants as off
+use Rattle.conn_histories.specs.declared.turn.Fate.{Fate}
+use Rattle.conn_histories.specs.declared.turn.Deed.{Deed}
+use Rattle.conn_histories.specs.declared.turn.Turn.{Turn}
+use Rattle.conn_histories.specs.Stories.{Server}
+use Rattle.conn_histories.specs.Tales.{whole}
+use Rattle.conn_histories.specs.declared.turn.Fate.TheVariants.{Waiting, Denied, Cancelled, Orphaned, LeftWaiting, Running, LeftRunning, Ended, LeftEnded}
+use Rattle.conn_histories.specs.declared.turn.Deed.TheVariants as deeds
+use Rattle.conn_histories.specs.declared.turn.Turn.TheVariants.{Binding, Bound, NotBound, Answered, Called, Closed as ClosedTurn}
 use Rattle.conn_asks.specs.declared.events.ConnFault.{ConnFault}
 use Rattle.conn_asks.specs.declared.events.Act.TheVariants as acts
 use Rattle.conn_asks.specs.declared.events.Waits.TheVariants as waiting
@@ -24,7 +24,7 @@ use Rattle.conn_asks.specs.Asks.{is_bound}
 use Rattle.conn_asks.specs.States.{ConnState, caller_of}
 use Rattle.conn_histories.specs.Histories.{Event, Happens, seen}
 use Rattle.conn_histories.specs.Histories.Event.{Did}
-use Rattle.served_calls.specs.Requests.{ids_of}
+use Rattle.conn_histories.specs.Requests.{ids_of}
 use Rattle.group_core.specs.declared.answer.Cancelled.{Cancelled as CancelAnswer}
 use Rattle.group_core.specs.declared.answer.Orphaned.{Orphaned as OrphanAnswer}
 use Rattle.group_core.specs.declared.answer.Rest.{Rest}
@@ -45,9 +45,9 @@ use Rattle.handle_model.specs.Journal.{has_joined}
 use Rattle.handle_model.specs.Limits.{accept_limit}
 use Rattle.conn_laws.specs.Serving.{IsCallOff}
 use Rattle.conn_laws.proofs.Called.{calls_stay, others_free}
-use Rattle.conn_turns.specs.Entries.{asked_as, is_open, has_left, deed_open}
-use Rattle.conn_turns.specs.Events.{act_off, acts_off, all_events}
-use Rattle.conn_turns.specs.Stories.{WasFull, Made}
+use Rattle.conn_histories.specs.Entries.{asked_as, is_open, has_left, deed_open}
+use Rattle.conn_histories.specs.Events.{act_off, acts_off, all_events}
+use Rattle.conn_histories.specs.Stories.{WasFull, Made}
 use Rattle.turn_laws.specs.Steps.{left_turns, left_fate, left_deed, OnlyNewestOpen}
 use Rattle.turn_laws.proofs.TaleFacts.{asked_in}
 use Rattle.replay_moments.proofs.Pasts.{joined_grows}

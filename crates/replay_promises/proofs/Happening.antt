@@ -21,9 +21,9 @@ use Rattle.replay_world.specs.Groups.{member_for, CancelsIn, OrphansIn}
 use Rattle.replay_world.specs.Events.{is_over, is_word_due, awaiting, closed, bound, OfMember, OfCall, LeavesIts, Requests, ActMeans, Says, Decides, Means, lived, HappensOn, RestsAt, HappenOn, GoesOnAt}
 use Rattle.replay_world.specs.Promised.{as_server}
 use Rattle.handle_model.specs.Replies.{replies}
-use Rattle.conn_turns.specs.declared.turn.Turn.{Turn}
-use Rattle.conn_turns.specs.Events.{all_events}
-use Rattle.conn_turns.specs.Stories.{Made}
+use Rattle.conn_histories.specs.declared.turn.Turn.{Turn}
+use Rattle.conn_histories.specs.Events.{all_events}
+use Rattle.conn_histories.specs.Stories.{Made}
 use Rattle.replay_moments.proofs.Peers.{found_name, put_found, put_others}
 use Rattle.replay_moments.proofs.Events.{events_keep}
 use Rattle.turn_steps.proofs.Hearing.{bound_stays, paused_waits}

@@ -20,7 +20,7 @@ use Rattle.pdu_codec.specs.Pdus.{AreSpelled}
 use Rattle.conn_histories.specs.Histories.{Event, stream, put}
 use Rattle.conn_histories.specs.Histories.Event.{Came, Paused, Did, Decided}
 use Rattle.conn_laws.proofs.Along.{put_in_order}
-use Rattle.served_calls.specs.Requests.{ids_of}
+use Rattle.conn_histories.specs.Requests.{ids_of}
 use Rattle.replay_world.specs.Worlds.Printed.{Answered, Waits, Idle}
 use Rattle.replay_world.specs.Printing.{IsOnePdu, ArePrinted, answered_in, answered_on}
 use Rattle.replay_world.specs.Events.{lived, HappensOn, RestsAt, HappenOn, GoesOnAt}

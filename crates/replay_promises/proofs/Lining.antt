@@ -19,14 +19,14 @@ use Rattle.group_core.specs.Calls.{Takes}
 use Rattle.handle_model.specs.Journal.{runs, has_joined, is_open as is_open_in}
 use Rattle.pdu_stream.specs.Cuts.{IsPartial}
 use Rattle.conn_histories.specs.Histories.Event.{Came}
-use Rattle.served_calls.specs.Requests.{ids_of}
-use Rattle.conn_turns.specs.declared.turn.Fate.{Fate}
-use Rattle.conn_turns.specs.declared.turn.Fate.TheVariants as fates
-use Rattle.conn_turns.specs.declared.turn.Deed.TheVariants as deeds
-use Rattle.conn_turns.specs.declared.turn.Turn.{Turn}
-use Rattle.conn_turns.specs.Entries.{is_open, has_left}
-use Rattle.conn_turns.specs.Events.{all_events}
-use Rattle.conn_turns.specs.Stories.{Made}
+use Rattle.conn_histories.specs.Requests.{ids_of}
+use Rattle.conn_histories.specs.declared.turn.Fate.{Fate}
+use Rattle.conn_histories.specs.declared.turn.Fate.TheVariants as fates
+use Rattle.conn_histories.specs.declared.turn.Deed.TheVariants as deeds
+use Rattle.conn_histories.specs.declared.turn.Turn.{Turn}
+use Rattle.conn_histories.specs.Entries.{is_open, has_left}
+use Rattle.conn_histories.specs.Events.{all_events}
+use Rattle.conn_histories.specs.Stories.{Made}
 use Rattle.turn_laws.specs.Steps.{left_fate, OnlyNewestOpen}
 use Rattle.replay_script.specs.declared.line.Line.{Line}
 use Rattle.replay_script.specs.declared.line.Line.TheVariants as lines

@@ -33,7 +33,7 @@ use Rattle.replay_world.specs.Groups.{group_for, with_group_for, next_conn, join
 use Rattle.replay_world.specs.Events.{OfMember, OfCall, LeavesIts, Requests, ActMeans, Says, Decides, Means}
 use Rattle.handle_model.specs.Journal.{Legal, Allowed, due, cookies_for, slots}
 use Rattle.handle_model.specs.Limits.{join_limit}
-use Rattle.conn_turns.specs.Tales.{whole}
+use Rattle.conn_histories.specs.Tales.{whole}
 use Rattle.replay_world.specs.Promised.{WasCrowded}
 use Rattle.replay_moments.proofs.Pasts.{Grows, stays, grows_twice, at_set}
 

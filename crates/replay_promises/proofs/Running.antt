@@ -8,14 +8,14 @@ use Rattle.handle_model.specs.declared.entry.Asked.{Asked}
 use Rattle.handle_model.specs.declared.entry.Entry.{Entry}
 use Rattle.handle_model.specs.declared.entry.Entry.TheVariants.{Join, End}
 use Rattle.pdu_stream.specs.declared.joined.Joined.{Joined}
-use Rattle.conn_turns.specs.declared.turn.Off.{Off}
-use Rattle.conn_turns.specs.declared.turn.Fate.{Fate}
-use Rattle.conn_turns.specs.declared.turn.Turn.{Turn}
-use Rattle.conn_turns.specs.Stories.{Server}
-use Rattle.conn_turns.specs.Tales.{whole}
-use Rattle.conn_turns.specs.declared.turn.Fate.TheVariants.{Waiting, Denied, Cancelled, Orphaned, LeftWaiting, Running, LeftRunning, Ended, LeftEnded}
-use Rattle.conn_turns.specs.declared.turn.Deed.TheVariants as deeds
-use Rattle.conn_turns.specs.declared.turn.Turn.TheVariants.{Binding, Bound, NotBound, Answered, Called, Closed as ClosedTurn}
+use Rattle.conn_histories.specs.declared.turn.Off.{Off}
+use Rattle.conn_histories.specs.declared.turn.Fate.{Fate}
+use Rattle.conn_histories.specs.declared.turn.Turn.{Turn}
+use Rattle.conn_histories.specs.Stories.{Server}
+use Rattle.conn_histories.specs.Tales.{whole}
+use Rattle.conn_histories.specs.declared.turn.Fate.TheVariants.{Waiting, Denied, Cancelled, Orphaned, LeftWaiting, Running, LeftRunning, Ended, LeftEnded}
+use Rattle.conn_histories.specs.declared.turn.Deed.TheVariants as deeds
+use Rattle.conn_histories.specs.declared.turn.Turn.TheVariants.{Binding, Bound, NotBound, Answered, Called, Closed as ClosedTurn}
 use Rattle.replay_world.specs.declared.peer.Member.{Member}
 use Rattle.replay_world.specs.declared.peer.Unanswered.{Unanswered}
 use Rattle.replay_world.specs.declared.peer.Unanswered.TheVariants.{Nothing, Call}
@@ -32,11 +32,11 @@ use Rattle.handle_model.specs.Journal.{has_joined, runs}
 use Rattle.conn_asks.specs.States.{ConnState, caller_of}
 use Rattle.conn_asks.specs.declared.events.Waits.TheVariants as waiting
 use Rattle.group_core.specs.Stages.{is_asked}
-use Rattle.served_calls.specs.Ends.{Meets}
-use Rattle.conn_turns.specs.Entries.{is_cancel, has_left, is_open, is_running, asked_as, turn_left, turn_runs, fate_entries}
-use Rattle.conn_turns.specs.Events.{all_events}
-use Rattle.conn_turns.specs.Stories.{Made}
-use Rattle.conn_turns.specs.Tales.{Stands}
+use Rattle.conn_histories.specs.Ends.{Meets}
+use Rattle.conn_histories.specs.Entries.{is_cancel, has_left, is_open, is_running, asked_as, turn_left, turn_runs, fate_entries}
+use Rattle.conn_histories.specs.Events.{all_events}
+use Rattle.conn_histories.specs.Stories.{Made}
+use Rattle.conn_histories.specs.Tales.{Stands}
 use Rattle.turn_laws.proofs.TaleFacts.{any_first}
 use Rattle.replay_world.specs.Groups.{GoesOn}
 use Rattle.replay_world.specs.Plays.{Ends}

@@ -17,12 +17,12 @@ use Rattle.conn_asks.specs.States.{ConnState}
 use Rattle.conn_histories.specs.Histories.{stream, put}
 use Rattle.conn_histories.specs.Plays.{negotiated_at_start}
 use Rattle.conn_laws.proofs.Asking.{each_asks}
-use Rattle.served_calls.specs.Requests.{ids_of}
-use Rattle.conn_turns.specs.declared.turn.Turn.{Turn}
-use Rattle.conn_turns.specs.declared.turn.Turn.TheVariants.{Binding, Bound, NotBound, Answered, Called, Closed as ClosedTurn}
-use Rattle.conn_turns.specs.Entries.{turn_runs}
-use Rattle.conn_turns.specs.Tales.{StandAll}
-use Rattle.conn_turns.specs.Answers.{Answers}
+use Rattle.conn_histories.specs.Requests.{ids_of}
+use Rattle.conn_histories.specs.declared.turn.Turn.{Turn}
+use Rattle.conn_histories.specs.declared.turn.Turn.TheVariants.{Binding, Bound, NotBound, Answered, Called, Closed as ClosedTurn}
+use Rattle.conn_histories.specs.Entries.{turn_runs}
+use Rattle.conn_histories.specs.Tales.{StandAll}
+use Rattle.conn_histories.specs.Answers.{Answers}
 use Rattle.turn_answers.specs.Laws.{IsOver, IsAllAsked}
 use Rattle.turn_answers.proofs.Answering.{stories_answer}
 use Rattle.replay_script.specs.declared.line.Line.{Line}

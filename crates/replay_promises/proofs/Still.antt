@@ -18,7 +18,7 @@ use Rattle.replay_world.specs.Services.{Service}
 use Rattle.replay_world.specs.Worlds.{Peer, World}
 use Rattle.replay_world.specs.Groups.{joined, GoesOn, CancelsIn, OrphansIn, CancelsMarked, SettlesIn}
 use Rattle.replay_world.specs.Events.{LeavesIts, request, Requests, ActMeans, Says, Decides, Means}
-use Rattle.conn_turns.specs.Entries.{asked_as}
+use Rattle.conn_histories.specs.Entries.{asked_as}
 use Rattle.replay_promises.proofs.Reaching.{of_member, of_call}
 
 -- the connections and what was printed

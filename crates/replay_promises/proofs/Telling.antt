@@ -7,17 +7,17 @@ use Rattle.handle_model.specs.declared.entry.Home.{Home}
 use Rattle.handle_model.specs.declared.entry.Slot.{Slot}
 use Rattle.handle_model.specs.declared.entry.Entry.{Entry}
 use Rattle.pdu_stream.specs.declared.joined.Joined.{Joined}
-use Rattle.conn_turns.specs.declared.turn.Off.{Off}
-use Rattle.conn_turns.specs.declared.turn.Fate.{Fate}
-use Rattle.conn_turns.specs.declared.turn.Turn.{Turn}
-use Rattle.conn_turns.specs.Tales.{whole}
-use Rattle.conn_turns.specs.declared.turn.Deed.TheVariants as deeds
+use Rattle.conn_histories.specs.declared.turn.Off.{Off}
+use Rattle.conn_histories.specs.declared.turn.Fate.{Fate}
+use Rattle.conn_histories.specs.declared.turn.Turn.{Turn}
+use Rattle.conn_histories.specs.Tales.{whole}
+use Rattle.conn_histories.specs.declared.turn.Deed.TheVariants as deeds
 use Rattle.conn_asks.specs.declared.events.Waits.{Waits}
 use Rattle.conn_asks.specs.declared.events.Waits.TheVariants as waiting
 use Rattle.conn_asks.specs.Asks.{is_bound}
 use Rattle.conn_asks.specs.States.{ConnState, at_start, caller_of, IsGrouping}
 use Rattle.conn_histories.specs.Histories.{Lives, IsAtRest, seen}
-use Rattle.served_calls.specs.Requests.{ids_of}
+use Rattle.conn_histories.specs.Requests.{ids_of}
 use Rattle.replay_world.specs.declared.peer.Member.{Member}
 use Rattle.replay_world.specs.declared.peer.Unanswered.{Unanswered}
 use Rattle.replay_world.specs.declared.peer.Unanswered.TheVariants.{Nothing, Bind, Refused, Call}
@@ -27,11 +27,11 @@ use Rattle.replay_world.specs.Services.{Service}
 use Rattle.replay_world.specs.Worlds.{Peer, World, home_of, past_of}
 use Rattle.rpc_base.specs.declared.identifiers.Status.{Status}
 use Rattle.handle_model.specs.Journal.{Legal, has_joined}
-use Rattle.conn_turns.specs.declared.turn.Turn.TheVariants.{Binding, Called}
-use Rattle.conn_turns.specs.Entries.{has_left, is_open, deed_open, deed_runs, turn_open, numbers_of}
-use Rattle.conn_turns.specs.Events.{all_events}
-use Rattle.conn_turns.specs.Stories.{AllDue, Made}
-use Rattle.conn_turns.specs.Tales.{Stands}
+use Rattle.conn_histories.specs.declared.turn.Turn.TheVariants.{Binding, Called}
+use Rattle.conn_histories.specs.Entries.{has_left, is_open, deed_open, deed_runs, turn_open, numbers_of}
+use Rattle.conn_histories.specs.Events.{all_events}
+use Rattle.conn_histories.specs.Stories.{AllDue, Made}
+use Rattle.conn_histories.specs.Tales.{Stands}
 use Rattle.turn_steps.specs.Done.{IsDone}
 use Rattle.replay_world.specs.Promised.{as_server}
 use Rattle.turn_steps.proofs.Making.{called, made_stays}

@@ -8,10 +8,10 @@ use Rattle.replay_world.specs.declared.peer.Member.{Member}
 use Rattle.replay_world.specs.Worlds.{World}
 use Rattle.replay_world.specs.Groups.{joined, joined_in}
 use Rattle.replay_groups.specs.Keeps.{Keeps}
-use Rattle.replay_binds.specs.declared.binding.BindRefusal.{BindRefusal}
-use Rattle.replay_binds.specs.declared.binding.BindRefusal.TheVariants.{Refused, Memory}
-use Rattle.replay_binds.specs.Binds.{AreKept, Binds}
-use Rattle.replay_binds.proofs.Worlds.{joined_there, refused_there}
+use Rattle.replay_groups.specs.declared.binding.BindRefusal.{BindRefusal}
+use Rattle.replay_groups.specs.declared.binding.BindRefusal.TheVariants.{Refused, Memory}
+use Rattle.replay_groups.specs.Binds.{AreKept, Binds}
+use Rattle.replay_groups.proofs.Worlds.{joined_there, refused_there}
 use Rattle.replay_realm.specs.declared.realm.Realm.{Realm}
 use Rattle.replay_realm.specs.Holding.{Holds, Frames, Moves, BindsIn, Known}
 

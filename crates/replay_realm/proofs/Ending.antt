@@ -16,19 +16,19 @@ use Rattle.group_core.specs.declared.answer.Rest.{Rest}
 use Rattle.group_core.specs.Conns.{Settles}
 use Rattle.group_core.specs.Stages.{is_asked}
 use Rattle.hub_story.proofs.WholeLemmas.{runs_kept}
-use Rattle.served_calls.specs.Requests.{no_memory}
-use Rattle.served_calls.specs.Ends.{Meets}
+use Rattle.conn_histories.specs.Requests.{no_memory}
+use Rattle.conn_histories.specs.Ends.{Meets}
 use Rattle.served_tables.specs.Served.{tables_in}
 use Rattle.service_desks.specs.State.{Services, tables_with}
 use Rattle.service_desks.specs.Views.{services}
-use Rattle.desk_calls.specs.Rows.{AreIn, MayAnswer}
+use Rattle.replay_realm.specs.Rows.{AreIn, MayAnswer}
 use Rattle.replay_world.specs.declared.peer.Member.{Member}
 use Rattle.replay_world.specs.Services.{RunsDown}
 use Rattle.replay_world.specs.Worlds.{World, journal, home_of}
 use Rattle.replay_groups.specs.Keeps.{GroupsView, home_in, whole_of, past_at, Keeps, Has, Told, Answers}
 use Rattle.replay_groups.specs.Keeps as groups
 use Rattle.replay_groups.proofs.Keeping.{here_is, sound_is}
-use Rattle.replay_service.specs.Service.{service_of}
+use Rattle.replay_realm.specs.Service.{service_of}
 use Rattle.replay_realm.specs.declared.realm.Realm.{Realm}
 use Rattle.replay_realm.specs.Holding.{Holds, Moves, Known}
 use Rattle.replay_realm.specs.Ends.{EndsIn}

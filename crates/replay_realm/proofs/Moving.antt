@@ -10,7 +10,7 @@ use Rattle.handle_model.specs.History.{History}
 use Rattle.table_form.specs.Tables.{TableForm}
 use Rattle.group_core.specs.declared.answer.Rest.{Rest}
 use Rattle.group_core.specs.Conns.{Settles}
-use Rattle.served_calls.specs.Requests.{no_memory}
+use Rattle.conn_histories.specs.Requests.{no_memory}
 use Rattle.served_tables.specs.Served.{tables_in}
 use Rattle.service_desks.specs.State.{Services, tables_with, tables_of}
 use Rattle.service_desks.specs.Views.{services}
@@ -19,7 +19,7 @@ use Rattle.replay_world.specs.Worlds.{World, with_past}
 use Rattle.replay_world.specs.Groups.{SettlesIn}
 use Rattle.replay_groups.specs.Keeps.{GroupsView, whole_of, past_at, Answers}
 use Rattle.replay_groups.specs.Keeps as groups
-use Rattle.replay_service.specs.Service.{service_of}
+use Rattle.replay_realm.specs.Service.{service_of}
 use Rattle.replay_realm.specs.declared.realm.Realm.{Realm}
 use Rattle.replay_realm.specs.Holding.{Holds, Frames, Moves, Going, Known}
 

@@ -22,12 +22,12 @@ use Rattle.group_core.specs.declared.answer.AcceptRefusal.{AcceptRefusal}
 use Rattle.group_core.specs.declared.answer.AcceptRefusal.TheVariants.{Calls, Handles, Numbers, Memory}
 use Rattle.group_core.specs.Adds.{Adds}
 use Rattle.group_core.specs.Calls.{Accepts, numbered}
-use Rattle.served_calls.specs.Requests.{IsRefused, HasSlots, too_busy, no_memory}
-use Rattle.served_calls.specs.Requests.IsRefused.{no_operation, no_stub, no_room, full}
+use Rattle.conn_histories.specs.Requests.{IsRefused, HasSlots, too_busy, no_memory}
+use Rattle.conn_histories.specs.Requests.IsRefused.{no_operation, no_stub, no_room, full}
 use Rattle.served_call.specs.Suited.{never_full, Opened}
 use Rattle.served_call.specs.Laws.{NumberedStay}
-use Rattle.conn_turns.specs.Entries.{asked_as}
-use Rattle.conn_turns.specs.Tales.{whole}
+use Rattle.conn_histories.specs.Entries.{asked_as}
+use Rattle.conn_histories.specs.Tales.{whole}
 use Rattle.served_tables.specs.Served.{tables_in}
 use Rattle.service_desks.specs.State.{Services, tables_with}
 use Rattle.service_desks.specs.Views.{services}
@@ -37,8 +37,8 @@ use Rattle.replay_world.specs.Events.{request}
 use Rattle.replay_groups.specs.Keeps.{GroupsView, whole_of, past_at, Keeps, Has, Answers, Told}
 use Rattle.replay_groups.specs.Keeps as groups
 use Rattle.replay_groups.proofs.Keeping.{length_from, sound_is}
-use Rattle.replay_binds.proofs.Asking.{has_where}
-use Rattle.replay_service.specs.Service.{service_of}
+use Rattle.replay_groups.proofs.Asking.{has_where}
+use Rattle.replay_realm.specs.Service.{service_of}
 use Rattle.replay_realm.specs.declared.realm.Realm.{Realm}
 use Rattle.replay_realm.specs.declared.request.Requested.{Requested}
 use Rattle.replay_realm.specs.declared.request.Requested.TheVariants.{Refused, Accepted}

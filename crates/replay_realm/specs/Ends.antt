@@ -8,14 +8,14 @@ use Rattle.handle_model.specs.declared.entry.Entry.TheVariants.{End}
 use Rattle.table_form.specs.Tables.{TableForm}
 use Rattle.call_stats.specs.Numbers.{Numbers}
 use Rattle.group_core.specs.Stages.{is_asked}
-use Rattle.served_calls.specs.Requests.{no_memory}
-use Rattle.served_calls.specs.Ends.{Meets}
+use Rattle.conn_histories.specs.Requests.{no_memory}
+use Rattle.conn_histories.specs.Ends.{Meets}
 use Rattle.service_desks.specs.State.{Services, tables_with}
-use Rattle.desk_calls.specs.Rows.{AreIn, MayAnswer}
+use Rattle.replay_realm.specs.Rows.{AreIn, MayAnswer}
 use Rattle.replay_world.specs.declared.peer.Member.{Member}
 use Rattle.replay_world.specs.Worlds.{World, home_of, journal}
 use Rattle.replay_world.specs.Groups.{SettlesIn}
-use Rattle.replay_service.specs.Service.{service_of}
+use Rattle.replay_realm.specs.Service.{service_of}
 
 -- A running call ends as its manager answers it, with the cookies of its Take.
 pub record EndsIn (m : Member) (k : ℕ) (a : Asked) (row : List (Option ℕ)) (numbers : Numbers) (said : Said) (echo : Option TableForm) (w v : World Services) : Type 0 where

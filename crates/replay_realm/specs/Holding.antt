@@ -9,8 +9,8 @@ use Rattle.replay_world.specs.declared.peer.Member.{Member}
 use Rattle.replay_world.specs.Worlds.{World}
 use Rattle.replay_world.specs.Groups.{GoesOn, bind_refusal, member_for, joined}
 use Rattle.replay_groups.specs.Keeps.{Keeps}
-use Rattle.replay_binds.specs.declared.binding.BindRefusal.{BindRefusal}
-use Rattle.replay_binds.specs.declared.binding.BindRefusal.TheVariants.{Refused, Memory}
+use Rattle.replay_groups.specs.declared.binding.BindRefusal.{BindRefusal}
+use Rattle.replay_groups.specs.declared.binding.BindRefusal.TheVariants.{Refused, Memory}
 use Rattle.replay_realm.specs.declared.realm.Realm.{Realm}
 
 -- the groups keep the world's journals, the desks keep what they keep there, and the interfaces are the services'

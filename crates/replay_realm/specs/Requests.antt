@@ -7,14 +7,14 @@ use Rattle.pdu_stream.specs.declared.joined.Joined.{Joined}
 use Rattle.table_form.specs.Tables.{TableForm}
 use Rattle.group_core.specs.declared.answer.AcceptRefusal.{AcceptRefusal}
 use Rattle.group_core.specs.declared.answer.AcceptRefusal.TheVariants.{Memory}
-use Rattle.served_calls.specs.Requests.{HasSlots, too_busy}
-use Rattle.conn_turns.specs.Entries.{asked_as}
+use Rattle.conn_histories.specs.Requests.{HasSlots, too_busy}
+use Rattle.conn_histories.specs.Entries.{asked_as}
 use Rattle.service_desks.specs.State.{Services, tables_with}
 use Rattle.replay_world.specs.declared.peer.Member.{Member}
 use Rattle.replay_world.specs.Worlds.{World, journal}
 use Rattle.replay_world.specs.Groups.{AcceptsIn}
 use Rattle.replay_world.specs.Events.{request, RefusesRequest}
-use Rattle.replay_service.specs.Service.{service_of}
+use Rattle.replay_realm.specs.Service.{service_of}
 use Rattle.replay_realm.specs.declared.request.Requested.{Requested}
 use Rattle.replay_realm.specs.declared.request.Requested.TheVariants.{Refused, Accepted}
 

@@ -2,7 +2,7 @@
 ghost use Rattle.std.specs.Prelude.{⊤};
 
 use crate::realm::Realm;
-use replay_binds::{BindRefusal, bind};
+use replay_groups::{BindRefusal, bind};
 use replay_world::Member;
 
 impl Realm {

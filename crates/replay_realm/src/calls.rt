@@ -6,7 +6,7 @@ ghost use Rattle.replay_groups.specs.Keeps.{Told};
 
 use crate::realm::Realm;
 use group_core::{Cancelled, Orphaned, Stage, Taking};
-use replay_binds::{goes_on, has, stage};
+use replay_groups::{goes_on, has, stage};
 use replay_world::Member;
 use rpc_base::NoMemory;
 

@@ -4,10 +4,10 @@ ghost use Rattle.handle_model.specs.Journal.{is_open};
 ghost use Rattle.handle_model.specs.declared.entry.Entry.TheVariants.{Leave};
 ghost use Rattle.replay_world.specs.Groups.{SettlesIn};
 ghost use Rattle.replay_world.specs.Worlds.{journal};
-ghost use Rattle.replay_service.specs.Service.{service_of};
+ghost use Rattle.replay_realm.specs.Service.{service_of};
 
 use crate::realm::{Realm, settle};
-use replay_binds::goes_on;
+use replay_groups::goes_on;
 use replay_world::Member;
 use rpc_base::NoMemory;
 

@@ -10,13 +10,12 @@ ghost use Rattle.load_counts.specs.Counting.{Tells};
 ghost use Rattle.replay_world.specs.Worlds.{World, booted};
 ghost use Rattle.replay_world.specs.Services.{RunsDown};
 ghost use Rattle.replay_world.specs.Replays.{log_text};
-ghost use Rattle.replay_service.specs.Service.{service_of};
+ghost use Rattle.replay_realm.specs.Service.{service_of};
 
+use crate::run_down;
 use group_core::Rest;
 use load_counts::Counts;
-use replay_binds::log;
-use replay_groups::Groups;
-use replay_service::run_down;
+use replay_groups::{Groups, log};
 use rpc_base::NoMemory;
 use served_tables::Served;
 use service_desks::ServiceDesks;

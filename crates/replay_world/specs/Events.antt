@@ -16,11 +16,11 @@ use Rattle.conn_asks.specs.States.{ConnState}
 use Rattle.conn_histories.specs.Histories.{Decision, Event, Happens, put}
 use Rattle.conn_histories.specs.Histories.Event.{Came, Paused, Did, Decided}
 use Rattle.conn_histories.specs.Histories.Decision.{ToGroup, RefuseGroup, Reply as Answer}
-use Rattle.served_calls.specs.Requests.{HasSlots, IsRefused, no_memory}
-use Rattle.conn_turns.specs.declared.turn.Request.{Request}
-use Rattle.conn_turns.specs.declared.turn.Deed.TheVariants as deeds
-use Rattle.conn_turns.specs.Entries.{asked_as}
-use Rattle.conn_turns.specs.Events.{word_of, has_run}
+use Rattle.conn_histories.specs.Requests.{HasSlots, IsRefused, no_memory}
+use Rattle.conn_histories.specs.declared.turn.Request.{Request}
+use Rattle.conn_histories.specs.declared.turn.Deed.TheVariants as deeds
+use Rattle.conn_histories.specs.Entries.{asked_as}
+use Rattle.conn_histories.specs.Events.{word_of, has_run}
 use Rattle.replay_world.specs.declared.peer.Member.{Member}
 use Rattle.replay_world.specs.declared.peer.Unanswered.{Unanswered}
 use Rattle.replay_world.specs.declared.peer.Unanswered.TheVariants.{Nothing, Bind, Refused, Call}

@@ -7,7 +7,7 @@ use Rattle.handle_model.specs.declared.limits.JoinLimit.{JoinLimit}
 use Rattle.handle_model.specs.History.{History}
 use Rattle.handle_model.specs.Journal.{join_count}
 use Rattle.handle_model.specs.Limits.{join_limit}
-use Rattle.conn_turns.specs.Tales.{whole}
+use Rattle.conn_histories.specs.Tales.{whole}
 use Rattle.group_core.specs.declared.answer.Cancelled.{Cancelled}
 use Rattle.group_core.specs.declared.answer.Orphaned.{Orphaned}
 use Rattle.group_core.specs.declared.answer.Rest.{Rest}

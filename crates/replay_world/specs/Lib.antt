@@ -7,3 +7,4 @@ pub mod Events
 pub mod Plays
 pub mod Replays
 pub mod Promised
+pub mod Answered

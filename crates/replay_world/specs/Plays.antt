@@ -14,8 +14,8 @@ use Rattle.group_core.specs.declared.answer.Taking.{Taking}
 use Rattle.group_core.specs.declared.answer.Taking.TheVariants as taking
 use Rattle.group_core.specs.Calls.{Takes}
 use Rattle.group_core.specs.Stages.{is_asked}
-use Rattle.served_calls.specs.Requests.{ids_of, no_memory}
-use Rattle.served_calls.specs.Ends.{Meets}
+use Rattle.conn_histories.specs.Requests.{ids_of, no_memory}
+use Rattle.conn_histories.specs.Ends.{Meets}
 use Rattle.replay_script.specs.declared.line.Line.{Line}
 use Rattle.replay_script.specs.declared.line.Line.TheVariants as lines
 use Rattle.replay_world.specs.declared.peer.Unanswered.{Unanswered}

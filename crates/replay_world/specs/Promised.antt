@@ -8,11 +8,11 @@ use Rattle.conn_asks.specs.declared.events.Ask.{Ask}
 use Rattle.conn_asks.specs.Asks.{AreAsksOf}
 use Rattle.conn_histories.specs.Histories.{stream, put}
 use Rattle.conn_histories.specs.Plays.{negotiated_at_start}
-use Rattle.conn_turns.specs.declared.turn.Turn.{Turn}
-use Rattle.conn_turns.specs.Stories.{Server, AllDue, Finished}
-use Rattle.conn_turns.specs.Tales.{whole}
-use Rattle.conn_turns.specs.Answers.{Answers}
-use Rattle.served_calls.specs.Requests.{ids_of}
+use Rattle.conn_histories.specs.declared.turn.Turn.{Turn}
+use Rattle.conn_histories.specs.Stories.{Server, AllDue, Finished}
+use Rattle.conn_histories.specs.Tales.{whole}
+use Rattle.conn_histories.specs.Answers.{Answers}
+use Rattle.conn_histories.specs.Requests.{ids_of}
 use Rattle.replay_script.specs.declared.line.Line.{Line}
 use Rattle.replay_script.specs.declared.line.Line.TheVariants.{Send}
 use Rattle.replay_world.specs.declared.peer.Member.{Member}

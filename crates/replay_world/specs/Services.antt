@@ -9,7 +9,7 @@ use Rattle.manager_api.specs.Calls.{Call}
 use Rattle.call_stats.specs.Numbers.{Numbers}
 use Rattle.group_core.specs.declared.answer.Rest.{Rest}
 use Rattle.group_core.specs.declared.answer.Rest.TheVariants as rest
-use Rattle.served_calls.specs.Requests.{op_of, no_memory}
+use Rattle.conn_histories.specs.Requests.{op_of, no_memory}
 
 -- The tables of the interfaces; what the desks keep, and what that is before the first line; what they may answer to a
 -- call, and what they then keep, where these are the numbers of calls and packets so far and the call was cancelled or

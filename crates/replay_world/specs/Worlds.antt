@@ -9,7 +9,7 @@ use Rattle.handle_model.specs.Entries.{is_shut}
 use Rattle.handle_model.specs.History.{History}
 use Rattle.conn_asks.specs.States.{ConnState, at_start}
 use Rattle.conn_histories.specs.Histories.{Event}
-use Rattle.conn_turns.specs.Tales.{whole}
+use Rattle.conn_histories.specs.Tales.{whole}
 use Rattle.replay_world.specs.declared.peer.Member.{Member}
 use Rattle.replay_world.specs.declared.peer.Unanswered.{Unanswered}
 use Rattle.replay_world.specs.declared.peer.Unanswered.TheVariants.{Nothing}

@@ -48,7 +48,7 @@ one_interface text a b i j = i.table_is ∙ ap table_of (text_one text i.tree j.
 
 -- the file of which something is made is one that the command takes
 pub made_of_its_texts : (echo : Option TableForm) (command : Command) (text out log : List ℕ) → Makes echo command text out log → IsTextFor echo command text
-made_of_its_texts echo Replay text out log m = record { lines = m.lines; fits = m.fits; script = (m.ends.last, m.ends.plays); text = m.written }
+made_of_its_texts echo Replay text out log m = record { lines = m.replays.lines; fits = m.replays.fits; script = (m.replays.ends.last, m.replays.ends.plays); text = m.replays.written }
 made_of_its_texts echo Idl text out log m = (m.0.tree, m.0.idl, m.0.checked)
 made_of_its_texts echo Audit text out log m = good_text text out m.0
 

@@ -11,7 +11,7 @@ use Rattle.rpc_app.specs.Runs.{Gains, GainsFront, Serves, RefusesText}
 use Rattle.rpc_app.specs.Obeys.{Shelf, Output, IsKept, Put, TellsText, IsTaken, NoneFailed}
 use Rattle.rpc_app.specs.Serving.{Doorway, IsUnused, IsSilent, PutBoth, PutInPart, IsPut, RefusesInterface, NoDoorFailed, HasServedWith, HasServed, ServesWith, ServesFor}
 use Rattle.service_desks.specs.State.{tables_with}
-use Rattle.locked_desks.specs.Calls.{May}
+use Rattle.serve_command.specs.Serves.{May}
 use Rattle.rpc_app.proofs.Told.{text_refused, text_served}
 use Rattle.serve_command.proofs.Statuses.{IsServed, rose, served}
 

@@ -13,10 +13,10 @@ use Rattle.table_laws.specs.Interfaces.{tabled}
 use Rattle.rpc_app.specs.declared.command.Command.{Command}
 use Rattle.rpc_app.specs.declared.command.Command.TheVariants.{Replay, Idl, Audit}
 use Rattle.rpc_app.specs.Audits.{AreGood, IsAudited, HasBreach, DepartsAtJournalLine}
-use Rattle.replay_world.specs.Replays.{IsReplay, Replays}
+use Rattle.replay_world.specs.Replays.{IsReplay}
 use Rattle.replay_world.specs.declared.fault.ReplayFault.TheVariants as script_faults
-use Rattle.replay.specs.Departures.{StopsAt}
-use Rattle.replay_service.specs.Service.{service_of}
+use Rattle.replay.specs.Departures.{StopsAt, ServesAll}
+use Rattle.replay_realm.specs.Service.{service_of}
 
 -- the longest file that it takes: 64 MiB of a script or of journals, 1 MiB of an interface text
 abbrev pub limit : Command → ℕ
@@ -42,10 +42,11 @@ pub record IsInterface (text : List ℕ) (table : TableForm) : Type 0 where
   pub checked : NoneBroken tree
   pub table_is : table ≡ tabled tree
 
--- what a command makes of a file: a script is replayed, with the built-in interfaces and that of an echo, if there is one; of an
--- interface text the canonical text is put on out, of journals that are legal and settled the verdicts
+-- what a command makes of a file: a script is replayed and each of its connections served, with the built-in interfaces and
+-- that of an echo, if there is one; of an interface text the canonical text is put on out, of journals that are legal and
+-- settled the verdicts
 abbrev pub Makes : Option TableForm → Command → List ℕ → List ℕ → List ℕ → Type 0
-Makes echo Replay text out log = Replays (service_of echo) text out log
+Makes echo Replay text out log = ServesAll (service_of echo) text out log
 Makes echo Idl text out log = IsPrinted text out × (log ≡ [])
 Makes echo Audit text out log = IsAudited text out × (log ≡ [])
 

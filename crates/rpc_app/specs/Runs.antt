@@ -5,8 +5,8 @@ use Rattle.rpc_base.specs.Shelves.{Files, HasFile}
 use Rattle.table_form.specs.Tables.{TableForm}
 use Rattle.rpc_app.specs.declared.command.Command.{Command}
 use Rattle.rpc_app.specs.declared.command.Command.TheVariants.{Idl}
-use Rattle.replay_service.specs.Service.{service_of}
-use Rattle.load_laws.specs.Loads.{IsSummary}
+use Rattle.replay_realm.specs.Service.{service_of}
+use Rattle.replay_laws.specs.Loads.{IsSummary}
 use Rattle.rpc_app.specs.Asks.{FileTask, Task, OfFile, OfLoad}
 use Rattle.rpc_app.specs.Commands.{limit, IsInterface, Makes, Refuses}
 

@@ -10,7 +10,7 @@ use Rattle.rpc_app.specs.Asks.{ServeTask}
 use Rattle.rpc_app.specs.Runs.{Gains, GainsFront, EndsEarly, Growth, Serves, RefusesText}
 use Rattle.rpc_app.specs.Obeys.{Shelf, Output, IsKept, Put, TellsText, IsTaken, NoneFailed}
 use Rattle.service_desks.specs.State.{tables_with}
-use Rattle.locked_desks.specs.Calls.{May}
+use Rattle.serve_command.specs.Serves.{May}
 use Rattle.serve_command.specs.Serves as command
 
 -- what a door counted and told before, and counts and tells now

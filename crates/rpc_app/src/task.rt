@@ -2,8 +2,8 @@
 ghost use Rattle.std.specs.Prelude.{◌≡◌, ◌+◌, ◌<◌, ◌≤◌, ◌^◌, [], Some, None, option_map, IfOk, IfErr};
 ghost use Rattle.table_form.specs.Shown.{shown};
 ghost use Rattle.service_desks.specs.Shows.{shown_by};
-ghost use Rattle.replay_service.specs.Service.{service_of};
-ghost use Rattle.load_laws.specs.Loads.{IsSummary};
+ghost use Rattle.replay_realm.specs.Service.{service_of};
+ghost use Rattle.replay_laws.specs.Loads.{IsSummary};
 ghost use Rattle.rpc_app.specs.Asks.{IsInRange};
 ghost use Rattle.rpc_app.specs.Making.{WhyNot, WhyNotFile, WhyNotFiles, WhyNotTask};
 ghost use Rattle.rpc_app.specs.Runs.{IsLoaded, IsTooLong, MakesOf, ServesText, Serves, RefusesText, DoesFiles, DoesTask};
@@ -156,7 +156,7 @@ fn load_done(alloc: Global, number: u64, steps: u32) -> Result<Replayed, TaskFau
     ensures log { IfOk result (λ r. r.log ≡ []) }
     ensures fault { IfErr result (λ e. e ≡ TaskFault.Memory) }
 {
-    let text = load_player::load(alloc, number, steps)?;
+    let text = replay::load(alloc, number, steps)?;
     Ok(Replayed {
         out: Octets::from_vec(text),
         log: Octets::new(alloc),

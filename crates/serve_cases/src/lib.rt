@@ -8,8 +8,14 @@ mod departs;
 #[cfg(test)]
 mod held;
 #[cfg(test)]
+mod in_logs;
+#[cfg(test)]
+mod in_rounds;
+#[cfg(test)]
 mod journals;
 #[cfg(test)]
 mod links;
+#[cfg(test)]
+mod over_links;
 #[cfg(test)]
 mod served;

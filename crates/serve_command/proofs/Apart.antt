@@ -29,7 +29,7 @@ use Rattle.server_rounds.specs.declared.round.Round.{Round}
 use Rattle.server_rounds.specs.Passes.{StartsFrom}
 use Rattle.server_rounds.specs.Served.{IsSettled, finished_of}
 use Rattle.server_rounds.specs.Rounds.{IsRound, passes}
-use Rattle.round_laws.specs.Endings.{HasConn}
+use Rattle.server_rounds.specs.Endings.{HasConn}
 use Rattle.serve_command.specs.Groups.{AreApart}
 use Rattle.serve_command.proofs.Journals.{any_kept}
 use Rattle.serve_command.proofs.Groups.{low_shard, sound_in}

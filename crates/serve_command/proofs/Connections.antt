@@ -23,8 +23,8 @@ use Rattle.group_hub.specs.declared.hub.Hub.{Hub}
 use Rattle.group_hub.specs.declared.pass.Pass.{Pass}
 use Rattle.group_hub.specs.Shards.{shard_of}
 use Rattle.group_hub.specs.Passes.{at_shard, IsPassOf}
-use Rattle.group_joins.specs.Joins.{Was, NoRoom, IsRefusedFor}
-use Rattle.conn_turns.specs.Tales.{whole}
+use Rattle.server_ends.specs.Joins.{Was, NoRoom, IsRefusedFor}
+use Rattle.conn_histories.specs.Tales.{whole}
 use Rattle.server_ends.specs.Finishes.{Refuses, AsMember, Alone, FinishesAs}
 use Rattle.server_rounds.specs.declared.settled.Settled.{Settled}
 use Rattle.server_rounds.specs.declared.round.Round.{Round}

@@ -19,14 +19,14 @@ use Rattle.group_hub.specs.declared.pass.Pass.{Pass}
 use Rattle.group_hub.specs.Shards.{shard_of}
 use Rattle.group_hub.specs.Passes.{at_shard, IsPassOf}
 use Rattle.group_hub.proofs.ListLemmas.{some_item}
-use Rattle.conn_turns.specs.Tales.{whole, of_conn}
+use Rattle.conn_histories.specs.Tales.{whole, of_conn}
 use Rattle.server_ends.specs.Finishes.{AsMember, FinishesAs}
 use Rattle.server_rounds.specs.declared.settled.Settled.{Settled}
 use Rattle.server_rounds.specs.declared.round.Round.{Round}
 use Rattle.server_rounds.specs.Served.{IsSettled, finished_of}
 use Rattle.server_rounds.specs.Rounds.{IsRound, passes}
-use Rattle.round_laws.specs.Endings.{HasConn, IsThere}
-use Rattle.round_laws.proofs.Groups.{groups_end}
+use Rattle.server_rounds.specs.Endings.{HasConn, IsThere}
+use Rattle.server_rounds.proofs.Groups.{groups_end}
 use Rattle.hub_journals.specs.Logs.{Copy, IsCopy, front_at}
 use Rattle.serve_command.specs.Groups.{printed_past, EndsWithShut, EndsIfOurs}
 use Rattle.serve_command.proofs.Journals.{there, any_kept, shut_ends}

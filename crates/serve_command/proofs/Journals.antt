@@ -9,8 +9,8 @@ use Rattle.handle_model.specs.declared.entry.Entry.TheVariants.{Join, Accept, Ta
 use Rattle.handle_model.specs.Since.{any_since}
 use Rattle.handle_model.specs.Journal.{Legal, joins, leaves, is_shut, is_open, has_joined, asked}
 use Rattle.handle_model.proofs.Held.{and_left, or_right, or_cases}
-use Rattle.conn_turns.specs.Tales.{whole}
-use Rattle.round_laws.specs.Endings.{IsThere}
+use Rattle.conn_histories.specs.Tales.{whole}
+use Rattle.server_rounds.specs.Endings.{IsThere}
 use Rattle.serve_command.specs.Groups.{EndsWithShut}
 
 pub there : (p : Entry → Bool) (newer older : List Entry) → list_any p older ≡ true → list_any p (newer ++ older) ≡ true

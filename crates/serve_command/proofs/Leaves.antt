@@ -14,16 +14,16 @@ use Rattle.handle_model.specs.Entries.{is_shut}
 use Rattle.handle_model.specs.Journal.{Legal, leaves, has_joined}
 use Rattle.handle_model.proofs.Held.{and_right, or_right, or_cases}
 use Rattle.hub_story.specs.declared.item.Item.{Item}
-use Rattle.conn_turns.specs.declared.turn.Off.{Off}
-use Rattle.conn_turns.specs.declared.turn.Fate.{Fate}
-use Rattle.conn_turns.specs.declared.turn.Fate.TheVariants.{Waiting, Denied, Cancelled, Orphaned, LeftWaiting, Running, LeftRunning, Ended, LeftEnded}
-use Rattle.conn_turns.specs.declared.turn.Deed.{Deed}
-use Rattle.conn_turns.specs.declared.turn.Deed.TheVariants.{Pending, Refused, Accepted}
-use Rattle.conn_turns.specs.declared.turn.Request.{Request}
-use Rattle.conn_turns.specs.declared.turn.Turn.{Turn}
-use Rattle.conn_turns.specs.declared.turn.Turn.TheVariants.{Called}
-use Rattle.conn_turns.specs.Entries.{asked_as, fate_entries, deed_entries, all_entries, has_left, deed_left, turn_left, story_entries}
-use Rattle.conn_turns.specs.Tales.{whole}
+use Rattle.conn_histories.specs.declared.turn.Off.{Off}
+use Rattle.conn_histories.specs.declared.turn.Fate.{Fate}
+use Rattle.conn_histories.specs.declared.turn.Fate.TheVariants.{Waiting, Denied, Cancelled, Orphaned, LeftWaiting, Running, LeftRunning, Ended, LeftEnded}
+use Rattle.conn_histories.specs.declared.turn.Deed.{Deed}
+use Rattle.conn_histories.specs.declared.turn.Deed.TheVariants.{Pending, Refused, Accepted}
+use Rattle.conn_histories.specs.declared.turn.Request.{Request}
+use Rattle.conn_histories.specs.declared.turn.Turn.{Turn}
+use Rattle.conn_histories.specs.declared.turn.Turn.TheVariants.{Called}
+use Rattle.conn_histories.specs.Entries.{asked_as, fate_entries, deed_entries, all_entries, has_left, deed_left, turn_left, story_entries}
+use Rattle.conn_histories.specs.Tales.{whole}
 use Rattle.serve_command.proofs.Journals.{there}
 use Rattle.serve_command.proofs.Names.{same_number}
 

@@ -26,7 +26,7 @@ use Rattle.group_hub.specs.declared.pass.Pass.{Pass}
 use Rattle.group_hub.specs.Shards.{shard_of}
 use Rattle.group_hub.specs.Passes.{at_shard, IsPassOf}
 use Rattle.group_hub.proofs.ListLemmas.{some_item}
-use Rattle.conn_turns.specs.Tales.{whole}
+use Rattle.conn_histories.specs.Tales.{whole}
 use Rattle.server_rounds.specs.declared.settled.Settled.{Settled}
 use Rattle.server_rounds.specs.declared.round.Round.{Round}
 use Rattle.server_rounds.specs.Served.{IsSettled}

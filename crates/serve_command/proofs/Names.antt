@@ -19,8 +19,8 @@ use Rattle.fold_laws.specs.FoldOf.{StandsFor}
 use Rattle.fold_laws.proofs.Alike.{folds_stand}
 use Rattle.hub_story.specs.Folded.{kept_since}
 use Rattle.hub_story.proofs.FoldLemmas.{kept_folds}
-use Rattle.conn_turns.specs.Tales.{whole}
-use Rattle.round_laws.specs.Endings.{IsThere}
+use Rattle.conn_histories.specs.Tales.{whole}
+use Rattle.server_rounds.specs.Endings.{IsThere}
 use Rattle.serve_command.specs.Groups.{Names}
 
 -- ---- who is open is among the connections

@@ -8,7 +8,7 @@ use Rattle.manager_api.specs.Answers.{Ans}
 use Rattle.manager_api.specs.Calls.{Call}
 use Rattle.hub_story.specs.Histories.{home_of}
 use Rattle.hub_journals.specs.Logs.{Copy, journal_of}
-use Rattle.conn_turns.specs.Stories.{AllDue}
+use Rattle.conn_histories.specs.Stories.{AllDue}
 use Rattle.server_ends.specs.Finishes.{serving, Alone}
 use Rattle.server_rounds.specs.declared.settled.Settled.{Settled}
 use Rattle.server_rounds.specs.Served.{finished_of}

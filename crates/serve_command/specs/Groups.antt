@@ -8,7 +8,7 @@ use Rattle.handle_model.specs.History.{History}
 use Rattle.handle_model.specs.Journal.{joins}
 use Rattle.hub_story.specs.Histories.{past_in}
 use Rattle.server_rounds.specs.declared.settled.Settled.{Settled}
-use Rattle.round_laws.specs.Endings.{HasConn}
+use Rattle.server_rounds.specs.Endings.{HasConn}
 use Rattle.hub_journals.specs.Logs.{Copy, journal_of}
 
 -- the whole journal of which a copy was printed, the newest entry first

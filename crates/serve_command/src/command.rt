@@ -2,15 +2,15 @@
 ghost use Rattle.std.specs.Prelude.{◌≤◌, IfOk, IfErr};
 ghost use Rattle.service_desks.specs.Shows.{shown_by};
 ghost use Rattle.service_desks.specs.State.{tables_with};
-ghost use Rattle.locked_desks.specs.Calls.{May};
+ghost use Rattle.server_rounds.specs.Desks.{May};
 ghost use Rattle.serve_command.specs.Serves.{Serves, IsWhy};
 
 use crate::over::serve_over;
 use crate::printed::Printed;
 use call_stats::Tally;
-use desk_service::DeskService;
 use rpc_base::OutFault;
 use rpc_outside::{Address, Door, Link};
+use server_rounds::DeskService;
 use std::alloc::Global;
 use std::sync::{Arc, Wait};
 use std::thread::Threads;

@@ -20,8 +20,8 @@ use Rattle.manager_api.specs.declared.answer.Kept.{Kept}
 use Rattle.manager_api.specs.declared.answer.Kept.TheVariants.{Stays, Cookie, Null}
 use Rattle.manager_api.specs.Answers.{Ans, AOut, AFault}
 use Rattle.manager_api.specs.Calls.{Owes, uses_at, is_given, has_cookies, is_stays, has_kepts}
-use Rattle.served_calls.specs.Requests.{kind_in, opening, slot_for, slots_for}
-use Rattle.served_calls.specs.Ends.{outcome_of, outcomes_of, unchanged, all_unchanged, results_of, row_of}
+use Rattle.conn_histories.specs.Requests.{kind_in, opening, slot_for, slots_for}
+use Rattle.conn_histories.specs.Ends.{outcome_of, outcomes_of, unchanged, all_unchanged, results_of, row_of}
 use Rattle.served_call.specs.Suited.{suit_cookies, IsFor}
 use Rattle.served_call.specs.Laws.{ResultsSuit, CookiesAreGiven, KeptsAreForSlots, NumberedStay}
 use Rattle.served_call.proofs.Wires.{both, inward_in, wires_are}

@@ -19,11 +19,11 @@ use Rattle.ndr_model.specs.Message.{IsStub}
 use Rattle.ndr_laws.specs.Laws.{IsOp, OneMessage}
 use Rattle.ndr_laws.proofs.Stubs.{one_stub}
 use Rattle.ndr_model.specs.Fits.{IsOfOp}
-use Rattle.ndr_written.proofs.Stubs.{stub_suits}
+use Rattle.ndr_codec.proofs.Fitting.{stub_suits}
 use Rattle.manager_api.specs.Answers.{Ans}
 use Rattle.manager_api.specs.Calls.{Call, Owes, uses_at}
-use Rattle.served_calls.specs.Requests.{types_in, op_in, uses_in, uses_of, IsAsked, HasSlots, slots_for}
-use Rattle.served_calls.specs.Ends.{row_of, results_of}
+use Rattle.conn_histories.specs.Requests.{types_in, op_in, uses_in, uses_of, IsAsked, HasSlots, slots_for}
+use Rattle.conn_histories.specs.Ends.{row_of, results_of}
 use Rattle.served_tables.specs.Calls.{IsCall, Owed}
 use Rattle.served_call.specs.Suited.{suit_cookies}
 use Rattle.served_call.proofs.Cookies.{cookies_are_given, kepts_are_for_slots, results_suit}

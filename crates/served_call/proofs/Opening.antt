@@ -16,7 +16,7 @@ use Rattle.table_form.specs.Tables.{OpForm, TableForm, IsTable}
 use Rattle.ndr_model.specs.declared.way.Way.TheVariants.{Request}
 use Rattle.ndr_model.specs.Message.{IsStub}
 use Rattle.manager_api.specs.Calls.{uses_at, uses_or}
-use Rattle.served_calls.specs.Requests.{kind_in, opening, slot_for, slots_for, types_in, op_in, uses_in, HasSlots, IsAsked}
+use Rattle.conn_histories.specs.Requests.{kind_in, opening, slot_for, slots_for, types_in, op_in, uses_in, HasSlots, IsAsked}
 use Rattle.served_call.specs.Suited.{Opened}
 use Rattle.served_call.proofs.Wires.{all_at}
 

@@ -15,7 +15,7 @@ use Rattle.ndr_model.specs.Message.{read_stub}
 use Rattle.ndr_model.specs.declared.fault.NdrFault.{NdrFault}
 use Rattle.ndr_model.specs.declared.fault.NdrFault.TheVariants.{Short, Bound, Tag, Pointer, Text, TooDeep, Trailing, Memory}
 use Rattle.ndr_model.specs.Faults.{IsFault, fault_of, status_of}
-use Rattle.served_calls.specs.Requests.{types_in, op_in, IsRefused, no_operation, no_stub, no_room, full}
+use Rattle.conn_histories.specs.Requests.{types_in, op_in, IsRefused, no_operation, no_stub, no_room, full}
 
 -- a refusal stays one, whichever groups are full
 pub grows : (tables : List TableForm) (iface op : ℕ) (order : Order) (stub : List ℕ) (Few Full : List Slot → Type 0) (status : Status)

@@ -10,8 +10,8 @@ use Rattle.table_form.specs.Tables.{OpForm, TableForm}
 use Rattle.ndr_model.specs.declared.way.Way.TheVariants.{Response}
 use Rattle.ndr_model.specs.Written.{stub}
 use Rattle.manager_api.specs.Answers.{Ans, AOut, AFault}
-use Rattle.served_calls.specs.Requests.{types_in, op_in, op_of}
-use Rattle.served_calls.specs.Ends.{Says, SaysStub, wires_at, with_wires}
+use Rattle.conn_histories.specs.Requests.{types_in, op_in, op_of}
+use Rattle.conn_histories.specs.Ends.{Says, SaysStub, wires_at, with_wires}
 use Rattle.served_call.specs.Said.{SaysAt}
 
 says_same : (home : Home) (tables : List TableForm) (t : TableForm) (a : Asked) (o : OpForm) (m : Msg) (results : List Outcome) (answer : Ans) (said : Said)

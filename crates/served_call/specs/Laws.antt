@@ -11,8 +11,8 @@ use Rattle.ndr_model.specs.declared.way.Way.TheVariants.{Request}
 use Rattle.ndr_model.specs.Fits.{IsOfOp}
 use Rattle.manager_api.specs.Answers.{Ans}
 use Rattle.manager_api.specs.Calls.{Owes, has_cookies, uses_at}
-use Rattle.served_calls.specs.Requests.{HasSlots, slots_for}
-use Rattle.served_calls.specs.Ends.{results_of, row_of}
+use Rattle.conn_histories.specs.Requests.{HasSlots, slots_for}
+use Rattle.conn_histories.specs.Ends.{results_of, row_of}
 use Rattle.served_call.specs.Suited.{suit_cookies, IsFor}
 
 -- what becomes of the handles suits the slots, where cookies and answer do

@@ -9,7 +9,7 @@ use Rattle.table_form.specs.Tables.{OpForm, TableForm}
 use Rattle.ndr_model.specs.declared.way.Way.TheVariants.{Response}
 use Rattle.ndr_model.specs.Written.{stub}
 use Rattle.manager_api.specs.Answers.{Ans, AOut, AFault}
-use Rattle.served_calls.specs.Ends.{SaysStub, with_wires}
+use Rattle.conn_histories.specs.Ends.{SaysStub, with_wires}
 
 -- the octets of the response with these handles, as that of the operation to a request, or why there are none; or the fault
 abbrev pub SaysAt : TableForm → OpForm → Order → Msg → List WireHandle → Ans → Said → Type 0

@@ -8,7 +8,7 @@ use Rattle.handle_model.specs.Slots.{opens, with_serial}
 use Rattle.table_form.specs.Tables.{TableForm}
 use Rattle.manager_api.specs.declared.answer.Kept.{Kept}
 use Rattle.manager_api.specs.Answers.{Ans, AOut, AFault}
-use Rattle.served_calls.specs.Requests.{HasSlots, IsRefused}
+use Rattle.conn_histories.specs.Requests.{HasSlots, IsRefused}
 
 -- one cookie for each slot, which is there exactly where the slot names a handle
 abbrev pub suit_cookies : List Slot → List (Option ℕ) → Bool

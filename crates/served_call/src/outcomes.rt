@@ -1,7 +1,7 @@
 //! What becomes of the handles of a call.
 ghost use Rattle.std.specs.Prelude.{◌≡◌, ◌+◌, ◌≤◌, ◌++◌, vec_len, vec_capacity, length};
 ghost use Rattle.manager_api.specs.Answers.{ans};
-ghost use Rattle.served_calls.specs.Ends as spec;
+ghost use Rattle.conn_histories.specs.Ends as spec;
 ghost use Rattle.served_call.specs.Suited.{IsFor};
 
 use handle_model::{Outcome, Outcomes, Slot};

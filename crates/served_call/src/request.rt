@@ -3,7 +3,7 @@ ghost use Rattle.std.specs.Prelude.{◌≡◌, IfOk, List, slice_get, Some};
 ghost use Rattle.ndr_value.specs.Values.{msg};
 ghost use Rattle.table_form.specs.Shown.{shown};
 ghost use Rattle.table_form.specs.Tables.{TableForm};
-ghost use Rattle.served_calls.specs.Requests.{HasSlots, IsAsked};
+ghost use Rattle.conn_histories.specs.Requests.{HasSlots, IsAsked};
 ghost use Rattle.served_tables.specs.Served.{tables_in};
 ghost use Rattle.served_call.specs.Suited.{ComesTo};
 

@@ -1,6 +1,6 @@
 //! The slots of a request.
 ghost use Rattle.std.specs.Prelude.{◌≡◌, ◌+◌, ◌*◌, ◌^◌, ◌++◌, OnOk, IfOk};
-ghost use Rattle.served_calls.specs.Requests as spec;
+ghost use Rattle.conn_histories.specs.Requests as spec;
 
 use handle_model::{Slot, Slots};
 use rpc_base::{NoMemory, WireHandle};

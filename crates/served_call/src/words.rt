@@ -6,7 +6,7 @@ ghost use Rattle.table_form.specs.Tables.{OpForm};
 ghost use Rattle.ndr_model.specs.declared.way.Way.TheVariants.{Response};
 ghost use Rattle.ndr_model.specs.Written.{stub};
 ghost use Rattle.manager_api.specs.Answers.{ans};
-ghost use Rattle.served_calls.specs.Ends as spec;
+ghost use Rattle.conn_histories.specs.Ends as spec;
 ghost use Rattle.served_call.specs.Said.{SaysAt};
 
 use handle_model::{Asked, Home, Outcome, Said, Slot};

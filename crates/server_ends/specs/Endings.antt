@@ -11,9 +11,9 @@ use Rattle.conn_asks.specs.declared.events.ConnFault.TheVariants.{Nak}
 use Rattle.conn_asks.specs.declared.events.Ask.{Ask}
 use Rattle.conn_asks.specs.Asks.{AreAsksOf}
 use Rattle.conn_histories.specs.Plays.{negotiated_at_start}
-use Rattle.conn_turns.specs.declared.turn.Turn.{Turn}
-use Rattle.conn_turns.specs.declared.turn.Turn.TheVariants.{NotBound, Closed}
-use Rattle.conn_turns.specs.Answers.{Answers}
+use Rattle.conn_histories.specs.declared.turn.Turn.{Turn}
+use Rattle.conn_histories.specs.declared.turn.Turn.TheVariants.{NotBound, Closed}
+use Rattle.conn_histories.specs.Answers.{Answers}
 use Rattle.rpc_outside.specs.Links.{Shown, IsNothing}
 use Rattle.server_ends.specs.declared.ended.Ending.{Ending}
 use Rattle.server_ends.specs.declared.ended.Ending.TheVariants as ending

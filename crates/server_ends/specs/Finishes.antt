@@ -7,18 +7,18 @@ use Rattle.rpc_outside.specs.Links.{Shown}
 use Rattle.table_form.specs.Tables.{TableForm}
 use Rattle.manager_api.specs.Answers.{Ans}
 use Rattle.manager_api.specs.Calls.{Call}
-use Rattle.served_calls.specs.Requests.{ids_of}
+use Rattle.conn_histories.specs.Requests.{ids_of}
 use Rattle.hub_story.specs.declared.item.Item.{Item}
 use Rattle.hub_story.specs.Histories.{home_of, past_in}
 use Rattle.group_hub.specs.declared.pass.Pass.{Pass}
 use Rattle.group_hub.specs.Shards.{shard_of}
 use Rattle.group_hub.specs.Passes.{at_shard}
 use Rattle.shard.specs.declared.answer.Retired.{Retired}
-use Rattle.group_joins.specs.Owning.{Grown}
-use Rattle.group_joins.specs.Joins.{IsRefusedFor}
-use Rattle.conn_turns.specs.declared.turn.Turn.{Turn}
-use Rattle.conn_turns.specs.Stories.{Server, AllDue}
-use Rattle.conn_turns.specs.Stories as stories
+use Rattle.server_ends.specs.Owning.{Grown}
+use Rattle.server_ends.specs.Joins.{IsRefusedFor}
+use Rattle.conn_histories.specs.declared.turn.Turn.{Turn}
+use Rattle.conn_histories.specs.Stories.{Server, AllDue}
+use Rattle.conn_histories.specs.Stories as stories
 use Rattle.server_ends.specs.declared.ended.Finished.{Finished}
 use Rattle.server_ends.specs.Endings.{EndsAs}
 

@@ -33,15 +33,15 @@ use Rattle.pdu_stream.specs.declared.joined.Joined.{Joined}
 use Rattle.table_form.specs.Tables.{TableForm}
 use Rattle.manager_api.specs.Answers.{Ans}
 use Rattle.manager_api.specs.Calls.{Call}
-use Rattle.served_calls.specs.Requests.{HasSlots, IsRefused, no_memory, too_busy}
-use Rattle.served_calls.specs.Requests.IsRefused.{no_room, full}
+use Rattle.conn_histories.specs.Requests.{HasSlots, IsRefused, no_memory, too_busy}
+use Rattle.conn_histories.specs.Requests.IsRefused.{no_room, full}
 use Rattle.manager_calls.specs.Ready.{request_of}
-use Rattle.conn_turns.specs.declared.turn.Fate.TheVariants.{Waiting, Cancelled}
-use Rattle.conn_turns.specs.declared.turn.Deed.TheVariants.{Pending, Accepted}
-use Rattle.conn_turns.specs.declared.turn.Turn.{Turn}
-use Rattle.conn_turns.specs.Entries.{asked_as, numbers_of}
-use Rattle.conn_turns.specs.Stories.{Server, Made, WasFull}
-use Rattle.conn_turns.specs.Tales.{whole}
+use Rattle.conn_histories.specs.declared.turn.Fate.TheVariants.{Waiting, Cancelled}
+use Rattle.conn_histories.specs.declared.turn.Deed.TheVariants.{Pending, Accepted}
+use Rattle.conn_histories.specs.declared.turn.Turn.{Turn}
+use Rattle.conn_histories.specs.Entries.{asked_as, numbers_of}
+use Rattle.conn_histories.specs.Stories.{Server, Made, WasFull}
+use Rattle.conn_histories.specs.Tales.{whole}
 use Rattle.turn_steps.proofs.Stepping.{past_is, legal_so}
 use Rattle.turn_steps.proofs.Ending.{new_apart, made_waiting, made_tail, marked_so}
 use Rattle.server_line.specs.declared.line.Line.{Line}

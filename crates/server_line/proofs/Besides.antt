@@ -43,21 +43,21 @@ use Rattle.conn_link.specs.declared.wire.Heard.{Heard}
 use Rattle.conn_link.specs.declared.wire.Heard.TheVariants as heard
 use Rattle.conn_link.specs.declared.wire.Fault.TheVariants as fault
 use Rattle.conn_link.specs.Wires.{Lived}
-use Rattle.served_calls.specs.Requests.{ids_of}
-use Rattle.served_calls.specs.Ends.{Meets}
+use Rattle.conn_histories.specs.Requests.{ids_of}
+use Rattle.conn_histories.specs.Ends.{Meets}
 use Rattle.manager_calls.specs.Ready.{request_of}
-use Rattle.conn_turns.specs.declared.turn.Off.{Off}
-use Rattle.conn_turns.specs.declared.turn.Off.TheVariants as off
-use Rattle.conn_turns.specs.declared.turn.Run.{Run}
-use Rattle.conn_turns.specs.declared.turn.Fate.{Fate}
-use Rattle.conn_turns.specs.declared.turn.Fate.TheVariants.{Running, Ended, LeftRunning, LeftEnded}
-use Rattle.conn_turns.specs.declared.turn.Deed.{Deed}
-use Rattle.conn_turns.specs.declared.turn.Deed.TheVariants.{Pending, Accepted}
-use Rattle.conn_turns.specs.declared.turn.Turn.{Turn}
-use Rattle.conn_turns.specs.Entries.{is_cancel, is_orphan, asked_as, numbers_of}
-use Rattle.conn_turns.specs.Events.{act_off, acts_off, all_events}
-use Rattle.conn_turns.specs.Stories.{Server, Made}
-use Rattle.conn_turns.specs.Tales.{whole}
+use Rattle.conn_histories.specs.declared.turn.Off.{Off}
+use Rattle.conn_histories.specs.declared.turn.Off.TheVariants as off
+use Rattle.conn_histories.specs.declared.turn.Run.{Run}
+use Rattle.conn_histories.specs.declared.turn.Fate.{Fate}
+use Rattle.conn_histories.specs.declared.turn.Fate.TheVariants.{Running, Ended, LeftRunning, LeftEnded}
+use Rattle.conn_histories.specs.declared.turn.Deed.{Deed}
+use Rattle.conn_histories.specs.declared.turn.Deed.TheVariants.{Pending, Accepted}
+use Rattle.conn_histories.specs.declared.turn.Turn.{Turn}
+use Rattle.conn_histories.specs.Entries.{is_cancel, is_orphan, asked_as, numbers_of}
+use Rattle.conn_histories.specs.Events.{act_off, acts_off, all_events}
+use Rattle.conn_histories.specs.Stories.{Server, Made}
+use Rattle.conn_histories.specs.Tales.{whole}
 use Rattle.turn_steps.specs.Done.{IsDone}
 use Rattle.turn_steps.proofs.Hearing.{bound_stays}
 use Rattle.turn_steps.proofs.Plain.{one_more_off}

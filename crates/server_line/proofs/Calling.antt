@@ -37,17 +37,17 @@ use Rattle.pdu_stream.specs.declared.joined.Joined.{Joined}
 use Rattle.table_form.specs.Tables.{TableForm}
 use Rattle.manager_api.specs.Answers.{Ans}
 use Rattle.manager_api.specs.Calls.{Call}
-use Rattle.served_calls.specs.Requests.{IsRefused}
+use Rattle.conn_histories.specs.Requests.{IsRefused}
 use Rattle.served_call.specs.Suited.{never_full, suit_cookies}
-use Rattle.conn_turns.specs.declared.turn.Off.{Off}
-use Rattle.conn_turns.specs.declared.turn.Off.TheVariants as off
-use Rattle.conn_turns.specs.declared.turn.Fate.{Fate}
-use Rattle.conn_turns.specs.declared.turn.Fate.TheVariants.{Waiting, Running, Denied, Cancelled, Orphaned}
-use Rattle.conn_turns.specs.declared.turn.Deed.TheVariants.{Refused, Accepted}
-use Rattle.conn_turns.specs.declared.turn.Turn.{Turn}
-use Rattle.conn_turns.specs.Entries.{has_left}
-use Rattle.conn_turns.specs.Stories.{Server, Made, WasFull}
-use Rattle.conn_turns.specs.Tales.{whole}
+use Rattle.conn_histories.specs.declared.turn.Off.{Off}
+use Rattle.conn_histories.specs.declared.turn.Off.TheVariants as off
+use Rattle.conn_histories.specs.declared.turn.Fate.{Fate}
+use Rattle.conn_histories.specs.declared.turn.Fate.TheVariants.{Waiting, Running, Denied, Cancelled, Orphaned}
+use Rattle.conn_histories.specs.declared.turn.Deed.TheVariants.{Refused, Accepted}
+use Rattle.conn_histories.specs.declared.turn.Turn.{Turn}
+use Rattle.conn_histories.specs.Entries.{has_left}
+use Rattle.conn_histories.specs.Stories.{Server, Made, WasFull}
+use Rattle.conn_histories.specs.Tales.{whole}
 use Rattle.turn_steps.proofs.Making.{made_plain}
 use Rattle.turn_steps.proofs.Stepping.{past_is, true_is, Onward, staged, TakenSo, taken, OffSo, cancelled_so, orphaned_so}
 use Rattle.turn_steps.proofs.Ending.{made_tail}

@@ -20,9 +20,9 @@ use Rattle.conn_laws.proofs.Comes.{leaves_all}
 use Rattle.conn_laws.proofs.Goes.{come_all}
 use Rattle.conn_link.specs.declared.wire.Wire.{Wire}
 use Rattle.conn_link.specs.Wires.{Linked}
-use Rattle.conn_turns.specs.declared.turn.Turn.{Turn}
-use Rattle.conn_turns.specs.Tales.{StandAll}
-use Rattle.conn_turns.specs.Answers.{Answers}
+use Rattle.conn_histories.specs.declared.turn.Turn.{Turn}
+use Rattle.conn_histories.specs.Tales.{StandAll}
+use Rattle.conn_histories.specs.Answers.{Answers}
 use Rattle.turn_answers.specs.Laws.{IsOver, AreAnswered}
 use Rattle.turn_answers.proofs.Answering.{stories_answer}
 use Rattle.server_ends.specs.declared.ended.Ending.{Ending}

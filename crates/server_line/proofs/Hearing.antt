@@ -23,15 +23,15 @@ use Rattle.conn_link.specs.declared.wire.Heard.{Heard}
 use Rattle.conn_link.specs.declared.wire.Heard.TheVariants as heard
 use Rattle.conn_link.specs.declared.wire.Fault.TheVariants as fault
 use Rattle.conn_link.specs.Wires.{Lived, Hears}
-use Rattle.served_calls.specs.Requests.{ids_of}
-use Rattle.conn_turns.specs.declared.turn.Off.{Off}
-use Rattle.conn_turns.specs.declared.turn.Off.TheVariants as off
-use Rattle.conn_turns.specs.declared.turn.Fate.TheVariants.{LeftWaiting}
-use Rattle.conn_turns.specs.declared.turn.Deed.TheVariants.{Pending, Accepted}
-use Rattle.conn_turns.specs.declared.turn.Turn.{Turn}
-use Rattle.conn_turns.specs.declared.turn.Turn.TheVariants.{Answered}
-use Rattle.conn_turns.specs.Events.{act_off, all_events}
-use Rattle.conn_turns.specs.Stories.{Server, IsDue}
+use Rattle.conn_histories.specs.Requests.{ids_of}
+use Rattle.conn_histories.specs.declared.turn.Off.{Off}
+use Rattle.conn_histories.specs.declared.turn.Off.TheVariants as off
+use Rattle.conn_histories.specs.declared.turn.Fate.TheVariants.{LeftWaiting}
+use Rattle.conn_histories.specs.declared.turn.Deed.TheVariants.{Pending, Accepted}
+use Rattle.conn_histories.specs.declared.turn.Turn.{Turn}
+use Rattle.conn_histories.specs.declared.turn.Turn.TheVariants.{Answered}
+use Rattle.conn_histories.specs.Events.{act_off, all_events}
+use Rattle.conn_histories.specs.Stories.{Server, IsDue}
 use Rattle.turn_steps.proofs.Hearing.{calls_wait, bind_once, bind_binds, bound_stays, early_act}
 use Rattle.turn_steps.proofs.Making.{IsPlain, plain_pending, made_plain}
 use Rattle.turn_steps.proofs.Plain.{plain_answer, one_more_off}

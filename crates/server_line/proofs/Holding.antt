@@ -16,12 +16,12 @@ use Rattle.hub_story.proofs.HaveLemmas.{own_stays}
 use Rattle.group_hub.specs.declared.pass.Pass.{Pass}
 use Rattle.group_hub.specs.Shards.{shard_of}
 use Rattle.group_hub.specs.Passes.{at_shard, CallsAt}
-use Rattle.group_joins.proofs.PassLemmas.{grown_more}
+use Rattle.server_ends.proofs.PassLemmas.{grown_more}
 use Rattle.shard.specs.declared.answer.Retired.{Retired}
-use Rattle.conn_turns.specs.declared.turn.Turn.{Turn}
-use Rattle.conn_turns.specs.Events.{all_events, all_octets}
-use Rattle.conn_turns.specs.Stories.{Server, Made}
-use Rattle.conn_turns.specs.Tales.{whole}
+use Rattle.conn_histories.specs.declared.turn.Turn.{Turn}
+use Rattle.conn_histories.specs.Events.{all_events, all_octets}
+use Rattle.conn_histories.specs.Stories.{Server, Made}
+use Rattle.conn_histories.specs.Tales.{whole}
 use Rattle.turn_passes.proofs.Kept.{calls_enter, stories_are_kept}
 use Rattle.server_ends.specs.Finishes.{retired_by}
 use Rattle.server_line.specs.Held.{past_at, Held}

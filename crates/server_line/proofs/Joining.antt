@@ -16,10 +16,10 @@ use Rattle.shard.specs.declared.answer.Retired.{Retired}
 use Rattle.group_hub.specs.declared.pass.Pass.{Pass}
 use Rattle.group_hub.specs.Shards.{shard_of}
 use Rattle.group_hub.specs.Passes.{at_shard}
-use Rattle.group_joins.specs.Owning.{Owns, Grown}
-use Rattle.group_joins.proofs.PassLemmas.{owns_more}
-use Rattle.conn_turns.specs.declared.turn.Turn.{Turn}
-use Rattle.conn_turns.specs.Stories.{Server, Made}
+use Rattle.server_ends.specs.Owning.{Owns, Grown}
+use Rattle.server_ends.proofs.PassLemmas.{owns_more}
+use Rattle.conn_histories.specs.declared.turn.Turn.{Turn}
+use Rattle.conn_histories.specs.Stories.{Server, Made}
 use Rattle.call_worker.specs.Passes.{OwnsNone}
 use Rattle.server_line.specs.Held.{past_at, Held}
 use Rattle.server_line.proofs.Holding.{kept}

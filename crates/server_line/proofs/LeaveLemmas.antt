@@ -36,16 +36,16 @@ use Rattle.table_form.specs.Tables.{TableForm}
 use Rattle.manager_api.specs.Answers.{Ans}
 use Rattle.manager_api.specs.Calls.{Call}
 use Rattle.pdu_stream.specs.declared.joined.Joined.{Joined}
-use Rattle.served_calls.specs.Requests.{ids_of}
+use Rattle.conn_histories.specs.Requests.{ids_of}
 use Rattle.conn_link.specs.declared.wire.Wire.{Wire}
-use Rattle.conn_turns.specs.declared.turn.Off.{Off}
-use Rattle.conn_turns.specs.declared.turn.Fate.{Fate}
-use Rattle.conn_turns.specs.declared.turn.Fate.TheVariants.{Waiting, Running, LeftWaiting, LeftRunning}
-use Rattle.conn_turns.specs.declared.turn.Deed.TheVariants.{Accepted}
-use Rattle.conn_turns.specs.declared.turn.Turn.{Turn}
-use Rattle.conn_turns.specs.Entries.{has_left, is_running, numbers_of}
-use Rattle.conn_turns.specs.Stories.{Server, Made}
-use Rattle.conn_turns.specs.Tales.{whole}
+use Rattle.conn_histories.specs.declared.turn.Off.{Off}
+use Rattle.conn_histories.specs.declared.turn.Fate.{Fate}
+use Rattle.conn_histories.specs.declared.turn.Fate.TheVariants.{Waiting, Running, LeftWaiting, LeftRunning}
+use Rattle.conn_histories.specs.declared.turn.Deed.TheVariants.{Accepted}
+use Rattle.conn_histories.specs.declared.turn.Turn.{Turn}
+use Rattle.conn_histories.specs.Entries.{has_left, is_running, numbers_of}
+use Rattle.conn_histories.specs.Stories.{Server, Made}
+use Rattle.conn_histories.specs.Tales.{whole}
 use Rattle.turn_laws.specs.Steps.{left_turns, OnlyNewestOpen}
 use Rattle.turn_steps.proofs.Done.{only_done, done_closed, done_may, done_stay, done_runs, done_over}
 use Rattle.turn_steps.proofs.Making.{MayLeave}

@@ -10,7 +10,7 @@ use Rattle.hub_story.specs.Histories.{home_of, past_in}
 use Rattle.group_hub.specs.declared.hub.Hub.{Hub}
 use Rattle.group_hub.specs.declared.pass.Pass.{Pass}
 use Rattle.group_hub.specs.Shards.{shard_of}
-use Rattle.group_joins.specs.Joins.{JoinedAs, IsRefusedFor}
+use Rattle.server_ends.specs.Joins.{JoinedAs, IsRefusedFor}
 use Rattle.table_form.specs.Tables.{TableForm}
 use Rattle.manager_api.specs.Answers.{Ans}
 use Rattle.manager_api.specs.Calls.{Call}
@@ -32,13 +32,13 @@ use Rattle.conn_link.specs.declared.wire.Wire.{Wire}
 use Rattle.conn_link.specs.declared.wire.Fault.{Fault}
 use Rattle.conn_link.specs.declared.wire.Fault.TheVariants as fault
 use Rattle.conn_link.specs.Wires.{Lived, Puts, Decides}
-use Rattle.served_calls.specs.Requests.{ids_of}
-use Rattle.conn_turns.specs.declared.turn.Deed.TheVariants as deeds
-use Rattle.conn_turns.specs.declared.turn.Turn.{Turn}
-use Rattle.conn_turns.specs.declared.turn.Turn.TheVariants.{Bound, NotBound, Closed}
-use Rattle.conn_turns.specs.Events.{acts_off, deed_reply, word_of, has_run, all_events}
-use Rattle.conn_turns.specs.Stories.{Server, Made}
-use Rattle.conn_turns.specs.Tales.{of_conn}
+use Rattle.conn_histories.specs.Requests.{ids_of}
+use Rattle.conn_histories.specs.declared.turn.Deed.TheVariants as deeds
+use Rattle.conn_histories.specs.declared.turn.Turn.{Turn}
+use Rattle.conn_histories.specs.declared.turn.Turn.TheVariants.{Bound, NotBound, Closed}
+use Rattle.conn_histories.specs.Events.{acts_off, deed_reply, word_of, has_run, all_events}
+use Rattle.conn_histories.specs.Stories.{Server, Made}
+use Rattle.conn_histories.specs.Tales.{of_conn}
 use Rattle.turn_laws.proofs.Staying.{filter_none}
 use Rattle.turn_passes.proofs.Others.{of_none}
 use Rattle.turn_steps.proofs.Hearing.{bound_stays, bound_waits, refused_waits, reply_waits}

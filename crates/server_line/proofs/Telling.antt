@@ -16,8 +16,8 @@ use Rattle.conn_link.specs.declared.wire.Wire.{Wire}
 use Rattle.conn_link.specs.declared.wire.Heard.TheVariants as heard
 use Rattle.conn_link.specs.declared.wire.Fault.TheVariants as fault
 use Rattle.conn_link.specs.Wires.{Linked, Lived, Stopped, Hears, Puts, Decides}
-use Rattle.conn_turns.specs.declared.turn.Turn.{Turn}
-use Rattle.conn_turns.specs.Events.{all_events}
+use Rattle.conn_histories.specs.declared.turn.Turn.{Turn}
+use Rattle.conn_histories.specs.Events.{all_events}
 use Rattle.turn_answers.specs.Laws.{IsAllAsked}
 use Rattle.turn_steps.proofs.Hearing.{paused_waits, bound_stays, paused_unbound}
 use Rattle.server_ends.specs.Endings.{closes}

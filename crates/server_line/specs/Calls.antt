@@ -21,18 +21,18 @@ use Rattle.manager_api.specs.Calls.{Call}
 use Rattle.conn_asks.specs.declared.events.Waits.TheVariants as waits
 use Rattle.conn_asks.specs.Answers.{FitsStub}
 use Rattle.conn_asks.specs.States.{caller_of}
-use Rattle.served_calls.specs.Requests.{ids_of}
-use Rattle.served_calls.specs.Ends.{row_of}
+use Rattle.conn_histories.specs.Requests.{ids_of}
+use Rattle.conn_histories.specs.Ends.{row_of}
 use Rattle.served_call.specs.Suited.{Opened, suit_cookies}
 use Rattle.manager_calls.specs.Ready.{request_of}
-use Rattle.conn_turns.specs.declared.turn.Off.{Off}
-use Rattle.conn_turns.specs.declared.turn.Fate.TheVariants.{Waiting, Running}
-use Rattle.conn_turns.specs.declared.turn.Deed.{Deed}
-use Rattle.conn_turns.specs.declared.turn.Deed.TheVariants.{Pending, Accepted}
-use Rattle.conn_turns.specs.declared.turn.Turn.{Turn}
-use Rattle.conn_turns.specs.declared.turn.Turn.TheVariants.{Called}
-use Rattle.conn_turns.specs.Entries.{is_orphan, asked_as, deed_open, deed_runs, deed_left, numbers_of}
-use Rattle.conn_turns.specs.Events.{deed_reply, word_of, has_run}
+use Rattle.conn_histories.specs.declared.turn.Off.{Off}
+use Rattle.conn_histories.specs.declared.turn.Fate.TheVariants.{Waiting, Running}
+use Rattle.conn_histories.specs.declared.turn.Deed.{Deed}
+use Rattle.conn_histories.specs.declared.turn.Deed.TheVariants.{Pending, Accepted}
+use Rattle.conn_histories.specs.declared.turn.Turn.{Turn}
+use Rattle.conn_histories.specs.declared.turn.Turn.TheVariants.{Called}
+use Rattle.conn_histories.specs.Entries.{is_orphan, asked_as, deed_open, deed_runs, deed_left, numbers_of}
+use Rattle.conn_histories.specs.Events.{deed_reply, word_of, has_run}
 use Rattle.turn_steps.specs.Done.{IsDone}
 use Rattle.server_line.specs.declared.line.Line.{Line}
 use Rattle.server_line.specs.Told.{Told}

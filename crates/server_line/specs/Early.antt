@@ -18,11 +18,11 @@ use Rattle.conn_link.specs.declared.wire.Heard.{Heard}
 use Rattle.conn_link.specs.declared.wire.Heard.TheVariants as heard
 use Rattle.conn_link.specs.declared.wire.Fault.TheVariants as fault
 use Rattle.conn_link.specs.Wires.{Lived}
-use Rattle.served_calls.specs.Requests.{ids_of}
-use Rattle.conn_turns.specs.declared.turn.Turn.{Turn}
-use Rattle.conn_turns.specs.declared.turn.Turn.TheVariants.{Binding, Closed}
-use Rattle.conn_turns.specs.Events.{all_events}
-use Rattle.conn_turns.specs.Stories.{AllDue}
+use Rattle.conn_histories.specs.Requests.{ids_of}
+use Rattle.conn_histories.specs.declared.turn.Turn.{Turn}
+use Rattle.conn_histories.specs.declared.turn.Turn.TheVariants.{Binding, Closed}
+use Rattle.conn_histories.specs.Events.{all_events}
+use Rattle.conn_histories.specs.Stories.{AllDue}
 use Rattle.turn_answers.specs.Laws.{IsOver as IsTurnOver}
 use Rattle.turn_steps.specs.Quiet.{IsQuiet}
 use Rattle.server_ends.specs.Finishes.{serving, EntersNone, Refuses}

@@ -14,14 +14,14 @@ use Rattle.pdu_stream.specs.declared.joined.Joined.{Joined}
 use Rattle.table_form.specs.Tables.{TableForm}
 use Rattle.manager_api.specs.Answers.{Ans}
 use Rattle.manager_api.specs.Calls.{Call}
-use Rattle.served_calls.specs.Requests.{ids_of}
+use Rattle.conn_histories.specs.Requests.{ids_of}
 use Rattle.manager_calls.specs.Ready.{request_of}
-use Rattle.conn_turns.specs.declared.turn.Off.{Off}
-use Rattle.conn_turns.specs.declared.turn.Fate.TheVariants.{Waiting, Running, LeftWaiting, LeftRunning}
-use Rattle.conn_turns.specs.declared.turn.Deed.{Deed}
-use Rattle.conn_turns.specs.declared.turn.Deed.TheVariants.{Accepted}
-use Rattle.conn_turns.specs.declared.turn.Turn.{Turn}
-use Rattle.conn_turns.specs.Entries.{asked_as, turn_runs, numbers_of}
+use Rattle.conn_histories.specs.declared.turn.Off.{Off}
+use Rattle.conn_histories.specs.declared.turn.Fate.TheVariants.{Waiting, Running, LeftWaiting, LeftRunning}
+use Rattle.conn_histories.specs.declared.turn.Deed.{Deed}
+use Rattle.conn_histories.specs.declared.turn.Deed.TheVariants.{Accepted}
+use Rattle.conn_histories.specs.declared.turn.Turn.{Turn}
+use Rattle.conn_histories.specs.Entries.{asked_as, turn_runs, numbers_of}
 use Rattle.turn_answers.specs.Laws.{IsOver as IsTurnOver}
 use Rattle.turn_steps.specs.Done.{IsDone}
 use Rattle.server_line.specs.declared.line.Line.{Line}

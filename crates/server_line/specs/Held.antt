@@ -14,10 +14,10 @@ use Rattle.group_hub.specs.Passes.{at_shard, EntersAt}
 use Rattle.shard.specs.declared.answer.Retired.{Retired}
 use Rattle.shard.specs.declared.answer.HubRest.{HubRest}
 use Rattle.shard.specs.declared.answer.HubRest.TheVariants.{Stays, Shut}
-use Rattle.group_joins.specs.Owning.{Grown}
+use Rattle.server_ends.specs.Owning.{Grown}
 use Rattle.manager_calls.specs.declared.running.Answered.{Answered}
-use Rattle.conn_turns.specs.declared.turn.Turn.{Turn}
-use Rattle.conn_turns.specs.Stories.{Server, Made}
+use Rattle.conn_histories.specs.declared.turn.Turn.{Turn}
+use Rattle.conn_histories.specs.Stories.{Server, Made}
 use Rattle.server_ends.specs.Finishes.{retired_by}
 
 -- the journal of a group, as far as the pass has seen it

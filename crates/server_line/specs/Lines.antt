@@ -6,15 +6,15 @@ use Rattle.hub_story.specs.Passes.{Serves}
 use Rattle.group_hub.specs.declared.hub.Hub.{Hub}
 use Rattle.group_hub.specs.Shards.{shard_of}
 use Rattle.group_hub.specs.Passes.{IsPassOf, at_shard}
-use Rattle.group_joins.specs.Joins.{JoinedAs}
+use Rattle.server_ends.specs.Joins.{JoinedAs}
 use Rattle.table_form.specs.Tables.{TableForm}
 use Rattle.manager_api.specs.Answers.{Ans}
 use Rattle.manager_api.specs.Calls.{Call}
 use Rattle.conn_asks.specs.declared.events.Waits.TheVariants as waits
 use Rattle.conn_asks.specs.declared.events.ConnFault.{ConnFault}
-use Rattle.served_calls.specs.Requests.{ids_of}
-use Rattle.conn_turns.specs.declared.turn.Turn.{Turn}
-use Rattle.conn_turns.specs.Stories.{Server}
+use Rattle.conn_histories.specs.Requests.{ids_of}
+use Rattle.conn_histories.specs.declared.turn.Turn.{Turn}
+use Rattle.conn_histories.specs.Stories.{Server}
 use Rattle.turn_steps.specs.Done.{IsDone}
 use Rattle.server_ends.specs.Finishes.{serving, never_refused}
 use Rattle.server_line.specs.declared.line.Line.{Line}

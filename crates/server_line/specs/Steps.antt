@@ -15,7 +15,7 @@ use Rattle.conn_asks.specs.declared.events.Act.TheVariants as acts
 use Rattle.conn_link.specs.declared.wire.Heard.{Heard}
 use Rattle.conn_link.specs.declared.wire.Heard.TheVariants as heard
 use Rattle.conn_link.specs.declared.wire.Fault.TheVariants as fault
-use Rattle.conn_turns.specs.declared.turn.Off.TheVariants as off
+use Rattle.conn_histories.specs.declared.turn.Off.TheVariants as off
 use Rattle.server_line.specs.declared.line.Line.{Line}
 use Rattle.server_line.specs.declared.stop.Stop.{Stop}
 use Rattle.server_line.specs.declared.stop.Stop.TheVariants as stop

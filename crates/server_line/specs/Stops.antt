@@ -4,7 +4,7 @@ use Rattle.pdu_stream.specs.Cuts.{LeavesUncut}
 use Rattle.rpc_base.specs.declared.identifiers.Status.{Status}
 use Rattle.group_core.specs.declared.answer.AcceptRefusal.{AcceptRefusal}
 use Rattle.group_core.specs.declared.answer.AcceptRefusal.TheVariants as refusal
-use Rattle.served_calls.specs.Requests.{no_memory, too_busy}
+use Rattle.conn_histories.specs.Requests.{no_memory, too_busy}
 use Rattle.conn_link.specs.declared.wire.Fault.{Fault}
 use Rattle.server_ends.specs.declared.ended.Ending.{Ending}
 use Rattle.server_ends.specs.declared.ended.Ending.TheVariants as ending

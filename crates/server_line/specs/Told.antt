@@ -10,8 +10,8 @@ use Rattle.conn_histories.specs.Histories.{Event, seen}
 use Rattle.conn_core.specs.Fields.{IsAt}
 use Rattle.conn_link.specs.declared.wire.Wire.{Wire}
 use Rattle.conn_link.specs.Wires.{Lived, Stopped, HasFailed, HasEnded}
-use Rattle.conn_turns.specs.declared.turn.Turn.{Turn}
-use Rattle.conn_turns.specs.Events.{all_events}
+use Rattle.conn_histories.specs.declared.turn.Turn.{Turn}
+use Rattle.conn_histories.specs.Events.{all_events}
 use Rattle.turn_answers.specs.Laws.{IsAllAsked}
 use Rattle.server_ends.specs.Endings.{closes, ClosedFor}
 use Rattle.server_line.specs.declared.stop.Stop.{Stop}

@@ -2,7 +2,7 @@
 ghost use Rattle.std.specs.Prelude.{◌≡◌};
 ghost use Rattle.handle_model.specs.declared.reply.Reply.TheVariants.{Never, Dropped};
 ghost use Rattle.handle_model.specs.Replies.{cancelled};
-ghost use Rattle.conn_turns.specs.declared.turn.Off.TheVariants as off;
+ghost use Rattle.conn_histories.specs.declared.turn.Off.TheVariants as off;
 ghost use Rattle.server_line.specs.Lines.{IsSame};
 ghost use Rattle.server_line.specs.Calls.{IsPrepared, IsWaiting, IsCalledOff, IsSettled};
 ghost use Rattle.server_line.specs.Steps.{AcceptsSo, TakesSo};

@@ -1,11 +1,11 @@
 //! A connection before it is in a group.
 ghost use Rattle.std.specs.Prelude.{◌≡◌, List, ◌∷◌, MatchResult};
-ghost use Rattle.conn_turns.specs.declared.turn.Turn.{Turn};
-ghost use Rattle.conn_turns.specs.declared.turn.Turn.TheVariants.{Closed};
+ghost use Rattle.conn_histories.specs.declared.turn.Turn.{Turn};
+ghost use Rattle.conn_histories.specs.declared.turn.Turn.TheVariants.{Closed};
 ghost use Rattle.group_hub.specs.declared.pass.Pass.{Pass as PassSpec};
 ghost use Rattle.group_hub.specs.Passes.{IsPassOf};
 ghost use Rattle.server_ends.specs.Finishes.{Refuses};
-ghost use Rattle.served_calls.specs.Requests.{ids_of};
+ghost use Rattle.conn_histories.specs.Requests.{ids_of};
 ghost use Rattle.server_line.specs.Told.{Halted};
 ghost use Rattle.server_line.specs.Early.{IsEarly, AsksGroup, IsClosing, HeardEarly, IsAlone};
 ghost use Rattle.server_line.specs.Lines.{IsJoined};
@@ -16,9 +16,9 @@ use crate::stop::Stop;
 use conn_asks::ConnFault;
 use conn_link::{Fault, Heard, Wire};
 use group_hub::{Hub, Pass};
-use group_joins::{Membership, join_group};
 use manager_calls::Manager;
 use rpc_outside::Link;
+use server_ends::{Membership, join_group};
 use std::snapshot::Snapshot;
 use std::sync::Wait;
 

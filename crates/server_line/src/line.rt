@@ -1,7 +1,7 @@
 //! A connection of a group.
 ghost use Rattle.std.specs.Option.{option_copied};
 ghost use Rattle.conn_asks.specs.Answers.{FitsStub};
-ghost use Rattle.conn_turns.specs.Events.{word_of};
+ghost use Rattle.conn_histories.specs.Events.{word_of};
 ghost use Rattle.server_line.specs.Lines.{IsSame, IsJoined, IsIdle, IsReady, IsEnding};
 ghost use Rattle.server_line.specs.Calls.{IsWaiting, IsSettled, Says};
 ghost use Rattle.server_line.specs.Endings.{IsStopping};

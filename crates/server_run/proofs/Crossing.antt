@@ -48,9 +48,6 @@ asked_sync = search (owners, items_sync, sendable) depth 40 fits 20000
 message_send : IsSend Message.the_row
 message_send = search (owners, values, items_send, sendable) depth 40 fits 20000
 
-message_sync : IsSync Message.the_row
-message_sync = search (owners, values, items_sync, sendable) depth 40 fits 20000
-
 room_send : IsSend Room.the_row
 room_send = search (owners, sendable) depth 40 fits 20000
 
@@ -69,5 +66,5 @@ row_send = search (owners, sendable) depth 40 fits 20000
 bool_sync : IsSync AtomicBool.the_row
 bool_sync = search (owners, sendable) depth 40 fits 20000
 
-pub work_send : (ν : Sym) (R M : RattleType) (ρ σ τ υ α β δ : Lft) → IsSync R → IsSync M → IsSend (TupleAt ν (Pass.the_row ∷ Message.the_row ∷ Room.the_row ∷ ShrRef (named 6) ρ R ∷ Global.the_row ∷ ShrRef (named 7) σ Served.the_row ∷ ShrRef (named 8) τ M ∷ ShrRef (named 9) υ Hub.the_row ∷ u32-field.row ∷ u32-field.row ∷ ShrRef (named 10) α Asked.the_row ∷ ShrRef (named 11) β Message.the_row ∷ Array (Option.the_row u64-field.row) 4 ∷ ShrRef (named 12) δ AtomicBool.the_row ∷ []))
-work_send ν R M ρ σ τ υ α β δ r m = captured_send ν Pass.the_row Message.the_row Room.the_row (ShrRef (named 6) ρ R) Global.the_row (ShrRef (named 7) σ Served.the_row) (ShrRef (named 8) τ M) (ShrRef (named 9) υ Hub.the_row) u32-field.row u32-field.row (ShrRef (named 10) α Asked.the_row) (ShrRef (named 11) β Message.the_row) (Array (Option.the_row u64-field.row) 4) (ShrRef (named 12) δ AtomicBool.the_row) pass_send message_send room_send (shr_send (named 6) ρ R r) global_send (shr_send (named 7) σ Served.the_row served_sync) (shr_send (named 8) τ M m) (shr_send (named 9) υ Hub.the_row hub_sync) u32_send u32_send (shr_send (named 10) α Asked.the_row asked_sync) (shr_send (named 11) β Message.the_row message_sync) row_send (shr_send (named 12) δ AtomicBool.the_row bool_sync)
+pub work_send : (ν : Sym) (R M : RattleType) (σ τ υ α δ ρ : Lft) → IsSync R → IsSync M → IsSend (TupleAt ν (Global.the_row ∷ ShrRef (named 6) σ Served.the_row ∷ ShrRef (named 7) τ M ∷ ShrRef (named 8) υ Hub.the_row ∷ u32-field.row ∷ u32-field.row ∷ ShrRef (named 9) α Asked.the_row ∷ Array (Option.the_row u64-field.row) 4 ∷ ShrRef (named 10) δ AtomicBool.the_row ∷ ShrRef (named 11) ρ R ∷ Pass.the_row ∷ Message.the_row ∷ Message.the_row ∷ Room.the_row ∷ []))
+work_send ν R M σ τ υ α δ ρ r m = captured_send ν Global.the_row (ShrRef (named 6) σ Served.the_row) (ShrRef (named 7) τ M) (ShrRef (named 8) υ Hub.the_row) u32-field.row u32-field.row (ShrRef (named 9) α Asked.the_row) (Array (Option.the_row u64-field.row) 4) (ShrRef (named 10) δ AtomicBool.the_row) (ShrRef (named 11) ρ R) Pass.the_row Message.the_row Message.the_row Room.the_row global_send (shr_send (named 6) σ Served.the_row served_sync) (shr_send (named 7) τ M m) (shr_send (named 8) υ Hub.the_row hub_sync) u32_send u32_send (shr_send (named 9) α Asked.the_row asked_sync) row_send (shr_send (named 10) δ AtomicBool.the_row bool_sync) (shr_send (named 11) ρ R r) pass_send message_send message_send room_send

@@ -2,21 +2,22 @@
 use Rattle.std.proofs.Common.{◌≡◌, ℕ, ◌≤◌, Bool, true, false, Option, Some, None, List, [], ◌∷◌, refl, sym, ap, ◌∙◌, subst, append-nil, arith}
 use Rattle.std.specs.Io.KnownBytes.{append_known, prepend_known}
 use Rattle.rpc_outside.specs.Links.{Shown, Closes}
-use Rattle.handle_model.specs.declared.entry.Asked.{Asked}
 use Rattle.hub_story.specs.Histories.{home_of}
 use Rattle.group_hub.specs.declared.hub.Hub.{Hub}
 use Rattle.group_hub.specs.declared.pass.Pass.{Pass}
 use Rattle.group_hub.specs.Passes.{at_shard}
-use Rattle.group_joins.specs.Owning.{Grown}
+use Rattle.server_ends.specs.Owning.{Grown}
 use Rattle.table_form.specs.Tables.{TableForm}
 use Rattle.manager_api.specs.Answers.{Ans}
 use Rattle.manager_api.specs.Calls.{Call}
 use Rattle.conn_asks.specs.declared.events.ConnFault.{ConnFault}
 use Rattle.conn_laws.proofs.Asking.{each_asks}
 use Rattle.conn_link.specs.declared.wire.Wire.{Wire}
-use Rattle.served_calls.specs.Requests.{ids_of}
-use Rattle.conn_turns.specs.declared.turn.Turn.TheVariants.{Closed}
+use Rattle.conn_histories.specs.Requests.{ids_of}
+use Rattle.conn_histories.specs.declared.turn.Turn.TheVariants.{Closed}
 use Rattle.turn_steps.proofs.Ending.{quiet_all}
+use Rattle.call_worker.specs.declared.working.RunningCall.{RunningCall}
+use Rattle.call_worker.specs.declared.working.Server.{Server}
 use Rattle.server_ends.specs.declared.ended.Ending.{Ending}
 use Rattle.server_ends.specs.declared.ended.Ending.TheVariants as ending
 use Rattle.server_ends.specs.declared.ended.Finished.{Finished}
@@ -126,13 +127,13 @@ ends_member shows may tables hub l why k e x closing =
     }
 
 -- it left while its call ran, which has ended
-pub ends_departed : {K : Type 0} (shows : K → Shown) (may : Call → Bool → Ans → Type 0) (tables : List TableForm) (hub : Hub) (old : Line K) (k : ℕ) (a : Asked) (cookies : List (Option ℕ)) (d : Departed K) (m : Gone K)
-    → HasDeparted shows may tables hub old k a cookies d → m.began.value ≡ d.gone.began.value → m.wire.value ≡ d.gone.wire.value → HasEnded shows may tables hub m d.why
-    → Finishes shows may tables hub.boot old.began.value (shows old.wire.first.value) (record { link = d.link; pass = m.pass; joined = Some (m.group, m.number); ending = d.ending; retired = m.retired })
-ends_departed shows may tables hub old k a cookies d m x began wire e =
+pub ends_departed : {K M : Type 0} (shows : K → Shown) (may : M → Call → Bool → Ans → Type 0) (tables : M → List TableForm) (s : Server M) (old : Line K) (c : RunningCall) (cookies : List (Option ℕ)) (d : Departed K) (m : Gone K)
+    → HasDeparted shows may tables s old c cookies d → m.began.value ≡ d.gone.began.value → m.wire.value ≡ d.gone.wire.value → HasEnded shows (may s.manager.now) (tables s.manager.now) s.hub.now m d.why
+    → Finishes shows (may s.manager.now) (tables s.manager.now) s.hub.now.boot old.began.value (shows old.wire.first.value) (record { link = d.link; pass = m.pass; joined = Some (m.group, m.number); ending = d.ending; retired = m.retired })
+ends_departed shows may tables s old c cookies d m x began wire e =
     let h = e.held in
-    let closing : Closing shows tables m.wire.value d.why d.link d.ending = subst (λ w. Closing shows tables w d.why d.link d.ending) (sym wire) x.closing in
-    finishes_same shows may tables hub.boot m.began.value old.began.value m.wire.value.first.value old.wire.first.value
+    let closing : Closing shows (tables s.manager.now) m.wire.value d.why d.link d.ending = subst (λ w. Closing shows (tables s.manager.now) w d.why d.link d.ending) (sym wire) x.closing in
+    finishes_same shows (may s.manager.now) (tables s.manager.now) s.hub.now.boot m.began.value old.began.value m.wire.value.first.value old.wire.first.value
     (record { link = d.link; pass = m.pass; joined = Some (m.group, m.number); ending = d.ending; retired = m.retired }) (began ∙ x.began) (ap (λ w. w.first.value) wire ∙ x.first)
     (record {
       items = h.items;
@@ -142,6 +143,6 @@ ends_departed shows may tables hub old k a cookies d m x began wire e =
       others = h.others;
       turns = e.turns;
       story = record { made = h.made; none_runs = e.none_runs };
-      ends = closing (home_of hub.boot m.group) m.number true (past_at m.pass m.group) e.turns e.halted h.made.stand e.over;
+      ends = closing (home_of s.hub.now.boot m.group) m.number true (past_at m.pass m.group) e.turns e.halted h.made.stand e.over;
       retired = h.retired_is;
     })

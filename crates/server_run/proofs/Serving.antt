@@ -13,16 +13,18 @@ use Rattle.served_call.specs.Suited.{Opened}
 use Rattle.manager_calls.specs.declared.ready.Ready.{Ready}
 use Rattle.manager_calls.specs.Ready.{IsReady as IsMadeReady}
 use Rattle.manager_calls.specs.Ready.{request_of}
-use Rattle.conn_turns.specs.Entries.{asked_as}
+use Rattle.conn_histories.specs.Entries.{asked_as}
 use Rattle.server_line.specs.declared.line.Line.{Line}
 use Rattle.ndr_value.specs.declared.value.Message.{Message}
 use Rattle.ndr_value.specs.Values.{msg}
-use Rattle.served_calls.specs.Requests.{HasSlots, IsAsked}
-use Rattle.served_calls.specs.Ends.{row_of}
+use Rattle.conn_histories.specs.Requests.{HasSlots, IsAsked}
+use Rattle.conn_histories.specs.Ends.{row_of}
 use Rattle.conn_link.specs.declared.wire.Wire.{Wire}
 use Rattle.call_worker.specs.declared.working.Promised.{Promised}
+use Rattle.call_worker.specs.declared.working.RunningCall.{RunningCall}
+use Rattle.call_worker.specs.declared.working.Server.{Server}
 use Rattle.call_worker.specs.declared.working.Worked.{Worked}
-use Rattle.call_worker.specs.Works.{IsGiven, Works, Keeps}
+use Rattle.call_worker.specs.Works.{IsGiven, Works, WorksBy, Keeps}
 use Rattle.call_worker.proofs.Cookies.{suit_length}
 use Rattle.server_ends.specs.declared.ended.Finished.{Finished}
 use Rattle.server_line.specs.Lines.{IsSame}
@@ -31,9 +33,7 @@ use Rattle.server_line.specs.Endings.{IsGone}
 use Rattle.server_run.specs.declared.calling.Went.{Went}
 use Rattle.server_run.specs.declared.calling.Went.TheVariants as went
 use Rattle.server_run.specs.declared.beside.Departed.{Departed}
-use Rattle.server_run.specs.declared.beside.Beside.{Beside}
-use Rattle.server_run.specs.declared.beside.Beside.TheVariants as beside
-use Rattle.server_run.specs.Running.{IsRow, Closing, HasDeparted, RunsBeside, IsOverFrom, Goes}
+use Rattle.server_run.specs.Running.{IsRow, Closing, HasDeparted, IsOverFrom, Goes}
 use Rattle.server_run.proofs.Ends.{finishes_same}
 
 -- a request whose call is ready
@@ -87,24 +87,22 @@ module _ {K : Type 0} (shows : K → Shown) (may : Call → Bool → Ans → Typ
 
 -- ---- a worker's promise
 
-pub works_kept : {M : Type 0} (tables : M → List TableForm) (may : M → Call → Bool → Ans → Type 0) (p q : Promised M) (r : Worked) (m : M) (h : Hub) (a : Asked) (cookies : List (Option ℕ)) → p ≡ q → q.manager.value ≡ m → q.hub.value ≡ h → q.asked.value ≡ a
-    → IsRow a cookies q.row → Keeps tables may p r → Works (tables m) (may m) h q.group q.call a cookies r
-works_kept tables may p q r m h a cookies same manager hub asked row keeps =
+pub works_kept : {M : Type 0} (tables : M → List TableForm) (may : M → Call → Bool → Ans → Type 0) (p q : Promised M) (r : Worked) (s : Server M) (c : RunningCall) → p ≡ q → q.manager.value ≡ s.manager.now → q.hub.value ≡ s.hub.now → q.asked.value ≡ c.asked.now
+    → q.row ≡ c.row → q.group ≡ c.group → q.call ≡ c.call → Keeps tables may p r → WorksBy tables may s c r
+works_kept {M = M} tables may p q r s c same manager hub asked row group call keeps =
     let k : Keeps tables may q r = subst (λ z. Keeps tables may z r) same keeps in
-    let w = k cookies row.row_is (row.count ∙ ap (λ (z : Asked). length z.slots) (sym asked)) in
-    subst (λ z. Works (tables z) (may z) h q.group q.call a cookies r) manager
-    (subst (λ z. Works (tables q.manager.value) (may q.manager.value) z q.group q.call a cookies r) hub
-    (subst (λ z. Works (tables q.manager.value) (may q.manager.value) q.hub.value q.group q.call z cookies r) asked w))
+    subst (λ (z : M × Hub × Asked × List (Option ℕ) × ℕ × ℕ). (cookies : List (Option ℕ)) → z.3 ≡ row_of cookies → length cookies ≡ length z.2.slots → Works (tables z.0) (may z.0) z.1 z.4 z.5 z.2 cookies r)
+    (λ i. (manager i, hub i, asked i, row i, group i, call i)) k
 
-module _ {K : Type 0} (shows : K → Shown) (may : Call → Bool → Ans → Type 0) (tables : List TableForm) (hub : Hub) where
-  pub departed_so : (old l : Line K) (k : ℕ) (a : Asked) (cookies : List (Option ℕ)) (d : Departed K) (w : Wire K) → IsSame old l → l.group ≡ old.group → d.gone.began.value ≡ l.began.value → w.first.value ≡ l.wire.first.value → d.gone.wire.value ≡ w
-      → d.gone.group ≡ l.group → IsGone shows may tables hub d.gone d.why k a cookies → Closing shows tables w d.why d.link d.ending → HasDeparted shows may tables hub old k a cookies d
-  departed_so old l k a cookies d w same group began first wire of gone closing = record {
+module _ {K M : Type 0} (shows : K → Shown) (may : M → Call → Bool → Ans → Type 0) (tables : M → List TableForm) (s : Server M) where
+  pub departed_so : (old l : Line K) (c : RunningCall) (cookies : List (Option ℕ)) (d : Departed K) (w : Wire K) → IsSame old l → l.group ≡ old.group → d.gone.began.value ≡ l.began.value → w.first.value ≡ l.wire.first.value → d.gone.wire.value ≡ w
+      → d.gone.group ≡ l.group → IsGone shows (may s.manager.now) (tables s.manager.now) s.hub.now d.gone d.why c.call c.asked.now cookies → Closing shows (tables s.manager.now) w d.why d.link d.ending → HasDeparted shows may tables s old c cookies d
+  departed_so old l c cookies d w same group began first wire of gone closing = record {
     began = began ∙ same.0;
     first = ap (λ z. z.first.value) wire ∙ (first ∙ same.1);
     group = of ∙ group;
     gone = gone;
-    closing = subst (λ z. Closing shows tables z d.why d.link d.ending) (sym wire) closing;
+    closing = subst (λ z. Closing shows (tables s.manager.now) z d.why d.link d.ending) (sym wire) closing;
   }
 
 -- ---- one after another
@@ -112,20 +110,11 @@ module _ {K : Type 0} (shows : K → Shown) (may : Call → Bool → Ans → Typ
 pub same_then : {K : Type 0} (a b c : Line K) → IsSame a b → IsSame b c → IsSame a c
 same_then a b c x y = (y.0 ∙ x.0, y.1 ∙ x.1)
 
-module _ {K : Type 0} (shows : K → Shown) (may : Call → Bool → Ans → Type 0) (tables : List TableForm) (hub : Hub) where
-  pub over_from : (a b : Line K) (r : Finished K) → IsSame a b → IsOverFrom shows may tables hub b r → IsOverFrom shows may tables hub a r
-  over_from a b r same x = (x.0, finishes_same shows may tables hub.boot b.began.value a.began.value b.wire.first.value a.wire.first.value r same.0 same.1 x.1)
+module _ {K M : Type 0} (shows : K → Shown) (may : M → Call → Bool → Ans → Type 0) (tables : M → List TableForm) (s : Server M) where
+  pub over_from : (a b : Line K) (r : Finished K) → IsSame a b → IsOverFrom shows may tables s b r → IsOverFrom shows may tables s a r
+  over_from a b r same x = (x.0, finishes_same shows (may s.manager.now) (tables s.manager.now) s.hub.now.boot b.began.value a.began.value b.wire.first.value a.wire.first.value r same.0 same.1 x.1)
 
-  pub goes_from : (a b : Line K) (w : Went K) → IsSame a b → Goes shows may tables hub b w → Goes shows may tables hub a w
+  pub goes_from : (a b : Line K) (w : Went K) → IsSame a b → Goes shows may tables s b w → Goes shows may tables s a w
   goes_from a b (went.On l) same x = (same_then a b l same x.0, x.1)
   goes_from a b (went.Stop l why) same x = (same_then a b l same x.0, x.1)
   goes_from a b (went.Over r) same x = over_from a b r same x
-
-  -- beside its call
-  pub beside_from : (a b : Line K) (k : ℕ) (asked : Asked) (cookies : List (Option ℕ)) (r : Beside K) → IsSame a b → b.group ≡ a.group → RunsBeside shows may tables hub b k asked cookies r → RunsBeside shows may tables hub a k asked cookies r
-  beside_from a b k asked cookies (beside.On l orphaned worked) same group x =
-      (same_then a b l same x.0, x.1 ∙ group, x.2, subst (λ (g : ℕ). Works tables may hub g k asked cookies worked) group x.3)
-  beside_from a b k asked cookies (beside.Left d worked) same group x = (
-    record { began = x.0.began ∙ same.0; first = x.0.first ∙ same.1; group = x.0.group ∙ group; gone = x.0.gone; closing = x.0.closing },
-    subst (λ (g : ℕ). Works tables may hub g k asked cookies worked) group x.1,
-  )

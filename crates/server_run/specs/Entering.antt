@@ -9,7 +9,8 @@ use Rattle.table_form.specs.Tables.{TableForm}
 use Rattle.manager_api.specs.Answers.{Ans}
 use Rattle.manager_api.specs.Calls.{Call}
 use Rattle.conn_asks.specs.Answers.{FitsStub}
-use Rattle.conn_turns.specs.Events.{word_of}
+use Rattle.conn_histories.specs.Events.{word_of}
+use Rattle.call_worker.specs.declared.working.Server.{Server}
 use Rattle.server_line.specs.declared.line.Line.{Line}
 use Rattle.server_line.specs.Early.{IsAlone}
 use Rattle.server_line.specs.Lines.{IsReady}
@@ -30,7 +31,8 @@ module _ {K : Type 0} (shows : K → Shown) (may : Call → Bool → Ans → Typ
   Enters p first (Stopped l why) = BeganAs p first l × IsStopping shows may tables hub l why
   Enters p first (Alone w q why) = (w.first.value ≡ first) × IsPassOf hub q × IsAlone shows tables may hub.boot p w q why
 
+module _ {K M : Type 0} (shows : K → Shown) (may : M → Call → Bool → Ans → Type 0) (tables : M → List TableForm) (s : Server M) where
   abbrev pub Awaits : ℕ → Asked → Awaited → Line K → Type 0
-  Awaits k a (awaited.Run row serial) l = IsTaken shows may tables hub l k a row serial
-  Awaits k a (awaited.Told reply) l = IsSettled shows may tables hub l reply × FitsStub (word_of reply)
-  Awaits k a (awaited.Stop why) l = IsStopping shows may tables hub l why
+  Awaits k a (awaited.Run row serial) l = IsTaken shows (may s.manager.now) (tables s.manager.now) s.hub.now l k a row serial
+  Awaits k a (awaited.Told reply) l = IsSettled shows (may s.manager.now) (tables s.manager.now) s.hub.now l reply × FitsStub (word_of reply)
+  Awaits k a (awaited.Stop why) l = IsStopping shows (may s.manager.now) (tables s.manager.now) s.hub.now l why

@@ -1,28 +1,21 @@
 //! A call runs in a thread beside its connection's.
 ghost use Rattle.std.specs.Prelude.{◌≡◌, ℕ, Option, List, length, false};
 ghost use Rattle.std.specs.Thread.{IsSync};
-ghost use Rattle.served_calls.specs.Ends.{row_of};
+ghost use Rattle.conn_histories.specs.Ends.{row_of};
 ghost use Rattle.served_tables.specs.Served.{tables_in};
 ghost use Rattle.call_worker.specs.Passes.{MayAsk};
-ghost use Rattle.call_worker.specs.Works.{IsGiven, Works};
+ghost use Rattle.call_worker.specs.Works.{IsGiven, IsReadyToRun, Works};
 ghost use Rattle.server_line.specs.Calls.{IsRunning};
-ghost use Rattle.server_run.specs.Running.{IsRow, StartsSo, RunsBeside};
+ghost use Rattle.server_run.specs.Running.{IsRow, IsToRun, StartsSo, RunsBeside};
 
 use crate::watching::{Watched, watch};
-use call_worker::{Promised, Worked, work};
-use group_hub::{Hub, Pass};
-use handle_model::{Asked, CookieRow};
+use call_worker::{Promised, RunningCall, Server, Task, Worked, work};
 use manager_calls::Manager;
-use ndr_value::Message;
 use rpc_outside::Link;
-use served_call::Room;
-use served_tables::Served;
 use server_ends::Ending;
 use server_line::{Gone, Line, Stop, close};
-use std::alloc::Global;
 use std::snapshot::Snapshot;
 use std::sync::Wait;
-use std::sync::atomic::AtomicBool;
 use std::thread;
 use std::thread::{PromisedHandle, Scope, Threads};
 
@@ -57,47 +50,31 @@ pub(crate) enum Started<M: Manager> {
 fn start<'s, E, R: Wait + Threads + Sync, M: Manager + Sync>(
     scope: &'s Scope<'s, E>,
     rt: &'s R,
-    alloc: Global,
-    served: &'s Served,
-    manager: &'s M,
-    hub: &'s Hub,
-    pass: Pass,
-    group: u32,
-    call: u32,
-    asked: &'s Asked,
-    message: Message,
-    again: &'s Message,
-    row: &'s CookieRow,
-    room: Room,
-    done: &'s AtomicBool,
+    server: Server<'s, M>,
+    running: RunningCall<'s>,
+    task: Task,
 ) -> Started<M>
-    requires served { M.tables manager.now ≡ tables_in served.now }
-    requires asks { MayAsk hub.now group call pass }
-    requires given { IsGiven (tables_in served.now) asked.now row.now message again.now }
-    ensures { StartsSo M.tables M.may manager.now hub.now group call asked.now row.now result }
+    requires { IsReadyToRun M.tables server running task }
+    ensures { StartsSo M.tables M.may server.entry running.entry result }
 {
-    let row = *row;
     let promise = Promised {
-        manager: Snapshot::of(manager),
-        hub: Snapshot::of(hub),
-        asked: Snapshot::of(asked),
-        row,
-        group,
-        call,
+        manager: Snapshot::of(server.manager),
+        hub: Snapshot::of(server.hub),
+        asked: Snapshot::of(running.asked),
+        row: running.row,
+        group: running.group,
+        call: running.call,
     };
     match scope.spawn_with(
         promise,
         move || -> Worked
-            requires served { IsSync R.row × (M.tables manager.now ≡ tables_in served.now) }
-            requires asks { MayAsk hub.now group call pass }
-            requires given { IsGiven (tables_in served.now) asked.now row message again.now }
-            ensures { (cookies : List (Option ℕ)) → row ≡ row_of cookies → length cookies ≡ length asked.entry.now.slots → Works (M.tables manager.entry.now) (M.may manager.entry.now) hub.entry.now group call asked.entry.now cookies result }
+            requires served { IsSync R.row × (M.tables server.manager.now ≡ tables_in server.served.now) }
+            requires asks { MayAsk server.hub.now running.group running.call task.pass }
+            requires given { IsGiven (tables_in server.served.now) running.asked.now running.row task.message task.again }
+            ensures { (cookies : List (Option ℕ)) → running.entry.row ≡ row_of cookies → length cookies ≡ length running.entry.asked.now.slots → Works (M.tables server.entry.manager.now) (M.may server.entry.manager.now) server.entry.hub.now running.entry.group running.entry.call running.entry.asked.now cookies result }
         {
-            let (pass, message, room) = (pass, message, room);
-            work(
-                rt, alloc, served, manager, hub, pass, group, call, asked, message, again, &row,
-                room, done,
-            )
+            let (server, running) = (Server { ..server }, RunningCall { ..running });
+            work(rt, server, running, Task { ..task })
         },
     ) {
         Ok(child) => Started::There(child),
@@ -110,137 +87,73 @@ fn start<'s, E, R: Wait + Threads + Sync, M: Manager + Sync>(
 fn run_in_scope<'s, E, R: Wait + Threads + Sync, K: Link, M: Manager + Sync>(
     scope: &'s Scope<'s, E>,
     rt: &'s R,
-    alloc: Global,
-    served: &'s Served,
-    manager: &'s M,
-    hub: &'s Hub,
+    server: Server<'s, M>,
     mut line: Line<K>,
-    pass: Pass,
-    call: u32,
-    asked: &'s Asked,
-    cookies: &'s [Option<u64>],
-    message: Message,
-    again: &'s Message,
-    row: &'s CookieRow,
-    room: Room,
-    done: &'s AtomicBool,
+    running: RunningCall<'s>,
+    cookies: &[Option<u64>],
+    task: Task,
 ) -> Beside<K>
-    requires served { M.tables manager.now ≡ tables_in served.now }
-    requires running { IsRunning K.shows (M.may manager.now) (M.tables manager.now) hub.now line call asked.now cookies.now false }
-    requires asks { MayAsk hub.now line.group call pass }
-    requires given { IsGiven (tables_in served.now) asked.now row.now message again.now }
-    requires row { IsRow asked.now cookies.now row.now }
-    ensures { RunsBeside K.shows (M.may manager.now) (M.tables manager.now) hub.now line call asked.now cookies.now result }
+    requires { IsToRun K.shows M.may M.tables server line running cookies.now task }
+    ensures { RunsBeside K.shows M.may M.tables server.entry line running.entry cookies.now result }
 {
-    match start(
-        scope, rt, alloc, served, manager, hub, pass, line.group, call, asked, message, again, row,
-        room, done,
-    ) {
-        Started::There(child) => {
-            match watch(rt, hub, manager, &mut line, call, asked, cookies, done) {
-                Watched::Done(orphaned) => {
-                    let worked = child.join(rt);
-                    Beside::On(line, orphaned, worked)
-                }
-                Watched::Stop(why) => {
-                    let (gone, wire) = line.leave_running(
-                        rt, hub, manager, why, call, asked, cookies,
-                    );
-                    let (link, ending) = close(wire, why);
-                    let worked = child.join(rt);
-                    let departed = Departed {
-                        gone,
-                        link,
-                        why,
-                        ending,
-                    };
-                    Beside::Left(departed, worked)
-                }
+    let Server { hub, manager, .. } = server;
+    let RunningCall { call, asked, .. } = running;
+    match start(scope, rt, server, running, task) {
+        Started::There(child) => match watch(rt, server, &mut line, running, cookies) {
+            Watched::Done(orphaned) => {
+                let worked = child.join(rt);
+                Beside::On(line, orphaned, worked)
             }
-        }
+            Watched::Stop(why) => {
+                let (gone, wire) = line.leave_running(rt, hub, manager, why, call, asked, cookies);
+                let (link, ending) = close(wire, why);
+                let worked = child.join(rt);
+                let departed = Departed {
+                    gone,
+                    link,
+                    why,
+                    ending,
+                };
+                Beside::Left(departed, worked)
+            }
+        },
         Started::Here(worked) => Beside::On(line, false, worked),
     }
 }
 
-/// Runs a brief call in its connection's thread, which hears nothing meanwhile.
-fn run_here<R: Wait, K: Link, M: Manager>(
-    rt: &R,
-    alloc: Global,
-    served: &Served,
-    manager: &M,
-    hub: &Hub,
-    line: Line<K>,
-    pass: Pass,
-    call: u32,
-    asked: &Asked,
-    cookies: &[Option<u64>],
-    message: Message,
-    again: &Message,
-    row: &CookieRow,
-    room: Room,
-) -> Beside<K>
-    requires served { M.tables manager.now ≡ tables_in served.now }
-    requires running { IsRunning K.shows (M.may manager.now) (M.tables manager.now) hub.now line call asked.now cookies.now false }
-    requires asks { MayAsk hub.now line.group call pass }
-    requires given { IsGiven (tables_in served.now) asked.now row.now message again.now }
-    requires row { IsRow asked.now cookies.now row.now }
-    ensures { RunsBeside K.shows (M.may manager.now) (M.tables manager.now) hub.now line call asked.now cookies.now result }
-{
-    let done = AtomicBool::new(false);
-    let worked = work(
-        rt, alloc, served, manager, hub, pass, line.group, call, asked, message, again, row, room,
-        &done,
-    );
-    Beside::On(line, false, worked)
-}
-
-/// Runs a call, by a pass that asks whether it was cancelled: a brief one in its connection's thread, any other beside it.
-#[tactic(auto, using(crate::proofs::Serving::beside_from))]
+/// Runs a call, whose manager asks by its task's pass whether it was cancelled: a brief one in its connection's thread,
+/// which hears nothing meanwhile, any other beside it.
 pub(crate) fn run_beside<R: Wait + Threads + Sync, K: Link, M: Manager + Sync>(
     rt: &R,
-    alloc: Global,
-    served: &Served,
-    manager: &M,
-    hub: &Hub,
-    mut line: Line<K>,
-    call: u32,
-    asked: &Asked,
+    server: Server<'_, M>,
+    line: Line<K>,
+    running: RunningCall<'_>,
     cookies: &[Option<u64>],
-    message: Message,
-    again: &Message,
-    row: &CookieRow,
-    room: Room,
+    task: Task,
 ) -> Beside<K>
-    requires served { M.tables manager.now ≡ tables_in served.now }
-    requires running { IsRunning K.shows (M.may manager.now) (M.tables manager.now) hub.now line call asked.now cookies.now false }
-    requires given { IsGiven (tables_in served.now) asked.now row.now message again.now }
-    requires row { IsRow asked.now cookies.now row.now }
-    ensures { RunsBeside K.shows (M.may manager.now) (M.tables manager.now) hub.now line call asked.now cookies.now result }
+    requires { IsToRun K.shows M.may M.tables server line running cookies.now task }
+    ensures { RunsBeside K.shows M.may M.tables server.entry line running.entry cookies.now result }
 {
-    let pass = line.split_pass(hub, manager, call, asked, cookies);
-    if manager.is_brief(asked.iface, asked.op, asked.stub.len()) {
-        return run_here(
-            rt, alloc, served, manager, hub, line, pass, call, asked, cookies, message, again, row,
-            room,
-        );
+    let asked = running.asked;
+    if server
+        .manager
+        .is_brief(asked.iface, asked.op, asked.stub.len())
+    {
+        return Beside::On(line, false, work(rt, server, running, task));
     }
-    let done = AtomicBool::new(false);
-    let done = &done;
     thread::scope(
         thread::scope_env(),
         rt,
         |scope| -> Beside<K>
-            requires served { IsSync R.row × (M.tables manager.now ≡ tables_in served.now) }
-            requires running { IsRunning K.shows (M.may manager.now) (M.tables manager.now) hub.now line call asked.now cookies.now false }
-            requires asks { MayAsk hub.now line.group call pass }
-            requires given { IsGiven (tables_in served.now) asked.now row.now message again.now }
-            requires row { IsRow asked.now cookies.now row.now }
-            ensures { RunsBeside K.shows (M.may manager.entry.now) (M.tables manager.entry.now) hub.entry.now line call asked.entry.now cookies.entry.now result }
+            requires served { IsSync R.row × (M.tables server.manager.now ≡ tables_in server.served.now) }
+            requires running { IsRunning K.shows (M.may server.manager.now) (M.tables server.manager.now) server.hub.now line running.call running.asked.now cookies.now false }
+            requires row { IsRow running.asked.now cookies.now running.row }
+            requires asks { MayAsk server.hub.now running.group running.call task.pass }
+            requires given { IsGiven (tables_in server.served.now) running.asked.now running.row task.message task.again }
+            ensures { RunsBeside K.shows M.may M.tables (record { alloc = server.entry.alloc; served = server.entry.served; manager = server.entry.manager; hub = server.entry.hub }) line (record { group = running.entry.group; call = running.entry.call; asked = running.entry.asked; row = running.entry.row; done = running.entry.done }) cookies.entry.now result }
         {
-            run_in_scope(
-                scope, rt, alloc, served, manager, hub, line, pass, call, asked, cookies, message,
-                again, row, room, done,
-            )
+            let (server, running) = (Server { ..server }, RunningCall { ..running });
+            run_in_scope(scope, rt, server, line, running, cookies, task)
         },
     )
 }

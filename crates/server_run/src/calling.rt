@@ -1,28 +1,26 @@
 //! The calls of a connection, one after another.
-ghost use Rattle.std.specs.Prelude.{◌≡◌};
 ghost use Rattle.conn_asks.specs.Answers.{FitsStub};
-ghost use Rattle.conn_turns.specs.Events.{word_of};
+ghost use Rattle.conn_histories.specs.Events.{word_of};
 ghost use Rattle.served_tables.specs.Served.{tables_in};
+ghost use Rattle.call_worker.specs.Works.{Serves};
 ghost use Rattle.manager_calls.specs.Ready.{IsReady as IsMadeReady};
 ghost use Rattle.server_line.specs.Lines.{IsSame, IsReady};
 ghost use Rattle.server_line.specs.Calls.{IsAsking, IsPrepared, IsWaiting, IsSettled};
 ghost use Rattle.server_run.specs.Entering.{Awaits};
 ghost use Rattle.server_run.specs.Running.{Goes};
 
-use crate::running::{Ran, run_call};
+use crate::running::{Ran, TakenCall, run_call};
+use call_worker::Server;
 use conn_asks::Act;
 use conn_link::{Fault, Heard};
 use group_core::Taking;
-use group_hub::Hub;
 use handle_model::{Asked, CookieRow, Reply};
 use manager_calls::{Manager, Ready, prepared};
 use pdu_stream::Joined;
 use rpc_base::Status;
 use rpc_outside::Link;
-use served_tables::Served;
 use server_ends::Finished;
 use server_line::{Line, Stop};
-use std::alloc::Global;
 use std::sync::Wait;
 use std::sync::atomic::AtomicU64;
 use std::thread;
@@ -71,16 +69,16 @@ fn rest<R: Wait>(rt: &R, turns: &mut u32, is_held: bool) {
 /// Waits until a call is taken or denied, and hears meanwhile whether it is called off.
 fn await_turn<R: Wait, K: Link, M: Manager>(
     rt: &R,
-    hub: &Hub,
-    manager: &M,
+    server: Server<'_, M>,
     line: &mut Line<K>,
     call: u32,
     asked: &Asked,
 ) -> Awaited
-    requires { IsWaiting K.shows (M.may manager.now) (M.tables manager.now) hub.now line.old call asked.now }
+    requires { IsWaiting K.shows (M.may server.manager.now) (M.tables server.manager.now) server.hub.now line.old call asked.now }
     ensures same { IsSame line.old line.new }
-    ensures awaits { Awaits K.shows (M.may manager.now) (M.tables manager.now) hub.now call asked.now result line.new }
+    ensures awaits { Awaits K.shows M.may M.tables server.entry call asked.now result line.new }
 {
+    let Server { hub, manager, .. } = server;
     let mut turns = 0;
     for _ in rt.forever() {
         match line.take(rt, hub, manager, call, asked) {
@@ -114,13 +112,13 @@ fn await_turn<R: Wait, K: Link, M: Manager>(
 }
 
 /// Answers a request that has its entries.
-fn answer<K: Link, M: Manager>(hub: &Hub, manager: &M, line: Line<K>, reply: &Reply) -> Went<K>
-    requires settled { IsSettled K.shows (M.may manager.now) (M.tables manager.now) hub.now line reply.now }
+fn answer<K: Link, M: Manager>(server: Server<'_, M>, line: Line<K>, reply: &Reply) -> Went<K>
+    requires settled { IsSettled K.shows (M.may server.manager.now) (M.tables server.manager.now) server.hub.now line reply.now }
     requires fits { FitsStub (word_of reply.now) }
-    ensures { Goes K.shows (M.may manager.now) (M.tables manager.now) hub.now line result }
+    ensures { Goes K.shows M.may M.tables server.entry line result }
 {
     let mut line = line;
-    match line.answer(hub, manager, reply) {
+    match line.answer(server.hub, server.manager, reply) {
         Ok(()) => Went::On(line),
         Err(why) => Went::Stop(line, why),
     }
@@ -130,18 +128,15 @@ fn answer<K: Link, M: Manager>(hub: &Hub, manager: &M, line: Line<K>, reply: &Re
 #[tactic(auto, using(crate::proofs::Serving::goes_from, crate::proofs::Serving::same_then))]
 fn serve_ready<R: Wait + Threads + Sync, K: Link, M: Manager + Sync>(
     rt: &R,
-    alloc: Global,
-    served: &Served,
-    manager: &M,
-    hub: &Hub,
+    server: Server<'_, M>,
     line: Line<K>,
     ready: Ready,
     marked: bool,
 ) -> Went<K>
-    requires served { M.tables manager.now ≡ tables_in served.now }
-    requires prepared { IsPrepared K.shows (M.may manager.now) (M.tables manager.now) hub.now line ready.asked marked }
-    requires ready { IsMadeReady (tables_in served.now) ready.asked ready }
-    ensures { Goes K.shows (M.may manager.now) (M.tables manager.now) hub.now line result }
+    requires served { Serves M.tables server }
+    requires prepared { IsPrepared K.shows (M.may server.manager.now) (M.tables server.manager.now) server.hub.now line ready.asked marked }
+    requires ready { IsMadeReady (tables_in server.served.now) ready.asked ready }
+    ensures { Goes K.shows M.may M.tables server.entry line result }
 {
     let Ready {
         given,
@@ -151,43 +146,46 @@ fn serve_ready<R: Wait + Threads + Sync, K: Link, M: Manager + Sync>(
         room,
     } = ready;
     let mut line = line;
-    match line.accept(rt, hub, manager, given, marked) {
-        Err(status) => answer(hub, manager, line, &Reply::Never(status)),
-        Ok(call) => match await_turn(rt, hub, manager, &mut line, call, &asked) {
-            Awaited::Told(reply) => answer(hub, manager, line, &reply),
-            Awaited::Stop(why) => Went::Stop(line, why),
-            Awaited::Run(row, serial) => {
-                match run_call(
-                    rt, alloc, served, manager, hub, line, call, asked, message, &again, &row,
-                    serial, room,
-                ) {
-                    Ran::On(line, reply) => answer(hub, manager, line, &reply),
-                    Ran::Over(finished) => Went::Over(finished),
-                }
-            }
-        },
+    let call = match line.accept(rt, server.hub, server.manager, given, marked) {
+        Ok(call) => call,
+        Err(status) => return answer(server, line, &Reply::Never(status)),
+    };
+    let (row, serial) = match await_turn(rt, server, &mut line, call, &asked) {
+        Awaited::Run(row, serial) => (row, serial),
+        Awaited::Told(reply) => return answer(server, line, &reply),
+        Awaited::Stop(why) => return Went::Stop(line, why),
+    };
+    let taken = TakenCall {
+        call,
+        asked,
+        row,
+        serial,
+        message,
+        again,
+        room,
+    };
+    match run_call(rt, server, line, taken) {
+        Ran::On(line, reply) => answer(server, line, &reply),
+        Ran::Over(finished) => Went::Over(finished),
     }
 }
 
 /// Serves a request.
 fn serve_call<R: Wait + Threads + Sync, K: Link, M: Manager + Sync>(
     rt: &R,
-    alloc: Global,
-    served: &Served,
-    manager: &M,
-    hub: &Hub,
+    server: Server<'_, M>,
     line: Line<K>,
     joined: Joined,
     iface: u16,
 ) -> Went<K>
-    requires served { M.tables manager.now ≡ tables_in served.now }
-    requires asking { IsAsking K.shows (M.may manager.now) (M.tables manager.now) hub.now line joined iface }
-    ensures { Goes K.shows (M.may manager.now) (M.tables manager.now) hub.now line result }
+    requires served { Serves M.tables server }
+    requires asking { IsAsking K.shows (M.may server.manager.now) (M.tables server.manager.now) server.hub.now line joined iface }
+    ensures { Goes K.shows M.may M.tables server.entry line result }
 {
     let marked = joined.cancel;
-    match prepared(alloc, served, line.number, joined, iface) {
-        Err(status) => answer(hub, manager, line, &Reply::Never(status)),
-        Ok(ready) => serve_ready(rt, alloc, served, manager, hub, line, ready, marked),
+    match prepared(server.alloc, server.served, line.number, joined, iface) {
+        Err(status) => answer(server, line, &Reply::Never(status)),
+        Ok(ready) => serve_ready(rt, server, line, ready, marked),
     }
 }
 
@@ -195,16 +193,14 @@ fn serve_call<R: Wait + Threads + Sync, K: Link, M: Manager + Sync>(
 #[tactic(auto, using(crate::proofs::Serving::goes_from, crate::proofs::Serving::same_then))]
 pub(crate) fn serve_next<R: Wait + Threads + Sync, K: Link, M: Manager + Sync>(
     rt: &R,
-    alloc: Global,
-    served: &Served,
-    manager: &M,
-    hub: &Hub,
+    server: Server<'_, M>,
     line: Line<K>,
 ) -> Went<K>
-    requires served { M.tables manager.now ≡ tables_in served.now }
-    requires ready { IsReady K.shows (M.may manager.now) (M.tables manager.now) hub.now line }
-    ensures { Goes K.shows (M.may manager.now) (M.tables manager.now) hub.now line result }
+    requires served { Serves M.tables server }
+    requires ready { IsReady K.shows (M.may server.manager.now) (M.tables server.manager.now) server.hub.now line }
+    ensures { Goes K.shows M.may M.tables server.entry line result }
 {
+    let Server { hub, manager, .. } = server;
     let mut line = line;
     match line.hear_ready(hub, manager) {
         Heard::Nothing => Went::On(line),
@@ -212,9 +208,7 @@ pub(crate) fn serve_next<R: Wait + Threads + Sync, K: Link, M: Manager + Sync>(
             Ok(()) => Went::On(line),
             Err(why) => Went::Stop(line, why),
         },
-        Heard::Does(Act::Call(joined, iface)) => {
-            serve_call(rt, alloc, served, manager, hub, line, joined, iface)
-        }
+        Heard::Does(Act::Call(joined, iface)) => { serve_call(rt, server, line, joined, iface) }
         Heard::Does(Act::Close(octets, fault)) => {
             let why = line.refuse(hub, manager, octets.as_slice(), fault);
             Went::Stop(line, why)

@@ -4,6 +4,7 @@ ghost use Rattle.group_hub.specs.Passes.{IsPassOf};
 ghost use Rattle.served_tables.specs.Served.{tables_in};
 ghost use Rattle.server_ends.specs.Finishes.{Finishes};
 ghost use Rattle.group_hub.specs.declared.pass.Pass.{Pass as PassSpec};
+ghost use Rattle.call_worker.specs.Works.{Serves};
 ghost use Rattle.server_line.specs.Early.{IsAlone};
 ghost use Rattle.server_line.specs.Lines.{IsReady};
 ghost use Rattle.server_line.specs.Endings.{IsStopping};
@@ -11,6 +12,7 @@ ghost use Rattle.server_run.specs.Running.{IsOverFrom};
 
 use crate::binding::{Entered, enter};
 use crate::calling::{Went, serve_next};
+use call_worker::Server;
 use conn_link::Wire;
 use group_hub::{Hub, Pass};
 use manager_calls::Manager;
@@ -99,21 +101,18 @@ fn finish<R: Wait, K: Link, M: Manager>(
 #[tactic(auto, using(crate::proofs::Serving::over_from, crate::proofs::Serving::same_then))]
 fn serve_calls<R: Wait + Threads + Sync, K: Link, M: Manager + Sync>(
     rt: &R,
-    alloc: Global,
-    served: &Served,
-    manager: &M,
-    hub: &Hub,
+    server: Server<'_, M>,
     line: Line<K>,
 ) -> Finished<K>
-    requires served { M.tables manager.now ≡ tables_in served.now }
-    requires ready { IsReady K.shows (M.may manager.now) (M.tables manager.now) hub.now line }
-    ensures { IsOverFrom K.shows (M.may manager.now) (M.tables manager.now) hub.now line result }
+    requires served { Serves M.tables server }
+    requires ready { IsReady K.shows (M.may server.manager.now) (M.tables server.manager.now) server.hub.now line }
+    ensures { IsOverFrom K.shows M.may M.tables server.entry line result }
 {
     let mut line = line;
     for _ in rt.forever() {
-        match serve_next(rt, alloc, served, manager, hub, line) {
+        match serve_next(rt, server, line) {
             Went::On(next) => line = next,
-            Went::Stop(line, why) => return finish(rt, hub, manager, line, why),
+            Went::Stop(line, why) => return finish(rt, server.hub, server.manager, line, why),
             Went::Over(finished) => return finished,
         }
     }
@@ -148,8 +147,14 @@ pub fn serve_connection<R: Wait + Threads + Sync, K: Link, M: Manager + Sync>(
         Ok(wire) => wire,
         Err(link) => return unserved(manager, hub, pass, link),
     };
+    let server = Server {
+        alloc,
+        served: table,
+        manager,
+        hub,
+    };
     match enter(rt, hub, manager, wire, pass) {
-        Entered::Joined(line) => return serve_calls(rt, alloc, table, manager, hub, line),
+        Entered::Joined(line) => return serve_calls(rt, server, line),
         Entered::Stopped(line, why) => return finish(rt, hub, manager, line, why),
         Entered::Alone(wire, pass, why) => return finish_alone(manager, hub, wire, pass, why),
     }

@@ -2,8 +2,9 @@
 //! take its calls and the managers answer them, and leaves (C706, "Connection-oriented RPC protocol machines", server).
 //!
 //! The connection's thread owns the link and the pass: it takes and puts all octets and enters all that is entered. A call
-//! that was taken runs in a worker, a thread of its own, whose pass only asks. The connection's thread hears meanwhile
-//! whether the call is called off, joins the worker and takes in its pass before it enters the call's end.
+//! that was taken runs there too where its manager says that it is brief, else in a worker, a thread of its own, whose pass
+//! only asks. The connection's thread hears meanwhile whether the call is called off, and joins the worker. It takes in the
+//! pass with which the call asked before it enters the call's end.
 #![tactic(auto)]
 
 mod beside;

@@ -1,28 +1,36 @@
 //! A call that was taken runs and ends.
 ghost use Rattle.std.specs.Prelude.{◌≡◌};
-ghost use Rattle.ndr_value.specs.Values.{msg};
-ghost use Rattle.served_calls.specs.Requests.{IsAsked};
-ghost use Rattle.served_tables.specs.Served.{tables_in};
 ghost use Rattle.call_worker.specs.Works.{Works};
 ghost use Rattle.server_line.specs.declared.line.Line.{Line as LineSpec};
-ghost use Rattle.server_line.specs.Calls.{IsTaken};
-ghost use Rattle.server_run.specs.Running.{HasDeparted, IsOverFrom, RunsTo};
+ghost use Rattle.server_run.specs.Running.{IsTakenWith, HasDeparted, IsOverFrom, RunsTo};
 
 use crate::beside::{Beside, Departed, run_beside};
-use call_worker::Worked;
-use group_hub::Hub;
+use call_worker::{RunningCall, Server, Task, Worked};
 use handle_model::{Asked, CookieRow, Reply};
 use handle_rules::number_slots;
 use manager_calls::Manager;
 use ndr_value::Message;
 use rpc_outside::Link;
 use served_call::{Room, first_cookies};
-use served_tables::Served;
 use server_ends::Finished;
 use server_line::{Gone, Line};
-use std::alloc::Global;
 use std::sync::Wait;
+use std::sync::atomic::AtomicBool;
 use std::thread::Threads;
+
+/// A call that was taken, with what was made ready for it.
+#[derive(Drop)]
+pub(crate) struct TakenCall {
+    pub(crate) call: u32,
+    pub(crate) asked: Asked,
+    /// The row of its cookies, and the serial from which on its handles are numbered.
+    pub(crate) row: CookieRow,
+    pub(crate) serial: u32,
+    /// Its message, for its manager and for its end.
+    pub(crate) message: Message,
+    pub(crate) again: Message,
+    pub(crate) room: Room,
+}
 
 /// What became of a connection whose call ran.
 #[derive(Drop)]
@@ -36,17 +44,15 @@ pub(crate) enum Ran<K: Link> {
 /// A connection is over that left while its call ran: the call ends.
 fn finish_departed<R: Wait, K: Link, M: Manager>(
     rt: &R,
-    hub: &Hub,
-    manager: &M,
+    server: Server<'_, M>,
     departed: Departed<K>,
-    call: u32,
-    asked: &Asked,
+    running: RunningCall<'_>,
     cookies: &[Option<u64>],
     worked: Worked,
 ) -> Finished<K>
-    requires works { Works (M.tables manager.now) (M.may manager.now) hub.now departed.gone.group call asked.now cookies.now worked }
-    requires departed { (old : LineSpec K) × HasDeparted K.shows (M.may manager.now) (M.tables manager.now) hub.now old call asked.now cookies.now departed }
-    ensures { (old : LineSpec K) → HasDeparted K.shows (M.may manager.now) (M.tables manager.now) hub.now old call asked.now cookies.now departed → IsOverFrom K.shows (M.may manager.now) (M.tables manager.now) hub.now old result }
+    requires works { Works (M.tables server.manager.now) (M.may server.manager.now) server.hub.now departed.gone.group running.call running.asked.now cookies.now worked }
+    requires departed { (old : LineSpec K) × HasDeparted K.shows M.may M.tables server old running cookies.now departed }
+    ensures { (old : LineSpec K) → HasDeparted K.shows M.may M.tables server.entry old running.entry cookies.now departed → IsOverFrom K.shows M.may M.tables server.entry old result }
 {
     let Departed {
         mut gone,
@@ -54,6 +60,8 @@ fn finish_departed<R: Wait, K: Link, M: Manager>(
         why,
         ending,
     } = departed;
+    let Server { hub, manager, .. } = server;
+    let RunningCall { call, asked, .. } = running;
     gone.end(rt, hub, manager, why, call, asked, cookies, worked);
     let Gone {
         pass,
@@ -71,42 +79,53 @@ fn finish_departed<R: Wait, K: Link, M: Manager>(
     }
 }
 
-/// Has the manager answer a call that was taken, in a thread beside, and ends it so: what its client is told, or the end
-/// of the connection.
+/// Has the manager answer a call that was taken, in a thread beside unless it is brief, and ends it so: what its client is
+/// told, or the end of the connection.
+#[tactic(auto, using(crate::proofs::Serving::over_from, crate::proofs::Serving::same_then))]
 pub(crate) fn run_call<R: Wait + Threads + Sync, K: Link, M: Manager + Sync>(
     rt: &R,
-    alloc: Global,
-    served: &Served,
-    manager: &M,
-    hub: &Hub,
-    line: Line<K>,
-    call: u32,
-    asked: Asked,
-    message: Message,
-    again: &Message,
-    row: &CookieRow,
-    serial: u32,
-    room: Room,
+    server: Server<'_, M>,
+    mut line: Line<K>,
+    taken: TakenCall,
 ) -> Ran<K>
-    requires served { M.tables manager.now ≡ tables_in served.now }
-    requires taken { IsTaken K.shows (M.may manager.now) (M.tables manager.now) hub.now line call asked row.now serial }
-    requires message { IsAsked (tables_in served.now) asked.iface asked.op asked.order asked.stub (msg message) }
-    requires again { IsAsked (tables_in served.now) asked.iface asked.op asked.order asked.stub (msg again.now) }
-    ensures { RunsTo K.shows (M.may manager.now) (M.tables manager.now) hub.now line result }
+    requires { IsTakenWith K.shows M.may M.tables server line taken }
+    ensures { RunsTo K.shows M.may M.tables server.entry line result }
 {
-    let mut asked = asked;
+    let TakenCall {
+        call,
+        mut asked,
+        row,
+        serial,
+        message,
+        again,
+        room,
+    } = taken;
+    let Server { hub, manager, .. } = server;
     number_slots(&mut asked.slots, (serial as usize).saturating_sub(1));
-    let cookies = first_cookies(row, asked.slots.len());
-    match run_beside(
-        rt, alloc, served, manager, hub, line, call, &asked, cookies, message, again, row, room,
-    ) {
-        Beside::On(line, orphaned, worked) => {
-            let mut line = line;
-            let reply = line.end(rt, hub, manager, call, &asked, cookies, orphaned, worked);
+    let asked = &asked;
+    let cookies = first_cookies(&row, asked.slots.len());
+    let pass = line.split_pass(hub, manager, call, asked, cookies);
+    let done = AtomicBool::new(false);
+    let running = RunningCall {
+        group: line.group,
+        call,
+        asked,
+        row,
+        done: &done,
+    };
+    let task = Task {
+        pass,
+        message,
+        again,
+        room,
+    };
+    match run_beside(rt, server, line, running, cookies, task) {
+        Beside::On(mut line, orphaned, worked) => {
+            let reply = line.end(rt, hub, manager, call, asked, cookies, orphaned, worked);
             Ran::On(line, reply)
         }
-        Beside::Left(departed, worked) => Ran::Over(finish_departed(
-            rt, hub, manager, departed, call, &asked, cookies, worked,
-        )),
+        Beside::Left(departed, worked) => {
+            Ran::Over(finish_departed(rt, server, departed, running, cookies, worked))
+        }
     }
 }

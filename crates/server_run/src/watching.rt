@@ -4,10 +4,9 @@ ghost use Rattle.server_line.specs.Lines.{IsSame};
 ghost use Rattle.server_line.specs.Calls.{IsRunning};
 ghost use Rattle.server_run.specs.Running.{Watches};
 
+use call_worker::{RunningCall, Server};
 use conn_asks::Act;
 use conn_link::{Fault, Heard};
-use group_hub::Hub;
-use handle_model::Asked;
 use manager_calls::Manager;
 use rpc_outside::Link;
 use server_line::{Line, Stop};
@@ -41,22 +40,21 @@ fn is_soon_done(done: &AtomicBool) -> bool {
 /// Hears whether a running call is called off, until it is done or something came that has to wait for its end.
 pub(crate) fn watch<R: Wait, K: Link, M: Manager>(
     rt: &R,
-    hub: &Hub,
-    manager: &M,
+    server: Server<'_, M>,
     line: &mut Line<K>,
-    call: u32,
-    asked: &Asked,
+    running: RunningCall<'_>,
     cookies: &[Option<u64>],
-    done: &AtomicBool,
 ) -> Watched
-    requires { IsRunning K.shows (M.may manager.now) (M.tables manager.now) hub.now line.old call asked.now cookies.now false }
+    requires { IsRunning K.shows (M.may server.manager.now) (M.tables server.manager.now) server.hub.now line.old running.call running.asked.now cookies.now false }
     ensures same { IsSame line.old line.new }
     ensures group { line.new.group ≡ line.old.group }
-    ensures watches { Watches K.shows (M.may manager.now) (M.tables manager.now) hub.now call asked.now cookies.now result line.new }
+    ensures watches { Watches K.shows M.may M.tables server.entry running.entry cookies.now result line.new }
 {
+    let Server { hub, manager, .. } = server;
+    let RunningCall { call, asked, .. } = running;
     let mut orphaned = false;
     for _ in rt.forever() {
-        if is_soon_done(done) || line.wire.conn.must_wait() {
+        if is_soon_done(running.done) || line.wire.conn.must_wait() {
             return Watched::Done(orphaned);
         }
         match line.hear_running(hub, manager, call, asked, cookies, orphaned) {

@@ -30,7 +30,7 @@ use Rattle.hub_story.specs.Histories.{marks_in, past_in, journal_in, home_of, it
 use Rattle.hub_story.specs.Folded.{kept_since, kept}
 use Rattle.hub_story.specs.Answers.{JoinsWhole}
 use Rattle.hub_story.proofs.ItemLemmas.{past-append, marks-append}
-use Rattle.fold_laws.proofs.Alike.{folds_stand}
+use Rattle.hub_story.proofs.FoldLemmas.{folds_stand}
 use Rattle.hub_story.proofs.FoldLemmas.{kept_folds}
 use Rattle.hub_story.proofs.WholeLemmas.{Keeps, joins_whole}
 use Rattle.turn_lock.proofs.HistoryLemmas.{at_append, at_within}

@@ -15,7 +15,7 @@ use Rattle.handle_model.specs.Journal.{Legal}
 use Rattle.handle_model.specs.Bases.{empty_base}
 use Rattle.handle_model.specs.History.{History, since, size}
 use Rattle.journal_laws.specs.Further.{with_entries}
-use Rattle.journal_folds.specs.Laws.{BaseBegun}
+use Rattle.journal_tables.specs.Folding.{BaseBegun}
 use Rattle.hub_story.specs.declared.item.Item.{Item}
 use Rattle.hub_story.specs.declared.item.Item.TheVariants.{Begun}
 use Rattle.hub_story.specs.Directories.{is_opened_id, id_of, index_of}

@@ -8,8 +8,9 @@ use rpc_outside::{Link, Taken};
 
 /// A link over a TCP socket. A take waits at most 10 milliseconds for octets; a put waits for room in
 /// turns of that length, at most 6,000 of them, and then fails. A close tells the peer that no more
-/// comes, and reads and drops what it still sends until it ends: for two seconds of waiting and 64 MiB
-/// at most.
+/// comes, and reads and drops what it still sends until it ends: it waits for 200 whole turns and looks
+/// 32,768 times at most, each time for up to 4,096 octets. A turn that the peer cuts short by sending
+/// isn't counted.
 #[derive(Drop)]
 pub struct SocketLink {
     connection: Option<Connection>,

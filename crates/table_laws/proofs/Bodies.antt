@@ -15,7 +15,7 @@ use Rattle.idl_names.specs.declared.place.Place.{Place}
 use Rattle.idl_names.specs.declared.place.Place.TheVariants as places
 use Rattle.idl_names.specs.Attributes.{outer_class, pointer_default, says, says_handle, is_serialised}
 use Rattle.idl_names.specs.Declarators.{all_pointed, extent_of}
-use Rattle.idl_names.specs.Members.{lone_member, result_member, param_member}
+use Rattle.idl_names.specs.Members.{attrs_of, dtors_of, lone_member, result_member, param_member}
 use Rattle.idl_names.specs.Symbols.{ByName, number_of}
 use Rattle.idl_forms.specs.Forms as idl
 use Rattle.idl_outline.specs.declared.ty.DataType.{DataType}
@@ -28,24 +28,24 @@ use Rattle.idl_outline.specs.Types.{declared_as}
 use Rattle.idl_outline.specs.Parts.{setting_at, alone, size_past, array_past, sizes_past, label_past, labels_past, tag_used_past, other_tag_past, names_past, struct_past, struct_end}
 use Rattle.idl_outline.specs.Holding.{tag_holds}
 use Rattle.idl_outline.specs.Specs.{attributes, spec_past, kind_past, switch_past, mark_past, attr_past, attrs_past, member_past, members_past, member_field, member_fields, arms_past, arm_fields}
-use Rattle.idl_outline.specs.Outline.{types_past, params_past, param_fields, named_past, decl_past, decls_past}
+use Rattle.idl_outline.specs.Outline.{types_past, own_past, params_past, param_fields, named_past, decl_past, decls_past}
 use Rattle.idl_rules.specs.BadAttribute as bad
 use Rattle.ndr_value.specs.Forms.{Form, OfStruct, OfUnion, ArmForms, then_arm}
 use Rattle.table_scope.specs.declared.said.Terms.{Terms}
 use Rattle.table_scope.specs.Scopes.{Sense, Scope, begun, ended}
 use Rattle.table_scope.specs.Declarators.{terms, declared}
 use Rattle.table_specs.specs.Specs.{row, arm_row, held, cases, has_default, member_names, members_within, arm_names, shapes_of, spec_at, kind_at, switch_at, mark_at, attr_at, attrs_at, sense_at, members_at, arms_at}
-use Rattle.table_laws.specs.Interfaces.{Draft, is_binding, param_names, listed_at, param_at, params_at, typedef_one, typedef_all, decl_at, decls_at, nothing_declared}
+use Rattle.table_laws.specs.Interfaces.{Draft, param_names, params_at, typedef_one, typedef_all, own_at, decl_at, decls_at, nothing_declared}
 use Rattle.table_laws.specs.Alike.{suits}
 use Rattle.table_laws.specs.Bodies.{bodies, row_suits, all_declared, some_declared, each_declared, arms_suit, body_suits, bodies_suit, BodiesSuit}
 use Rattle.table_laws.proofs.Quiet.{begins_quiet, labels_quiet, other_quiet, spec_quiet, switch_quiet, attr_quiet, attrs_quiet, member_quiet, members_quiet, arms_quiet, params_quiet, sizes_quiet, types_behind}
 use Rattle.table_laws.proofs.Handles.{begun_named, switch_named, attr_named, attrs_named, member_named}
-use Rattle.table_laws.proofs.Known.{Agree, labels_agree, other_agrees, begun_agrees, switch_agrees, attr_agrees, attrs_agree, member_agrees}
+use Rattle.table_laws.proofs.Known.{Agree, labels_agree, other_agrees, begun_agrees, switch_agrees, attr_agrees, attrs_agree, member_agrees, decl_agrees}
 use Rattle.table_laws.proofs.Said.{both, first_of_both, second_of_both}
 use Rattle.table_laws.proofs.Standing.{Kept, kept_tail, kept_before, ended_kept, AllFit, first_fits, others_fit, body_fits}
 use Rattle.table_laws.proofs.Suits.{declared_suits}
-use Rattle.table_laws.proofs.Declarations.{spec_binds, attrs_still, call_fits, param_agrees, decl_stand, decls_kept, kept_tree, nothing_agrees}
-use Rattle.table_laws.proofs.Resolved.{AllText, Typed, typed_on, field_text, member_suits, spec_constants, param_named, decl_typed}
+use Rattle.table_laws.proofs.Declarations.{decls_kept, kept_tree, nothing_agrees}
+use Rattle.table_laws.proofs.Resolved.{AllText, Typed, typed_on, field_text, member_suits, spec_constants, decl_typed}
 
 -- ---- one body more
 
@@ -270,67 +270,45 @@ mutual
   arms_matched k list names (idl.then_arm (idl.empty_arm ls) others) p q h c f =
       arms_matched k list names others (labels_past ls p) q (further p (labels_past ls p) q q h (labels_agree ls p q h.agree) (labels_quiet ls p).types refl (labels_matched ls p q h.matched)) c f
 
--- ---- parameters: the attributes of a handle_t declare nothing
+-- ---- declarations, and their parameters
 
-binding_matched : (k : Pk) (as' : idl.AttrForms) (s : idl.SpecForm) (d : Dtor) (p : Past) (q : Scope) (at : ℕ) → idl.a_spec at idl.OfHandle ≡ s → Matched p q
-    → flat_map (bad.attribute_places (member_field k places.Parameter (idl.a_member as' s (d ∷ [])) p)) (attributes k as' p) ≡ [] → Matched (member_past k places.Parameter (idl.a_member as' s (d ∷ [])) p) q
-binding_matched k as' s d p q at is h =
-    subst (λ (x : idl.SpecForm). flat_map (bad.attribute_places (member_field k places.Parameter (idl.a_member as' x (d ∷ [])) p)) (attributes k as' p) ≡ [] → Matched (member_past k places.Parameter (idl.a_member as' x (d ∷ [])) p) q) is
-    (λ f. sizes_matched (d ∷ []) (attrs_past k as' p) q (attrs_still (λ (r : Past). Matched r q) k (member_field k places.Parameter (idl.a_member as' (idl.a_spec at idl.OfHandle) (d ∷ [])) p) as' p refl f h))
+params_matched : (k : Pk) (names : List Ident) (ns : List idl.ParamForm) (p : Past) (q : Scope) → Here p q → Kept (params_past k ns p) → Matched (params_past k ns p) (params_at k names ns q).1
+params_matched k names [] p q h c = h.matched
+params_matched k names (n ∷ ns) p q h c =
+    let m : idl.MemberForm = param_member n in
+    let r : Past = member_past k places.Parameter m p in
+    let first = member_matched k places.Parameter m p q h (kept_before r (params_past k ns r) (params_quiet k ns r).behind c) in
+    params_matched k names ns r (sense_at k m q).1
+    (further p r q (sense_at k m q).1 h (member_agrees k places.Parameter k m p q h.agree) (member_quiet k places.Parameter m p).types (member_named k m q) first) c
 
-param_matched : (k : Pk) (names : List Ident) (n : idl.ParamForm) (p : Past) (q : Scope) (b : Bool) → is_binding n.spec ≡ b → Here p q → Kept (member_past k places.Parameter (param_member n) p)
-    → flat_map (bad.attribute_places (member_field k places.Parameter (param_member n) p)) (attributes k n.attrs p) ≡ []
-    → Matched (member_past k places.Parameter (param_member n) p) (if b then (([], []), q) else listed_at k names n.attrs n.dtor (sense_at k (param_member n) q)).1
-param_matched k names n p q true e h c f = let is = spec_binds n.spec e in binding_matched k n.attrs n.spec n.dtor p q is.0 (sym is.1) h.matched f
-param_matched k names n p q false e h c f = member_matched k places.Parameter (param_member n) p q h c
-
-params_matched : (k : Pk) (names : List Ident) (list : List Field) (ns : List idl.ParamForm) (p : Past) (q : Scope) → Here p q → Kept (params_past k ns p) → AllFit list (param_fields k ns p) → Matched (params_past k ns p) (params_at k names ns q).1
-params_matched k names list [] p q h c f = h.matched
-params_matched k names list (n ∷ ns) p q h c f =
-    let r : Past = member_past k places.Parameter (param_member n) p in
-    let z : Scope = (param_at k names n q).1 in
-    let field : Field = member_field k places.Parameter (param_member n) p in
-    let rest : List Field = param_fields k ns r in
-    let fit = first_fits list field rest f in
-    let first = param_matched k names n p q (is_binding n.spec) refl h (kept_before r (params_past k ns r) (params_quiet k ns r).behind c) fit.attributes in
-    params_matched k names list ns r z (further p r q z h (param_agrees k names n list (bad.is_more rest) p q h.agree fit) (member_quiet k places.Parameter (param_member n) p).types (param_named k names n q) first) c (others_fit list field rest f)
-
--- ---- declarations
+own_matched : (k : Pk) (place : Place) (m : idl.MemberForm) (p : Past) (q : Scope) → Here p q → Kept (own_past k place m p) → Matched (own_past k place m p) (own_at k m q)
+own_matched k place m p q h c =
+    let z : Past = member_past k place m p in
+    let xs : List Declared = (member_field k place m p).declared in
+    let behind : Sense × Scope = sense_at k m q in
+    let inside = member_matched k place m p q h (kept_before z (types_past xs z) (types_behind xs z) (kept_tail (events.Single _) (types_past xs z) c)) in
+    types_matched xs z (own_at k m q) (typedef_matched (says says_handle (attrs_of m)) (is_serialised (attrs_of m)) (terms k places.Typedef [] (attrs_of m)) behind.0 (dtors_of m) z behind.1 inside)
 
 decl_matched : (k : Pk) (x : idl.DeclKindForm) (d : Draft) (p : Past) → Here p d.scope → Kept (decl_past k x p) → Matched (decl_past k x p) (decl_at k x d).scope
 decl_matched k (idl.OfConst base name value) d p h c = h.matched
-decl_matched k (idl.OfTypedef as' s ds) d p h c =
-    let m : idl.MemberForm = idl.a_member as' s ds in
-    let z : Past = member_past k places.Typedef m p in
-    let xs : List Declared = (member_field k places.Typedef m p).declared in
-    let behind : Sense × Scope = sense_at k m d.scope in
-    let inside = member_matched k places.Typedef m p d.scope h (kept_before z (types_past xs z) (types_behind xs z) (kept_tail (events.Single _) (types_past xs z) c)) in
-    let handle : Bool = says says_handle as' in
-    let t : Terms = terms k places.Typedef [] as' in
-    types_matched xs z (typedef_all handle (is_serialised as') t behind.0 ds behind.1) (typedef_matched handle (is_serialised as') t behind.0 ds z behind.1 inside)
-decl_matched k (idl.OfLone as' s) d p h c =
-    let m : idl.MemberForm = lone_member as' s in
-    member_matched k places.Alone m p d.scope h (kept_tail (events.Single _) (member_past k places.Alone m p) c)
+decl_matched k (idl.OfTypedef as' s ds) d p h c = own_matched k places.Typedef (idl.a_member as' s ds) p d.scope h c
+decl_matched k (idl.OfLone as' s) d p h c = own_matched k places.Alone (lone_member as' s) p d.scope h c
 decl_matched k (idl.OfOp as' s name void ns) d p h c =
     let r : idl.MemberForm = result_member as' s name in
     let z : Past = member_past k places.Operation r p in
     let q : Past = named_past k r name p in
-    let ps : List Field = param_fields k ns q in
-    let result : Field = member_field k places.Operation r p in
-    let all : Past = params_past k ns q in
     let v : Scope = (sense_at k r d.scope).1 in
-    let inside : Kept all = kept_tail (events.Call result ps) all c in
-    let before : Kept z = kept_tail (events.Operation name) z (kept_before q all (params_quiet k ns q).behind inside) in
+    let inside : Kept (params_past k ns q) = kept_tail (events.Call (member_field k places.Operation r p) (param_fields k ns q)) (params_past k ns q) c in
+    let before : Kept z = kept_tail (events.Operation name) z (kept_before q (params_past k ns q) (params_quiet k ns q).behind inside) in
     let first = member_matched k places.Operation r p d.scope h before in
-    let here : Here q v = further p q d.scope v h (member_agrees k places.Operation k r p d.scope h.agree) (member_quiet k places.Operation r p).types (member_named k r d.scope) first in
-    params_matched k (param_names ns) ps ns q v here inside (call_fits result ps all c)
+    params_matched k (param_names ns) ns q v (further p q d.scope v h (member_agrees k places.Operation k r p d.scope h.agree) (member_quiet k places.Operation r p).types (member_named k r d.scope) first) inside
 
 decls_matched : (k : Pk) (xs : List idl.DeclForm) (d : Draft) (p : Past) → Here p d.scope → Kept (decls_past k xs p) → Matched (decls_past k xs p) (decls_at k xs d).scope
 decls_matched k [] d p h c = h.matched
 decls_matched k (x ∷ xs) d p h c =
     let here : Kept (decl_past k x.what p) = decls_kept k xs (decl_past k x.what p) c in
     decls_matched k xs (decl_at k x.what d) (decl_past k x.what p)
-    (record { agree = (decl_stand k x.what d p h.agree here).1; typed = decl_typed k x.what d p h.agree h.typed here; matched = decl_matched k x.what d p h here }) c
+    (record { agree = decl_agrees k x.what p d h.agree; typed = decl_typed k x.what d p h.agree h.typed here; matched = decl_matched k x.what d p h here }) c
 
 pub each_body_suits : BodiesSuit
 each_body_suits tree none =

@@ -1,6 +1,6 @@
 -- Each name that a declaration of an interface that keeps the rules uses stands for something where its table reads it.
 use Rattle.std.proofs.Common.{◌≡◌, ℕ, List, [], ◌∷◌, ◌++◌, Bool, true, false, Option, refl, ap, sym, subst, ◌∙◌}
-use Rattle.std.specs.Prelude.{◌==◌, ◌||◌, ◌&&◌, not, is_some, bytes_eq, if◌then◌else◌}
+use Rattle.std.specs.Prelude.{◌==◌, ◌||◌, ◌&&◌, is_some, bytes_eq, if◌then◌else◌}
 use Rattle.std.specs.List.{list_any, flat_map}
 use Rattle.std.specs.Option.{option_or}
 use Rattle.idl_tree.specs.declared.leaf.Ident.{Ident}
@@ -19,25 +19,25 @@ use Rattle.idl_outline.specs.Names.{Past, constants_of}
 use Rattle.idl_outline.specs.Types.{bare}
 use Rattle.idl_names.specs.Attributes.{outer_class, pointer_default}
 use Rattle.idl_names.specs.Declarators.{extent_of}
-use Rattle.idl_outline.specs.Specs.{mark_of, attributes, mark_past, attrs_past, member_past, member_field}
-use Rattle.idl_outline.specs.Outline.{types_past, typedef_past, params_past, param_fields, named_past, op_past, decl_past, decls_past, outline}
+use Rattle.idl_outline.specs.Specs.{attrs_past, member_past, member_field}
+use Rattle.idl_outline.specs.Outline.{types_past, own_past, params_past, param_fields, named_past, op_past, decl_past, decls_past, outline}
 use Rattle.idl_rules.specs.declared.asked.Asked.{Asked}
 use Rattle.idl_rules.specs.declared.asked.Asked.TheVariants as asks
-use Rattle.idl_rules.specs.Places.{at_if, gathered, repeats}
+use Rattle.idl_rules.specs.Places.{gathered, repeats}
 use Rattle.idl_rules.specs.Types.{is_unknown, is_asked}
 use Rattle.idl_rules.specs.BadAttribute as bad
 use Rattle.idl_rules.specs.SizeName as size
 use Rattle.idl_rules.specs.Broken.{NoneBroken}
 use Rattle.table_scope.specs.Scopes.{Scope, nothing_known}
 use Rattle.table_specs.specs.Specs.{sense_at}
-use Rattle.table_laws.specs.Interfaces.{Draft, is_binding, listed_name, param_names, listed_at, param_at, params_at, op_at, decl_at, nothing_declared, first_in, uuid_in}
-use Rattle.table_laws.specs.Stands.{is_among, member_stands, param_stands, params_stand, decl_stands, decls_stand, EachNameStands}
-use Rattle.table_laws.proofs.Quiet.{types_behind, member_quiet, params_quiet}
-use Rattle.table_laws.proofs.Listed.{nil_left, nil_right, none_among, typedef_behind_is, lone_quiet, params_behind}
+use Rattle.table_laws.specs.Interfaces.{Draft, is_binding, listed_name, param_names, decl_at, nothing_declared, first_in, uuid_in}
+use Rattle.table_laws.specs.Stands.{is_among, member_stands, params_stand, decl_stands, decls_stand, EachNameStands}
+use Rattle.table_laws.proofs.Quiet.{types_behind, params_quiet, decls_behind}
+use Rattle.table_laws.proofs.Listed.{nil_left, nil_right, none_among}
 use Rattle.table_laws.proofs.Handles.{as_core}
-use Rattle.table_laws.proofs.Known.{Agree, sizes_agree, constant_agrees, member_agrees, typedef_agrees}
+use Rattle.table_laws.proofs.Known.{Agree, member_agrees, decl_agrees}
 use Rattle.table_laws.proofs.Said.{there, both, Offered}
-use Rattle.table_laws.proofs.Standing.{Kept, kept_tail, kept_before, or_last, offer_names, left_among, right_among, Fits, fits, AllFit, first_fits, others_fit, member_stand}
+use Rattle.table_laws.proofs.Standing.{Kept, kept_tail, kept_before, offer_names, left_among, right_among, Fits, fits, AllFit, first_fits, others_fit, member_stand}
 
 -- ---- a field of its own: a typedef's, that of a spec without a declarator, or that of an operation's result
 
@@ -52,57 +52,18 @@ result_fits r ps p c =
 own_stands : (k : Pk) (place : Place) (m : idl.MemberForm) (p : Past) (q : Scope) → Agree p q → Kept (member_past k place m p) → Fits [] false (member_field k place m p) → member_stands k [] m q ≡ true
 own_stands k place m p q h c f = member_stand k k place [] false [] m p q h c (λ asked n e. absurd cc) f
 
-typedef_stands : (k : Pk) (m : idl.MemberForm) (p : Past) (q : Scope) → Agree p q → Kept (typedef_past k m p) → member_stands k [] m q ≡ true
-typedef_stands k m p q h c =
-    let f : Field = member_field k places.Typedef m p in
-    let z : Past = member_past k places.Typedef m p in
+decl_own : (k : Pk) (place : Place) (m : idl.MemberForm) (p : Past) (q : Scope) → Agree p q → Kept (own_past k place m p) → member_stands k [] m q ≡ true
+decl_own k place m p q h c =
+    let f : Field = member_field k place m p in
+    let z : Past = member_past k place m p in
     let all : Past = types_past f.declared z in
-    own_stands k places.Typedef m p q h (kept_before z all (types_behind f.declared z) (kept_tail (events.Single f) all c)) (single_fits f all c)
+    own_stands k place m p q h (kept_before z all (types_behind f.declared z) (kept_tail (events.Single f) all c)) (single_fits f all c)
 
 -- ---- parameters
 
-pub spec_binds : (s : idl.SpecForm) → is_binding s ≡ true → (at : ℕ) × (s ≡ idl.a_spec at idl.OfHandle)
+spec_binds : (s : idl.SpecForm) → is_binding s ≡ true → (at : ℕ) × (s ≡ idl.a_spec at idl.OfHandle)
 spec_binds (idl.a_spec at idl.OfHandle) e = (at, refl)
 spec_binds (idl.a_spec at _) e = absurd cc
-
--- the attributes of a field whose spec is no union declare nothing: switch_type has no meaning there
-no_type : (b x : Bool) (at : ℕ) → b ≡ false → at_if (not b || x) at ≡ [] → ⊥
-no_type true x at e f = cc
-no_type false x at e f = cc
-
-mark_still : (P : Past → Type 0) (k : Pk) (f : Field) (at : ℕ) (m : idl.AttrKindForm) (p : Past) → bad.is_bare f.bare ≡ false → bad.attribute_places f (record { at = at; mark = mark_of k m p }) ≡ [] → P p → P (mark_past k m p)
-mark_still P k f at (idl.OfSwitchType s) p b e h = absurd (no_type (bad.is_bare f.bare) _ at b e)
-mark_still P k f at _ p b e h = h
-
-pub attrs_still : (P : Past → Type 0) (k : Pk) (f : Field) (as' : idl.AttrForms) (p : Past) → bad.is_bare f.bare ≡ false → flat_map (bad.attribute_places f) (attributes k as' p) ≡ [] → P p → P (attrs_past k as' p)
-attrs_still P k f idl.no_attr p b e h = h
-attrs_still P k f (idl.then_attr (idl.an_attr at m) rest) p b e h =
-    let here : List ℕ = bad.attribute_places f (record { at = at; mark = mark_of k m p }) in
-    let others : List ℕ = flat_map (bad.attribute_places f) (attributes k rest (mark_past k m p)) in
-    attrs_still P k f rest (mark_past k m p) b (nil_right here others e) (mark_still P k f at m p b (nil_left here others e) h)
-
-binding_agrees : (k : Pk) (as' : idl.AttrForms) (s : idl.SpecForm) (d : Dtor) (list : List Field) (more : Bool) (p : Past) (q : Scope) (at : ℕ) → idl.a_spec at idl.OfHandle ≡ s → Agree p q
-    → Fits list more (member_field k places.Parameter (idl.a_member as' s (d ∷ [])) p) → Agree (member_past k places.Parameter (idl.a_member as' s (d ∷ [])) p) q
-binding_agrees k as' s d list more p q at is h =
-    subst (λ (x : idl.SpecForm). Fits list more (member_field k places.Parameter (idl.a_member as' x (d ∷ [])) p) → Agree (member_past k places.Parameter (idl.a_member as' x (d ∷ [])) p) q) is
-    (λ f. sizes_agree (d ∷ []) (attrs_past k as' p) q (attrs_still (λ (r : Past). Agree r q) k (member_field k places.Parameter (idl.a_member as' (idl.a_spec at idl.OfHandle) (d ∷ [])) p) as' p refl f.attributes h))
-
-param_any : (k : Pk) (names : List Ident) (n : idl.ParamForm) (list : List Field) (more : Bool) (p : Past) (q : Scope) (b : Bool) → is_binding n.spec ≡ b → Agree p q → Fits list more (member_field k places.Parameter (param_member n) p)
-    → Agree (member_past k places.Parameter (param_member n) p) (if b then (([], []), q) else listed_at k names n.attrs n.dtor (sense_at k (param_member n) q)).1
-param_any k names n list more p q true e h f = let is = spec_binds n.spec e in binding_agrees k n.attrs n.spec n.dtor list more p q is.0 (sym is.1) h f
-param_any k names n list more p q false e h f = member_agrees k places.Parameter k (param_member n) p q h
-
-pub param_agrees : (k : Pk) (names : List Ident) (n : idl.ParamForm) (list : List Field) (more : Bool) (p : Past) (q : Scope) → Agree p q → Fits list more (member_field k places.Parameter (param_member n) p)
-    → Agree (member_past k places.Parameter (param_member n) p) (param_at k names n q).1
-param_agrees k names n list more p q h f = param_any k names n list more p q (is_binding n.spec) refl h f
-
-params_agree : (k : Pk) (names : List Ident) (list : List Field) (ns : List idl.ParamForm) (p : Past) (q : Scope) → Agree p q → AllFit list (param_fields k ns p) → Agree (params_past k ns p) (params_at k names ns q).1
-params_agree k names list [] p q h f = h
-params_agree k names list (n ∷ ns) p q h f =
-    let field : Field = member_field k places.Parameter (param_member n) p in
-    let r : Past = member_past k places.Parameter (param_member n) p in
-    let rest : List Field = param_fields k ns r in
-    params_agree k names list ns r (param_at k names n q).1 (param_agrees k names n list (bad.is_more rest) p q h (first_fits list field rest f)) (others_fit list field rest f)
 
 params_stand_all : (k : Pk) (names : List Ident) (list : List Field) (ns : List idl.ParamForm) (p : Past) (q : Scope) → Agree p q → Kept (params_past k ns p) → ((f : Field) → Offered list f names) → AllFit list (param_fields k ns p)
     → params_stand k names ns q ≡ true
@@ -112,9 +73,10 @@ params_stand_all k names list (n ∷ ns) p q h c o f =
     let r : Past = member_past k places.Parameter (param_member n) p in
     let rest : List Field = param_fields k ns r in
     let fit : Fits list (bad.is_more rest) field = first_fits list field rest f in
-    both (param_stands k names n q) (params_stand k names ns (param_at k names n q).1)
-    (or_last (is_binding n.spec) _ (member_stand k k places.Parameter list (bad.is_more rest) names (param_member n) p q h (kept_before r (params_past k ns r) (params_quiet k ns r).behind c) (o field) fit))
-    (params_stand_all k names list ns r (param_at k names n q).1 (param_agrees k names n list (bad.is_more rest) p q h fit) c o (others_fit list field rest f))
+    let z : Scope = (sense_at k (param_member n) q).1 in
+    both (member_stands k names (param_member n) q) (params_stand k names ns z)
+    (member_stand k k places.Parameter list (bad.is_more rest) names (param_member n) p q h (kept_before r (params_past k ns r) (params_quiet k ns r).behind c) (o field) fit)
+    (params_stand_all k names list ns r z (member_agrees k places.Parameter k (param_member n) p q h) c o (others_fit list field rest f))
 
 -- ---- the names that parameters offer are those that are listed: a handle_t is of no type that is asked for
 
@@ -166,53 +128,35 @@ call_fits r ps p c =
       sizes = nil_right (size.field_places [] r) (flat_map (size.listed_places ps) ps) sizes;
     }
 
-op_stands : (k : Pk) (r : idl.MemberForm) (name : Ident) (ns : List idl.ParamForm) (d : Draft) (p : Past) → Agree p d.scope → Kept (op_past k r name ns p)
-    → ((member_stands k [] r d.scope && params_stand k (param_names ns) ns (sense_at k r d.scope).1) ≡ true) × Agree (op_past k r name ns p) (op_at k r name ns d).scope
-op_stands k r name ns d p h c =
+op_stands : (k : Pk) (r : idl.MemberForm) (name : Ident) (ns : List idl.ParamForm) (p : Past) (d : Scope) → Agree p d → Kept (op_past k r name ns p)
+    → (member_stands k [] r d && params_stand k (param_names ns) ns (sense_at k r d).1) ≡ true
+op_stands k r name ns p d h c =
     let q : Past = named_past k r name p in
     let ps : List Field = param_fields k ns q in
     let all : Past = params_past k ns q in
     let result : Field = member_field k places.Operation r p in
-    let z : Scope = (sense_at k r d.scope).1 in
+    let z : Scope = (sense_at k r d).1 in
     let inside : Kept all = kept_tail (events.Call result ps) all c in
     let before : Kept (member_past k places.Operation r p) = kept_tail (events.Operation name) (member_past k places.Operation r p) (kept_before q all (params_quiet k ns q).behind inside) in
-    let here : Agree q z = member_agrees k places.Operation k r p d.scope h in
-    let fit : AllFit ps ps = call_fits result ps all c in (
-      both (member_stands k [] r d.scope) (params_stand k (param_names ns) ns z) (own_stands k places.Operation r p d.scope h before (result_fits result ps all c))
-          (params_stand_all k (param_names ns) ps ns q z here inside (λ f asked n e. params_offer k ns q asked f n e) fit),
-      params_agree k (param_names ns) ps ns q z here fit,
-    )
+    both (member_stands k [] r d) (params_stand k (param_names ns) ns z) (own_stands k places.Operation r p d h before (result_fits result ps all c))
+    (params_stand_all k (param_names ns) ps ns q z (member_agrees k places.Operation k r p d h) inside (λ f asked n e. params_offer k ns q asked f n e) (call_fits result ps all c))
 
 -- ---- declarations
 
-pub decl_stand : (k : Pk) (x : idl.DeclKindForm) (d : Draft) (p : Past) → Agree p d.scope → Kept (decl_past k x p) → (decl_stands k x d.scope ≡ true) × Agree (decl_past k x p) (decl_at k x d).scope
-decl_stand k (idl.OfConst base name value) d p h c = (refl, constant_agrees base name value p d.scope h)
-decl_stand k (idl.OfTypedef as' s ds) d p h c = let m : idl.MemberForm = idl.a_member as' s ds in (typedef_stands k m p d.scope h c, typedef_agrees k m p d.scope h)
-decl_stand k (idl.OfLone as' s) d p h c =
-    let m : idl.MemberForm = lone_member as' s in
-    let z : Past = member_past k places.Alone m p in
-    let f : Field = member_field k places.Alone m p in
-    (own_stands k places.Alone m p d.scope h (kept_tail (events.Single f) z c) (single_fits f z c), member_agrees k places.Alone k m p d.scope h)
-decl_stand k (idl.OfOp as' s name void ps) d p h c = op_stands k (result_member as' s name) name ps d p h c
-
-pub decl_kept : (k : Pk) (x : idl.DeclKindForm) (p : Past) → Kept (decl_past k x p) → Kept p
-decl_kept k (idl.OfConst base name value) p c = kept_tail (events.Constant base name value) p c
-decl_kept k (idl.OfTypedef as' s ds) p c = kept_before p _ (typedef_behind_is k (idl.a_member as' s ds) p) c
-decl_kept k (idl.OfLone as' s) p c = kept_before p _ (lone_quiet k (lone_member as' s) p).behind c
-decl_kept k (idl.OfOp as' s name void ps) p c =
-    let r : idl.MemberForm = result_member as' s name in
-    let z : Past = member_past k places.Operation r p in
-    kept_before p z (member_quiet k places.Operation r p).behind (kept_tail (events.Operation name) z (kept_before (events.Operation name ∷ z) _ (params_behind k r name ps p).behind c))
+decl_stand : (k : Pk) (x : idl.DeclKindForm) (p : Past) (d : Scope) → Agree p d → Kept (decl_past k x p) → decl_stands k x d ≡ true
+decl_stand k (idl.OfConst base name value) p d h c = refl
+decl_stand k (idl.OfTypedef as' s ds) p d h c = decl_own k places.Typedef (idl.a_member as' s ds) p d h c
+decl_stand k (idl.OfLone as' s) p d h c = decl_own k places.Alone (lone_member as' s) p d h c
+decl_stand k (idl.OfOp as' s name void ps) p d h c = op_stands k (result_member as' s name) name ps p d h c
 
 pub decls_kept : (k : Pk) (xs : List idl.DeclForm) (p : Past) → Kept (decls_past k xs p) → Kept p
-decls_kept k [] p c = c
-decls_kept k (x ∷ xs) p c = decl_kept k x.what p (decls_kept k xs (decl_past k x.what p) c)
+decls_kept k xs p c = kept_before p (decls_past k xs p) (decls_behind k xs p) c
 
 decls_stand_all : (k : Pk) (xs : List idl.DeclForm) (d : Draft) (p : Past) → Agree p d.scope → Kept (decls_past k xs p) → decls_stand k xs d ≡ true
 decls_stand_all k [] d p h c = refl
 decls_stand_all k (x ∷ xs) d p h c =
-    let first = decl_stand k x.what d p h (decls_kept k xs (decl_past k x.what p) c) in
-    both (decl_stands k x.what d.scope) (decls_stand k xs (decl_at k x.what d)) first.0 (decls_stand_all k xs (decl_at k x.what d) (decl_past k x.what p) first.1 c)
+    both (decl_stands k x.what d.scope) (decls_stand k xs (decl_at k x.what d)) (decl_stand k x.what p d.scope h (decls_kept k xs (decl_past k x.what p) c))
+    (decls_stand_all k xs (decl_at k x.what d) (decl_past k x.what p) (decl_agrees k x.what p d h) c)
 
 -- ---- the interface
 

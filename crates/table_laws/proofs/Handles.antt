@@ -25,7 +25,7 @@ use Rattle.idl_names.specs.Declarators.{extent_of, all_pointed}
 use Rattle.idl_names.specs.Attributes.{outer_class, pointer_default, says, says_in, says_out, says_handle, is_serialised}
 use Rattle.idl_outline.specs.Parts.{setting_at}
 use Rattle.idl_outline.specs.Specs.{attributes, attrs_past, spec_past, spec_type, member_past, member_field}
-use Rattle.idl_outline.specs.Outline.{param_fields, typedef_past, types_past, lone_past, named_past, op_past, decl_past, decls_past, outline}
+use Rattle.idl_outline.specs.Outline.{param_fields, types_past, own_past, named_past, op_past, decl_past, decls_past, outline}
 use Rattle.idl_rules.specs.Places.{gathered}
 use Rattle.idl_rules.specs.Types.{is_context_handle}
 use Rattle.idl_rules.specs.TooManyHandles.{is_handle as is_handle_declared, declared_of, handles, place_if, too_many_handles}
@@ -40,10 +40,10 @@ use Rattle.table_scope.specs.declared.said.Terms.{Terms}
 use Rattle.table_scope.specs.Scopes.{Sense, Scope, type_named, or_nothing, begun, ended}
 use Rattle.table_scope.specs.Declarators.{terms}
 use Rattle.table_specs.specs.Specs.{table_reader, leaf_past, or_nothing as or_none, members_within, spec_at, switch_at, attr_at, attrs_at, sense_at}
-use Rattle.table_laws.specs.Interfaces.{Listed, Draft, is_binding, param_names, handle_use, listed_at, param_at, params_at, op_at, bare_sort, typed, typedef_one, typedef_all, typedef_at, decl_at, decls_at, nothing_declared, tabled}
+use Rattle.table_laws.specs.Interfaces.{Listed, Draft, is_binding, param_names, handle_use, listed_as, param_at, params_at, op_at, bare_sort, typed, typedef_one, typedef_all, own_at, decl_at, decls_at, nothing_declared, tabled}
 use Rattle.table_laws.specs.Wholes.{handles_in, all_handles, HasEachHandle}
-use Rattle.table_laws.proofs.Quiet.{Behind, attrs_quiet, member_quiet}
-use Rattle.table_laws.proofs.Listed.{less_is, nil_right, nil_left, none_among, Clean, typedef_behind_is, lone_quiet, params_behind, op_room, decl_listed, decls_clean, clean_tree}
+use Rattle.table_laws.proofs.Quiet.{Behind, back, attrs_quiet, member_quiet, decls_behind}
+use Rattle.table_laws.proofs.Listed.{less_is, nil_right, nil_left, none_among, Clean, params_behind, op_room, decl_listed, decls_clean, clean_tree}
 
 -- ---- specs, attributes, members and arms declare no name of a type
 
@@ -135,9 +135,9 @@ pub record Uses (m : ℕ) (q : Scope) (x : Listed × Scope) : Type 0 where
   few : length x.0.1 ≤ m
   named : x.1.symbols.types ≡ q.symbols.types
 
-uses_any : (b : Bool) (m : ℕ) (q : Scope) (x : Listed × Scope) → Uses m q x → Uses m q (if b then (([], []), q) else x)
-uses_any true m q x h = record { few = omega arith; named = refl }
-uses_any false m q x h = h
+few_any : (b : Bool) (m : ℕ) (x : Listed) → length x.1 ≤ m → length (if b then ([], []) else x).1 ≤ m
+few_any true m x h = omega arith
+few_any false m x h = h
 
 count_one : (d : Declared) (a : ℕ) → a ≤ cond (is_handle_declared d) 1 0 → a ≤ count_by is_handle_declared (d ∷ [])
 count_one d a le =
@@ -165,10 +165,10 @@ param_uses k names n p q h =
     let x : Extent = extent_of (constants_of z) n.dtor.array in
     let core = as_core class n.dtor.stars x t in
     let le = handle_le (says says_in as') (says says_out as') m.0.sort (is_context_handle (declared_as class n.dtor.stars x t).core) (λ e. ap is_context_handle core ∙ member_handles k places.Parameter (param_member n) p q h e) in
-    uses_any (is_binding n.spec) _ q (listed_at k names as' n.dtor m) (record {
-      few = count_one (outline_declared z false class t n.dtor) (length (handle_use (says says_in as') (says says_out as') m.0.sort)) le;
+    record {
+      few = few_any (is_binding n.spec) _ (listed_as k names (param_member n) m) (count_one (outline_declared z false class t n.dtor) (length (handle_use (says says_in as') (says says_out as') m.0.sort)) le);
       named = member_named k (param_member n) q;
-    })
+    }
 
 params_uses : (k : Pk) (names : List Ident) (ns : List idl.ParamForm) (p : Past) (q : Scope) → Agree p q
     → Uses (count_by is_handle_declared (declared_of (param_fields k ns p))) q (params_at k names ns q)
@@ -208,12 +208,8 @@ take_all (a ∷ b ∷ c ∷ d ∷ f ∷ rest) e = absurd (omega (arith, e))
 abbrev Few : Past → Type 0
 Few p = gathered too_many_handles p ≡ []
 
-few_back : (es p : Past) → Few (es ++ p) → Few p
-few_back [] p c = c
-few_back (e ∷ es) p c = few_back es p (nil_right (too_many_handles (es ++ p) e) (gathered too_many_handles (es ++ p)) c)
-
 few_before : (p q : Past) → Behind p q → Few q → Few p
-few_before p q a c = few_back a.more p (subst Few a.is c)
+few_before p q a c = back Few (λ e r h. nil_right (too_many_handles r e) (gathered too_many_handles r) h) p q a c
 
 kept_any : (b : Bool) (uses : List (List HandleUse)) (us : List HandleUse) → b ≡ true → length us ≤ 4 → (if b then uses ++ take 4 us ∷ [] else uses) ≡ uses ++ us ∷ []
 kept_any true uses us e few = ap (λ (x : List HandleUse). uses ++ x ∷ []) (take_all us few)
@@ -269,7 +265,7 @@ types_agree handle serialised t m class ty past (d ∷ ds) p q h f =
     types_agree handle serialised t m class ty past ds (events.Typedef d.name (outline_declared past handle class ty d).ty ∷ p) (typedef_one handle serialised t m d q)
     (one_agrees handle serialised t m class ty past d p q h f) f
 
-typedef_agrees : (k : Pk) (m : idl.MemberForm) (p : Past) (q : Scope) → Agree p q → Agree (typedef_past k m p) (typedef_at k m q)
+typedef_agrees : (k : Pk) (m : idl.MemberForm) (p : Past) (q : Scope) → Agree p q → Agree (own_past k places.Typedef m p) (own_at k m q)
 typedef_agrees k (idl.a_member as' s ds) p q h =
     let m : idl.MemberForm = idl.a_member as' s ds in
     let g : Setting = setting_at k places.Typedef as' ds (tag_given (attributes k as' p)) in
@@ -286,21 +282,8 @@ decl_adds k (idl.OfTypedef as' s ds) d p h counted few c c6 =
     record { uses_are = sym (append-nil d.uses); agree = typedef_agrees k (idl.a_member as' s ds) p d.scope h }
 decl_adds k (idl.OfLone as' s) d p h counted few c c6 =
     let m : idl.MemberForm = lone_member as' s in
-    record { uses_are = sym (append-nil d.uses); agree = agree_on p (lone_past k m p) d.scope (sense_at k m d.scope).1 h (lone_quiet k m p).types (member_named k m d.scope) }
+    record { uses_are = sym (append-nil d.uses); agree = agree_on p (member_past k places.Alone m p) d.scope (sense_at k m d.scope).1 h (member_quiet k places.Alone m p).types (member_named k m d.scope) }
 decl_adds k (idl.OfOp as' s name void ps) d p h counted few c c6 = op_adds k (result_member as' s name) name ps d p h counted few c c6
-
-decl_few : (k : Pk) (x : idl.DeclKindForm) (p : Past) → Few (decl_past k x p) → Few p
-decl_few k (idl.OfConst base name value) p c = few_back (events.Constant base name value ∷ []) p c
-decl_few k (idl.OfTypedef as' s ds) p c = few_before p _ (typedef_behind_is k (idl.a_member as' s ds) p) c
-decl_few k (idl.OfLone as' s) p c = few_before p _ (lone_quiet k (lone_member as' s) p).behind c
-decl_few k (idl.OfOp as' s name void ps) p c =
-    let r : idl.MemberForm = result_member as' s name in
-    let z : Past = member_past k places.Operation r p in
-    few_before p z (member_quiet k places.Operation r p).behind (few_back (events.Operation name ∷ []) z (few_before (events.Operation name ∷ z) _ (params_behind k r name ps p).behind c))
-
-decls_few : (k : Pk) (xs : List idl.DeclForm) (p : Past) → Few (decls_past k xs p) → Few p
-decls_few k [] p c = c
-decls_few k (x ∷ xs) p c = decl_few k x.what p (decls_few k xs (decl_past k x.what p) c)
 
 decls_add : (k : Pk) (xs : List idl.DeclForm) (d : Draft) (p : Past) → Agree p d.scope → length d.ops ≡ count_by is_operation p → length d.ops ≤ 65535 → Clean (decls_past k xs p) → Few (decls_past k xs p)
     → (decls_at k xs d).uses ≡ d.uses ++ all_handles k xs d
@@ -308,7 +291,7 @@ decls_add k [] d p h counted few c c6 = sym (append-nil d.uses)
 decls_add k (x ∷ xs) d p h counted few c c6 =
     let clean = decls_clean k xs (decl_past k x.what p) c in
     let next = decl_listed k x.what d p counted few clean in
-    let first = decl_adds k x.what d p h counted few clean (decls_few k xs (decl_past k x.what p) c6) in
+    let first = decl_adds k x.what d p h counted few clean (few_before (decl_past k x.what p) (decls_past k xs (decl_past k x.what p)) (decls_behind k xs (decl_past k x.what p)) c6) in
     let others = decls_add k xs (decl_at k x.what d) (decl_past k x.what p) first.agree next.0.counted next.1 c c6 in
     others ∙ (ap (λ (us : List (List HandleUse)). us ++ all_handles k xs (decl_at k x.what d)) first.uses_are ∙ append_assoc d.uses (handles_in k x.what d) (all_handles k xs (decl_at k x.what d)))
 

@@ -1,7 +1,7 @@
 -- At each place of a text rules and tables know the same names: of types, of constants with their numbers, and of structures with
 -- whether their bodies have ended.
 use Rattle.std.proofs.Common.{◌≡◌, ℕ, ◌+◌, List, [], ◌∷◌, Bool, true, false, Option, None, Some, refl, ap}
-use Rattle.std.specs.Prelude.{if◌then◌else◌, is_some, bytes_eq}
+use Rattle.std.specs.Prelude.{if◌then◌else◌, is_some, bytes_eq, ◌&&◌}
 use Rattle.idl_tree.specs.declared.leaf.Ident.{Ident}
 use Rattle.idl_tree.specs.declared.leaf.Num.{Num}
 use Rattle.idl_tree.specs.declared.leaf.Pk.{Pk}
@@ -14,14 +14,15 @@ use Rattle.idl_tree.specs.declared.spec.LabelKind.{LabelKind}
 use Rattle.idl_tree.specs.declared.spec.LabelKind.TheVariants as label_kinds
 use Rattle.idl_outline.specs.declared.ty.DataType.{DataType}
 use Rattle.idl_outline.specs.declared.field.Field.{Field}
+use Rattle.idl_outline.specs.declared.field.Mark.{Mark}
 use Rattle.idl_outline.specs.declared.event.Event.TheVariants as events
 use Rattle.idl_outline.specs.declared.setting.Setting.{Setting}
 use Rattle.idl_forms.specs.Forms as idl
-use Rattle.idl_outline.specs.Names.{Past, symbols_of, tag_given, each_declared}
-use Rattle.idl_outline.specs.Parts.{setting_at, size_past, array_past, sizes_past, label_past, labels_past, tag_used_past, other_tag_past, names_past, struct_past, struct_end}
+use Rattle.idl_outline.specs.Names.{Past, symbols_of, is_typedef, each_declared}
+use Rattle.idl_outline.specs.Parts.{size_past, array_past, sizes_past, label_past, labels_past, tag_used_past, other_tag_past, names_past, struct_past, struct_end}
 use Rattle.idl_outline.specs.Holding.{tag_holds}
-use Rattle.idl_outline.specs.Specs.{outline_reader, leaf_past as outline_leaf, fields_in, attributes, spec_past, spec_type, switch_past, attr_past, attrs_past, member_past, arm_past}
-use Rattle.idl_outline.specs.Outline.{types_past, typedef_past}
+use Rattle.idl_outline.specs.Specs.{outline_reader, leaf_past as outline_leaf, field_in, fields_in, spec_past, switch_past, attr_past, attrs_past, member_past, arm_past}
+use Rattle.idl_outline.specs.Outline.{outline_text, types_past, decl_past}
 use Rattle.ndr_value.specs.Forms.{Form}
 use Rattle.idl_names.specs.declared.symbols.Tag.{Tag}
 use Rattle.table_scope.specs.declared.said.Terms.{Terms}
@@ -30,13 +31,13 @@ use Rattle.idl_names.specs.declared.place.Place.TheVariants as places
 use Rattle.idl_names.specs.Attributes.{says, says_handle, is_serialised, outer_class}
 use Rattle.table_scope.specs.Declarators.{terms}
 use Rattle.idl_names.specs.Members.{dtors_of}
-use Rattle.idl_names.specs.Walk.{read_at}
-use Rattle.idl_names.proofs.Walks.{Keep, spec_kept, switch_kept, attr_kept, attrs_kept, read_kept, arm_kept}
+use Rattle.idl_names.specs.Walk.{Read, read_at, after}
+use Rattle.idl_names.proofs.Walks.{Keep, spec_kept, switch_kept, attr_kept, attrs_kept, read_kept, arm_kept, KeepText, decl_kept}
 use Rattle.idl_names.specs.Symbols.{Symbols, number_of, with_type, with_constant, with_tag, with_names}
 use Rattle.table_scope.specs.Scopes as scopes
 use Rattle.table_scope.specs.Scopes.{Sense, Scope, begun, ended}
 use Rattle.table_specs.specs.Specs.{table_reader, leaf_past as table_leaf, or_nothing, members_within, spec_at, switch_at, attr_at, attrs_at, sense_at, arm_at}
-use Rattle.table_laws.specs.Interfaces.{typedef_one, typedef_all, typedef_at}
+use Rattle.table_laws.specs.Interfaces.{Draft, typedef_one, typedef_all, types_at, table_text, decl_at}
 use Rattle.table_laws.specs.Alike.{whole_of}
 
 pub record Alike (s : Symbols DataType Bool) (t : Symbols Sense ℕ) : Type 0 where
@@ -113,7 +114,7 @@ names_agree n (i ∷ is) p t h =
     let v : Num = number_of i n in
     names_agree (n + 1) is (events.EnumName i v ∷ p) (with_constant i v t) (alike_constant i v (symbols_of p) t h)
 
-pub constant_agrees : (base : Base) (i : Ident) (n : Num) (p : Past) (q : Scope) → Agree p q → Agree (events.Constant base i n ∷ p) (scopes.with_constant i n q)
+constant_agrees : (base : Base) (i : Ident) (n : Num) (p : Past) (q : Scope) → Agree p q → Agree (events.Constant base i n ∷ p) (scopes.with_constant i n q)
 constant_agrees base i n p q h = alike_constant i n (symbols_of p) q.symbols h
 
 pub begun_agrees : (tag : Option Ident) (itself : Bool) (n : ℕ) (p : Past) (q : Scope) → Agree p q → Agree (struct_past tag itself p) (begun tag n q)
@@ -176,11 +177,21 @@ types_agree handle serialised word t m class ty past [] p q h = h
 types_agree handle serialised word t m class ty past (d ∷ ds) p q h =
     types_agree handle serialised word t m class ty past ds (events.Typedef d.name _ ∷ p) (typedef_one handle serialised t m d q) (one_agrees handle serialised t m d _ p q h)
 
-pub typedef_agrees : (k : Pk) (m : idl.MemberForm) (p : Past) (q : Scope) → Agree p q → Agree (typedef_past k m p) (typedef_at k m q)
-typedef_agrees k (idl.a_member as' s ds) p q h =
-    let m : idl.MemberForm = idl.a_member as' s ds in
-    let g : Setting = setting_at k places.Typedef as' ds (tag_given (attributes k as' p)) in
-    let r : Past = attrs_past k as' p in
-    let behind : Sense × Scope = sense_at k m q in
-    types_agree (says says_handle as') (is_serialised as') (says says_handle as') (terms k places.Typedef [] as') behind.0 (outer_class k places.Typedef as') (spec_type g s r) (spec_past g s r) ds
-    (member_past k places.Typedef m p) behind.1 (member_agrees k places.Typedef k m p q h)
+-- ---- declarations
+
+own_agrees : (k l : Pk) (place : Place) (m : idl.MemberForm) (x : Read Past DataType Mark) (y : Read Scope Sense (Option Form)) → Agree (after outline_text (m, x)) y.known
+    → Agree (types_past (field_in k place (m, x)).declared (after outline_text (m, x))) (types_at l m (y.spec, y.known))
+own_agrees k l place (idl.a_member as' s ds) x y h =
+    types_agree (says says_handle as') (is_serialised as') (is_typedef place && says says_handle as') (terms l places.Typedef [] as') y.spec (outer_class k place as') x.spec x.known ds (after outline_text (idl.a_member as' s ds, x)) y.known h
+
+keep_text : KeepText outline_text table_text Agree
+keep_text = record {
+  read = λ k l place m p q h. member_agrees k place l m p q h;
+  constant = λ base i n p d h. constant_agrees base i n p d.scope h;
+  own = λ k l place m x y p d h. own_agrees k l place m x y h;
+  named = λ i p q h. h;
+  operation = λ k l i ns x y ps qs p d h. h;
+}
+
+pub decl_agrees : (k : Pk) (x : idl.DeclKindForm) (p : Past) (d : Draft) → Agree p d.scope → Agree (decl_past k x p) (decl_at k x d).scope
+decl_agrees k x p d h = decl_kept outline_text table_text Agree keep_text k k x p d h

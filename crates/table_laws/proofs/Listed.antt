@@ -7,23 +7,21 @@ use Rattle.std.proofs.lemmas.List.Sums.{sum_by-cons}
 use Rattle.idl_tree.specs.declared.leaf.Ident.{Ident}
 use Rattle.idl_tree.specs.declared.leaf.Pk.{Pk}
 use Rattle.idl_tree.specs.declared.declaration.Ast.{Ast}
-use Rattle.idl_outline.specs.declared.event.Event.{Event}
 use Rattle.idl_outline.specs.declared.event.Event.TheVariants as events
 use Rattle.idl_forms.specs.Forms as idl
 use Rattle.idl_outline.specs.Names.{Past, is_operation}
-use Rattle.idl_outline.specs.declared.field.Declared.{Declared}
-use Rattle.idl_outline.specs.Specs.{member_past, member_field}
+use Rattle.idl_outline.specs.Specs.{member_past}
 use Rattle.idl_names.specs.declared.place.Place.TheVariants as places
 use Rattle.idl_names.specs.Members.{lone_member, result_member}
 use Rattle.idl_names.specs.Attributes.{pointer_default}
-use Rattle.idl_outline.specs.Outline.{typedef_past, types_past, lone_past, params_past, named_past, op_past, decl_past, decls_past, outline}
+use Rattle.idl_outline.specs.Outline.{params_past, named_past, op_past, decl_past, decls_past, outline}
 use Rattle.idl_rules.specs.Places.{Among, at_if, gathered}
 use Rattle.idl_rules.specs.OutsideProfile.{outside_profile}
 use Rattle.idl_rules.specs.Broken.{NoneBroken}
 use Rattle.table_form.specs.Tables.{OpForm, TableForm}
 use Rattle.table_laws.specs.Interfaces.{Draft, decl_at, decls_at, op_at, nothing_declared, tabled}
 use Rattle.table_laws.specs.Wholes.{op_name, names_in, op_names, HasEachOperation}
-use Rattle.table_laws.proofs.Quiet.{Behind, Quiet, stays_behind, then_behind, more_behind, one_more, member_quiet, types_behind, params_quiet}
+use Rattle.table_laws.proofs.Quiet.{Behind, Quiet, back, one_more, member_quiet, own_none, params_quiet, decls_behind}
 
 pub less_is : (a b : ℕ) → a < b → nat_lt a b ≡ true
 less_is a b h = grind (arith, common_steps)
@@ -42,12 +40,8 @@ nil_left (x ∷ xs) ys e = absurd cc
 abbrev pub Clean : Past → Type 0
 Clean p = gathered outside_profile p ≡ []
 
-pub clean_back : (es : List Event) (p : Past) → Clean (es ++ p) → Clean p
-clean_back [] p c = c
-clean_back (e ∷ es) p c = clean_back es p (nil_right (outside_profile (es ++ p) e) (gathered outside_profile (es ++ p)) c)
-
 pub clean_before : (p q : Past) → Behind p q → Clean q → Clean p
-clean_before p q a c = clean_back a.more p (subst Clean a.is c)
+clean_before p q a c = back Clean (λ e r h. nil_right (outside_profile r e) (gathered outside_profile r) h) p q a c
 
 not_at : (b : Bool) (at : ℕ) → at_if b at ≡ [] → b ≡ false
 not_at true at e = absurd cc
@@ -55,17 +49,6 @@ not_at false at e = refl
 
 pub below : (n : ℕ) → n ≤ 65535 → (n == 65535) ≡ false → n < 65535
 below n le ne = grind (arith, common_steps)
-
--- ---- declarations that declare no operation
-
-pub typedef_behind_is : (k : Pk) (m : idl.MemberForm) (p : Past) → Behind p (typedef_past k m p)
-typedef_behind_is k m p =
-    let r : Past = member_past k places.Typedef m p in
-    let xs : List Declared = (member_field k places.Typedef m p).declared in
-    more_behind (events.Single _) p (types_past xs r) refl (then_behind p r (types_past xs r) (member_quiet k places.Typedef m p).behind (types_behind xs r))
-
-pub lone_quiet : (k : Pk) (m : idl.MemberForm) (p : Past) → Quiet p (lone_past k m p)
-lone_quiet k m p = one_more (events.Single _) p _ refl (λ name. refl) (member_quiet k places.Alone m p)
 
 -- ---- an operation: behind its result its name, and then its parameters
 
@@ -80,19 +63,14 @@ counted_one name q = sum_by-cons (λ e. cond (is_operation e) 1 0) (events.Opera
 op_count : (k : Pk) (r : idl.MemberForm) (name : Ident) (ns : List idl.ParamForm) (p : Past) → count_by is_operation (op_past k r name ns p) ≡ 1 + count_by is_operation p
 op_count k r name ns p =
     let q : Past = member_past k places.Operation r p in
-    (params_behind k r name ns p).behind.none ∙ (counted_one name q ∙ ap {B = ℕ} (λ (n : ℕ). 1 + n) (member_quiet k places.Operation r p).behind.none)
+    (params_behind k r name ns p).none ∙ (counted_one name q ∙ ap {B = ℕ} (λ (n : ℕ). 1 + n) (member_quiet k places.Operation r p).none)
 
 pub op_room : (k : Pk) (r : idl.MemberForm) (name : Ident) (ns : List idl.ParamForm) (p : Past) → count_by is_operation p ≤ 65535 → Clean (op_past k r name ns p) → count_by is_operation p < 65535
 op_room k r name ns p le c =
     let q : Past = member_past k places.Operation r p in
     let named : Clean (named_past k r name p) = clean_before (named_past k r name p) (op_past k r name ns p) (params_behind k r name ns p).behind c in
     let here = not_at (count_by is_operation q == 65535) name.at (nil_left (outside_profile q (events.Operation name)) (gathered outside_profile q) named) in
-    below (count_by is_operation p) le (subst (λ (n : ℕ). (n == 65535) ≡ false) (member_quiet k places.Operation r p).behind.none here)
-
-pub op_clean : (k : Pk) (r : idl.MemberForm) (name : Ident) (ns : List idl.ParamForm) (p : Past) → Clean (op_past k r name ns p) → Clean p
-op_clean k r name ns p c =
-    let q : Past = member_past k places.Operation r p in
-    clean_before p q (member_quiet k places.Operation r p).behind (clean_back (events.Operation name ∷ []) q (clean_before (named_past k r name p) (op_past k r name ns p) (params_behind k r name ns p).behind c))
+    below (count_by is_operation p) le (subst (λ (n : ℕ). (n == 65535) ≡ false) (member_quiet k places.Operation r p).none here)
 
 -- ---- what a declaration adds to the operations
 
@@ -100,9 +78,9 @@ pub record Lists (d e : Draft) (p q : Past) (names : List (List ℕ)) : Type 0 w
   pub names_are : map op_name e.ops ≡ map op_name d.ops ++ names
   pub counted : length e.ops ≡ count_by is_operation q
 
-same_ops : (d e : Draft) (p q : Past) → e.ops ≡ d.ops → Behind p q → length d.ops ≡ count_by is_operation p → Lists d e p q []
-same_ops d e p q same a counted =
-    record { names_are = ap (map op_name) same ∙ sym (append-nil (map op_name d.ops)); counted = ap (λ (os : List OpForm). length os) same ∙ (counted ∙ sym a.none) }
+same_ops : (d e : Draft) (p q : Past) → e.ops ≡ d.ops → count_by is_operation q ≡ count_by is_operation p → length d.ops ≡ count_by is_operation p → Lists d e p q []
+same_ops d e p q same none counted =
+    record { names_are = ap (map op_name) same ∙ sym (append-nil (map op_name d.ops)); counted = ap (λ (os : List OpForm). length os) same ∙ (counted ∙ sym none) }
 
 names_more : (ops : List OpForm) (o : OpForm) → map op_name (ops ++ o ∷ []) ≡ map op_name ops ++ op_name o ∷ []
 names_more [] o = refl
@@ -125,20 +103,13 @@ op_listed k r name ns d p counted few c =
 
 pub decl_listed : (k : Pk) (x : idl.DeclKindForm) (d : Draft) (p : Past) → length d.ops ≡ count_by is_operation p → length d.ops ≤ 65535 → Clean (decl_past k x p)
     → Lists d (decl_at k x d) p (decl_past k x p) (names_in x) × (length (decl_at k x d).ops ≤ 65535)
-decl_listed k (idl.OfConst base name value) d p counted few c = (same_ops d _ p _ refl (more_behind (events.Constant base name value) p p refl (stays_behind p)) counted, few)
-decl_listed k (idl.OfTypedef as' s ds) d p counted few c = (same_ops d _ p _ refl (typedef_behind_is k (idl.a_member as' s ds) p) counted, few)
-decl_listed k (idl.OfLone as' s) d p counted few c = (same_ops d _ p _ refl (lone_quiet k (lone_member as' s) p).behind counted, few)
+decl_listed k (idl.OfConst base name value) d p counted few c = (same_ops d _ p _ refl refl counted, few)
+decl_listed k (idl.OfTypedef as' s ds) d p counted few c = (same_ops d _ p _ refl (own_none k places.Typedef (idl.a_member as' s ds) p) counted, few)
+decl_listed k (idl.OfLone as' s) d p counted few c = (same_ops d _ p _ refl (own_none k places.Alone (lone_member as' s) p) counted, few)
 decl_listed k (idl.OfOp as' s name void ps) d p counted few c = op_listed k (result_member as' s name) name ps d p counted few c
 
-pub decl_clean : (k : Pk) (x : idl.DeclKindForm) (p : Past) → Clean (decl_past k x p) → Clean p
-decl_clean k (idl.OfConst base name value) p c = clean_back (events.Constant base name value ∷ []) p c
-decl_clean k (idl.OfTypedef as' s ds) p c = clean_before p _ (typedef_behind_is k (idl.a_member as' s ds) p) c
-decl_clean k (idl.OfLone as' s) p c = clean_before p _ (lone_quiet k (lone_member as' s) p).behind c
-decl_clean k (idl.OfOp as' s name void ps) p c = op_clean k (result_member as' s name) name ps p c
-
 pub decls_clean : (k : Pk) (xs : List idl.DeclForm) (p : Past) → Clean (decls_past k xs p) → Clean p
-decls_clean k [] p c = c
-decls_clean k (x ∷ xs) p c = decl_clean k x.what p (decls_clean k xs (decl_past k x.what p) c)
+decls_clean k xs p c = clean_before p (decls_past k xs p) (decls_behind k xs p) c
 
 decls_listed : (k : Pk) (xs : List idl.DeclForm) (d : Draft) (p : Past) → length d.ops ≡ count_by is_operation p → length d.ops ≤ 65535 → Clean (decls_past k xs p)
     → map op_name (decls_at k xs d).ops ≡ map op_name d.ops ++ op_names xs

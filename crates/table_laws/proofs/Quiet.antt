@@ -1,5 +1,5 @@
 -- Between two places of a text no operation and no name of a type is declared: specs, attributes, members and arms declare none.
-use Rattle.std.proofs.Common.{◌≡◌, ℕ, ◌+◌, List, [], ◌∷◌, ◌++◌, Option, None, Some, Bool, true, false, refl, ap, sym, ◌∙◌, append_assoc}
+use Rattle.std.proofs.Common.{◌≡◌, ℕ, ◌+◌, List, [], ◌∷◌, ◌++◌, Option, None, Some, Bool, true, false, refl, ap, sym, subst, ◌∙◌, append_assoc}
 use Rattle.std.specs.Prelude.{if◌then◌else◌}
 use Rattle.std.specs.List.{count_by}
 use Rattle.idl_tree.specs.declared.leaf.Ident.{Ident}
@@ -13,8 +13,8 @@ use Rattle.idl_tree.specs.declared.spec.LabelKind.TheVariants as label_kinds
 use Rattle.idl_names.specs.declared.place.Place.{Place}
 use Rattle.idl_names.specs.declared.place.Place.TheVariants as places
 use Rattle.idl_names.specs.Members.{dtors_of, param_member}
-use Rattle.idl_names.specs.Walk.{Around, read_at}
-use Rattle.idl_names.proofs.Walks.{Keep, spec_kept, switch_kept, attr_kept, attrs_kept, read_kept, members_kept, arms_kept}
+use Rattle.idl_names.specs.Walk.{Around, read_at, after}
+use Rattle.idl_names.proofs.Walks.{Keep, spec_kept, switch_kept, attr_kept, attrs_kept, read_kept, members_kept, arms_kept, KeepText, decls_kept}
 use Rattle.idl_outline.specs.declared.field.Declared.{Declared}
 use Rattle.idl_outline.specs.declared.field.Field.{Field}
 use Rattle.idl_outline.specs.declared.field.Mark.{Mark}
@@ -25,38 +25,45 @@ use Rattle.idl_forms.specs.Forms as idl
 use Rattle.idl_outline.specs.Names.{Past, is_operation, type_named}
 use Rattle.idl_outline.specs.Parts.{size_past, array_past, sizes_past, label_past, labels_past, tag_used_past, other_tag_past, names_past, struct_past, struct_end}
 use Rattle.idl_outline.specs.Holding.{tag_holds}
-use Rattle.idl_outline.specs.Specs.{outline_reader, leaf_past, fields_in, spec_past, switch_past, attr_past, attrs_past, member_past, members_past, arms_past}
-use Rattle.idl_outline.specs.Outline.{types_past, params_past}
+use Rattle.idl_outline.specs.Specs.{outline_reader, leaf_past, field_in, fields_in, spec_past, switch_past, attr_past, attrs_past, member_past, member_field, members_past, arms_past}
+use Rattle.idl_outline.specs.Outline.{outline_text, types_past, own_past, params_past, decls_past}
 
--- the later past has the earlier one behind further events, none of which declares an operation
+-- the later past has the earlier one behind further events
 pub record Behind (p q : Past) : Type 0 where
   pub more : List Event
   pub is : q ≡ more ++ p
-  pub none : count_by is_operation q ≡ count_by is_operation p
 
--- and none declares the name of a type
+-- none of which declares an operation or the name of a type
 pub record Quiet (p q : Past) : Type 0 where
   pub behind : Behind p q
+  pub none : count_by is_operation q ≡ count_by is_operation p
   pub types : (name : List ℕ) → type_named name q ≡ type_named name p
 
 pub stays_behind : (p : Past) → Behind p p
-stays_behind p = record { more = []; is = refl; none = refl }
+stays_behind p = record { more = []; is = refl }
 
 pub then_behind : (p q r : Past) → Behind p q → Behind q r → Behind p r
-then_behind p q r a b =
-    record { more = b.more ++ a.more; is = b.is ∙ (ap (λ (x : Past). b.more ++ x) a.is ∙ sym (append_assoc b.more a.more p)); none = b.none ∙ a.none }
+then_behind p q r a b = record { more = b.more ++ a.more; is = b.is ∙ (ap (λ (x : Past). b.more ++ x) a.is ∙ sym (append_assoc b.more a.more p)) }
 
-pub more_behind : (e : Event) (p q : Past) → count_by is_operation (e ∷ q) ≡ count_by is_operation q → Behind p q → Behind p (e ∷ q)
-more_behind e p q h a = record { more = e ∷ a.more; is = ap (λ (x : Past). e ∷ x) a.is; none = h ∙ a.none }
+pub more_behind : (e : Event) (p q : Past) → Behind p q → Behind p (e ∷ q)
+more_behind e p q a = record { more = e ∷ a.more; is = ap (λ (x : Past). e ∷ x) a.is }
+
+all_back : (P : Past → Type 0) → ((e : Event) (p : Past) → P (e ∷ p) → P p) → (p es : Past) → P (es ++ p) → P p
+all_back P tail p [] h = h
+all_back P tail p (e ∷ es) h = all_back P tail p es (tail e (es ++ p) h)
+
+-- what holds of a past held before its newest event, and so before all further ones
+pub back : (P : Past → Type 0) → ((e : Event) (p : Past) → P (e ∷ p) → P p) → (p q : Past) → Behind p q → P q → P p
+back P tail p q a h = all_back P tail p a.more (subst P a.is h)
 
 pub stays : (p : Past) → Quiet p p
-stays p = record { behind = stays_behind p; types = λ name. refl }
+stays p = record { behind = stays_behind p; none = refl; types = λ name. refl }
 
 pub then_quiet : (p q r : Past) → Quiet p q → Quiet q r → Quiet p r
-then_quiet p q r a b = record { behind = then_behind p q r a.behind b.behind; types = λ name. b.types name ∙ a.types name }
+then_quiet p q r a b = record { behind = then_behind p q r a.behind b.behind; none = b.none ∙ a.none; types = λ name. b.types name ∙ a.types name }
 
 pub one_more : (e : Event) (p q : Past) → count_by is_operation (e ∷ q) ≡ count_by is_operation q → ((name : List ℕ) → type_named name (e ∷ q) ≡ type_named name q) → Quiet p q → Quiet p (e ∷ q)
-one_more e p q h t a = record { behind = more_behind e p q h a.behind; types = λ name. t name ∙ a.types name }
+one_more e p q h t a = record { behind = more_behind e p q a.behind; none = h ∙ a.none; types = λ name. t name ∙ a.types name }
 
 -- ---- small parts
 
@@ -164,10 +171,34 @@ pub types_behind : (xs : List Declared) (p : Past) → Behind p (types_past xs p
 types_behind [] p = stays_behind p
 types_behind (x ∷ xs) p =
     let e : Event = events.Typedef x.name x.ty in
-    then_behind p (e ∷ p) (types_past xs (e ∷ p)) (more_behind e p p refl (stays_behind p)) (types_behind xs (e ∷ p))
+    then_behind p (e ∷ p) (types_past xs (e ∷ p)) (more_behind e p p (stays_behind p)) (types_behind xs (e ∷ p))
+
+types_none : (xs : List Declared) (p : Past) → count_by is_operation (types_past xs p) ≡ count_by is_operation p
+types_none [] p = refl
+types_none (x ∷ xs) p = types_none xs (events.Typedef x.name x.ty ∷ p)
+
+pub own_none : (default : Pk) (place : Place) (m : idl.MemberForm) (p : Past) → count_by is_operation (own_past default place m p) ≡ count_by is_operation p
+own_none default place m p = types_none (member_field default place m p).declared (member_past default place m p) ∙ (member_quiet default place m p).none
 
 pub params_quiet : (default : Pk) (ns : List idl.ParamForm) (p : Past) → Quiet p (params_past default ns p)
 params_quiet default [] p = stays p
 params_quiet default (n ∷ ns) p =
     let q : Past = member_past default places.Parameter (param_member n) p in
     then_quiet p q (params_past default ns q) (member_quiet default places.Parameter (param_member n) p) (params_quiet default ns q)
+
+-- ---- declarations
+
+abbrev Grown : Past → Past → Past → Type 0
+Grown p q z = Behind p q
+
+keep_text : (p : Past) → KeepText outline_text outline_text (Grown p)
+keep_text p = record {
+  read = λ k l place m q z h. then_behind p q _ h (member_quiet k place m q).behind;
+  constant = λ base i n q z h. more_behind (events.Constant base i n) p q h;
+  own = λ k l place m x y q z h. more_behind (events.Single _) p _ (then_behind p (after outline_text (m, x)) _ h (types_behind (field_in k place (m, x)).declared (after outline_text (m, x))));
+  named = λ i q z h. more_behind (events.Operation i) p q h;
+  operation = λ k l i ns x y ps qs d e h. more_behind (events.Call _ _) p ps.1 h;
+}
+
+pub decls_behind : (default : Pk) (xs : List idl.DeclForm) (p : Past) → Behind p (decls_past default xs p)
+decls_behind default xs p = decls_kept outline_text outline_text (Grown p) (keep_text p) default default xs p p (stays_behind p)

@@ -23,7 +23,7 @@ use Rattle.idl_names.specs.Attributes.{outer_class, pointer_default, says, says_
 use Rattle.idl_names.specs.Declarators.{extent_of, all_pointed}
 use Rattle.idl_outline.specs.Parts.{setting_at}
 use Rattle.idl_outline.specs.Specs.{mark_of, attributes, mark_past, attrs_past, spec_past, member_past, member_field}
-use Rattle.idl_outline.specs.Outline.{types_past, typedef_past, named_past, op_past, decl_past, decls_past, params_past, param_fields}
+use Rattle.idl_outline.specs.Outline.{types_past, own_past, named_past, op_past, decl_past, decls_past, params_past, param_fields}
 use Rattle.idl_rules.specs.Places.{at_if}
 use Rattle.idl_outline.specs.declared.field.Mark.TheVariants as marks
 use Rattle.idl_rules.specs.Types.{is_single, is_parameter}
@@ -33,17 +33,17 @@ use Rattle.table_scope.specs.declared.said.Terms.{Terms}
 use Rattle.table_scope.specs.Scopes.{Sense, Scope, handle_sense}
 use Rattle.table_scope.specs.Declarators.{terms, declared}
 use Rattle.table_specs.specs.Specs.{attrs_at, sense_at}
-use Rattle.table_laws.specs.Interfaces.{Listed, Draft, is_binding, param_names, listed_at, param_at, params_at, typed, typedef_one, typedef_all, typedef_at, decl_at, decls_at, nothing_declared}
+use Rattle.table_laws.specs.Interfaces.{Listed, Draft, is_binding, param_names, listed_as, param_at, params_at, typed, typedef_one, typedef_all, own_at, decl_at, decls_at, nothing_declared}
 use Rattle.table_form.specs.Tables.{ParamForm}
 use Rattle.table_laws.specs.Alike.{suits, types_suit, ResolveAlike, NamesResolveAlike, all_suit, listed_in, all_listed, decl_suits, decls_suit, OperationsSuit}
 use Rattle.table_laws.proofs.Quiet.{member_quiet, attrs_quiet}
 use Rattle.table_laws.proofs.Listed.{nil_left, nil_right, params_behind}
 use Rattle.table_laws.proofs.Handles.{attrs_named, member_named}
-use Rattle.table_laws.proofs.Known.{Agree, spec_agrees, attrs_agree, member_agrees}
+use Rattle.table_laws.proofs.Known.{Agree, spec_agrees, attrs_agree, member_agrees, decl_agrees}
 use Rattle.table_laws.proofs.Said.{both, first_of_both, second_of_both}
 use Rattle.table_laws.proofs.Standing.{Kept, Fits, AllFit, first_fits, others_fit}
 use Rattle.table_laws.proofs.Suits.{is_char_type, TextFits, declared_suits, spec_suits}
-use Rattle.table_laws.proofs.Declarations.{single_fits, param_agrees, call_fits, decl_stand, decls_kept, kept_tree, nothing_agrees}
+use Rattle.table_laws.proofs.Declarations.{single_fits, call_fits, decls_kept, kept_tree, nothing_agrees}
 
 -- ---- what attributes say
 
@@ -136,7 +136,7 @@ spec_constants k place as' s ds p q a =
     let marks : Option Form × Scope = attrs_at k as' q in
     (spec_agrees (setting_at k place as' ds (tag_given (attributes k as' p))) k (all_pointed ds) marks.0 s (attrs_past k as' p) marks.1 (attrs_agree k k as' p q a)).constants
 
-typedef_typed : (k : Pk) (m : idl.MemberForm) (p : Past) (q : Scope) → Agree p q → Typed p q → Kept (typedef_past k m p) → Typed (typedef_past k m p) (typedef_at k m q)
+typedef_typed : (k : Pk) (m : idl.MemberForm) (p : Past) (q : Scope) → Agree p q → Typed p q → Kept (own_past k places.Typedef m p) → Typed (own_past k places.Typedef m p) (own_at k m q)
 typedef_typed k (idl.a_member as' s ds) p q a h c =
     let m : idl.MemberForm = idl.a_member as' s ds in
     let f : Field = member_field k places.Typedef m p in
@@ -154,16 +154,9 @@ typedef_typed k (idl.a_member as' s ds) p q a h c =
 
 -- ---- parameters declare no name of a type
 
-either_named : (b : Bool) (q : Scope) (x : Listed × Scope) → x.1.symbols.types ≡ q.symbols.types → (if b then (([], []), q) else x).1.symbols.types ≡ q.symbols.types
-either_named true q x e = refl
-either_named false q x e = e
-
-pub param_named : (k : Pk) (names : List Ident) (n : idl.ParamForm) (q : Scope) → (param_at k names n q).1.symbols.types ≡ q.symbols.types
-param_named k names n q = either_named (is_binding n.spec) q (listed_at k names n.attrs n.dtor (sense_at k (param_member n) q)) (member_named k (param_member n) q)
-
 params_named : (k : Pk) (names : List Ident) (ns : List idl.ParamForm) (q : Scope) → (params_at k names ns q).1.symbols.types ≡ q.symbols.types
 params_named k names [] q = refl
-params_named k names (n ∷ ns) q = params_named k names ns (param_at k names n q).1 ∙ param_named k names n q
+params_named k names (n ∷ ns) q = params_named k names ns (sense_at k (param_member n) q).1 ∙ member_named k (param_member n) q
 
 -- ---- declarations
 
@@ -180,13 +173,13 @@ resolved : (k : Pk) (before after : List idl.DeclForm) (d : Draft) (p : Past) �
 resolved k [] after d p a h c = record { types = h; constants = a.constants; structures = a.tags }
 resolved k (x ∷ xs) after d p a h c =
     let here : Kept (decl_past k x.what p) = decls_kept k (xs ++ after) (decl_past k x.what p) c in
-    resolved k xs after (decl_at k x.what d) (decl_past k x.what p) (decl_stand k x.what d p a here).1 (decl_typed k x.what d p a h here) c
+    resolved k xs after (decl_at k x.what d) (decl_past k x.what p) (decl_agrees k x.what p d a) (decl_typed k x.what d p a h here) c
 
 -- ---- parameters and results
 
-listed_suits : (b : Bool) (ds : List Declared) (x : Listed × Scope) (q : Scope) → all_suit ds x.0.0 ≡ true → all_suit (if b then [] else ds) (if b then (([], []), q) else x).0.0 ≡ true
-listed_suits true ds x q e = refl
-listed_suits false ds x q e = e
+listed_suits : (b : Bool) (ds : List Declared) (x : Listed) → all_suit ds x.0 ≡ true → all_suit (if b then [] else ds) (if b then ([], []) else x).0 ≡ true
+listed_suits true ds x e = refl
+listed_suits false ds x e = e
 
 join_suits : (ds es : List Declared) (xs ys : List ParamForm) → all_suit ds xs ≡ true → all_suit es ys ≡ true → all_suit (ds ++ es) (xs ++ ys) ≡ true
 join_suits [] es [] ys e f = f
@@ -218,7 +211,7 @@ param_suits k names n list more p q h a f =
     let text = field_text k t field as' p z false (outer_class k places.Parameter as') (d ∷ []) refl refl f.attributes in
     let one : suits (declared_as t.outer d.stars (extent_of (constants_of z) d.array) field.spec) (declared t behind.1.symbols.constants behind.0.shape d) ≡ true =
     declared_suits z t behind.1.symbols.constants field.spec behind.0.shape d (spec_constants k places.Parameter as' n.spec (d ∷ []) p q a) text.0 (member_suits k places.Parameter (param_member n) p q h a) in
-    listed_suits (is_binding n.spec) field.declared (listed_at k names as' d behind) q
+    listed_suits (is_binding n.spec) field.declared (listed_as k names (param_member n) behind)
     (both (suits (declared_as (outer_class k places.Parameter as') d.stars (extent_of (constants_of z) d.array) field.spec) (declared t behind.1.symbols.constants behind.0.shape d)) true one refl)
 
 params_suit : (k : Pk) (names : List Ident) (list : List Field) (ns : List idl.ParamForm) (p : Past) (q : Scope) → Typed p q → Agree p q → AllFit list (param_fields k ns p)
@@ -226,13 +219,13 @@ params_suit : (k : Pk) (names : List Ident) (list : List Field) (ns : List idl.P
 params_suit k names list [] p q h a f = refl
 params_suit k names list (n ∷ ns) p q h a f =
     let r : Past = member_past k places.Parameter (param_member n) p in
-    let z : Scope = (param_at k names n q).1 in
+    let z : Scope = (sense_at k (param_member n) q).1 in
     let field : Field = member_field k places.Parameter (param_member n) p in
     let rest : List Field = param_fields k ns r in
     let fit : Fits list (bad.is_more rest) field = first_fits list field rest f in
     join_suits (listed_in k n p) (all_listed k ns r) (param_at k names n q).0.0 (params_at k names ns z).0.0
     (param_suits k names n list (bad.is_more rest) p q h a fit)
-    (params_suit k names list ns r z (typed_on p r q z h (member_quiet k places.Parameter (param_member n) p).types (param_named k names n q)) (param_agrees k names n list (bad.is_more rest) p q a fit) (others_fit list field rest f))
+    (params_suit k names list ns r z (member_typed k places.Parameter (param_member n) p q h) (member_agrees k places.Parameter k (param_member n) p q a) (others_fit list field rest f))
 
 op_suits : (k : Pk) (as' : idl.AttrForms) (s : idl.SpecForm) (name : Ident) (void : Bool) (ns : List idl.ParamForm) (d : Draft) (p : Past) → Agree p d.scope → Typed p d.scope → Kept (decl_past k (idl.OfOp as' s name void ns) p)
     → decl_suits k (idl.OfOp as' s name void ns) p d ≡ true
@@ -257,7 +250,7 @@ all_decls_suit k [] d p a h c = refl
 all_decls_suit k (x ∷ xs) d p a h c =
     let here : Kept (decl_past k x.what p) = decls_kept k xs (decl_past k x.what p) c in
     both (decl_suits k x.what p d) (decls_suit k xs (decl_past k x.what p) (decl_at k x.what d)) (decl_suit k x.what d p a h here)
-    (all_decls_suit k xs (decl_at k x.what d) (decl_past k x.what p) (decl_stand k x.what d p a here).1 (decl_typed k x.what d p a h here) c)
+    (all_decls_suit k xs (decl_at k x.what d) (decl_past k x.what p) (decl_agrees k x.what p d a) (decl_typed k x.what d p a h here) c)
 
 pub operations_suit : OperationsSuit
 operations_suit tree none = all_decls_suit (pointer_default (idl.tree_form tree).attributes) (idl.tree_form tree).decls nothing_declared [] nothing_agrees (λ name. refl) (kept_tree tree none)

@@ -1,5 +1,5 @@
 -- Each name of an interface that keeps the rules stands for something where its table reads it.
-use Rattle.std.proofs.Common.{◌≡◌, ℕ, List, [], ◌∷◌, ◌++◌, Bool, true, false, Option, None, Some, refl, ap, sym, subst, ◌∙◌}
+use Rattle.std.proofs.Common.{◌≡◌, ℕ, List, [], ◌∷◌, ◌++◌, Bool, true, false, Option, None, Some, refl, ap, sym, ◌∙◌}
 use Rattle.std.specs.Prelude.{◌||◌, ◌&&◌, is_some, is_none, bytes_eq, if◌then◌else◌}
 use Rattle.std.specs.List.{list_any, flat_map}
 use Rattle.std.proofs.lemmas.List.Folds.{list_any-append}
@@ -38,7 +38,7 @@ use Rattle.idl_names.specs.Symbols.{ByName, found}
 use Rattle.table_scope.specs.Scopes.{Sense, Scope, begun}
 use Rattle.table_specs.specs.Specs.{dtor_names, names_of, member_names, members_within, arm_dtors, arm_names, spec_at, switch_at, attr_at, attrs_at, sense_at, arm_at}
 use Rattle.table_laws.specs.Stands.{tag_stands, label_stands, labels_stand, is_among, counts_stand, dtors_stand, spec_stands, switch_stands, mark_stands, attr_stands, attrs_stand, member_stands, members_stand, arm_stands, arms_stand}
-use Rattle.table_laws.proofs.Quiet.{Behind, sizes_quiet, labels_quiet, spec_quiet, attrs_quiet, member_quiet, members_quiet, arms_quiet}
+use Rattle.table_laws.proofs.Quiet.{Behind, back, sizes_quiet, labels_quiet, spec_quiet, attrs_quiet, member_quiet, members_quiet, arms_quiet}
 use Rattle.table_laws.proofs.Listed.{nil_left, nil_right}
 use Rattle.table_laws.specs.Alike.{whole_of}
 use Rattle.table_laws.proofs.Known.{Agree, size_agrees, label_agrees, labels_agree, other_agrees, begun_agrees, spec_agrees, switch_agrees, attr_agrees, attrs_agree, member_agrees, arm_agrees}
@@ -59,12 +59,8 @@ kept_tail e p h =
       sizes = nil_right (size.size_name p e) (gathered size.size_name p) h.sizes;
     }
 
-kept_back : (es p : Past) → Kept (es ++ p) → Kept p
-kept_back [] p h = h
-kept_back (e ∷ es) p h = kept_back es p (kept_tail e (es ++ p) h)
-
 pub kept_before : (p q : Past) → Behind p q → Kept q → Kept p
-kept_before p q a h = kept_back a.more p (subst Kept a.is h)
+kept_before p q a h = back Kept kept_tail p q a h
 
 -- ---- names
 
@@ -76,7 +72,7 @@ or_first : (a b : Bool) → a ≡ true → (a || b) ≡ true
 or_first true b e = refl
 or_first false b e = absurd cc
 
-pub or_last : (a b : Bool) → b ≡ true → (a || b) ≡ true
+or_last : (a b : Bool) → b ≡ true → (a || b) ≡ true
 or_last true b e = refl
 or_last false b e = e
 

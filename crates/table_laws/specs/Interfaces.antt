@@ -1,5 +1,5 @@
--- The table of an interface: its declarations, in order.
-use Rattle.std.specs.Prelude.{ℕ, ◌==◌, Bool, true, false, nat_lt, if◌then◌else◌, List, [], ◌∷◌, ◌++◌, length, take, Option, Some, None}
+-- The table of an interface: the table's reader of declarations, and what it has of them.
+use Rattle.std.specs.Prelude.{ℕ, ◌==◌, Bool, true, false, nat_lt, if◌then◌else◌, List, [], ◌∷◌, ◌++◌, length, map, take, Option, Some, None}
 use Rattle.std.specs.List.{flat_map}
 use Rattle.std.specs.Option.{option_or}
 use Rattle.uuid.specs.Parts.{zero_bytes}
@@ -11,7 +11,9 @@ use Rattle.idl_tree.specs.declared.leaf.ArraySize.{ArraySize}
 use Rattle.idl_tree.specs.declared.leaf.Dtor.{Dtor}
 use Rattle.idl_tree.specs.declared.declaration.Ast.{Ast}
 use Rattle.idl_names.specs.declared.place.Place.TheVariants as places
-use Rattle.idl_names.specs.Members.{attrs_of, dtors_of, lone_member, result_member, param_member}
+use Rattle.idl_names.specs.Members.{attrs_of, spec_of, dtors_of, param_member}
+use Rattle.idl_names.specs.Walk.{ReadMember, TextReader}
+use Rattle.idl_names.specs.Walk as walk
 use Rattle.idl_names.specs.Attributes.{pointer_default, given, says, says_in, says_out, says_maybe, says_handle, is_serialised}
 use Rattle.idl_forms.specs.Forms as idl
 use Rattle.ndr_value.specs.Forms.{Form}
@@ -23,9 +25,10 @@ use Rattle.table_scope.specs.declared.said.Terms.{Terms}
 use Rattle.idl_names.specs.Symbols.{ByName}
 use Rattle.table_scope.specs.Scopes.{Sense, Scope, nothing_known, with_type, with_handle, with_constant}
 use Rattle.table_scope.specs.Declarators.{range_in, terms, declared}
-use Rattle.table_specs.specs.Specs.{sense_at}
+use Rattle.table_specs.specs.Specs.{table_reader, sense_at}
 
--- ---- parameters. handle_t is not listed, and has no index
+-- ---- parameters. handle_t is not listed, and has no index. It is read like any other, and where the rules are kept declares nothing: of
+-- the attributes switch_type alone holds a spec, and it stands before a union alone
 
 abbrev pub is_binding_kind : idl.KindForm → Bool
 is_binding_kind idl.OfHandle = true
@@ -53,22 +56,22 @@ Listed = List ParamForm × List HandleUse
 abbrev pub joined : Listed → Listed → Listed
 joined a b = (a.0 ++ b.0, a.1 ++ b.1)
 
-abbrev pub one_param : Pk → List Ident → idl.AttrForms → Dtor → Sense × Scope → ParamForm
-one_param default names as' d behind =
+abbrev pub one_param : Pk → List Ident → idl.AttrForms → Sense × Scope → Dtor → ParamForm
+one_param default names as' behind d =
     record { shape = declared (terms default places.Parameter names as') behind.1.symbols.constants behind.0.shape d; inward = says says_in as'; outward = says says_out as'; range = given range_in as' }
 
-abbrev pub listed_at : Pk → List Ident → idl.AttrForms → Dtor → Sense × Scope → Listed × Scope
-listed_at default names as' d behind =
-    ((one_param default names as' d behind ∷ [], handle_use (says says_in as') (says says_out as') behind.0.sort), behind.1)
+-- behind: what its spec stands for, and what is known behind it
+abbrev pub listed_as : Pk → List Ident → idl.MemberForm → Sense × Scope → Listed
+listed_as default names m behind =
+    (map (one_param default names (attrs_of m) behind) (dtors_of m), handle_use (says says_in (attrs_of m)) (says says_out (attrs_of m)) behind.0.sort)
 
-abbrev pub param_at : Pk → List Ident → idl.ParamForm → Scope → Listed × Scope
-param_at default names n p =
-    if is_binding n.spec then (([], []), p) else listed_at default names n.attrs n.dtor (sense_at default (param_member n) p)
+-- what a parameter that was read adds to the list
+abbrev pub listing_of : Pk → List Ident → ReadMember Scope Sense (Option Form) → Listed
+listing_of default names x = if is_binding (spec_of x.0) then ([], []) else listed_as default names x.0 (x.1.spec, x.1.known)
 
-abbrev pub params_at : Pk → List Ident → List idl.ParamForm → Scope → Listed × Scope
-params_at default names [] p = (([], []), p)
-params_at default names (n ∷ ns) p =
-    (joined (param_at default names n p).0 (params_at default names ns (param_at default names n p).1).0, (params_at default names ns (param_at default names n p).1).1)
+abbrev pub listings_of : Pk → List Ident → List (ReadMember Scope Sense (Option Form)) → Listed
+listings_of default names [] = ([], [])
+listings_of default names (x ∷ xs) = joined (listing_of default names x) (listings_of default names xs)
 
 -- ---- operations
 
@@ -105,11 +108,6 @@ op_of name as' r ps = record { name = name; params = ps; result = sort_result r.
 abbrev pub op_with : List ℕ → idl.AttrForms → Sense → Listed × Scope → Draft → Draft
 op_with name as' r ps d = with_op (op_of name as' r ps.0.0) ps.0.1 (in_scope d ps.1)
 
--- r: its result
-abbrev pub op_at : Pk → idl.MemberForm → Ident → List idl.ParamForm → Draft → Draft
-op_at default r name ns d =
-    op_with name.text (attrs_of r) (sense_at default r d.scope).0 (params_at default (param_names ns) ns (sense_at default r d.scope).1) d
-
 -- ---- typedefs
 
 abbrev pub bare_sort : Option ArraySize → Sort → Sort
@@ -131,21 +129,40 @@ abbrev pub typedef_all : Bool → Bool → Terms → Sense → List Dtor → Sco
 typedef_all handle serialised t m [] p = p
 typedef_all handle serialised t m (d ∷ ds) p = typedef_all handle serialised t m ds (typedef_one handle serialised t m d p)
 
-abbrev pub typedef_at : Pk → idl.MemberForm → Scope → Scope
-typedef_at default m p =
-    typedef_all (says says_handle (attrs_of m)) (is_serialised (attrs_of m)) (terms default places.Typedef [] (attrs_of m)) (sense_at default m p).0 (dtors_of m) (sense_at default m p).1
+-- behind the declarators of a typedef; a spec without one declares nothing more
+abbrev pub types_at : Pk → idl.MemberForm → Sense × Scope → Scope
+types_at default m behind =
+    typedef_all (says says_handle (attrs_of m)) (is_serialised (attrs_of m)) (terms default places.Typedef [] (attrs_of m)) behind.0 (dtors_of m) behind.1
 
--- ---- declarations
+-- ---- the table's reader of declarations, and what it has of them
+
+abbrev pub table_text : TextReader Scope Sense (Option Form) (Bool × Option Form) Form Draft
+table_text = record {
+  specs = table_reader;
+  known = λ d. d.scope;
+  constant = λ base name value d. in_scope d (with_constant name value d.scope);
+  own = λ default place x d. in_scope d (types_at default x.0 (x.1.spec, x.1.known));
+  named = λ name p. p;
+  operation = λ default name ns result ps d. op_with name.text (attrs_of result.0) result.1.spec (listings_of default (param_names ns) ps.0, ps.1) d;
+}
+
+abbrev pub own_at : Pk → idl.MemberForm → Scope → Scope
+own_at default m p = types_at default m (sense_at default m p)
+
+abbrev pub param_at : Pk → List Ident → idl.ParamForm → Scope → Listed × Scope
+param_at default names n p = (listing_of default names (walk.read_as table_text default places.Parameter (param_member n) p), (sense_at default (param_member n) p).1)
+
+abbrev pub params_at : Pk → List Ident → List idl.ParamForm → Scope → Listed × Scope
+params_at default names ns p = (listings_of default names (walk.params_at table_text default ns p).0, (walk.params_at table_text default ns p).1)
+
+abbrev pub op_at : Pk → idl.MemberForm → Ident → List idl.ParamForm → Draft → Draft
+op_at default r name ns d = walk.op_at table_text default r name ns d
 
 abbrev pub decl_at : Pk → idl.DeclKindForm → Draft → Draft
-decl_at default (idl.OfConst base name value) d = in_scope d (with_constant name value d.scope)
-decl_at default (idl.OfTypedef as' s ds) d = in_scope d (typedef_at default (idl.a_member as' s ds) d.scope)
-decl_at default (idl.OfLone as' s) d = in_scope d (sense_at default (lone_member as' s) d.scope).1
-decl_at default (idl.OfOp as' s name void ns) d = op_at default (result_member as' s name) name ns d
+decl_at default x d = walk.decl_at table_text default x d
 
 abbrev pub decls_at : Pk → List idl.DeclForm → Draft → Draft
-decls_at default [] d = d
-decls_at default (x ∷ xs) d = decls_at default xs (decl_at default x.what d)
+decls_at default xs d = walk.decls_at table_text default xs d
 
 -- ---- the interface's own attributes
 

@@ -23,7 +23,7 @@ use Rattle.ndr_value.specs.Forms.{Form}
 use Rattle.idl_names.specs.Symbols.{ByName, Symbols, tag_named}
 use Rattle.table_scope.specs.Scopes.{Sense, Scope, begun}
 use Rattle.table_specs.specs.Specs.{member_names, members_within, arm_names, spec_at, switch_at, attr_at, attrs_at, sense_at, arm_at}
-use Rattle.table_laws.specs.Interfaces.{Draft, is_binding, param_names, param_at, decl_at, nothing_declared, first_in, uuid_in}
+use Rattle.table_laws.specs.Interfaces.{Draft, param_names, decl_at, nothing_declared, first_in, uuid_in}
 
 -- ---- names
 
@@ -130,13 +130,9 @@ abbrev mutual
 
 -- ---- declarations
 
--- a handle_t isn't listed
-abbrev pub param_stands : Pk → List Ident → idl.ParamForm → Scope → Bool
-param_stands default names n p = is_binding n.spec || member_stands default names (param_member n) p
-
 abbrev pub params_stand : Pk → List Ident → List idl.ParamForm → Scope → Bool
 params_stand default names [] p = true
-params_stand default names (n ∷ ns) p = param_stands default names n p && params_stand default names ns (param_at default names n p).1
+params_stand default names (n ∷ ns) p = member_stands default names (param_member n) p && params_stand default names ns (sense_at default (param_member n) p).1
 
 abbrev pub decl_stands : Pk → idl.DeclKindForm → Scope → Bool
 decl_stands default (idl.OfConst base name value) p = true

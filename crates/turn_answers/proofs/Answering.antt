@@ -28,17 +28,17 @@ use Rattle.conn_histories.specs.Histories.Event.{Did, Decided}
 use Rattle.conn_histories.specs.Plays.{Negotiated, negotiated_at_start, offering, results, Binds, CallsOff, EndsCall, PlaysCall, Plays, EndsRefused}
 use Rattle.conn_laws.proofs.Done.{acts_are_asks}
 use Rattle.conn_laws.proofs.Along.{put_in_order}
-use Rattle.conn_turns.specs.declared.turn.Off.{Off}
-use Rattle.conn_turns.specs.declared.turn.Fate.{Fate}
-use Rattle.conn_turns.specs.declared.turn.Fate.TheVariants.{Waiting, Denied, Cancelled, Orphaned, LeftWaiting, Running, LeftRunning, Ended, LeftEnded}
-use Rattle.conn_turns.specs.declared.turn.Deed.{Deed}
-use Rattle.conn_turns.specs.declared.turn.Deed.TheVariants.{Pending, Refused, Accepted}
-use Rattle.conn_turns.specs.declared.turn.Turn.{Turn}
-use Rattle.conn_turns.specs.declared.turn.Turn.TheVariants.{Binding, Bound, NotBound, Answered, Called, Closed}
-use Rattle.conn_turns.specs.Entries.{has_left, deed_left}
-use Rattle.conn_turns.specs.Events.{fate_reply, deed_reply, word_of, has_run, acts_off, answer_events, events_of, all_events, all_octets}
-use Rattle.conn_turns.specs.Tales.{StandAll}
-use Rattle.conn_turns.specs.Answers.{asks_off, BeginsWith, AreOctetsOf, Piece, IsLost, AnswersBind, AnswersRequest, AnswersCall, AnswersAll}
+use Rattle.conn_histories.specs.declared.turn.Off.{Off}
+use Rattle.conn_histories.specs.declared.turn.Fate.{Fate}
+use Rattle.conn_histories.specs.declared.turn.Fate.TheVariants.{Waiting, Denied, Cancelled, Orphaned, LeftWaiting, Running, LeftRunning, Ended, LeftEnded}
+use Rattle.conn_histories.specs.declared.turn.Deed.{Deed}
+use Rattle.conn_histories.specs.declared.turn.Deed.TheVariants.{Pending, Refused, Accepted}
+use Rattle.conn_histories.specs.declared.turn.Turn.{Turn}
+use Rattle.conn_histories.specs.declared.turn.Turn.TheVariants.{Binding, Bound, NotBound, Answered, Called, Closed}
+use Rattle.conn_histories.specs.Entries.{has_left, deed_left}
+use Rattle.conn_histories.specs.Events.{fate_reply, deed_reply, word_of, has_run, acts_off, answer_events, events_of, all_events, all_octets}
+use Rattle.conn_histories.specs.Tales.{StandAll}
+use Rattle.conn_histories.specs.Answers.{asks_off, BeginsWith, AreOctetsOf, Piece, IsLost, AnswersBind, AnswersRequest, AnswersCall, AnswersAll}
 use Rattle.turn_laws.specs.Laws.{DeedReplied, IsReplied}
 use Rattle.turn_answers.specs.Laws.{IsRequestOver, IsOver, IsLast, EndsEarly, IsAllAsked, AreAnswered}
 use Rattle.turn_answers.proofs.Calling.{NotOff, splits}

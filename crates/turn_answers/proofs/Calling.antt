@@ -7,10 +7,10 @@ use Rattle.conn_asks.specs.declared.events.Act.TheVariants as acts
 use Rattle.conn_histories.specs.Histories.{Event}
 use Rattle.conn_histories.specs.Histories.Event.{Came, Paused, Did, Decided}
 use Rattle.conn_histories.specs.Plays.{CallsOff, EndsCall}
-use Rattle.conn_turns.specs.declared.turn.Off.{Off}
-use Rattle.conn_turns.specs.declared.turn.Off.TheVariants as off
-use Rattle.conn_turns.specs.Events.{acts_off, act_off}
-use Rattle.conn_turns.specs.Answers.{ask_off, asks_off}
+use Rattle.conn_histories.specs.declared.turn.Off.{Off}
+use Rattle.conn_histories.specs.declared.turn.Off.TheVariants as off
+use Rattle.conn_histories.specs.Events.{acts_off, act_off}
+use Rattle.conn_histories.specs.Answers.{ask_off, asks_off}
 
 -- acts that call off
 abbrev pub AllOff : List Event → Type 0

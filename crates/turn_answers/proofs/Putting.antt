@@ -17,15 +17,15 @@ use Rattle.conn_histories.specs.Histories.{Decision, Event, put}
 use Rattle.conn_histories.specs.Histories.Event.{Did}
 use Rattle.conn_laws.proofs.Along.{put_in_order}
 use Rattle.conn_laws.proofs.Decided.{one_answer}
-use Rattle.conn_turns.specs.declared.turn.Off.{Off}
-use Rattle.conn_turns.specs.declared.turn.Off.TheVariants as off
-use Rattle.conn_turns.specs.declared.turn.Deed.{Deed}
-use Rattle.conn_turns.specs.declared.turn.Deed.TheVariants.{Pending, Refused, Accepted}
-use Rattle.conn_turns.specs.declared.turn.Turn.{Turn}
-use Rattle.conn_turns.specs.declared.turn.Turn.TheVariants.{Binding, Bound, NotBound, Answered, Called, Closed}
-use Rattle.conn_turns.specs.Events.{deed_reply, acts_off, act_off, answer_events, events_of, all_events, octets_in, octets_of, all_octets}
-use Rattle.conn_turns.specs.Tales.{whole}
-use Rattle.conn_turns.specs.Answers.{AreOctetsOf, Piece}
+use Rattle.conn_histories.specs.declared.turn.Off.{Off}
+use Rattle.conn_histories.specs.declared.turn.Off.TheVariants as off
+use Rattle.conn_histories.specs.declared.turn.Deed.{Deed}
+use Rattle.conn_histories.specs.declared.turn.Deed.TheVariants.{Pending, Refused, Accepted}
+use Rattle.conn_histories.specs.declared.turn.Turn.{Turn}
+use Rattle.conn_histories.specs.declared.turn.Turn.TheVariants.{Binding, Bound, NotBound, Answered, Called, Closed}
+use Rattle.conn_histories.specs.Events.{deed_reply, acts_off, act_off, answer_events, events_of, all_events, octets_in, octets_of, all_octets}
+use Rattle.conn_histories.specs.Tales.{whole}
+use Rattle.conn_histories.specs.Answers.{AreOctetsOf, Piece}
 
 put_append : (a b : List Event) → put (a ++ b) ≡ put a ++ put b
 put_append a b = (put_in_order a b).0.puts

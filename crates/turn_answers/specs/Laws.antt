@@ -12,14 +12,14 @@ use Rattle.conn_asks.specs.Asks.{AreAsksOf}
 use Rattle.conn_asks.specs.States.{ConnState, at_start}
 use Rattle.conn_histories.specs.Histories.{Event, Lives, IsAtRest, stream, seen, put}
 use Rattle.conn_histories.specs.Plays.{Negotiated, negotiated_at_start, Plays}
-use Rattle.conn_turns.specs.declared.turn.Off.{Off}
-use Rattle.conn_turns.specs.declared.turn.Deed.{Deed}
-use Rattle.conn_turns.specs.declared.turn.Turn.{Turn}
-use Rattle.conn_turns.specs.declared.turn.Turn.TheVariants.{Binding, NotBound, Called}
-use Rattle.conn_turns.specs.Entries.{deed_left}
-use Rattle.conn_turns.specs.Events.{deed_reply, all_events, all_octets}
-use Rattle.conn_turns.specs.Tales.{StandAll}
-use Rattle.conn_turns.specs.Answers.{Piece, AnswersAll, Answers}
+use Rattle.conn_histories.specs.declared.turn.Off.{Off}
+use Rattle.conn_histories.specs.declared.turn.Deed.{Deed}
+use Rattle.conn_histories.specs.declared.turn.Turn.{Turn}
+use Rattle.conn_histories.specs.declared.turn.Turn.TheVariants.{Binding, NotBound, Called}
+use Rattle.conn_histories.specs.Entries.{deed_left}
+use Rattle.conn_histories.specs.Events.{deed_reply, all_events, all_octets}
+use Rattle.conn_histories.specs.Tales.{StandAll}
+use Rattle.conn_histories.specs.Answers.{Piece, AnswersAll, Answers}
 use Rattle.turn_laws.specs.Laws.{IsReplied}
 
 -- ---- answers

@@ -2,9 +2,9 @@
 ghost use Rattle.std.specs.Prelude.{◌≡◌, ◌∷◌, [], ◌++◌, reverse, IfOk, OnOk};
 ghost use Rattle.std.specs.List.{list_any};
 ghost use Rattle.handle_model.specs.declared.entry.Entry.TheVariants.{End};
-ghost use Rattle.conn_turns.specs.Entries as spec;
+ghost use Rattle.conn_histories.specs.Entries as spec;
 
-use conn_turns::{Deed, Fate, Off, Request, Run, Turn};
+use conn_histories::{Deed, Fate, Off, Request, Run, Turn};
 use handle_model::{Asked, Cookies, Entry, Slots};
 use rpc_base::NoMemory;
 use std::alloc::Global;

@@ -1,8 +1,8 @@
 //! What turns answer, as a plain program.
 ghost use Rattle.std.specs.Prelude.{◌≡◌, ◌++◌, reverse, IfOk};
-ghost use Rattle.conn_turns.specs.Events as spec;
+ghost use Rattle.conn_histories.specs.Events as spec;
 
-use conn_turns::{Request, Turn};
+use conn_histories::{Request, Turn};
 use rpc_base::{NoMemory, Octets};
 use std::alloc::Global;
 

@@ -7,16 +7,16 @@ use Rattle.handle_model.specs.declared.entry.Entry.{Entry}
 use Rattle.handle_model.specs.declared.entry.Entry.TheVariants.{Join, Accept, Deny, Cancel, Orphan, End, Leave}
 use Rattle.handle_model.specs.Since.{any_since}
 use Rattle.handle_model.specs.Journal.{leaves, takes, ends, has_left, waits, runs}
-use Rattle.conn_turns.specs.declared.turn.Off.{Off}
-use Rattle.conn_turns.specs.declared.turn.Fate.{Fate}
-use Rattle.conn_turns.specs.declared.turn.Fate.TheVariants.{Waiting, Denied, Cancelled, Orphaned, LeftWaiting, Running, LeftRunning, Ended, LeftEnded}
-use Rattle.conn_turns.specs.declared.turn.Deed.{Deed}
-use Rattle.conn_turns.specs.declared.turn.Deed.TheVariants.{Pending, Refused, Accepted}
-use Rattle.conn_turns.specs.declared.turn.Request.{Request}
-use Rattle.conn_turns.specs.declared.turn.Turn.{Turn}
-use Rattle.conn_turns.specs.declared.turn.Turn.TheVariants.{Binding, Bound, NotBound, Answered, Called, Closed}
-use Rattle.conn_turns.specs.Entries.{asked_as, fate_entries, has_left as fate_left, is_open, deed_open, turn_open, is_running, deed_runs, turn_runs, leave_behind}
-use Rattle.conn_turns.specs.Tales.{whole, tale, DeedStands, Stands, StandAll}
+use Rattle.conn_histories.specs.declared.turn.Off.{Off}
+use Rattle.conn_histories.specs.declared.turn.Fate.{Fate}
+use Rattle.conn_histories.specs.declared.turn.Fate.TheVariants.{Waiting, Denied, Cancelled, Orphaned, LeftWaiting, Running, LeftRunning, Ended, LeftEnded}
+use Rattle.conn_histories.specs.declared.turn.Deed.{Deed}
+use Rattle.conn_histories.specs.declared.turn.Deed.TheVariants.{Pending, Refused, Accepted}
+use Rattle.conn_histories.specs.declared.turn.Request.{Request}
+use Rattle.conn_histories.specs.declared.turn.Turn.{Turn}
+use Rattle.conn_histories.specs.declared.turn.Turn.TheVariants.{Binding, Bound, NotBound, Answered, Called, Closed}
+use Rattle.conn_histories.specs.Entries.{asked_as, fate_entries, has_left as fate_left, is_open, deed_open, turn_open, is_running, deed_runs, turn_runs, leave_behind}
+use Rattle.conn_histories.specs.Tales.{whole, tale, DeedStands, Stands, StandAll}
 use Rattle.turn_laws.specs.Laws.{DeedEnded, IsEnded}
 use Rattle.turn_laws.proofs.TaleFacts.{any_first, any_rest, same_number, and_false, since_none, in_tale, takes_call, ends_call, leaves_conn, asked_in, asked_tale}
 use Rattle.turn_laws.proofs.MarkFacts.{ran, ran_is, ran_asked}

@@ -6,15 +6,15 @@ use Rattle.handle_model.specs.declared.entry.Asked.{Asked}
 use Rattle.handle_model.specs.declared.entry.Slot.{Slot}
 use Rattle.handle_model.specs.declared.entry.Entry.{Entry}
 use Rattle.handle_model.specs.declared.entry.Entry.TheVariants.{Join, Accept, Take, Deny, Cancel, Orphan, End, Leave, Shut}
-use Rattle.conn_turns.specs.declared.turn.Fate.{Fate}
-use Rattle.conn_turns.specs.declared.turn.Fate.TheVariants.{Waiting, Denied, Cancelled, Orphaned, LeftWaiting, Running, LeftRunning, Ended, LeftEnded}
-use Rattle.conn_turns.specs.declared.turn.Deed.{Deed}
-use Rattle.conn_turns.specs.declared.turn.Deed.TheVariants.{Pending, Refused, Accepted}
-use Rattle.conn_turns.specs.declared.turn.Request.{Request}
-use Rattle.conn_turns.specs.declared.turn.Turn.{Turn}
-use Rattle.conn_turns.specs.declared.turn.Turn.TheVariants.{Binding, Bound, NotBound, Answered, Called, Closed}
-use Rattle.conn_turns.specs.Entries.{asked_as, fate_entries, deed_entries, has_left, deed_left, turn_left, is_open, deed_open, turn_open, leave_behind, deed_number, number_of, numbers_of}
-use Rattle.conn_turns.specs.Tales.{of_call, of_conn, tale, accepted_of, calls_of, DeedStands, Stands, StandAll}
+use Rattle.conn_histories.specs.declared.turn.Fate.{Fate}
+use Rattle.conn_histories.specs.declared.turn.Fate.TheVariants.{Waiting, Denied, Cancelled, Orphaned, LeftWaiting, Running, LeftRunning, Ended, LeftEnded}
+use Rattle.conn_histories.specs.declared.turn.Deed.{Deed}
+use Rattle.conn_histories.specs.declared.turn.Deed.TheVariants.{Pending, Refused, Accepted}
+use Rattle.conn_histories.specs.declared.turn.Request.{Request}
+use Rattle.conn_histories.specs.declared.turn.Turn.{Turn}
+use Rattle.conn_histories.specs.declared.turn.Turn.TheVariants.{Binding, Bound, NotBound, Answered, Called, Closed}
+use Rattle.conn_histories.specs.Entries.{asked_as, fate_entries, deed_entries, has_left, deed_left, turn_left, is_open, deed_open, turn_open, leave_behind, deed_number, number_of, numbers_of}
+use Rattle.conn_histories.specs.Tales.{of_call, of_conn, tale, accepted_of, calls_of, DeedStands, Stands, StandAll}
 use Rattle.turn_laws.specs.Steps.{IsAccepted, IsFurther, GoesOn, left_fate, left_deed, left_turn, left_turns, OnlyNewestOpen}
 use Rattle.turn_laws.proofs.TaleFacts.{any_first, any_rest, same_number, same_if}
 

@@ -12,18 +12,18 @@ use Rattle.handle_model.specs.Bases.{empty_base}
 use Rattle.handle_model.specs.Journal.{is_shut, Legal, LegalSince}
 use Rattle.table_form.specs.Tables.{TableForm}
 use Rattle.conn_histories.specs.Histories.{Event}
-use Rattle.served_calls.specs.Requests.{IsRefused}
-use Rattle.served_calls.specs.Requests.IsRefused.{no_operation, no_stub, no_room, full}
-use Rattle.conn_turns.specs.declared.turn.Deed.{Deed}
-use Rattle.conn_turns.specs.declared.turn.Deed.TheVariants.{Pending, Refused, Accepted}
-use Rattle.conn_turns.specs.declared.turn.Request.{Request}
-use Rattle.conn_turns.specs.declared.turn.Fate.{Fate}
-use Rattle.conn_turns.specs.declared.turn.Fate.TheVariants.{Waiting, Denied, Cancelled, Orphaned, LeftWaiting, Running, LeftRunning, Ended, LeftEnded}
-use Rattle.conn_turns.specs.declared.turn.Turn.{Turn}
-use Rattle.conn_turns.specs.declared.turn.Turn.TheVariants.{Binding, Bound, NotBound, Answered, Called, Closed}
-use Rattle.conn_turns.specs.Entries.{leave_behind}
-use Rattle.conn_turns.specs.Tales.{whole, of_conn}
-use Rattle.conn_turns.specs.Stories.{Server, HasOwnShut, WasFull, FateIsDue, DeedIsDue, IsDue, AllDue, Made, Finished, Story}
+use Rattle.conn_histories.specs.Requests.{IsRefused}
+use Rattle.conn_histories.specs.Requests.IsRefused.{no_operation, no_stub, no_room, full}
+use Rattle.conn_histories.specs.declared.turn.Deed.{Deed}
+use Rattle.conn_histories.specs.declared.turn.Deed.TheVariants.{Pending, Refused, Accepted}
+use Rattle.conn_histories.specs.declared.turn.Request.{Request}
+use Rattle.conn_histories.specs.declared.turn.Fate.{Fate}
+use Rattle.conn_histories.specs.declared.turn.Fate.TheVariants.{Waiting, Denied, Cancelled, Orphaned, LeftWaiting, Running, LeftRunning, Ended, LeftEnded}
+use Rattle.conn_histories.specs.declared.turn.Turn.{Turn}
+use Rattle.conn_histories.specs.declared.turn.Turn.TheVariants.{Binding, Bound, NotBound, Answered, Called, Closed}
+use Rattle.conn_histories.specs.Entries.{leave_behind}
+use Rattle.conn_histories.specs.Tales.{whole, of_conn}
+use Rattle.conn_histories.specs.Stories.{Server, HasOwnShut, WasFull, FateIsDue, DeedIsDue, IsDue, AllDue, Made, Finished, Story}
 use Rattle.turn_laws.specs.Laws.{AreOfOthers}
 use Rattle.turn_laws.proofs.MarkFacts.{any_there}
 use Rattle.turn_laws.proofs.Moments.{legal_at}

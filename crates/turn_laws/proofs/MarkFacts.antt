@@ -9,10 +9,10 @@ use Rattle.handle_model.specs.declared.entry.Entry.TheVariants.{Join, Accept, Ta
 use Rattle.handle_model.specs.Since.{any_since}
 use Rattle.handle_model.specs.Journal.{leaves, takes, denies, orphans, ends, has_left}
 use Rattle.handle_model.specs.Replies.{is_lost}
-use Rattle.conn_turns.specs.declared.turn.Off.{Off}
-use Rattle.conn_turns.specs.declared.turn.Off.TheVariants as off
-use Rattle.conn_turns.specs.Entries.{is_cancel, is_orphan, is_like, entry_off, marks, taken}
-use Rattle.conn_turns.specs.Tales.{whole}
+use Rattle.conn_histories.specs.declared.turn.Off.{Off}
+use Rattle.conn_histories.specs.declared.turn.Off.TheVariants as off
+use Rattle.conn_histories.specs.Entries.{is_cancel, is_orphan, is_like, entry_off, marks, taken}
+use Rattle.conn_histories.specs.Tales.{whole}
 use Rattle.turn_laws.proofs.TaleFacts.{same_number, or_false, or_true, since_none, asked_in, ended_in, is_foreign}
 
 pub any_there : (p : Entry → Bool) (xs : List Entry) (e : Entry) (ys : List Entry) → p e ≡ true → list_any p (xs ++ e ∷ ys) ≡ true

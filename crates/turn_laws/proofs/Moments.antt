@@ -6,7 +6,7 @@ use Rattle.handle_model.specs.declared.base.Base.{Base}
 use Rattle.handle_model.specs.Bases.{empty_base}
 use Rattle.handle_model.specs.History.{History, since}
 use Rattle.handle_model.specs.Journal.{Allowed, LegalSince, Legal}
-use Rattle.conn_turns.specs.Tales.{whole}
+use Rattle.conn_histories.specs.Tales.{whole}
 use Rattle.turn_laws.specs.Reasons.{Came}
 
 -- an entry that a test lets through, and those before it

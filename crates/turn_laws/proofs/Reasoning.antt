@@ -8,17 +8,17 @@ use Rattle.handle_model.specs.declared.entry.Entry.TheVariants.{Join, Accept, Ta
 use Rattle.handle_model.specs.Since.{any_since}
 use Rattle.handle_model.specs.History.{History}
 use Rattle.handle_model.specs.Journal.{leaves, takes, ends, decides, has_left, waits, runs, Legal}
-use Rattle.conn_turns.specs.declared.turn.Off.{Off}
-use Rattle.conn_turns.specs.declared.turn.Run.{Run}
-use Rattle.conn_turns.specs.declared.turn.Fate.{Fate}
-use Rattle.conn_turns.specs.declared.turn.Fate.TheVariants.{Waiting, Denied, Cancelled, Orphaned, LeftWaiting, Running, LeftRunning, Ended, LeftEnded}
-use Rattle.conn_turns.specs.declared.turn.Deed.{Deed}
-use Rattle.conn_turns.specs.declared.turn.Deed.TheVariants.{Pending, Refused, Accepted}
-use Rattle.conn_turns.specs.declared.turn.Request.{Request}
-use Rattle.conn_turns.specs.declared.turn.Turn.{Turn}
-use Rattle.conn_turns.specs.declared.turn.Turn.TheVariants.{Binding, Bound, NotBound, Answered, Called, Closed}
-use Rattle.conn_turns.specs.Entries.{asked_as, marks, taken, fate_entries, has_left as fate_left, leave_behind}
-use Rattle.conn_turns.specs.Tales.{whole, is_about, tale, DeedStands, Stands, StandAll}
+use Rattle.conn_histories.specs.declared.turn.Off.{Off}
+use Rattle.conn_histories.specs.declared.turn.Run.{Run}
+use Rattle.conn_histories.specs.declared.turn.Fate.{Fate}
+use Rattle.conn_histories.specs.declared.turn.Fate.TheVariants.{Waiting, Denied, Cancelled, Orphaned, LeftWaiting, Running, LeftRunning, Ended, LeftEnded}
+use Rattle.conn_histories.specs.declared.turn.Deed.{Deed}
+use Rattle.conn_histories.specs.declared.turn.Deed.TheVariants.{Pending, Refused, Accepted}
+use Rattle.conn_histories.specs.declared.turn.Request.{Request}
+use Rattle.conn_histories.specs.declared.turn.Turn.{Turn}
+use Rattle.conn_histories.specs.declared.turn.Turn.TheVariants.{Binding, Bound, NotBound, Answered, Called, Closed}
+use Rattle.conn_histories.specs.Entries.{asked_as, marks, taken, fate_entries, has_left as fate_left, leave_behind}
+use Rattle.conn_histories.specs.Tales.{whole, is_about, tale, DeedStands, Stands, StandAll}
 use Rattle.turn_laws.specs.Reasons.{Came, Whatever, Waited, Ran, FateHasReason, DeedHasReason, HasReason}
 use Rattle.turn_laws.proofs.TaleFacts.{same_number, since_none, in_tale, takes_call, ends_call, leaves_conn, asked_in, asked_tale}
 use Rattle.turn_laws.proofs.MarkFacts.{ran, ran_is, ran_taken, ran_ended}

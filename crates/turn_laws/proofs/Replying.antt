@@ -11,17 +11,17 @@ use Rattle.handle_model.specs.declared.reply.Reply.{Reply}
 use Rattle.handle_model.specs.declared.reply.Reply.TheVariants.{Ran, Dropped, Open}
 use Rattle.handle_model.specs.Journal.{takes, denies, cancels}
 use Rattle.handle_model.specs.Replies.{is_lost, replies, reply_by}
-use Rattle.conn_turns.specs.declared.turn.Off.{Off}
-use Rattle.conn_turns.specs.declared.turn.Fate.{Fate}
-use Rattle.conn_turns.specs.declared.turn.Fate.TheVariants.{Waiting, Denied, Cancelled, Orphaned, LeftWaiting, Running, LeftRunning, Ended, LeftEnded}
-use Rattle.conn_turns.specs.declared.turn.Deed.{Deed}
-use Rattle.conn_turns.specs.declared.turn.Deed.TheVariants.{Pending, Refused, Accepted}
-use Rattle.conn_turns.specs.declared.turn.Request.{Request}
-use Rattle.conn_turns.specs.declared.turn.Turn.{Turn}
-use Rattle.conn_turns.specs.declared.turn.Turn.TheVariants.{Binding, Bound, NotBound, Answered, Called, Closed}
-use Rattle.conn_turns.specs.Entries.{is_orphan, taken, asked_as, fate_entries, has_left as fate_left, is_open, deed_open, turn_open, leave_behind}
-use Rattle.conn_turns.specs.Events.{fate_reply}
-use Rattle.conn_turns.specs.Tales.{whole, tale, DeedStands, Stands, StandAll}
+use Rattle.conn_histories.specs.declared.turn.Off.{Off}
+use Rattle.conn_histories.specs.declared.turn.Fate.{Fate}
+use Rattle.conn_histories.specs.declared.turn.Fate.TheVariants.{Waiting, Denied, Cancelled, Orphaned, LeftWaiting, Running, LeftRunning, Ended, LeftEnded}
+use Rattle.conn_histories.specs.declared.turn.Deed.{Deed}
+use Rattle.conn_histories.specs.declared.turn.Deed.TheVariants.{Pending, Refused, Accepted}
+use Rattle.conn_histories.specs.declared.turn.Request.{Request}
+use Rattle.conn_histories.specs.declared.turn.Turn.{Turn}
+use Rattle.conn_histories.specs.declared.turn.Turn.TheVariants.{Binding, Bound, NotBound, Answered, Called, Closed}
+use Rattle.conn_histories.specs.Entries.{is_orphan, taken, asked_as, fate_entries, has_left as fate_left, is_open, deed_open, turn_open, leave_behind}
+use Rattle.conn_histories.specs.Events.{fate_reply}
+use Rattle.conn_histories.specs.Tales.{whole, tale, DeedStands, Stands, StandAll}
 use Rattle.turn_laws.specs.Laws.{DeedReplied, IsReplied}
 use Rattle.turn_laws.proofs.TaleFacts.{any_first, any_rest, same_number, or_false, or_true, ended_in, is_foreign, reply_from, reply_is, reply_tale}
 use Rattle.turn_laws.proofs.MarkFacts.{ran, ran_is, ran_taken, ran_denied, ran_ended, ran_left, ran_orphaned, ran_theirs, ran_asked, lost_so, unended}

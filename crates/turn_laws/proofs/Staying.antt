@@ -4,13 +4,13 @@ use Rattle.std.specs.List.{list_any, AllByRecursion}
 use Rattle.std.specs.List.{cons_option}
 use Rattle.std.proofs.lemmas.List.Elements.{filter-append, filter_map-append}
 use Rattle.handle_model.specs.declared.entry.Entry.{Entry}
-use Rattle.conn_turns.specs.declared.turn.Deed.{Deed}
-use Rattle.conn_turns.specs.declared.turn.Deed.TheVariants.{Pending, Refused, Accepted}
-use Rattle.conn_turns.specs.declared.turn.Request.{Request}
-use Rattle.conn_turns.specs.declared.turn.Turn.{Turn}
-use Rattle.conn_turns.specs.declared.turn.Turn.TheVariants.{Binding, Bound, NotBound, Answered, Called, Closed}
-use Rattle.conn_turns.specs.Entries.{deed_number, number_of, numbers_of}
-use Rattle.conn_turns.specs.Tales.{of_call, of_conn, is_about, tale, accepted_of, calls_of, DeedStands, Stands, StandAll}
+use Rattle.conn_histories.specs.declared.turn.Deed.{Deed}
+use Rattle.conn_histories.specs.declared.turn.Deed.TheVariants.{Pending, Refused, Accepted}
+use Rattle.conn_histories.specs.declared.turn.Request.{Request}
+use Rattle.conn_histories.specs.declared.turn.Turn.{Turn}
+use Rattle.conn_histories.specs.declared.turn.Turn.TheVariants.{Binding, Bound, NotBound, Answered, Called, Closed}
+use Rattle.conn_histories.specs.Entries.{deed_number, number_of, numbers_of}
+use Rattle.conn_histories.specs.Tales.{of_call, of_conn, is_about, tale, accepted_of, calls_of, DeedStands, Stands, StandAll}
 use Rattle.turn_laws.specs.Laws.{AreOfOthers}
 
 pub filter_none : (p : Entry → Bool) (xs : List Entry) → list_any p xs ≡ false → filter p xs ≡ []

@@ -14,7 +14,7 @@ use Rattle.handle_model.specs.Journal.{leaves, takes, denies, cancels, orphans, 
 use Rattle.handle_model.specs.Replies.{is_lost, ended_with_since, replies, reply_by, context_mismatch, cancelled}
 use Rattle.handle_model.specs.declared.reply.Reply.{Reply}
 use Rattle.handle_model.specs.declared.reply.Reply.TheVariants.{Never}
-use Rattle.conn_turns.specs.Tales.{whole, is_about, tale}
+use Rattle.conn_histories.specs.Tales.{whole, is_about, tale}
 
 pub same_number : (k : ℕ) → (k == k) ≡ true
 same_number k = grind (arith, nat_tests)

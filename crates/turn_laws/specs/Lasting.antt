@@ -4,9 +4,9 @@ use Rattle.handle_model.specs.declared.entry.Home.{Home}
 use Rattle.handle_model.specs.declared.entry.Entry.{Entry}
 use Rattle.handle_model.specs.Journal.{Legal}
 use Rattle.conn_histories.specs.Histories.{Event}
-use Rattle.conn_turns.specs.declared.turn.Turn.{Turn}
-use Rattle.conn_turns.specs.Tales.{whole}
-use Rattle.conn_turns.specs.Stories.{Server, AllDue, Finished, Story}
+use Rattle.conn_histories.specs.declared.turn.Turn.{Turn}
+use Rattle.conn_histories.specs.Tales.{whole}
+use Rattle.conn_histories.specs.Stories.{Server, AllDue, Finished, Story}
 use Rattle.turn_laws.specs.Laws.{AreOfOthers}
 
 -- each turn is due then too, whoever entered what is newer

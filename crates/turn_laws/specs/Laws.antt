@@ -5,14 +5,14 @@ use Rattle.handle_model.specs.declared.entry.Home.{Home}
 use Rattle.handle_model.specs.declared.entry.Entry.{Entry}
 use Rattle.handle_model.specs.Journal.{waits, runs}
 use Rattle.handle_model.specs.Replies.{replies}
-use Rattle.conn_turns.specs.declared.turn.Off.{Off}
-use Rattle.conn_turns.specs.declared.turn.Deed.{Deed}
-use Rattle.conn_turns.specs.declared.turn.Deed.TheVariants.{Accepted}
-use Rattle.conn_turns.specs.declared.turn.Turn.{Turn}
-use Rattle.conn_turns.specs.declared.turn.Turn.TheVariants.{Called}
-use Rattle.conn_turns.specs.Entries.{turn_runs, numbers_of}
-use Rattle.conn_turns.specs.Events.{fate_reply}
-use Rattle.conn_turns.specs.Tales.{whole, of_call, of_conn, calls_of, StandAll}
+use Rattle.conn_histories.specs.declared.turn.Off.{Off}
+use Rattle.conn_histories.specs.declared.turn.Deed.{Deed}
+use Rattle.conn_histories.specs.declared.turn.Deed.TheVariants.{Accepted}
+use Rattle.conn_histories.specs.declared.turn.Turn.{Turn}
+use Rattle.conn_histories.specs.declared.turn.Turn.TheVariants.{Called}
+use Rattle.conn_histories.specs.Entries.{turn_runs, numbers_of}
+use Rattle.conn_histories.specs.Events.{fate_reply}
+use Rattle.conn_histories.specs.Tales.{whole, of_call, of_conn, calls_of, StandAll}
 
 -- ---- replies
 

@@ -6,7 +6,7 @@ ghost use Rattle.turn_laws.specs.Lasting.{DuesStay, StoriesStay, FinishedStay};
 
 /// A server, of whose connections a law speaks. No value of it is made.
 pub trait Serving {
-    ghost use Rattle.conn_turns.specs.Stories.{Server};
+    ghost use Rattle.conn_histories.specs.Stories.{Server};
 
     ghost server: { Server };
 }

@@ -6,9 +6,9 @@ use Rattle.handle_model.specs.declared.entry.Entry.TheVariants.{Join}
 use Rattle.handle_model.specs.Bases.{empty_base}
 use Rattle.handle_model.specs.Journal.{Legal, LegalSince}
 use Rattle.conn_histories.specs.Histories.{Event}
-use Rattle.conn_turns.specs.declared.turn.Turn.{Turn}
-use Rattle.conn_turns.specs.Tales.{whole, StandAll}
-use Rattle.conn_turns.specs.Stories.{Server, Story}
+use Rattle.conn_histories.specs.declared.turn.Turn.{Turn}
+use Rattle.conn_histories.specs.Tales.{whole, StandAll}
+use Rattle.conn_histories.specs.Stories.{Server, Story}
 use Rattle.turn_laws.specs.Laws.{AreOfOthers}
 use Rattle.turn_laws.proofs.Staying.{turns_stay}
 use Rattle.turn_laws.proofs.Keeping.{stories_stay}

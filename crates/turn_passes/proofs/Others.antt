@@ -3,9 +3,9 @@ use Rattle.std.proofs.Common.{◌≡◌, ℕ, ◌==◌, Bool, true, false, ◌&&
 use Rattle.std.specs.List.{list_any, cons_option, AllByRecursion}
 use Rattle.handle_model.specs.declared.entry.Entry.{Entry}
 use Rattle.handle_model.specs.declared.entry.Entry.TheVariants.{Join, Accept, Take, Deny, Cancel, Orphan, End, Leave, Shut}
-use Rattle.conn_turns.specs.declared.turn.Turn.{Turn}
-use Rattle.conn_turns.specs.Entries.{numbers_of}
-use Rattle.conn_turns.specs.Tales.{of_call, of_conn, calls_of, StandAll}
+use Rattle.conn_histories.specs.declared.turn.Turn.{Turn}
+use Rattle.conn_histories.specs.Entries.{numbers_of}
+use Rattle.conn_histories.specs.Tales.{of_call, of_conn, calls_of, StandAll}
 use Rattle.turn_laws.specs.Laws.{AreOfOthers}
 use Rattle.turn_laws.proofs.TaleFacts.{same_number, or_true}
 use Rattle.hub_story.specs.declared.item.Item.{Item}

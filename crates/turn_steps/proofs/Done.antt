@@ -2,14 +2,14 @@
 use Rattle.std.proofs.Common.{◌≡◌, ℕ, false, List, [], ◌∷◌, refl, ap}
 use Rattle.std.specs.List.{list_any, AllByRecursion}
 use Rattle.handle_model.specs.declared.entry.Home.{Home}
-use Rattle.conn_turns.specs.declared.turn.Fate.{Fate}
-use Rattle.conn_turns.specs.declared.turn.Fate.TheVariants.{Waiting, Denied, Cancelled, Orphaned, LeftWaiting, Running, LeftRunning, Ended, LeftEnded}
-use Rattle.conn_turns.specs.declared.turn.Deed.{Deed}
-use Rattle.conn_turns.specs.declared.turn.Deed.TheVariants as deeds
-use Rattle.conn_turns.specs.declared.turn.Turn.{Turn}
-use Rattle.conn_turns.specs.declared.turn.Turn.TheVariants.{Binding, Bound, NotBound, Answered, Called, Closed as ClosedTurn}
-use Rattle.conn_turns.specs.Entries.{is_open, deed_open, turn_runs}
-use Rattle.conn_turns.specs.Stories.{Server}
+use Rattle.conn_histories.specs.declared.turn.Fate.{Fate}
+use Rattle.conn_histories.specs.declared.turn.Fate.TheVariants.{Waiting, Denied, Cancelled, Orphaned, LeftWaiting, Running, LeftRunning, Ended, LeftEnded}
+use Rattle.conn_histories.specs.declared.turn.Deed.{Deed}
+use Rattle.conn_histories.specs.declared.turn.Deed.TheVariants as deeds
+use Rattle.conn_histories.specs.declared.turn.Turn.{Turn}
+use Rattle.conn_histories.specs.declared.turn.Turn.TheVariants.{Binding, Bound, NotBound, Answered, Called, Closed as ClosedTurn}
+use Rattle.conn_histories.specs.Entries.{is_open, deed_open, turn_runs}
+use Rattle.conn_histories.specs.Stories.{Server}
 use Rattle.turn_laws.specs.Steps.{left_turns, left_fate, left_deed, OnlyNewestOpen}
 use Rattle.turn_answers.specs.Laws.{IsOver}
 use Rattle.turn_steps.specs.Done.{IsDone}

@@ -9,16 +9,16 @@ use Rattle.handle_model.specs.declared.entry.Entry.{Entry}
 use Rattle.handle_model.specs.declared.entry.Entry.TheVariants.{Join, Accept, Cancel, End, Leave, Shut}
 use Rattle.handle_model.specs.Entries.{is_shut}
 use Rattle.pdu_stream.specs.declared.joined.Joined.{Joined}
-use Rattle.conn_turns.specs.declared.turn.Off.{Off}
-use Rattle.conn_turns.specs.declared.turn.Run.{Run}
-use Rattle.conn_turns.specs.declared.turn.Fate.{Fate}
-use Rattle.conn_turns.specs.declared.turn.Request.{Request}
-use Rattle.conn_turns.specs.declared.turn.Turn.{Turn}
-use Rattle.conn_turns.specs.Stories.{Server}
-use Rattle.conn_turns.specs.Tales.{whole}
-use Rattle.conn_turns.specs.declared.turn.Fate.TheVariants.{Waiting, Denied, Cancelled, Orphaned, LeftWaiting, Running, LeftRunning, Ended, LeftEnded}
-use Rattle.conn_turns.specs.declared.turn.Deed.TheVariants.{Pending, Accepted}
-use Rattle.conn_turns.specs.declared.turn.Turn.TheVariants.{Binding, Bound, NotBound, Answered, Called, Closed}
+use Rattle.conn_histories.specs.declared.turn.Off.{Off}
+use Rattle.conn_histories.specs.declared.turn.Run.{Run}
+use Rattle.conn_histories.specs.declared.turn.Fate.{Fate}
+use Rattle.conn_histories.specs.declared.turn.Request.{Request}
+use Rattle.conn_histories.specs.declared.turn.Turn.{Turn}
+use Rattle.conn_histories.specs.Stories.{Server}
+use Rattle.conn_histories.specs.Tales.{whole}
+use Rattle.conn_histories.specs.declared.turn.Fate.TheVariants.{Waiting, Denied, Cancelled, Orphaned, LeftWaiting, Running, LeftRunning, Ended, LeftEnded}
+use Rattle.conn_histories.specs.declared.turn.Deed.TheVariants.{Pending, Accepted}
+use Rattle.conn_histories.specs.declared.turn.Turn.TheVariants.{Binding, Bound, NotBound, Answered, Called, Closed}
 use Rattle.group_core.specs.declared.answer.Cancelled.{Cancelled as CancelAnswer}
 use Rattle.group_core.specs.declared.answer.Cancelled.TheVariants as cancelled
 use Rattle.group_core.specs.declared.answer.Rest.{Rest}
@@ -28,10 +28,10 @@ use Rattle.group_core.specs.Conns.{Settles}
 use Rattle.handle_model.specs.declared.entry.Slot.TheVariants.{Shares, Holds, Changes, Opens}
 use Rattle.handle_model.specs.Slots.{with_serial}
 use Rattle.handle_model.specs.Journal.{Legal, waits, runs, is_cancelled, accept_count, has_joined, filled, next_serial, opened}
-use Rattle.served_calls.specs.Requests.{HasSlots}
-use Rattle.conn_turns.specs.Entries.{asked_as, all_entries, has_left, is_open, is_running, turn_open, turn_left, numbers_of}
-use Rattle.conn_turns.specs.Stories.{IsItsGroup, AllDue, Made}
-use Rattle.conn_turns.specs.Tales.{of_conn, calls_of, Stands, StandAll}
+use Rattle.conn_histories.specs.Requests.{HasSlots}
+use Rattle.conn_histories.specs.Entries.{asked_as, all_entries, has_left, is_open, is_running, turn_open, turn_left, numbers_of}
+use Rattle.conn_histories.specs.Stories.{IsItsGroup, AllDue, Made}
+use Rattle.conn_histories.specs.Tales.{of_conn, calls_of, Stands, StandAll}
 use Rattle.turn_laws.specs.Steps.{left_turns, OnlyNewestOpen}
 use Rattle.turn_laws.proofs.TaleFacts.{same_number}
 use Rattle.turn_steps.specs.Quiet.{IsQuiet}

@@ -8,21 +8,21 @@ use Rattle.handle_model.specs.declared.entry.Entry.{Entry}
 use Rattle.handle_model.specs.declared.entry.Entry.TheVariants.{Join, Accept, Take, Deny, Cancel, Orphan, End, Leave, Shut}
 use Rattle.handle_model.specs.Entries.{is_shut}
 use Rattle.pdu_stream.specs.declared.joined.Joined.{Joined}
-use Rattle.conn_turns.specs.declared.turn.Off.{Off}
-use Rattle.conn_turns.specs.declared.turn.Fate.{Fate}
-use Rattle.conn_turns.specs.declared.turn.Deed.{Deed}
-use Rattle.conn_turns.specs.declared.turn.Request.{Request}
-use Rattle.conn_turns.specs.declared.turn.Turn.{Turn}
-use Rattle.conn_turns.specs.Stories.{Server}
-use Rattle.conn_turns.specs.Tales.{whole}
-use Rattle.conn_turns.specs.declared.turn.Fate.TheVariants.{Waiting, Denied, Cancelled, Orphaned, LeftWaiting, Running, LeftRunning, Ended, LeftEnded}
-use Rattle.conn_turns.specs.declared.turn.Deed.TheVariants.{Pending, Refused, Accepted}
-use Rattle.conn_turns.specs.declared.turn.Turn.TheVariants.{Binding, Bound, NotBound, Answered, Called, Closed}
+use Rattle.conn_histories.specs.declared.turn.Off.{Off}
+use Rattle.conn_histories.specs.declared.turn.Fate.{Fate}
+use Rattle.conn_histories.specs.declared.turn.Deed.{Deed}
+use Rattle.conn_histories.specs.declared.turn.Request.{Request}
+use Rattle.conn_histories.specs.declared.turn.Turn.{Turn}
+use Rattle.conn_histories.specs.Stories.{Server}
+use Rattle.conn_histories.specs.Tales.{whole}
+use Rattle.conn_histories.specs.declared.turn.Fate.TheVariants.{Waiting, Denied, Cancelled, Orphaned, LeftWaiting, Running, LeftRunning, Ended, LeftEnded}
+use Rattle.conn_histories.specs.declared.turn.Deed.TheVariants.{Pending, Refused, Accepted}
+use Rattle.conn_histories.specs.declared.turn.Turn.TheVariants.{Binding, Bound, NotBound, Answered, Called, Closed}
 use Rattle.handle_model.specs.Journal.{Legal}
-use Rattle.conn_turns.specs.Entries.{asked_as, deed_entries, entries_of, all_entries, has_left, deed_left, turn_left, is_open, deed_open, turn_open, leave_behind, story_entries, number_of, numbers_of, marks, is_like, fate_entries}
-use Rattle.conn_turns.specs.Events.{all_events, all_octets}
-use Rattle.conn_turns.specs.Stories.{HasOwnShut, DeedIsDue, IsDue, AllDue, Made}
-use Rattle.conn_turns.specs.Tales.{of_call, of_conn, Stands, StandAll}
+use Rattle.conn_histories.specs.Entries.{asked_as, deed_entries, entries_of, all_entries, has_left, deed_left, turn_left, is_open, deed_open, turn_open, leave_behind, story_entries, number_of, numbers_of, marks, is_like, fate_entries}
+use Rattle.conn_histories.specs.Events.{all_events, all_octets}
+use Rattle.conn_histories.specs.Stories.{HasOwnShut, DeedIsDue, IsDue, AllDue, Made}
+use Rattle.conn_histories.specs.Tales.{of_call, of_conn, Stands, StandAll}
 use Rattle.turn_laws.specs.Laws.{AreOfOthers}
 use Rattle.turn_laws.specs.Steps.{GoesOn, left_turns, left_fate, OnlyNewestOpen}
 use Rattle.turn_laws.proofs.TaleFacts.{same_number, any_first, any_rest}

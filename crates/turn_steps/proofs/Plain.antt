@@ -8,10 +8,10 @@ use Rattle.pdu_stream.specs.declared.joined.Joined.{Joined}
 use Rattle.table_form.specs.Tables.{TableForm}
 use Rattle.conn_asks.specs.declared.events.ConnFault.{ConnFault}
 use Rattle.conn_histories.specs.Histories.{Event}
-use Rattle.served_calls.specs.Requests.{IsRefused}
-use Rattle.served_calls.specs.Requests.IsRefused.{no_operation, no_stub, no_room, full}
-use Rattle.conn_turns.specs.declared.turn.Deed.TheVariants as deeds
-use Rattle.conn_turns.specs.declared.turn.Turn.TheVariants.{Answered, Closed as ClosedTurn}
+use Rattle.conn_histories.specs.Requests.{IsRefused}
+use Rattle.conn_histories.specs.Requests.IsRefused.{no_operation, no_stub, no_room, full}
+use Rattle.conn_histories.specs.declared.turn.Deed.TheVariants as deeds
+use Rattle.conn_histories.specs.declared.turn.Turn.TheVariants.{Answered, Closed as ClosedTurn}
 use Rattle.turn_steps.proofs.Making.{called, IsPlain}
 
 -- ---- refusals

@@ -6,16 +6,16 @@ use Rattle.handle_model.specs.declared.entry.Asked.{Asked}
 use Rattle.handle_model.specs.declared.entry.Entry.{Entry}
 use Rattle.handle_model.specs.declared.entry.Entry.TheVariants.{Join, Accept, Take, Deny, Cancel, Orphan, End, Leave, Shut}
 use Rattle.handle_model.specs.Bases.{empty_base}
-use Rattle.conn_turns.specs.declared.turn.Off.{Off}
-use Rattle.conn_turns.specs.declared.turn.Off.TheVariants as off
-use Rattle.conn_turns.specs.declared.turn.Fate.{Fate}
-use Rattle.conn_turns.specs.Tales.{whole}
-use Rattle.conn_turns.specs.declared.turn.Fate.TheVariants.{Waiting, Denied, Cancelled, Orphaned, LeftWaiting, Running, LeftRunning, Ended, LeftEnded}
+use Rattle.conn_histories.specs.declared.turn.Off.{Off}
+use Rattle.conn_histories.specs.declared.turn.Off.TheVariants as off
+use Rattle.conn_histories.specs.declared.turn.Fate.{Fate}
+use Rattle.conn_histories.specs.Tales.{whole}
+use Rattle.conn_histories.specs.declared.turn.Fate.TheVariants.{Waiting, Denied, Cancelled, Orphaned, LeftWaiting, Running, LeftRunning, Ended, LeftEnded}
 use Rattle.handle_model.specs.Since.{any_since}
 use Rattle.handle_model.specs.Journal.{leaves, takes, cancels, orphans, ends, decides, asked, has_left, is_cancelled, is_orphaned, waits, runs}
 use Rattle.group_core.specs.Stages.{is_asked_since, is_asked}
-use Rattle.conn_turns.specs.Entries.{is_cancel, is_orphan, marks, fate_entries, is_running}
-use Rattle.conn_turns.specs.Tales.{is_about, tale}
+use Rattle.conn_histories.specs.Entries.{is_cancel, is_orphan, marks, fate_entries, is_running}
+use Rattle.conn_histories.specs.Tales.{is_about, tale}
 use Rattle.turn_laws.proofs.TaleFacts.{same_number, since_none, in_tale, takes_call, ends_call, leaves_conn, asked_in, asked_tale}
 use Rattle.turn_laws.proofs.MarkFacts.{any_there, ran, ran_is, ran_any, ran_left, ran_taken, ran_ended, ran_orphaned, ran_asked}
 

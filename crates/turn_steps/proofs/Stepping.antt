@@ -12,15 +12,15 @@ use Rattle.handle_model.specs.declared.entry.Entry.TheVariants.{Join, Accept, Ta
 use Rattle.handle_model.specs.Entries.{is_shut}
 use Rattle.handle_model.specs.History.{History}
 use Rattle.pdu_stream.specs.declared.joined.Joined.{Joined}
-use Rattle.conn_turns.specs.declared.turn.Off.{Off}
-use Rattle.conn_turns.specs.declared.turn.Off.TheVariants as off
-use Rattle.conn_turns.specs.declared.turn.Fate.{Fate}
-use Rattle.conn_turns.specs.declared.turn.Request.{Request}
-use Rattle.conn_turns.specs.declared.turn.Turn.{Turn}
-use Rattle.conn_turns.specs.Stories.{Server}
-use Rattle.conn_turns.specs.Tales.{whole}
-use Rattle.conn_turns.specs.declared.turn.Fate.TheVariants.{Waiting, Denied, Cancelled, Orphaned, LeftWaiting, Running, LeftRunning, Ended, LeftEnded}
-use Rattle.conn_turns.specs.declared.turn.Deed.TheVariants.{Accepted}
+use Rattle.conn_histories.specs.declared.turn.Off.{Off}
+use Rattle.conn_histories.specs.declared.turn.Off.TheVariants as off
+use Rattle.conn_histories.specs.declared.turn.Fate.{Fate}
+use Rattle.conn_histories.specs.declared.turn.Request.{Request}
+use Rattle.conn_histories.specs.declared.turn.Turn.{Turn}
+use Rattle.conn_histories.specs.Stories.{Server}
+use Rattle.conn_histories.specs.Tales.{whole}
+use Rattle.conn_histories.specs.declared.turn.Fate.TheVariants.{Waiting, Denied, Cancelled, Orphaned, LeftWaiting, Running, LeftRunning, Ended, LeftEnded}
+use Rattle.conn_histories.specs.declared.turn.Deed.TheVariants.{Accepted}
 use Rattle.group_core.specs.declared.answer.Taking.{Taking}
 use Rattle.group_core.specs.declared.answer.Taking.TheVariants as taking
 use Rattle.group_core.specs.declared.answer.Cancelled.{Cancelled as CancelAnswer}
@@ -30,9 +30,9 @@ use Rattle.group_core.specs.declared.answer.Orphaned.TheVariants as orphaned
 use Rattle.group_core.specs.Adds.{Adds}
 use Rattle.group_core.specs.Calls.{Takes, Cancels, Orphans, is_cancellable, is_orphanable}
 use Rattle.handle_model.specs.Journal.{Legal, waits, runs, is_cancelled, is_orphaned, slots, cookies_for}
-use Rattle.conn_turns.specs.Entries.{is_cancel, is_orphan, asked_as, has_left, is_open, is_running, leave_behind, numbers_of, fate_entries}
-use Rattle.conn_turns.specs.Stories.{EndMeets, DeedIsDue, Made}
-use Rattle.conn_turns.specs.Tales.{of_call}
+use Rattle.conn_histories.specs.Entries.{is_cancel, is_orphan, asked_as, has_left, is_open, is_running, leave_behind, numbers_of, fate_entries}
+use Rattle.conn_histories.specs.Stories.{EndMeets, DeedIsDue, Made}
+use Rattle.conn_histories.specs.Tales.{of_call}
 use Rattle.turn_laws.proofs.TaleFacts.{same_number}
 use Rattle.turn_steps.proofs.Staged.{is_waiting, Stage, stage, Marked, marked_running}
 use Rattle.turn_steps.proofs.Making.{called, made_entered, made_again, made_shut}

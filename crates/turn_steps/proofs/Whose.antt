@@ -8,21 +8,21 @@ use Rattle.handle_model.specs.declared.entry.Asked.{Asked}
 use Rattle.handle_model.specs.declared.entry.Entry.{Entry}
 use Rattle.handle_model.specs.declared.entry.Entry.TheVariants.{Join, Accept, Take, Deny, Cancel, Orphan, End, Leave, Shut}
 use Rattle.handle_model.specs.Bases.{empty_base}
-use Rattle.conn_turns.specs.declared.turn.Off.{Off}
-use Rattle.conn_turns.specs.declared.turn.Fate.{Fate}
-use Rattle.conn_turns.specs.declared.turn.Deed.{Deed}
-use Rattle.conn_turns.specs.declared.turn.Request.{Request}
-use Rattle.conn_turns.specs.declared.turn.Turn.{Turn}
-use Rattle.conn_turns.specs.Tales.{whole}
-use Rattle.conn_turns.specs.declared.turn.Fate.TheVariants.{Waiting, Denied, Cancelled, Orphaned, LeftWaiting, Running, LeftRunning, Ended, LeftEnded}
-use Rattle.conn_turns.specs.declared.turn.Deed.TheVariants.{Pending, Refused, Accepted}
-use Rattle.conn_turns.specs.declared.turn.Turn.TheVariants.{Binding, Bound, NotBound, Answered, Called, Closed}
+use Rattle.conn_histories.specs.declared.turn.Off.{Off}
+use Rattle.conn_histories.specs.declared.turn.Fate.{Fate}
+use Rattle.conn_histories.specs.declared.turn.Deed.{Deed}
+use Rattle.conn_histories.specs.declared.turn.Request.{Request}
+use Rattle.conn_histories.specs.declared.turn.Turn.{Turn}
+use Rattle.conn_histories.specs.Tales.{whole}
+use Rattle.conn_histories.specs.declared.turn.Fate.TheVariants.{Waiting, Denied, Cancelled, Orphaned, LeftWaiting, Running, LeftRunning, Ended, LeftEnded}
+use Rattle.conn_histories.specs.declared.turn.Deed.TheVariants.{Pending, Refused, Accepted}
+use Rattle.conn_histories.specs.declared.turn.Turn.TheVariants.{Binding, Bound, NotBound, Answered, Called, Closed}
 use Rattle.handle_model.specs.Journal.{Legal, asked, is_taken, accept_count, has_joined, leaves}
 use Rattle.handle_model.proofs.Held.{left_joined}
 use Rattle.journal_laws.proofs.Accepted.{fresh_unasked}
 use Rattle.journal_laws.proofs.Stages.{decides_after_accept, ends_after_take, taken_asked_since}
-use Rattle.conn_turns.specs.Entries.{asked_as, fate_entries, has_left, leave_behind, deed_number, number_of, numbers_of}
-use Rattle.conn_turns.specs.Tales.{of_call, of_conn, accepted_of, calls_of, DeedStands, Stands}
+use Rattle.conn_histories.specs.Entries.{asked_as, fate_entries, has_left, leave_behind, deed_number, number_of, numbers_of}
+use Rattle.conn_histories.specs.Tales.{of_call, of_conn, accepted_of, calls_of, DeedStands, Stands}
 use Rattle.turn_laws.specs.Laws.{AreOfOthers}
 use Rattle.turn_laws.proofs.TaleFacts.{same_number, asked_in, asked_tale}
 use Rattle.turn_laws.proofs.MarkFacts.{ran_is, ran_asked}

@@ -1,8 +1,8 @@
 -- Turns that are over while their connection goes on.
 use Rattle.std.specs.Prelude.{◌≡◌, false, ⊤}
-use Rattle.conn_turns.specs.declared.turn.Turn.{Turn}
-use Rattle.conn_turns.specs.declared.turn.Turn.TheVariants.{Binding, Called}
-use Rattle.conn_turns.specs.Entries.{deed_open, deed_runs}
+use Rattle.conn_histories.specs.declared.turn.Turn.{Turn}
+use Rattle.conn_histories.specs.declared.turn.Turn.TheVariants.{Binding, Called}
+use Rattle.conn_histories.specs.Entries.{deed_open, deed_runs}
 use Rattle.turn_answers.specs.Laws.{IsRequestOver}
 
 -- a turn that is over, with no call that is open or runs

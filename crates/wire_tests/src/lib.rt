@@ -1,7 +1,9 @@
-//! PDUs, streams of them, requests in fragments and presentation contexts, octet for octet: tables of what comes
-//! and what is answered.
+//! PDUs, streams of them, requests in fragments, presentation contexts and whole connections, octet for octet: tables of
+//! what comes and what is answered.
 #![tactic(auto)]
 
+#[cfg(test)]
+mod conns;
 #[cfg(test)]
 mod contexts;
 #[cfg(test)]

@@ -1,5 +1,5 @@
 use Rattle.std.proofs.Common.{refl, subst}
-use Rattle.served_calls.specs.Requests.{IsRefused}
+use Rattle.conn_histories.specs.Requests.{IsRefused}
 use Rattle.served_tables.specs.Served.{tables_in}
 use Rattle.served_call.specs.Suited.{never_full}
 use Rattle.manager_calls.proofs.ready.prepared.Goals as goal

@@ -3,7 +3,7 @@ use Rattle.table_form.specs.Tables.{TableForm}
 use Rattle.service_desks.specs.Shows.{shown_by}
 use Rattle.service_desks.specs.Start.{at_start}
 use Rattle.replay_world.specs.Worlds.{booted}
-use Rattle.replay_service.specs.Service.{service_of}
+use Rattle.replay_realm.specs.Service.{service_of}
 use Rattle.replay.proofs.Read.{departs_first, departs_there, stops_first, stops_there, still_played}
 use Rattle.replay.proofs.Whole.{replayed, served}
 use Rattle.replay.proofs.replaying.replay.Goals as goal

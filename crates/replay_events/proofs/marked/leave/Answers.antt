@@ -1,7 +1,7 @@
 use Rattle.std.proofs.Common.{subst, sym, Option}
 use Rattle.replay_world.specs.declared.peer.Member.{Member}
 use Rattle.replay_world.specs.Events.{LeavesIts}
-use Rattle.replay_service.specs.Service.{service_of}
+use Rattle.replay_realm.specs.Service.{service_of}
 use Rattle.replay_realm.specs.Holding.{Moves}
 use Rattle.replay_events.proofs.marked.leave.Goals as goal
 

@@ -5,8 +5,8 @@ use Rattle.std.specs.Arc.{arc_value}
 use Rattle.table_form.specs.Tables.{TableForm}
 use Rattle.service_desks.specs.Shows.{shown_by}
 use Rattle.service_desks.specs.State.{tables_with}
-use Rattle.locked_desks.specs.Calls.{echo_of, May}
-use Rattle.desk_service.proofs.Crossing.{service_send, service_sync}
+use Rattle.server_rounds.specs.Desks.{echo_of, May}
+use Rattle.server_rounds.proofs.Crossing.{service_send, service_sync}
 use Rattle.serve_command.specs.Serves.{Serves}
 use Rattle.serve_command.proofs.Rounds.{if_ok}
 use Rattle.serve_command.proofs.command.serve.Goals as goal

@@ -4,7 +4,7 @@ use Rattle.ndr_value.specs.Values.{msg}
 use Rattle.table_form.specs.Shown.{shown}
 use Rattle.manager_api.specs.Answers.{ans}
 use Rattle.served_tables.specs.Served.{tables_in}
-use Rattle.served_calls.specs.Ends.{row_of}
+use Rattle.conn_histories.specs.Ends.{row_of}
 use Rattle.served_call.proofs.Facts.{Facts, kepts_suit}
 use Rattle.served_call.proofs.given.kepts_suit.Goals as goal
 

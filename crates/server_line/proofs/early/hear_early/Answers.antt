@@ -1,5 +1,5 @@
 use Rattle.std.proofs.Common.{rules, ap}
-use Rattle.served_calls.specs.Requests.{ids_of}
+use Rattle.conn_histories.specs.Requests.{ids_of}
 use Rattle.server_line.proofs.Hearing.{heard_early}
 use Rattle.server_line.proofs.early.hear_early.Goals as goal
 

@@ -1,5 +1,5 @@
 use Rattle.std.proofs.Common.{sym, subst}
-use Rattle.served_calls.specs.Requests.{ids_of}
+use Rattle.conn_histories.specs.Requests.{ids_of}
 use Rattle.server_line.specs.Early.{IsAlone}
 use Rattle.server_line.proofs.Saying.{refused_ok, refused_short, refused_not}
 use Rattle.server_line.proofs.early.nak.Goals as goal

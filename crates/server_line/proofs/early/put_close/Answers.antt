@@ -1,5 +1,5 @@
 use Rattle.std.proofs.Common.{rules, ap}
-use Rattle.served_calls.specs.Requests.{ids_of}
+use Rattle.conn_histories.specs.Requests.{ids_of}
 use Rattle.server_line.proofs.Saying.{closes_ok, closes_failed}
 use Rattle.server_line.proofs.early.put_close.Goals as goal
 

@@ -1,3 +1,4 @@
+use Rattle.std.proofs.Common.{refl}
 use denote.Exit.{yes}
 use denote.Param.{param}
 use denote.Param.Send.{IsSync, IsSend, param_send, arg_send}
@@ -7,13 +8,13 @@ use Rattle.server_run.proofs.Serving.{works_kept}
 use Rattle.server_run.proofs.beside.start.Goals as goal
 
 pub returns-in-Ok : goal.returns-in-Ok
-returns-in-Ok g c = λ r keeps cookies row count.
-    works_kept g.M.Manager.tables g.M.Manager.may c.in-Ok.child.promise (record { manager = c.of.result; hub = c.of-2.result; asked = c.of-3.result; row = c.args.row.now; group = c.args.group; call = c.args.call }) r c.args.manager.now c.args.hub.now
-    c.args.asked.now cookies c.in-Ok.ensures.ok c.of.ensures c.of-2.ensures c.of-3.ensures (record { row_is = row; count = count }) keeps
+returns-in-Ok g c = λ r keeps.
+    works_kept g.M.Manager.tables g.M.Manager.may c.in-Ok.child.promise (record { manager = c.of.result; hub = c.of-2.result; asked = c.of-3.result; row = c.args.running.row; group = c.args.running.group; call = c.args.running.call }) r c.args.server c.args.running
+    c.in-Ok.ensures.ok c.of.ensures c.of-2.ensures c.of-3.ensures refl refl refl keeps
 
 pub spawn_with-requires-send-F : goal.spawn_with-requires-send-F
 spawn_with-requires-send-F g c κs within =
     let r : IsSync (param 1 g.row.R) = c.type_bounds.sync-R in
     let m : IsSync (param 2 g.row.M) = c.type_bounds.sync-M in
-    let p : IsSend (lts.arg-3-2 g.row.E g.row.R g.row.M g.E.laws g.R.laws g.M.laws g.R.Wait g.R.Wait-dict g.R.Threads g.R.Threads-dict g.M.Manager g.M.Manager-dict κs) = arg_send _ yes _ (work_send _ (param 1 g.row.R) (param 2 g.row.M) κs.1.1.1.1.1.1.0 κs.1.1.1.1.1.1.1.0 κs.1.1.1.1.1.1.1.1.0 κs.1.1.1.1.1.1.1.1.1.0 κs.1.1.1.1.1.1.1.1.1.1.0 κs.1.1.1.1.1.1.1.1.1.1.1.0 κs.1.1.1.1.1.1.1.1.1.1.1.1.0 r m) in
+    let p : IsSend (lts.arg-3-2 g.row.E g.row.R g.row.M g.E.laws g.R.laws g.M.laws g.R.Wait g.R.Wait-dict g.R.Threads g.R.Threads-dict g.M.Manager g.M.Manager-dict κs) = arg_send _ yes _ (work_send _ (param 1 g.row.R) (param 2 g.row.M) κs.1.1.1.1.1.1.0 κs.1.1.1.1.1.1.1.0 κs.1.1.1.1.1.1.1.1.0 κs.1.1.1.1.1.1.1.1.1.0 κs.1.1.1.1.1.1.1.1.1.1.0 κs.1.1.1.1.1.1.1.1.1.1.1.0 r m) in
     param_send 2 _ p

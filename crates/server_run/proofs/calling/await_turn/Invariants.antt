@@ -3,4 +3,4 @@ use Rattle.server_line.specs.Calls.{IsWaiting}
 use Rattle.server_run.proofs.calling.await_turn.Given as goal
 
 abbrev pub invariant-loop : goal.invariant-loop
-invariant-loop g l = IsSame l.initial.line l.line × IsWaiting g.K.Link.shows (g.M.Manager.may l.manager) (g.M.Manager.tables l.manager) l.hub l.line l.call l.asked
+invariant-loop g l = IsSame l.initial.line l.line × IsWaiting g.K.Link.shows (g.M.Manager.may l.server.manager.now) (g.M.Manager.tables l.server.manager.now) l.server.hub.now l.line l.call l.asked

@@ -1,5 +1,5 @@
 use Rattle.std.proofs.Common.{Some}
-use Rattle.served_calls.specs.Requests.{ids_of}
+use Rattle.conn_histories.specs.Requests.{ids_of}
 use Rattle.server_run.proofs.Ends.{ends_member, finishes_same}
 use Rattle.server_run.proofs.connection.finish.Goals as goal
 

@@ -1,6 +1,6 @@
 use Rattle.std.proofs.Common.{rules, refl}
 use Rattle.server_run.proofs.Ends.{ends_alone}
-use Rattle.served_calls.specs.Requests.{ids_of}
+use Rattle.conn_histories.specs.Requests.{ids_of}
 use Rattle.server_run.proofs.connection.finish_alone.Goals as goal
 
 pub returns-clause-finishes : goal.returns-clause-finishes

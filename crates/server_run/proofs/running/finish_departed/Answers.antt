@@ -7,6 +7,5 @@ end-requires-clause-gone g c = λ κs within. c.requires.departed.1.gone
 pub returns : goal.returns
 returns g c = λ old x. (
   c.end.ensures.ended.pass,
-  ends_departed g.K.Link.shows (g.M.Manager.may c.args.manager.now) (g.M.Manager.tables c.args.manager.now) c.args.hub.now old c.args.call c.args.asked.now c.args.cookies.now c.args.departed c.end.new.self x c.end.ensures.began
-      c.end.ensures.wire c.end.ensures.ended,
+  ends_departed g.K.Link.shows g.M.Manager.may g.M.Manager.tables c.args.server old c.args.running c.args.cookies.now c.args.departed c.end.new.self x c.end.ensures.began c.end.ensures.wire c.end.ensures.ended,
 )

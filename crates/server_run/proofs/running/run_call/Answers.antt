@@ -1,6 +1,10 @@
+use denote.Param.Send.{param_send}
 use Rattle.std.proofs.Common.{◌≡◌, ℕ, ◌-◌, ◌≤◌, List, length, sym, ap, ◌∙◌, subst}
 use Rattle.handle_model.specs.declared.entry.Slot.{Slot}
 use Rattle.handle_model.specs.Rules.{filled}
+use Rattle.hub_story.specs.Passes.{Knows}
+use Rattle.group_hub.specs.Passes.{at_shard}
+use Rattle.group_hub.specs.Shards.{shard_of}
 use Rattle.served_tables.specs.Served.{tables_in}
 use Rattle.call_worker.proofs.Cookies.{suit_length}
 use Rattle.server_run.proofs.Serving.{filled_length, given_so, running_so, row_so}
@@ -8,32 +12,50 @@ use Rattle.server_run.proofs.running.run_call.Goals as goal
 
 pub first_cookies-cookies-requires : goal.first_cookies-cookies-requires
 first_cookies-cookies-requires g c =
-    let slots : c.number_slots.new.slots ≡ filled (c.args.serial - 1) c.args.asked.slots = c.number_slots.ensures ∙ ap (λ (n : ℕ). filled n c.args.asked.slots) c.saturating_sub.ensures in
-    let many : c.len.result ≡ length c.args.asked.slots = c.len.ensures ∙ (ap (λ (l : List Slot). length l) slots ∙ filled_length (c.args.serial - 1) c.args.asked.slots) in
+    let t = c.args.taken in
+    let slots : c.number_slots.new.slots ≡ filled (t.serial - 1) t.asked.slots = c.number_slots.ensures ∙ ap (λ (n : ℕ). filled n t.asked.slots) c.saturating_sub.ensures in
+    let many : c.len.result ≡ length t.asked.slots = c.len.ensures ∙ (ap (λ (l : List Slot). length l) slots ∙ filled_length (t.serial - 1) t.asked.slots) in
     subst (λ (n : ℕ). n ≤ 4) (sym many) c.requires.taken.opened.few
 
-pub run_beside-requires-clause-running : goal.run_beside-requires-clause-running
-run_beside-requires-clause-running g c = λ κs within.
-    let a = c.args.asked in
+pub split_pass-pass-requires : goal.split_pass-pass-requires
+split_pass-pass-requires g c =
+    let a = c.args.taken.asked in
+    let serial = c.args.taken.serial in
     let t = c.requires.taken in
-    let slots : c.number_slots.new.slots ≡ filled (c.args.serial - 1) a.slots = c.number_slots.ensures ∙ ap (λ (n : ℕ). filled n a.slots) c.saturating_sub.ensures in
-    let cookies = c.first_cookies-cookies.ensures t.cookies t.row_is (suit_length (filled (c.args.serial - 1) a.slots) t.cookies t.suits ∙ (ap (λ (l : List Slot). length l) (sym slots) ∙ sym c.len.ensures)) in
-    running_so g.K.Link.shows (g.M.Manager.may c.args.manager.now) (g.M.Manager.tables c.args.manager.now) c.args.hub.now c.args.line c.args.call a (record a { slots = c.number_slots.new.slots }) c.args.row.now c.first_cookies-cookies.result.now c.args.serial t
-    (ap (λ (ss : List Slot). record a { slots = ss }) slots) cookies
+    let slots : c.number_slots.new.slots ≡ filled (serial - 1) a.slots = c.number_slots.ensures ∙ ap (λ (n : ℕ). filled n a.slots) c.saturating_sub.ensures in
+    let cookies = c.first_cookies-cookies.ensures t.cookies t.row_is (suit_length (filled (serial - 1) a.slots) t.cookies t.suits ∙ (ap (λ (l : List Slot). length l) (sym slots) ∙ sym c.len.ensures)) in (
+      param_send 0 _ c.type_bounds.send-K,
+      running_so g.K.Link.shows (g.M.Manager.may c.args.server.manager.now) (g.M.Manager.tables c.args.server.manager.now) c.args.server.hub.now c.args.line c.args.taken.call a (record a { slots = c.number_slots.new.slots }) c.args.taken.row c.first_cookies-cookies.result.now serial t
+          (ap (λ (ss : List Slot). record a { slots = ss }) slots) cookies,
+    )
 
-pub run_beside-requires-clause-row : goal.run_beside-requires-clause-row
-run_beside-requires-clause-row g c = λ κs within.
-    let a = c.args.asked in
+pub run_beside-requires : goal.run_beside-requires
+run_beside-requires g c =
+    let a = c.args.taken.asked in
+    let serial = c.args.taken.serial in
     let t = c.requires.taken in
-    let slots : c.number_slots.new.slots ≡ filled (c.args.serial - 1) a.slots = c.number_slots.ensures ∙ ap (λ (n : ℕ). filled n a.slots) c.saturating_sub.ensures in
-    let cookies = c.first_cookies-cookies.ensures t.cookies t.row_is (suit_length (filled (c.args.serial - 1) a.slots) t.cookies t.suits ∙ (ap (λ (l : List Slot). length l) (sym slots) ∙ sym c.len.ensures)) in
-    row_so g.K.Link.shows (g.M.Manager.may c.args.manager.now) (g.M.Manager.tables c.args.manager.now) c.args.hub.now c.args.line c.args.call a (record a { slots = c.number_slots.new.slots }) c.args.row.now c.first_cookies-cookies.result.now c.args.serial t
-    (ap (λ (ss : List Slot). record a { slots = ss }) slots) cookies
+    let slots : c.number_slots.new.slots ≡ filled (serial - 1) a.slots = c.number_slots.ensures ∙ ap (λ (n : ℕ). filled n a.slots) c.saturating_sub.ensures in
+    let cookies = c.first_cookies-cookies.ensures t.cookies t.row_is (suit_length (filled (serial - 1) a.slots) t.cookies t.suits ∙ (ap (λ (l : List Slot). length l) (sym slots) ∙ sym c.len.ensures)) in
+    let same = ap (λ (ss : List Slot). record a { slots = ss }) slots in
+    let s = c.split_pass-pass.ensures in (
+      c.type_bounds.send-K,
+      (
+        c.type_bounds.sync-R,
+        (
+          c.type_bounds.sync-M,
+          record {
+            running = s.running;
+            row = row_so g.K.Link.shows (g.M.Manager.may c.args.server.manager.now) (g.M.Manager.tables c.args.server.manager.now) c.args.server.hub.now c.args.line c.args.taken.call a (record a { slots = c.number_slots.new.slots }) c.args.taken.row c.first_cookies-cookies.result.now serial t same cookies;
+            ready = record {
+              served = c.requires.served;
+              asks = record { pass = s.pass; none = s.none; known = subst (λ (g : ℕ). Knows (at_shard c.split_pass-pass.result (shard_of g)) g c.args.taken.call) (sym s.group) s.known };
+              given = given_so g.K.Link.shows (g.M.Manager.may c.args.server.manager.now) (g.M.Manager.tables c.args.server.manager.now) c.args.server.hub.now (tables_in c.args.server.served.now) c.args.line c.args.taken.call a (record a { slots = c.number_slots.new.slots }) c.args.taken.row serial
+                  c.args.taken.message c.args.taken.again c.requires.served same t c.requires.message c.requires.again;
+            };
+          },
+        ),
+      ),
+    )
 
-pub run_beside-requires-clause-given : goal.run_beside-requires-clause-given
-run_beside-requires-clause-given g c = λ κs within.
-    let a = c.args.asked in
-    let t = c.requires.taken in
-    let slots : c.number_slots.new.slots ≡ filled (c.args.serial - 1) a.slots = c.number_slots.ensures ∙ ap (λ (n : ℕ). filled n a.slots) c.saturating_sub.ensures in
-    given_so g.K.Link.shows (g.M.Manager.may c.args.manager.now) (g.M.Manager.tables c.args.manager.now) c.args.hub.now (tables_in c.args.served.now) c.args.line c.args.call a (record a { slots = c.number_slots.new.slots }) c.args.row.now c.args.serial
-    c.args.message c.args.again.now c.requires.served (ap (λ (ss : List Slot). record a { slots = ss }) slots) t c.requires.message c.requires.again
+pub finish_departed-requires-clause-departed : goal.finish_departed-requires-clause-departed
+finish_departed-requires-clause-departed g c = λ κs within. (c.split_pass-pass.new.self, c.in-Left.ensures.0)

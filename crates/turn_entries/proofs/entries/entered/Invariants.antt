@@ -1,5 +1,5 @@
 use Rattle.std.proofs.Common.{◌≡◌, reverse, take}
-use Rattle.conn_turns.specs.Entries.{all_entries}
+use Rattle.conn_histories.specs.Entries.{all_entries}
 use Rattle.turn_entries.proofs.entries.entered.Given as goal
 
 abbrev pub invariant-loop-turn : goal.invariant-loop-turn

@@ -1,5 +1,5 @@
 use Rattle.std.proofs.Common.{◌≡◌, reverse, take}
-use Rattle.conn_turns.specs.Events.{all_octets}
+use Rattle.conn_histories.specs.Events.{all_octets}
 use Rattle.turn_entries.proofs.octets.answered.Given as goal
 
 abbrev pub invariant-loop-turn : goal.invariant-loop-turn

@@ -1,5 +1,5 @@
 use Rattle.std.proofs.Common.{refl, sym, subst, ap, ◌∙◌, Bool}
-use Rattle.served_calls.specs.Requests.{ids_of}
+use Rattle.conn_histories.specs.Requests.{ids_of}
 use Rattle.replay_events.specs.Hands.{HasName}
 use Rattle.replay_events.proofs.Picking.{not_opened, opens}
 use Rattle.replay_events.proofs.player.Player.open.Goals as goal

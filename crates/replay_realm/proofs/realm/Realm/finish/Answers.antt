@@ -2,8 +2,8 @@ use Rattle.std.proofs.Common.{◌≡◌, ◌≢◌, List, Option, ℕ, refl, sym
 use Rattle.handle_model.specs.declared.entry.Home.{Home}
 use Rattle.handle_model.specs.declared.entry.Said.{Said}
 use Rattle.call_stats.specs.Numbers.{Numbers}
-use Rattle.desk_calls.specs.Rows.{AreIn, MayAnswer}
-use Rattle.served_calls.specs.Ends.{Meets}
+use Rattle.replay_realm.specs.Rows.{AreIn, MayAnswer}
+use Rattle.conn_histories.specs.Ends.{Meets}
 use Rattle.served_tables.specs.Served.{tables_in}
 use Rattle.service_desks.specs.Views.{services}
 use Rattle.replay_realm.specs.Ends.{EndsIn}

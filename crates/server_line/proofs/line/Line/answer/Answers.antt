@@ -1,6 +1,6 @@
 use Rattle.std.proofs.Common.{false, true, Some, None, ap}
 use Rattle.handle_model.specs.declared.entry.Said.TheVariants.{Fault}
-use Rattle.conn_turns.specs.Events.{word_of, has_run}
+use Rattle.conn_histories.specs.Events.{word_of, has_run}
 use Rattle.server_line.proofs.Saying.{says_so}
 use Rattle.server_line.proofs.line.Line.answer.Goals as goal
 

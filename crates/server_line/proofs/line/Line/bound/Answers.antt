@@ -1,6 +1,6 @@
 use Rattle.std.proofs.Common.{refl, sym, ap, ◌∙◌, subst, Ok, Err}
 use Rattle.conn_asks.specs.States.{IsGrouping}
-use Rattle.served_calls.specs.Requests.{ids_of}
+use Rattle.conn_histories.specs.Requests.{ids_of}
 use Rattle.server_line.specs.Endings.{IsStopping}
 use Rattle.server_line.proofs.Saying.{bound_so}
 use Rattle.server_line.proofs.line.Line.bound.Goals as goal

@@ -1,5 +1,5 @@
 use Rattle.std.proofs.Common.{rules, refl, ap}
-use Rattle.served_calls.specs.Requests.{ids_of}
+use Rattle.conn_histories.specs.Requests.{ids_of}
 use Rattle.server_line.proofs.Hearing.{heard_waiting}
 use Rattle.server_line.proofs.line.Line.hear_waiting.Goals as goal
 

@@ -1,5 +1,5 @@
 use Rattle.std.proofs.Common.{sym, subst, refl}
-use Rattle.conn_turns.specs.declared.turn.Deed.TheVariants.{Pending}
+use Rattle.conn_histories.specs.declared.turn.Deed.TheVariants.{Pending}
 use Rattle.server_line.specs.Endings.{IsGone}
 use Rattle.server_line.proofs.LeaveLemmas.{gone_as}
 use Rattle.server_line.proofs.line.Line.leave_running.Goals as goal

@@ -1,5 +1,5 @@
 use Rattle.std.proofs.Common.{rules, refl, ap}
-use Rattle.served_calls.specs.Requests.{ids_of}
+use Rattle.conn_histories.specs.Requests.{ids_of}
 use Rattle.server_line.proofs.Saying.{put_ok, put_not}
 use Rattle.server_line.proofs.line.Line.put.Goals as goal
 

@@ -1,7 +1,7 @@
 use Rattle.std.proofs.Common.{refl, sym, ap, ◌∙◌, subst, Ok, Err}
 use Rattle.std.specs.Option.{option_copied}
 use Rattle.conn_asks.specs.States.{caller_of}
-use Rattle.served_calls.specs.Requests.{ids_of}
+use Rattle.conn_histories.specs.Requests.{ids_of}
 use Rattle.server_line.specs.Endings.{IsStopping}
 use Rattle.server_line.proofs.Saying.{said_so}
 use Rattle.server_line.proofs.line.Line.say.Goals as goal

@@ -1,0 +1,4 @@
+//! Interface texts and what the checker says of them.
+
+mod faults;
+mod tests;

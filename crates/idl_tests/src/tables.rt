@@ -1,0 +1,4 @@
+//! Interface texts and their marshalling tables.
+
+mod tests;
+mod text;

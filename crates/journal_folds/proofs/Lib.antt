@@ -1,9 +1,0 @@
-pub mod Advanced
-pub mod Apart
-pub mod Folded
-pub mod Fronts
-pub mod Going
-pub mod Places
-pub mod Sounds
-pub mod Stood
-pub mod Unmoved

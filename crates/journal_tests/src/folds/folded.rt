@@ -1,0 +1,99 @@
+ghost use Rattle.std.specs.Prelude.{◌≡◌, false, not, reverse};
+ghost use Rattle.std.specs.List.{list_any};
+ghost use Rattle.handle_model.specs.Journal.{Legal, is_shut};
+ghost use Rattle.handle_model.specs.History.{history_of};
+ghost use Rattle.journal_tables.specs.Folding.{BaseBegun};
+
+use crate::folds::read::{base_of, entries_of};
+use base_rules::is_sound_base;
+use handle_model::{Base, Entry, Home};
+use handle_rules::{Verdict, audited};
+use handle_text::journal_text;
+use journal_reader::next_group;
+use journal_tables::{folded_base, tables_after};
+use rpc_base::NoMemory;
+use rpc_words::{put, put_decimal};
+use std::alloc::Global;
+
+fn put_floor(alloc: Global, floor: Option<u128>, into: &mut Vec<u8>) -> Result<(), NoMemory> {
+    match floor {
+        Some(place) => put_decimal(alloc, u64::try_from(place).unwrap_or(u64::MAX), into)?,
+        None => put(b"none", into)?,
+    }
+    put(b"\n", into)
+}
+
+/// Up to where the journal may be folded, and the base of all its entries.
+fn put_folded(
+    alloc: Global,
+    home: Home,
+    base: &Base,
+    entries: &[Entry],
+    into: &mut Vec<u8>,
+) -> Result<(), NoMemory>
+    requires legal { Legal (history_of home base.now entries.now) }
+    requires begun { BaseBegun base.now }
+    requires goes_on { list_any is_shut (reverse entries.now) ≡ false }
+{
+    let tables = tables_after(alloc, home, base, entries)?;
+    put_floor(alloc, tables.floor(), into)?;
+    let folded = folded_base(alloc, home, base, entries)?;
+    journal_text(alloc, home, &folded, &[], into)
+}
+
+fn any_shut(entries: &[Entry]) -> bool
+    ensures { result ≡ list_any is_shut entries.now }
+{
+    entries.iter().any(|entry| entry.is_shut())
+}
+
+#[tactic(auto, using(handle_rules::proofs::Sets::reversed))]
+fn goes_on(entries: &[Entry]) -> bool
+    ensures { result ≡ not (list_any is_shut (reverse entries.now)) }
+{
+    !any_shut(entries)
+}
+
+/// The same where the journal is legal and goes on, else what it lacks.
+fn put_told(
+    alloc: Global,
+    home: Home,
+    base: &Base,
+    entries: &[Entry],
+    into: &mut Vec<u8>,
+) -> Result<(), NoMemory>
+    requires { BaseBegun base.now }
+{
+    if base.count >= 1 << 62 || !is_sound_base(alloc, home, base)? {
+        return put(b"unsound", into);
+    }
+    let Verdict::Legal(_) = audited(alloc, home, base, entries)? else {
+        return put(b"illegal", into);
+    };
+    if !goes_on(entries) {
+        return put(b"ended", into);
+    }
+    put_folded(alloc, home, base, entries, into)
+}
+
+/// What is told of the journal of a text.
+pub fn told(alloc: Global, text: &[u8]) -> Result<Vec<u8>, NoMemory> {
+    let mut told = Vec::new(alloc);
+    let Some((home, after)) = next_group(alloc, text)? else {
+        return Ok(told);
+    };
+    let (read, after) = base_of(alloc, after)?;
+    let entries = entries_of(alloc, after)?;
+    match read {
+        Some(base) => {
+            if 0 < base.joins {
+                put_told(alloc, home, &base, entries.as_slice(), &mut told)?;
+            }
+        }
+        None => {
+            let base = Base::empty(alloc);
+            put_told(alloc, home, &base, entries.as_slice(), &mut told)?;
+        }
+    }
+    Ok(told)
+}

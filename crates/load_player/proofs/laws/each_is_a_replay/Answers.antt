@@ -1,5 +1,0 @@
-use Rattle.std.proofs.Common.{None}
-use Rattle.load_player.proofs.laws.each_is_a_replay.Goals as goal
-
-pub returns : goal.returns
-returns c = c.loads_are_replays.ensures None

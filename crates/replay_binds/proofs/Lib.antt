@@ -1,4 +1,0 @@
-pub mod Asking
-pub mod Joining
-pub mod Newest
-pub mod Worlds

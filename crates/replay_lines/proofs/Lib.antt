@@ -1,5 +1,0 @@
-pub mod Hands
-pub mod Each
-pub mod Prints
-pub mod Sound
-pub mod AtEnd

@@ -1,5 +1,0 @@
-use Rattle.replay_lines.proofs.Each.{opened}
-use Rattle.replay_lines.proofs.lines.open.Goals as goal
-
-pub returns : goal.returns
-returns c = opened c.args.name c.in_ok-opened.opened c.args.player.now c.«open».new.self c.in_ok-opened.ensures

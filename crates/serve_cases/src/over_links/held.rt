@@ -1,0 +1,190 @@
+//! A link and a manager of the tests' own, tied by flags.
+ghost use Rattle.std.specs.Prelude.{◌≡◌, false};
+
+use handle_model::{CookieRow, Due};
+use locked_desks::Locked;
+use manager_api::{Answer, Probe};
+use manager_calls::Manager;
+use ndr_value::Message;
+use probe_desk::ProbeDesk;
+use rpc_base::{Failed, Octets};
+use rpc_outside::{Link, ScriptLink, Taken};
+use std::alloc::Global;
+use std::sync::Wait;
+use std::sync::atomic::{AtomicBool, Ordering};
+use std::thread;
+
+/// How often the manager looks for its flag at most.
+const TRIES: u32 = 20_000_000;
+
+/// What has happened so far.
+#[derive(Drop)]
+pub struct Flags {
+    /// A call waits for the link's end.
+    pub begun: AtomicBool,
+    /// The link was closed.
+    pub gone: AtomicBool,
+}
+
+impl Flags {
+    pub fn new(begun: bool) -> Flags {
+        Flags {
+            begun: AtomicBool::new(begun),
+            gone: AtomicBool::new(false),
+        }
+    }
+}
+
+/// Where calls run.
+#[derive(Clone, Copy, PartialEq, Eq)]
+pub enum Place {
+    /// In their connection's thread.
+    Here,
+    /// In threads of their own.
+    Beside,
+    /// The same, where those of an operation wait for a link's end.
+    Held(u16),
+}
+
+/// A link in memory over which nothing comes before a call waits for its end.
+#[derive(Drop)]
+pub struct HeldLink<'a> {
+    link: ScriptLink,
+    flags: &'a Flags,
+    faults: u64,
+    quiets: u64,
+    ends: u64,
+    closed: bool,
+    ghost same: { link.closed ≡ closed },
+}
+
+impl<'a> HeldLink<'a> {
+    /// A new link.
+    pub fn new(link: ScriptLink, flags: &'a Flags) -> HeldLink<'a>
+        requires { link.closed ≡ false }
+        ensures { result.closed ≡ false }
+    {
+        HeldLink {
+            link,
+            flags,
+            faults: 0,
+            quiets: 0,
+            ends: 0,
+            closed: false,
+        }
+    }
+
+    /// The octets that were put on it.
+    pub fn written(&self) -> &Octets {
+        self.link.written()
+    }
+}
+
+impl<'a> Link for HeldLink<'a> {
+    ghost use Rattle.std.specs.Prelude.{None};
+
+    ghost shows = { λ l. record { faults = l.faults; quiets = l.quiets; ends = l.ends; taken = None; left = None; put = None; put_at_end = None; closed = l.closed } };
+
+    fn take(&mut self, into: &mut [u8]) -> Result<Taken, Failed> {
+        if !self.flags.begun.load(Ordering::SeqCst) {
+            self.quiets = self.quiets.saturating_add(1);
+            return Ok(Taken::Quiet);
+        }
+        match self.link.take(into) {
+            Ok(Taken::Bytes(count)) => Ok(Taken::Bytes(count)),
+            Ok(Taken::Quiet) => {
+                self.quiets = self.quiets.saturating_add(1);
+                Ok(Taken::Quiet)
+            }
+            Ok(Taken::End) => {
+                self.ends = self.ends.saturating_add(1);
+                Ok(Taken::End)
+            }
+            Err(failed) => {
+                self.faults = self.faults.saturating_add(1);
+                Err(failed)
+            }
+        }
+    }
+
+    fn put(&mut self, piece: &[u8]) -> Result<usize, Failed> {
+        let put = self.link.put(piece);
+        if put.is_err() {
+            self.faults = self.faults.saturating_add(1);
+        }
+        put
+    }
+
+    fn close(&mut self) {
+        self.link.close();
+        self.closed = true;
+        self.flags.gone.store(true, Ordering::SeqCst);
+    }
+}
+
+/// A manager of the probe's interface.
+#[derive(Drop)]
+pub struct Held<'a> {
+    desk: Locked<ProbeDesk>,
+    place: Place,
+    flags: &'a Flags,
+}
+
+impl<'a> Held<'a> {
+    /// A new one.
+    pub fn new(alloc: Global, place: Place, flags: &'a Flags) -> Held<'a> {
+        Held {
+            desk: Locked::new(ProbeDesk::new(alloc)),
+            place,
+            flags,
+        }
+    }
+
+    /// How many handles its calls left open.
+    pub fn into_handles(self) -> usize {
+        let Held { desk, .. } = self;
+        desk.into_inner().open_handles()
+    }
+
+    fn wait(&self) {
+        self.flags.begun.store(true, Ordering::SeqCst);
+        for _ in 0..TRIES {
+            if self.flags.gone.load(Ordering::SeqCst) {
+                return;
+            }
+            thread::yield_now();
+        }
+    }
+}
+
+impl<'a> Manager for Held<'a> {
+    ghost use Rattle.std.specs.Prelude.{[], ◌∷◌, ⊤};
+    ghost use Rattle.probe_desk.specs.Table.{probe_table};
+
+    ghost tables = { λ m. probe_table ∷ [] };
+
+    ghost may = { λ m call told answer. ⊤ };
+
+    fn call<R: Wait, P: Probe>(
+        &self,
+        rt: &R,
+        iface: u16,
+        op: u16,
+        message: Message,
+        cookies: CookieRow,
+        probe: &mut P,
+    ) -> Answer {
+        if self.place == Place::Held(op) {
+            self.wait();
+        }
+        self.desk.call(rt, iface, op, message, cookies, probe)
+    }
+
+    fn is_brief(&self, _iface: u16, _op: u16, _stub: usize) -> bool {
+        self.place == Place::Here
+    }
+
+    fn rundown<R: Wait>(&self, rt: &R, due: Due) {
+        self.desk.run_down(rt, due);
+    }
+}

@@ -1,0 +1,87 @@
+-- What the services consist of may cross threads, stage by stage: one search through all of it would be too long.
+use denote.Param.Send.{IsSend, IsSync, sendable}
+use Rattle.std.proofs.Crossing.{crosses}
+use Rattle.std.proofs.MapsCrossing.{crosses as maps}
+use Rattle.rpc_base.proofs.items.Items.TheSendSync.{the_send as items_send, the_sync as items_sync}
+use Rattle.ndr_value.proofs.shape.Shape.TheLaws.TheKnot.{crosses as shapes}
+use Rattle.table_form.specs.contracts.operation.Param as Param
+use Rattle.table_form.specs.contracts.operation.Op as Op
+use Rattle.table_form.specs.contracts.table.Table as Table
+use Rattle.served_tables.specs.contracts.served.Served as Served
+use Rattle.probe_desk.specs.contracts.desk.ProbeDesk as Probe
+use Rattle.store_desk.specs.contracts.desk.StoreDesk as Store
+use Rattle.epm_desk.specs.contracts.desk.EpmDesk as Map
+use Rattle.call_stats.specs.contracts.tally.Tally as Tally
+use Rattle.locked_desks.specs.contracts.shared.SharedDesks as Desks
+use Rattle.server_rounds.specs.contracts.desk_service.DeskService as Service
+
+-- ---- tables
+
+param_send : IsSend (Param.the_field).row
+param_send = search (crosses, shapes, items_send, sendable) depth 40
+
+param_sync : IsSync (Param.the_field).row
+param_sync = search (crosses, shapes, items_sync, sendable) depth 40
+
+op_send : IsSend (Op.the_field).row
+op_send = let a = param_send in search (crosses, shapes, items_send, sendable) depth 40 fits 20000
+
+op_sync : IsSync (Op.the_field).row
+op_sync = let a = param_sync in search (crosses, shapes, items_sync, sendable) depth 40 fits 20000
+
+pub table_send : IsSend (Table.the_field).row
+table_send = let a = op_send in search (crosses, shapes, items_send, sendable) depth 40 fits 20000
+
+pub table_sync : IsSync (Table.the_field).row
+table_sync = let a = op_sync in search (crosses, shapes, items_sync, sendable) depth 40 fits 20000
+
+pub served_send : IsSend (Served.the_field).row
+served_send = let a = table_send in search (crosses, sendable) depth 40
+
+pub served_sync : IsSync (Served.the_field).row
+served_sync = let a = table_sync in search (crosses, sendable) depth 40
+
+-- ---- desks
+
+probe_send : IsSend (Probe.the_field).row
+probe_send = search sendable depth 40
+
+store_send : IsSend (Store.the_field).row
+store_send = search (crosses, maps, items_send, sendable) depth 40
+
+map_send : IsSend (Map.the_field).row
+map_send = search (crosses, items_send, sendable) depth 40
+
+tally_send : IsSend (Tally.the_field).row
+tally_send = search sendable depth 40
+
+tally_sync : IsSync (Tally.the_field).row
+tally_sync = search (crosses, sendable) depth 40
+
+pub desks_send : IsSend (Desks.the_field).row
+desks_send =
+    let a = table_send in
+    let b = store_send in
+    let c = map_send in
+    let d = tally_send in
+    let e = tally_sync in
+    let f = probe_send in
+    search (crosses, items_send, sendable) depth 40
+
+pub desks_sync : IsSync (Desks.the_field).row
+desks_sync =
+    let a = table_sync in
+    let b = store_send in
+    let c = map_send in
+    let d = tally_send in
+    let e = tally_sync in
+    let f = probe_send in
+    search (crosses, items_sync, sendable) depth 40
+
+-- ---- the service
+
+pub service_send : IsSend (Service.the_field).row
+service_send = let a = desks_send in let b = served_send in search (crosses, sendable) depth 40
+
+pub service_sync : IsSync (Service.the_field).row
+service_sync = let a = desks_sync in let b = served_sync in search (crosses, sendable) depth 40

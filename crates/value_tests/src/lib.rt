@@ -1,5 +1,0 @@
-//! Tests of shapes and values.
-#![tactic(auto)]
-
-#[cfg(test)]
-mod values;
