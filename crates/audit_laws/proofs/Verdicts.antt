@@ -12,7 +12,7 @@ use Rattle.handle_model.specs.Journal.{Legal, Allowed, due}
 use Rattle.handle_rules.specs.declared.audit.Verdict.{Verdict}
 use Rattle.handle_rules.specs.declared.audit.Verdict.TheVariants as verdicts
 use Rattle.handle_rules.specs.Verdicts.{Tells, BreachAt, IsBreach}
-use Rattle.journal_laws.proofs.Older.{older_since}
+use Rattle.handle_model.proofs.Older.{older_since}
 
 -- each entry of a legal journal was allowed after those before it
 allowed_there : (home : Home) (base : Base) (front : List Entry) (e : Entry) (more : List Entry) → Legal (history_of home base (front ++ e ∷ more)) → Allowed (history_of home base front) e

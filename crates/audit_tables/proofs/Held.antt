@@ -7,7 +7,7 @@ use Rattle.std.proofs.lemmas.Bool.Decides.{nat_tests}
 use Rattle.std.proofs.lemmas.List.{length-append}
 use Rattle.rpc_base.specs.declared.identifiers.WireHandle.{WireHandle}
 use Rattle.handle_model.specs.Slots.{wire_of, same_wire}
-use Rattle.journal_laws.proofs.Apart.{same_wire_from}
+use Rattle.handle_model.proofs.Apart.{same_wire_from}
 use Rattle.handle_table.proofs.Wires.{wire_is, known, not_known}
 use Rattle.handle_model.specs.declared.entry.Home.{Home}
 use Rattle.handle_model.specs.declared.entry.Slot.{Slot}

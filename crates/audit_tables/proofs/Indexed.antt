@@ -12,7 +12,7 @@ use Rattle.handle_model.specs.declared.entry.Slot.{Slot}
 use Rattle.handle_model.specs.Slots.{named, is_null, same_wire, same_handle, is_exclusive, clash}
 use Rattle.handle_model.specs.Journal.{any_clash}
 use Rattle.handle_table.proofs.Wires.{wire_is}
-use Rattle.journal_laws.proofs.Apart.{same_wire_from}
+use Rattle.handle_model.proofs.Apart.{same_wire_from}
 use Rattle.call_table.specs.declared.row.Row.{Row}
 use Rattle.call_table.specs.Kept.{Rises}
 use Rattle.call_table.specs.Rows.{is_left, is_below, row_at, over, blocks_running, blocks_waiting, blocker_of}

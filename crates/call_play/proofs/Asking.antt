@@ -5,9 +5,9 @@ use Rattle.std.proofs.lemmas.Bool.{cases_lt}
 use Rattle.rpc_base.specs.declared.identifiers.WireHandle.{WireHandle}
 use Rattle.ndr_value.specs.Forms.{Form}
 use Rattle.ndr_value.specs.Values.{Msg}
-use Rattle.table_form.specs.declared.operation.Op.{Op}
-use Rattle.table_form.specs.declared.operation.Param.{Param}
-use Rattle.table_form.specs.Tables.{OpForm, TableForm, op_form, param_form}
+use Rattle.ndr_value.specs.declared.operation.Op.{Op}
+use Rattle.ndr_value.specs.declared.operation.Param.{Param}
+use Rattle.ndr_value.specs.Tables.{OpForm, TableForm, op_form, param_form}
 use Rattle.call_texts.specs.Texts.{IsRequestText, inwards}
 use Rattle.call_play.specs.Steps.{HasOp, IsRequestOf, IsNoMessage}
 use Rattle.call_play.specs.Steps.IsNoMessage.{no_request}

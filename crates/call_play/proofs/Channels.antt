@@ -4,7 +4,7 @@ use Rattle.std.proofs.lemmas.Bool.{false≢true}
 use Rattle.std.specs.Io.KnownBytes.{prepend_known}
 use Rattle.rpc_base.specs.Causes.{Rose}
 use Rattle.rpc_outside.specs.Links.{Shown, IsNew, Closes, Counts}
-use Rattle.table_form.specs.Tables.{TableForm}
+use Rattle.ndr_value.specs.Tables.{TableForm}
 use Rattle.client_asks.specs.declared.told.Told.{Told}
 use Rattle.client_asks.specs.declared.told.Told.TheVariants as tolds
 use Rattle.client_asks.specs.declared.told.ClientFault.{ClientFault}

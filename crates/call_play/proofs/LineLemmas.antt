@@ -11,7 +11,7 @@ use Rattle.rpc_outside.specs.Links.{Shown}
 use Rattle.rpc_outside.specs.Dials.{DialShown, Opens}
 use Rattle.ndr_value.specs.declared.value.Message.{Message}
 use Rattle.ndr_value.specs.Values.{msg}
-use Rattle.table_form.specs.Tables.{TableForm}
+use Rattle.ndr_value.specs.Tables.{TableForm}
 use Rattle.client_asks.specs.declared.told.Told.{Told}
 use Rattle.client_asks.specs.Calls.{IsMessage}
 use Rattle.client_asks.specs.States.{ClientState, told, is_bound, is_calling}

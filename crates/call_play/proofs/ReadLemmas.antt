@@ -7,7 +7,7 @@ use Rattle.rpc_base.specs.Causes.{Rose}
 use Rattle.rpc_outside.specs.declared.address.Address.{Address}
 use Rattle.rpc_outside.specs.Links.{Shown}
 use Rattle.rpc_outside.specs.Dials.{DialShown}
-use Rattle.table_form.specs.Tables.{TableForm}
+use Rattle.ndr_value.specs.Tables.{TableForm}
 use Rattle.call_script.specs.declared.line.CallLine.{CallLine}
 use Rattle.call_script.specs.Lines.{line_body, line_text, IsLine, BeginsWith, BeginsWithNoLine}
 use Rattle.call_play.specs.declared.calling.CallEnd.TheVariants as ends

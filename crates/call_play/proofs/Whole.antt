@@ -10,7 +10,7 @@ use Rattle.rpc_outside.specs.declared.address.Address.{Address}
 use Rattle.rpc_outside.specs.Links.{Shown}
 use Rattle.rpc_outside.specs.Dials.{DialShown, DialBacks}
 use Rattle.rpc_outside.specs.Doors.{HasOut}
-use Rattle.table_form.specs.Tables.{TableForm}
+use Rattle.ndr_value.specs.Tables.{TableForm}
 use Rattle.call_play.specs.declared.channel.Channel.{Channel}
 use Rattle.call_play.specs.declared.calling.CallEnd.{CallEnd}
 use Rattle.call_play.specs.declared.calling.CallEnd.TheVariants as ends

@@ -1,7 +1,7 @@
 -- What comes of one thing that is done on a connection.
 use Rattle.std.specs.Prelude.{◌≡◌, ◌≢◌, ℕ, true, false, Result, Ok, Err, List, ⊤, ◌⊎◌}
 use Rattle.rpc_outside.specs.Links.{Shown}
-use Rattle.table_form.specs.Tables.{TableForm}
+use Rattle.ndr_value.specs.Tables.{TableForm}
 use Rattle.client_asks.specs.declared.told.Told.{Told}
 use Rattle.client_asks.specs.States.{Outcome, ClientState, told}
 use Rattle.client_asks.specs.States.Outcome.{TBroken}

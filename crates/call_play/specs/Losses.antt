@@ -6,7 +6,7 @@ use Rattle.pdu_codec.specs.declared.pdu.Pdu.{Pdu}
 use Rattle.pdu_codec.specs.declared.fault.PduFault.{PduFault}
 use Rattle.pdu_stream.specs.Cuts.{IsPartial, IsStop}
 use Rattle.ndr_value.specs.Values.{Msg}
-use Rattle.table_form.specs.Tables.{TableForm}
+use Rattle.ndr_value.specs.Tables.{TableForm}
 use Rattle.client_asks.specs.declared.told.ClientFault.{ClientFault}
 use Rattle.client_asks.specs.States.{ClientState, at_start, is_calling}
 use Rattle.client_asks.specs.States.Outcome.{TBroken}

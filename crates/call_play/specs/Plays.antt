@@ -7,7 +7,7 @@ use Rattle.rpc_base.specs.Causes.{Rose}
 use Rattle.rpc_outside.specs.declared.address.Address.{Address}
 use Rattle.rpc_outside.specs.Links.{Shown, IsNew}
 use Rattle.rpc_outside.specs.Dials.{DialShown, DialSame, Opens}
-use Rattle.table_form.specs.Tables.{TableForm}
+use Rattle.ndr_value.specs.Tables.{TableForm}
 use Rattle.client_asks.specs.States.{is_bound}
 use Rattle.client_core.specs.State.{state}
 use Rattle.client_link.specs.Wires.{IsOpen}

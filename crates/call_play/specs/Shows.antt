@@ -4,7 +4,7 @@ use Rattle.std.specs.List.{AllZip}
 use Rattle.std.specs.Ordering.{nat_cmp}
 use Rattle.std.specs.BTreeMap.{BTreeMap, get}
 use Rattle.rpc_outside.specs.Links.{Shown, IsNew}
-use Rattle.table_form.specs.Tables.{TableForm}
+use Rattle.ndr_value.specs.Tables.{TableForm}
 use Rattle.client_asks.specs.States.{is_bound}
 use Rattle.client_core.specs.State.{state}
 use Rattle.client_link.specs.Wires.{Spoken, Lived}

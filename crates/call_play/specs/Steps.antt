@@ -3,7 +3,7 @@ use Rattle.std.specs.Prelude.{◌≡◌, ℕ, ◌++◌, ◌||◌, Bool, true, fa
 use Rattle.rpc_base.specs.declared.identifiers.WireHandle.{WireHandle}
 use Rattle.pdu_codec.specs.declared.pdu.Pdu.{Pdu}
 use Rattle.ndr_value.specs.Values.{Msg}
-use Rattle.table_form.specs.Tables.{OpForm, TableForm}
+use Rattle.ndr_value.specs.Tables.{OpForm, TableForm}
 use Rattle.client_asks.specs.Calls.{IsMessage}
 use Rattle.client_asks.specs.States.{Outcome, ClientState, at_start, is_calling}
 use Rattle.client_asks.specs.States.Outcome.{TBound, TNotBound, TDone, TFault}

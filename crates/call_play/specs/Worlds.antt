@@ -1,7 +1,7 @@
 -- What a call script has led to at a moment.
 use Rattle.std.specs.Prelude.{◌≡◌, ℕ, ◌++◌, Bool, true, false, Option, Some, None, List, [], ◌∷◌, slice_get}
 use Rattle.rpc_base.specs.declared.identifiers.WireHandle.{WireHandle}
-use Rattle.table_form.specs.Tables.{TableForm}
+use Rattle.ndr_value.specs.Tables.{TableForm}
 use Rattle.client_asks.specs.States.{ClientState, at_start, is_bound}
 use Rattle.client_asks.specs.Histories.{ClientEvent}
 

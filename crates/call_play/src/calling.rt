@@ -1,16 +1,16 @@
 //! A call script is played over the links of a dial.
 ghost use Rattle.std.specs.Prelude.{◌≡◌, ◌++◌, map};
-ghost use Rattle.table_form.specs.Shown.{shown};
+ghost use Rattle.ndr_value.specs.Shown.{shown};
 ghost use Rattle.call_play.specs.Scripts.{Ends};
 ghost use Rattle.call_play.specs.Plays.{HasOuts, Returns, link_of};
 
 use crate::channel::Channel;
 use crate::player::Player;
 use crate::reading::play_all;
+use ndr_value::Table;
 use rpc_base::Octets;
 use rpc_outside::{Address, Dial};
 use std::alloc::Global;
-use table_form::Table;
 
 /// How a call script ended.
 #[derive(Clone, Copy, Debug, PartialEq, Eq)]

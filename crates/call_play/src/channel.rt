@@ -2,7 +2,7 @@
 ghost use Rattle.std.specs.Prelude.{◌≡◌, ◌≢◌, ◌==◌, ◌&&◌, true, false, IfErr};
 ghost use Rattle.rpc_outside.specs.Links.{IsNew};
 ghost use Rattle.ndr_value.specs.Values.{msg};
-ghost use Rattle.table_form.specs.Shown.{shown};
+ghost use Rattle.ndr_value.specs.Shown.{shown};
 ghost use Rattle.client_asks.specs.Calls.{IsMessage};
 ghost use Rattle.client_asks.specs.States.{is_bound, is_calling};
 ghost use Rattle.client_asks.specs.States as states;
@@ -15,10 +15,9 @@ ghost use Rattle.call_play.specs.Steps as spec;
 ghost use Rattle.call_play.specs.Channels.{BeginsOn, HearsOn, BindsOn, FromEach, Halts, Silences, IsWaited, IsTellable};
 
 use client_link::{BeginFault, Stop as Deaf, Told, Wire};
-use ndr_value::Message;
+use ndr_value::{Message, Table};
 use rpc_outside::Link;
 use std::alloc::Global;
-use table_form::Table;
 
 /// Why something on a connection comes to nothing.
 #[derive(Clone, Copy, Debug, PartialEq, Eq)]

@@ -1,7 +1,7 @@
 //! The lines of a script, each played over the links of a dial.
 ghost use Rattle.std.specs.Prelude.{◌≡◌, ◌≢◌, ◌<◌, true, false, length, Ok, Some, MatchOption};
 ghost use Rattle.ndr_value.specs.Values.{msg};
-ghost use Rattle.table_form.specs.Shown.{shown};
+ghost use Rattle.ndr_value.specs.Shown.{shown};
 ghost use Rattle.client_asks.specs.Calls.{IsMessage};
 ghost use Rattle.client_asks.specs.Histories.ClientEvent.{DidCall, DidCancel};
 ghost use Rattle.client_asks.specs.States.{is_bound, is_calling};
@@ -17,10 +17,9 @@ use crate::channel::{Channel, Halt};
 use crate::player::{Player, Stop};
 use call_script::CallLine;
 use client_link::Told;
-use ndr_value::Message;
+use ndr_value::{Message, Table};
 use rpc_base::OutFault;
 use rpc_outside::{Address, Dial, Link};
-use table_form::Table;
 
 /// A link of the dial to the address.
 fn dialled<Q: Dial>(dial: &mut Q, at: Address) -> Result<Q::Link, Stop>

@@ -1,6 +1,6 @@
 //! What a script has led to.
 ghost use Rattle.std.specs.Prelude.{◌≡◌, ◌<◌, ◌++◌, ◌||◌, ℕ, List, [], false, length, slice_get, option_copied, MatchBool, MatchOption, IfOk, OnOk};
-ghost use Rattle.table_form.specs.Shown.{shown};
+ghost use Rattle.ndr_value.specs.Shown.{shown};
 ghost use Rattle.ndr_value.specs.Values.{msg};
 ghost use Rattle.client_asks.specs.Calls.{IsMessage};
 ghost use Rattle.client_asks.specs.States as states;
@@ -18,13 +18,12 @@ use call_answers::{put_answer, put_lost};
 use call_texts::{Handles, read_row};
 use client_core::Client;
 use client_link::Told;
-use ndr_value::Message;
+use ndr_value::{Message, Table};
 use rpc_base::NoMemory;
 use rpc_outside::Link;
 use rpc_words::put;
 use std::alloc::Global;
 use std::collections::BTreeMap;
-use table_form::Table;
 
 /// Why a script doesn't go on.
 #[derive(Clone, Copy, Debug, PartialEq, Eq)]

@@ -1,6 +1,6 @@
 //! The lines of a text, one after the other.
 ghost use Rattle.std.specs.Prelude.{◌≡◌, Some, None, Ok, Err, IfOk, IfErr, MatchOption};
-ghost use Rattle.table_form.specs.Shown.{shown};
+ghost use Rattle.ndr_value.specs.Shown.{shown};
 ghost use Rattle.call_play.specs.Worlds.{nothing_yet};
 ghost use Rattle.call_play.specs.Shows.{HasWorld};
 ghost use Rattle.call_play.specs.Plays.{Runs, PlaysNext, AllEnds, stopped_as};
@@ -9,8 +9,8 @@ use crate::calling::CallEnd;
 use crate::lines::play_line;
 use crate::player::{Player, Stop};
 use call_script::next_line;
+use ndr_value::Table;
 use rpc_outside::{Address, Dial};
-use table_form::Table;
 
 /// Plays the first line of a text, and gives what follows it. None where no line begins the text, or it may not come.
 fn play_next<'a, Q: Dial>(

@@ -6,7 +6,7 @@ use Rattle.ndr_value.specs.declared.value.Value.{Value}
 use Rattle.ndr_value.specs.Forms.{Form, Forms, no_form, then_form}
 use Rattle.ndr_value.specs.Values.{Val, Vals, no_val, then_val, val, vals}
 use Rattle.ndr_value.specs.Typed.{Typed, EachTyped, no_more, one_more}
-use Rattle.table_form.specs.Tables.{ParamForm}
+use Rattle.ndr_value.specs.Tables.{ParamForm}
 use Rattle.value_text.specs.Rows.{item_text, rest_text, join}
 use Rattle.value_text.specs.Texts.{value_text, list_text, more_text, Sized, AllSized}
 use Rattle.value_text.specs.Stands.{Stands}

@@ -5,7 +5,7 @@ use Rattle.rpc_words.specs.Reads.{HasNo}
 use Rattle.ndr_value.specs.Forms.{Form, Forms, no_form, then_form}
 use Rattle.ndr_value.specs.Values.{Msg, Vals}
 use Rattle.ndr_value.specs.Typed.{EachTyped}
-use Rattle.table_form.specs.Tables.{ParamForm}
+use Rattle.ndr_value.specs.Tables.{ParamForm}
 use Rattle.value_text.specs.Marks.{heads_digit}
 use Rattle.value_text.specs.Texts.{list_text, AllSized}
 use Rattle.call_texts.specs.Handles.{name, has_name}

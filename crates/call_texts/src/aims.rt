@@ -4,14 +4,13 @@ ghost use Rattle.ndr_value.specs.Forms.{form, forms, arms_of, body, OfUnion};
 ghost use Rattle.ndr_value.specs.Values.{val, vals};
 ghost use Rattle.ndr_value.specs.Fits.{arm_of};
 ghost use Rattle.ndr_value.specs.Judged as judged;
-ghost use Rattle.table_form.specs.Tables.{param_form};
+ghost use Rattle.ndr_value.specs.Tables.{param_form};
 ghost use Rattle.call_texts.specs.Texts.{inwards};
 ghost use Rattle.call_texts.specs.Heaps as spec;
 ghost use Rattle.call_texts.specs.Pointers.{aim_of};
 
-use ndr_value::{Arm, Shape, Value, selected_arm, tag_fits};
+use ndr_value::{Arm, Param, Shape, Value, selected_arm, tag_fits};
 use rpc_base::NoMemory;
-use table_form::Param;
 
 /// A full pointer that isn't null: the number of its item, and the shape that it points to.
 #[derive(Clone, Copy)]

@@ -2,7 +2,7 @@
 ghost use Rattle.std.specs.Prelude.{◌≡◌, ◌≢◌, ◌++◌, ◌∷◌, [], List, ℕ, map, codes, true, false, OnOk, IfOk, MatchBool, MatchOption, None, Some};
 ghost use Rattle.ndr_value.specs.Forms.{form, types_of};
 ghost use Rattle.ndr_value.specs.Values.{Vals, val, vals};
-ghost use Rattle.table_form.specs.Tables.{param_form};
+ghost use Rattle.ndr_value.specs.Tables.{param_form};
 ghost use Rattle.call_texts.specs.Texts.{inwards};
 ghost use Rattle.call_texts.specs.Heaps.{Aims, each_aims, aims, first_aim, AreListed, IsHeap};
 ghost use Rattle.call_texts.specs.Pointers.{aim_of, HasFirsts};
@@ -11,11 +11,10 @@ ghost use Rattle.call_texts.specs.Renaming.{is_none};
 use crate::aims::{Aim, add_aims, add_row_aims};
 use crate::items::read_item;
 use crate::names::behind_all;
-use ndr_value::{Shape, Shapes, Value, Values};
+use ndr_value::{Param, Shape, Shapes, Value, Values};
 use rpc_base::NoMemory;
 use std::alloc::Global;
 use std::collections::BTreeMap;
-use table_form::Param;
 
 /// The first full pointer to each item, by its number.
 type Firsts<'a> = BTreeMap<u64, Aim<'a>>;

@@ -2,7 +2,7 @@
 ghost use Rattle.std.specs.Prelude.{◌≡◌, ◌++◌, List, ℕ, map, OnOk, IfOk, MatchOption};
 ghost use Rattle.ndr_value.specs.Forms.{types_of};
 ghost use Rattle.ndr_value.specs.Values.{Vals, Msg, vals, msg};
-ghost use Rattle.table_form.specs.Tables.{param_form};
+ghost use Rattle.ndr_value.specs.Tables.{param_form};
 ghost use Rattle.value_text.specs.Texts.{list_text, more_text};
 ghost use Rattle.call_texts.specs.Texts.{row_text, Writes, IsRow, IsRequestText, inwards};
 
@@ -10,11 +10,10 @@ use crate::handles::Handles;
 use crate::heaps::read_heap;
 use crate::items::read_item;
 use crate::names::{behind, put_named, with_places};
-use ndr_value::{Message, Shapes, Value, Values};
+use ndr_value::{Message, Param, Shapes, Value, Values};
 use rpc_base::NoMemory;
 use rpc_words::put;
 use std::alloc::Global;
-use table_form::Param;
 use value_text::print_value;
 
 /// Adds values with a comma and a space between each two.

@@ -9,7 +9,7 @@ use Rattle.group_hub.specs.Passes.{IsPassOf}
 use Rattle.conn_asks.specs.Answers.{FitsStub}
 use Rattle.ndr_value.specs.declared.value.Message.{Message}
 use Rattle.ndr_value.specs.Values.{msg}
-use Rattle.table_form.specs.Tables.{TableForm}
+use Rattle.ndr_value.specs.Tables.{TableForm}
 use Rattle.manager_api.specs.Answers.{Ans}
 use Rattle.manager_api.specs.Calls.{Call}
 use Rattle.conn_histories.specs.Requests.{HasSlots, IsAsked}

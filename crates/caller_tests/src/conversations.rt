@@ -5,12 +5,11 @@ ghost use Rattle.rpc_outside.specs.ScriptLinks.{shown};
 use call_answers::put_answer;
 use call_texts::{Handles, read_row};
 use client_link::{BeginFault, Stop, Told, Wire};
-use ndr_value::Message;
+use ndr_value::{Message, Table};
 use rpc_base::{Items, NoMemory, Numbers, Octets};
 use rpc_outside::{LinkStep, LinkSteps, ScriptLink};
 use rpc_words::{cut_at, put, put_hex, read_hex, read_u16, read_u32, split_words};
 use std::alloc::Global;
-use table_form::Table;
 use test_rows::Answers;
 
 /// Plays a conversation. Given are the server's steps, and behind `/` what is done, with `~` between two each:

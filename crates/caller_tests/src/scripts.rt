@@ -5,11 +5,11 @@ ghost use Rattle.rpc_outside.specs.LinkLists.{is_new};
 
 use crate::conversations::steps_of;
 use call_play::{CallEnd, call};
+use ndr_value::Table;
 use rpc_base::{Items, NoMemory, Numbers};
 use rpc_outside::{Address, Links, ScriptDial, ScriptLink};
 use rpc_words::{cut_at, put, put_decimal, put_hex};
 use std::alloc::Global;
-use table_form::Table;
 use test_rows::Answers;
 
 /// Plays a script. Given are the steps of two links, with `#` between them, and behind `/` the lines of the script, with `~` for

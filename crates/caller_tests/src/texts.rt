@@ -1,12 +1,11 @@
 //! Rows of the values of requests: each is read, and what comes is written again.
 
 use call_texts::{Handles, put_row, read_row};
-use ndr_value::{Message, Shape, Shapes};
+use ndr_value::{Message, Param, Params, Shape, Shapes};
 use rpc_base::{NoMemory, WireHandle};
 use rpc_words::{put, put_decimal};
 use std::alloc::Global;
 use std::test::*;
-use table_form::{Param, Params};
 use test_rows::{Answers, wrong_row};
 
 /// Given is a row of a handle, a text and a handle, where two handles have come. Answered are the row and the attributes of its

@@ -9,7 +9,7 @@ use Rattle.ndr_model.specs.Fits.{IsOfOp}
 use Rattle.ndr_codec.specs.declared.written.EncodeFault.{EncodeFault}
 use Rattle.ndr_codec.specs.Encoded.{Encodes}
 use Rattle.rpc_base.specs.declared.fault.NoMemory.{NoMemory}
-use Rattle.table_form.specs.Tables.{OpForm, TableForm}
+use Rattle.ndr_value.specs.Tables.{OpForm, TableForm}
 use Rattle.client_asks.specs.declared.begun.Stage.TheVariants.{Binding}
 use Rattle.client_asks.specs.States.{ClientState, Calling, at_start, bind_id, next_id, is_calling}
 use Rattle.client_asks.specs.Octets.{bind_pdu, alter_pdu, co_cancel, IsRequest}

@@ -19,7 +19,7 @@ use Rattle.pdu_stream.specs.declared.joined.JoinFault.TheVariants as joins
 use Rattle.pdu_stream.specs.Fragments.{Fragment, Joining, AddsFragment, has_flag}
 use Rattle.presentation.specs.Offers.{acceptance}
 use Rattle.ndr_value.specs.Values.{Msg}
-use Rattle.table_form.specs.Tables.{OpForm}
+use Rattle.ndr_value.specs.Tables.{OpForm}
 use Rattle.ndr_model.specs.declared.way.Way.TheVariants.{Response}
 use Rattle.ndr_model.specs.Message.{IsStub, read_stub}
 use Rattle.ndr_model.specs.declared.fault.NdrFault.{NdrFault}

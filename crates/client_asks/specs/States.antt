@@ -6,7 +6,7 @@ use Rattle.rpc_base.specs.declared.identifiers.Status.{Status}
 use Rattle.pdu_codec.specs.Constants.{least_fragment}
 use Rattle.pdu_stream.specs.Fragments.{Joining}
 use Rattle.ndr_value.specs.Values.{Msg, msg}
-use Rattle.table_form.specs.Tables.{TableForm}
+use Rattle.ndr_value.specs.Tables.{TableForm}
 use Rattle.client_asks.specs.declared.begun.Stage.{Stage}
 use Rattle.client_asks.specs.declared.begun.Stage.TheVariants.{Unbound, Binding, Bound}
 use Rattle.client_asks.specs.declared.begun.Out.{Out}

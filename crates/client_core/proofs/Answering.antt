@@ -13,7 +13,7 @@ use Rattle.pdu_stream.specs.declared.joined.JoinFault.{JoinFault}
 use Rattle.pdu_stream.specs.Fragments.{Fragment, Joining}
 use Rattle.ndr_value.specs.Values.{msg}
 use Rattle.ndr_value.specs.declared.value.Message.{Message}
-use Rattle.table_form.specs.Tables.{OpForm, TableForm}
+use Rattle.ndr_value.specs.Tables.{OpForm, TableForm}
 use Rattle.ndr_model.specs.declared.way.Way.TheVariants.{Response}
 use Rattle.ndr_model.specs.declared.fault.NdrFault.{NdrFault}
 use Rattle.ndr_model.specs.Fits.{IsOfOp}

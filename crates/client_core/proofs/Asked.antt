@@ -6,8 +6,8 @@ use Rattle.rpc_base.specs.declared.fault.NoMemory.{NoMemory}
 use Rattle.rpc_base.specs.declared.identifiers.Order.TheVariants.{Little}
 use Rattle.pdu_stream.specs.Fragments.{Joining}
 use Rattle.ndr_value.specs.Values.{Msg}
-use Rattle.table_form.specs.Tables.{OpForm, TableForm, IsTable}
-use Rattle.table_form.specs.Nested.{IsShallow}
+use Rattle.ndr_value.specs.Tables.{OpForm, TableForm, IsTable}
+use Rattle.ndr_value.specs.Nested.{IsShallow}
 use Rattle.ndr_model.specs.declared.way.Way.TheVariants.{Request}
 use Rattle.ndr_model.specs.declared.fault.NdrFault.{NdrFault}
 use Rattle.ndr_model.specs.declared.fault.NdrFault.TheVariants.{Memory}

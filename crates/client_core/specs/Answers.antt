@@ -1,7 +1,7 @@
 -- What is told of a call is a message of its operation.
 use Rattle.std.specs.Prelude.{◌≡◌, Option, Some, slice_get, ⊤}
 use Rattle.ndr_value.specs.Values.{Msg}
-use Rattle.table_form.specs.Tables.{OpForm, TableForm}
+use Rattle.ndr_value.specs.Tables.{OpForm, TableForm}
 use Rattle.ndr_model.specs.declared.way.Way.TheVariants.{Response}
 use Rattle.ndr_model.specs.Fits.{IsOfOp}
 use Rattle.client_asks.specs.States.{Outcome, Calling, ClientState}

@@ -7,7 +7,7 @@ use Rattle.pdu_stream.specs.declared.joined.JoinFault.{JoinFault}
 use Rattle.pdu_stream.specs.Fragments.{Fragment, Joining, AddsFragment}
 use Rattle.ndr_value.specs.Values.{Msg, msg}
 use Rattle.ndr_value.specs.declared.value.Message.{Message}
-use Rattle.table_form.specs.Tables.{OpForm, TableForm}
+use Rattle.ndr_value.specs.Tables.{OpForm, TableForm}
 use Rattle.ndr_codec.specs.declared.written.EncodeFault.{EncodeFault}
 use Rattle.ndr_codec.specs.Encoded.{Encodes}
 use Rattle.ndr_model.specs.Faults.{IsFault}

@@ -1,6 +1,6 @@
 -- The state in which a caller's connection is.
 use Rattle.std.specs.Option.{option_map}
-use Rattle.table_form.specs.Shown.{shown}
+use Rattle.ndr_value.specs.Shown.{shown}
 use Rattle.client_asks.specs.States.{ClientState, calling}
 use Rattle.client_core.specs.declared.client.Client.{Client}
 

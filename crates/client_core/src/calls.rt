@@ -2,8 +2,8 @@
 ghost use Rattle.std.specs.Prelude.{◌≡◌, ◌≤◌, ◌<◌, ◌^◌, ◌↔◌, Some, None, Ok, length, slice_get, IfOk, IsTrue};
 ghost use Rattle.rpc_base.specs.declared.identifiers.Order.TheVariants.{Little};
 ghost use Rattle.ndr_value.specs.Values.{Msg, msg};
-ghost use Rattle.table_form.specs.Shown.{shown};
-ghost use Rattle.table_form.specs.Tables.{OpForm};
+ghost use Rattle.ndr_value.specs.Shown.{shown};
+ghost use Rattle.ndr_value.specs.Tables.{OpForm};
 ghost use Rattle.ndr_model.specs.declared.way.Way.TheVariants as ways;
 ghost use Rattle.ndr_model.specs.Message.{IsStub};
 ghost use Rattle.ndr_codec.specs.Encoded.{Encodes};
@@ -17,12 +17,11 @@ ghost use Rattle.client_core.specs.Parts.{HasOp, Finds, CallsEach};
 use crate::Client;
 use client_asks::{CallOut, Request};
 use ndr_codec::{EncodeFault, NdrFault, Way, decode, encode, fits};
-use ndr_value::Message;
+use ndr_value::{Message, Table};
 use ndr_written::written_is_stub;
 use pdu_stream::Joiner;
 use rpc_base::{NoMemory, Octets, Order};
 use std::alloc::Global;
-use table_form::Table;
 
 /// The canonical octets of a message of the operation are a stub of it.
 fn stands(table: &Table, op: u16, message: &Message, stub: &[u8])

@@ -1,16 +1,15 @@
 //! A caller's connection.
 ghost use Rattle.std.specs.Prelude.{◌≤◌, ◌<◌, length, IfSome};
-ghost use Rattle.table_form.specs.Shown.{shown};
+ghost use Rattle.ndr_value.specs.Shown.{shown};
 ghost use Rattle.std.proofs.Props.{props};
 ghost use Rattle.pdu_codec.specs.Constants.{least_fragment, most_fragment};
 
 use client_asks::{BIND_ID, CallOut, Out, Stage};
 use ndr_codec::EncodeFault;
-use ndr_value::Message;
+use ndr_value::{Message, Table};
 use pdu_codec::LEAST_FRAGMENT;
 use rpc_base::{NoMemory, Octets};
 use std::alloc::Global;
-use table_form::Table;
 
 /// One connection of a caller, for one interface (C706, "Connection-oriented RPC protocol machines"), as far
 /// as it depends on what the caller begins and on the PDUs that come: its octets are sent, and received, by

@@ -2,8 +2,8 @@
 ghost use Rattle.std.specs.Prelude.{◌≡◌, ◌<◌, true, is_some, length, IfOk};
 ghost use Rattle.std.specs.Option.{option_map};
 ghost use Rattle.ndr_value.specs.Values.{msg};
-ghost use Rattle.table_form.specs.Shown.{shown};
-ghost use Rattle.table_form.specs.Tables.{TableForm};
+ghost use Rattle.ndr_value.specs.Shown.{shown};
+ghost use Rattle.ndr_value.specs.Tables.{TableForm};
 ghost use Rattle.client_asks.specs.States.{calling};
 ghost use Rattle.client_asks.specs.Hears.{fragment_of};
 ghost use Rattle.client_core.specs.Parts.{HasOp, JoinsOut, ReadsStub};
@@ -11,12 +11,11 @@ ghost use Rattle.client_core.specs.Answers.{IsOfCall};
 
 use client_asks::CallOut;
 use ndr_codec::{NdrFault, Way, decode};
-use ndr_value::Message;
+use ndr_value::{Message, Table};
 use pdu_codec::{RequestBody, ResponseBody};
 use pdu_stream::{JoinFault, Joined};
 use rpc_base::Order;
 use std::alloc::Global;
-use table_form::Table;
 
 /// Joins a fragment of the response to the call that is out.
 pub(crate) fn join_to(

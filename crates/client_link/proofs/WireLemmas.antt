@@ -8,7 +8,7 @@ use Rattle.rpc_outside.proofs.LinkLemmas.{counts_then}
 use Rattle.pdu_codec.specs.declared.pdu.Pdu.{Pdu}
 use Rattle.pdu_stream.specs.Cuts.{Fed, HasGiven, IsPartial, GivesNext}
 use Rattle.pdu_stream.proofs.Given.{goes_on, push_goes_on}
-use Rattle.table_form.specs.Tables.{TableForm}
+use Rattle.ndr_value.specs.Tables.{TableForm}
 use Rattle.client_asks.specs.declared.told.Told.{Told}
 use Rattle.client_asks.specs.States.{Outcome, ClientState, at_start, told}
 use Rattle.client_asks.specs.Hears.{HearsBody}

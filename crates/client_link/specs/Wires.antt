@@ -7,7 +7,7 @@ use Rattle.pdu_codec.specs.declared.pdu.Pdu.{Pdu}
 use Rattle.pdu_codec.specs.declared.fault.PduFault.{PduFault}
 use Rattle.pdu_stream.specs.Cuts.{Fed, HasGiven, IsPartial, IsStop}
 use Rattle.ndr_value.specs.Values.{Msg}
-use Rattle.table_form.specs.Tables.{OpForm, TableForm}
+use Rattle.ndr_value.specs.Tables.{OpForm, TableForm}
 use Rattle.client_asks.specs.Calls.{asking}
 use Rattle.client_asks.specs.declared.told.Told.{Told}
 use Rattle.client_asks.specs.States.{Outcome, ClientState, at_start, told}

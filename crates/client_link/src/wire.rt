@@ -1,7 +1,7 @@
 //! A connection on its link, and what it begins.
 ghost use Rattle.std.specs.Prelude.{◌≡◌, ◌≢◌, ◌<◌, ◌^◌, ℕ, List, [], ⊤, Ok, Err, false, true, length, slice_get, IfErr};
-ghost use Rattle.table_form.specs.Shown.{shown};
-ghost use Rattle.table_form.specs.Tables.{OpForm, TableForm};
+ghost use Rattle.ndr_value.specs.Shown.{shown};
+ghost use Rattle.ndr_value.specs.Tables.{OpForm, TableForm};
 ghost use Rattle.ndr_value.specs.Values.{msg};
 ghost use Rattle.client_asks.specs.Calls.{IsMessage, asking};
 ghost use Rattle.client_asks.specs.States.{ClientState, at_start, is_bound, is_calling};
@@ -12,13 +12,12 @@ ghost use Rattle.client_link.specs.Wires.{IsOpen, Stays, Lived, Begins, IsTooLon
 
 use client_core::Client;
 use ndr_codec::EncodeFault;
-use ndr_value::Message;
+use ndr_value::{Message, Table};
 use pdu_stream::Feed;
 use rpc_base::{Failed, NoMemory};
 use rpc_outside::{Link, put_all};
 use std::alloc::Global;
 use std::snapshot::Snapshot;
-use table_form::Table;
 
 /// Why something isn't begun.
 #[derive(Clone, Copy, Debug, PartialEq, Eq)]

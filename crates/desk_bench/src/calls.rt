@@ -1,7 +1,7 @@
 //! Calls on the store from their stubs.
 ghost use Rattle.std.specs.Prelude.{◌≡◌, ◌<◌, IfOk, length};
 ghost use Rattle.ndr_value.specs.Values.{msg};
-ghost use Rattle.table_form.specs.Shown.{shown};
+ghost use Rattle.ndr_value.specs.Shown.{shown};
 ghost use Rattle.manager_api.specs.Messages.{IsRequest};
 ghost use Rattle.store_model.specs.Table.{store_table as store_table_spec};
 
@@ -9,11 +9,10 @@ use anyhow::{Error, Result};
 use handle_model::CookieRow;
 use manager_api::{Answer, Desk, Kept, Probe, has_cookies};
 use ndr_codec::{Way, decode};
-use ndr_value::{Message, Value};
+use ndr_value::{Message, Table, Value};
 use rpc_base::Order;
 use std::alloc::Global;
 use store_desk::StoreDesk;
-use table_form::Table;
 
 /// The first file at its begin.
 const FIRST: u64 = 1 << 32;

@@ -1,7 +1,7 @@
 //! Calls on the desks from their stubs.
 ghost use Rattle.std.specs.Prelude.{◌≡◌, ◌<◌, ◌||◌, true, Some, length, slice_get};
 ghost use Rattle.ndr_value.specs.Values.{msg};
-ghost use Rattle.table_form.specs.Shown.{shown};
+ghost use Rattle.ndr_value.specs.Shown.{shown};
 ghost use Rattle.manager_api.specs.Calls.{has_cookies as has_cookies_spec, uses_at};
 ghost use Rattle.manager_api.specs.Messages.{IsRequest};
 ghost use Rattle.served_tables.specs.Calls.{IsCall};
@@ -12,12 +12,11 @@ use call_stats::Counted;
 use handle_model::CookieRow;
 use manager_api::{Answer, Kept, Kepts, Probe, has_cookies};
 use ndr_codec::{Way, decode, encode};
-use ndr_value::Message;
+use ndr_value::{Message, Table};
 use rpc_base::{NoMemory, Order, Status};
 use rpc_words::{put, put_decimal, put_hex, put_hex_u32};
 use service_desks::ServiceDesks;
 use std::alloc::Global;
-use table_form::Table;
 
 /// Whether a call was cancelled, and who knows.
 #[derive(Clone, Copy, PartialEq, Eq)]

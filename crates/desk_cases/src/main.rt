@@ -13,11 +13,11 @@ use anyhow::{Context, Error, Result};
 use idl_check::check;
 use idl_reader::read_idl;
 use marshal_table::build;
+use ndr_value::Table;
 use std::alloc::Global;
 use std::rt::Env;
 use std::{env, fs};
 use story::Story;
-use table_form::Table;
 
 /// The words behind the program's name.
 fn words(rt: &(impl Env + AllocGlobal), alloc: Global) -> Result<Vec<String>> {

@@ -5,11 +5,11 @@ use crate::keeping::put_kept;
 use crate::octets::octets_of;
 use crate::rows::{Row, row_of};
 use handle_model::{DueItem, Rundown};
+use ndr_value::Table;
 use rpc_base::NoMemory;
 use rpc_words::{put, put_hex};
 use service_desks::ServiceDesks;
 use std::alloc::Global;
-use table_form::Table;
 
 /// What was played so far.
 #[derive(Drop)]

@@ -1,14 +1,14 @@
 //! Calls from their stubs.
 ghost use Rattle.std.specs.Prelude.{◌≡◌};
-ghost use Rattle.table_form.specs.Shown.{shown};
+ghost use Rattle.ndr_value.specs.Shown.{shown};
 
 use manager_api::{Answer, Desk, Probe, has_cookies};
 use ndr_codec::{Way, decode, encode};
+use ndr_value::Table;
 use rpc_base::{NoMemory, Order};
 use rpc_words::{put, put_hex};
 use std::alloc::Global;
 use std::test::Fail;
-use table_form::Table;
 
 /// A probe that tells of no cancel.
 #[derive(Drop)]

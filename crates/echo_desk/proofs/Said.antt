@@ -4,8 +4,8 @@ use Rattle.std.specs.Prelude.{◌&&◌, ◌==◌, slice_get, IfOk}
 use Rattle.std.specs.List.{list_all}
 use Rattle.rpc_base.specs.declared.fault.NoMemory.{NoMemory}
 use Rattle.ndr_value.specs.Values.{Msg}
-use Rattle.table_form.specs.declared.operation.HandleUse.{HandleUse}
-use Rattle.table_form.specs.Tables.{OpForm, TableForm}
+use Rattle.ndr_value.specs.declared.operation.HandleUse.{HandleUse}
+use Rattle.ndr_value.specs.Tables.{OpForm, TableForm}
 use Rattle.ndr_model.specs.declared.way.Way.TheVariants.{Response}
 use Rattle.ndr_model.specs.Fits.{IsOfOp}
 use Rattle.manager_api.specs.declared.answer.Answer.{Answer}

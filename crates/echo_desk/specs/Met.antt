@@ -4,7 +4,7 @@ use Rattle.std.specs.Prelude.{ℕ, zero, suc, ◌+◌, ◌==◌, Bool, true, fal
 use Rattle.ndr_value.specs.Forms.{Form, OfByte, OfNamed, OfStruct, OfUnion, OfArray, OfRef, OfUnique, OfFull, Forms, no_form, then_form, Body, holds}
 use Rattle.ndr_value.specs.Fits.{arm_of}
 use Rattle.ndr_value.specs.Values.{Val, VStruct, VUnion, VArray, VPtr, VFull, Vals, no_val, then_val}
-use Rattle.table_form.specs.Tables.{ParamForm}
+use Rattle.ndr_value.specs.Tables.{ParamForm}
 use Rattle.ndr_model.specs.Stub.{of_param}
 use Rattle.ndr_model.specs.Named.{nth}
 use Rattle.ndr_model.specs.Written.{deep}

@@ -1,7 +1,7 @@
 -- Values whose items of the heap have other numbers: each the place at which it was met.
 use Rattle.std.specs.Prelude.{ℕ, Bool, true, false, List, [], ◌∷◌, length, unwrap_or, Option, Some, None}
 use Rattle.ndr_value.specs.Values.{Val, VStruct, VUnion, VArray, VPtr, VFull, Vals, no_val, then_val}
-use Rattle.table_form.specs.Tables.{ParamForm}
+use Rattle.ndr_value.specs.Tables.{ParamForm}
 use Rattle.ndr_model.specs.Named.{nth}
 use Rattle.echo_desk.specs.Met.{place_in}
 

@@ -4,8 +4,8 @@ use Rattle.std.specs.Prelude.{◌≡◌, ◌⊎◌, ℕ, Bool, true, false, ◌&
 use Rattle.std.specs.List.{list_all}
 use Rattle.ndr_value.specs.Forms.{Form, OfUint}
 use Rattle.ndr_value.specs.Values.{VUint, Vals, no_val, then_val, Msg}
-use Rattle.table_form.specs.declared.operation.HandleUse.{HandleUse}
-use Rattle.table_form.specs.Tables.{ParamForm, OpForm, TableForm}
+use Rattle.ndr_value.specs.declared.operation.HandleUse.{HandleUse}
+use Rattle.ndr_value.specs.Tables.{ParamForm, OpForm, TableForm}
 use Rattle.ndr_model.specs.declared.way.Way.TheVariants.{Response}
 use Rattle.ndr_model.specs.Fits.{IsOfOp}
 use Rattle.manager_api.specs.Answers.{Ans, AOut, AFault, no_memory}

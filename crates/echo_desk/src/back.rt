@@ -3,7 +3,7 @@ ghost use Rattle.std.specs.Prelude.{◌≡◌, [], map, IfOk, OnOk};
 ghost use Rattle.ndr_value.specs.Forms.{types_of};
 ghost use Rattle.ndr_value.specs.Values.{Vals, msg, then_val, val, vals};
 ghost use Rattle.ndr_model.specs.Named.{nth};
-ghost use Rattle.table_form.specs.Tables.{op_form, param_form, result_form};
+ghost use Rattle.ndr_value.specs.Tables.{op_form, param_form, result_form};
 ghost use Rattle.message_parts.specs.Rows.{vals_then};
 ghost use Rattle.echo_desk.specs.Numbered as numbers;
 ghost use Rattle.echo_desk.specs.Steps as spec;
@@ -11,10 +11,9 @@ ghost use Rattle.echo_desk.specs.Steps as spec;
 use crate::copies::numbered;
 use crate::met::Met;
 use crate::walk::{Walk, met_in, value_at};
-use ndr_value::{Message, Shape, Value, Values, Wires};
+use ndr_value::{Message, Op, Param, Shape, Value, Values, Wires};
 use rpc_base::NoMemory;
 use std::alloc::Global;
-use table_form::{Op, Param};
 
 // The value of a parameter that comes back, behind the others.
 #[tactic(auto, using(message_parts::proofs::Rows::rows))]

@@ -1,7 +1,7 @@
 //! The desk behind an interface.
 ghost use Rattle.std.specs.Prelude.{◌≡◌, ◌<◌, IfOk, length};
 ghost use Rattle.ndr_value.specs.Values.{msg};
-ghost use Rattle.table_form.specs.Shown.{shown};
+ghost use Rattle.ndr_value.specs.Shown.{shown};
 ghost use Rattle.manager_api.specs.Answers.{ans};
 ghost use Rattle.manager_api.specs.Messages.{ForOp};
 ghost use Rattle.echo_desk.specs.Steps as spec;
@@ -11,10 +11,9 @@ use crate::operations::is_echoed;
 use handle_model::{CookieRow, DueItem, Rundown};
 use manager_api::{Answer, Desk, Kepts, Probe, or_no_memory};
 use ndr_codec::{Way, fits};
-use ndr_value::Message;
+use ndr_value::{Message, Table};
 use rpc_base::{NoMemory, Status};
 use std::alloc::Global;
-use table_form::Table;
 
 /// A desk that serves the interface of a table. It has no handles, and a call leaves it as it was.
 #[derive(Drop)]
@@ -88,7 +87,7 @@ impl<'t> Rundown for EchoDesk<'t> {
 
 impl<'t> Desk for EchoDesk<'t> {
     ghost use Rattle.std.specs.Prelude.{◌≡◌};
-    ghost use Rattle.table_form.specs.Shown.{shown};
+    ghost use Rattle.ndr_value.specs.Shown.{shown};
     ghost use Rattle.echo_desk.specs.Steps.{Answers};
 
     ghost table = { λ desk. shown desk.table.now };

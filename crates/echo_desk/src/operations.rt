@@ -2,11 +2,10 @@
 ghost use Rattle.std.specs.Prelude.{◌≡◌, map};
 ghost use Rattle.std.specs.List.{list_all};
 ghost use Rattle.ndr_value.specs.Forms.{form};
-ghost use Rattle.table_form.specs.Tables.{op_form, param_form, result_form};
+ghost use Rattle.ndr_value.specs.Tables.{op_form, param_form, result_form};
 ghost use Rattle.echo_desk.specs.Steps as spec;
 
-use ndr_value::Shape;
-use table_form::{HandleUse, Op, Param};
+use ndr_value::{HandleUse, Op, Param, Shape};
 
 fn comes_back(param: &Param) -> bool
     ensures { result ≡ spec.comes_back (param_form param.now) }

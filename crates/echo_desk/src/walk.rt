@@ -3,7 +3,7 @@ ghost use Rattle.std.specs.Prelude.{◌≡◌, map, slice_get, OnOk, MatchOption
 ghost use Rattle.std.specs.Option.{option_copied};
 ghost use Rattle.ndr_value.specs.Forms.{form, types_of};
 ghost use Rattle.ndr_value.specs.Values.{val, vals};
-ghost use Rattle.table_form.specs.Tables.{param_form};
+ghost use Rattle.ndr_value.specs.Tables.{param_form};
 ghost use Rattle.ndr_model.specs.Stub.{of_param};
 ghost use Rattle.ndr_model.specs.Named.{nth};
 ghost use Rattle.echo_desk.specs.Met as spec;
@@ -12,10 +12,9 @@ ghost use Rattle.echo_desk.specs.Views.{flat_of, lead_of};
 use crate::flat::flat_value;
 use crate::lead::Lead;
 use crate::met::Met;
-use ndr_value::{Shape, Value};
+use ndr_value::{Param, Shape, Value};
 use rpc_base::NoMemory;
 use std::alloc::Global;
-use table_form::Param;
 
 // Types, parameters and results nest by value 16 levels at most, so there are fewer constructs and
 // names between two pointers.

@@ -8,7 +8,7 @@ use Rattle.pdu_stream.specs.declared.joined.JoinFault.TheVariants as joins_by
 use Rattle.pdu_stream.specs.Pieces.{ArePieces}
 use Rattle.pdu_stream.specs.Fragments.{Fragment, is_last, with_fragment, HasOrder, HasOtherOrder, IsTaken, IsJoinFault, AddsFragment, most_stub}
 use Rattle.ndr_value.specs.Values.{Msg}
-use Rattle.table_form.specs.Tables.{OpForm}
+use Rattle.ndr_value.specs.Tables.{OpForm}
 use Rattle.ndr_model.specs.declared.departure.Departure.{Departure}
 use Rattle.ndr_model.specs.declared.way.Way.TheVariants.{Response}
 use Rattle.ndr_model.specs.Message.{IsStub, read_stub}

@@ -12,7 +12,7 @@ use Rattle.presentation.specs.Offers.{interface_of}
 use Rattle.handle_model.specs.declared.entry.Said.{Said}
 use Rattle.handle_model.specs.declared.entry.Said.TheVariants.{Out, Fault}
 use Rattle.ndr_value.specs.Values.{Msg}
-use Rattle.table_form.specs.Tables.{OpForm, TableForm}
+use Rattle.ndr_value.specs.Tables.{OpForm, TableForm}
 use Rattle.ndr_model.specs.declared.way.Way.TheVariants.{Request, Response}
 use Rattle.ndr_model.specs.Message.{IsStub}
 use Rattle.ndr_laws.specs.Laws.{IsOp}

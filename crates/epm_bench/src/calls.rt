@@ -1,7 +1,7 @@
 //! Lookups from their stubs.
 ghost use Rattle.std.specs.Prelude.{◌≡◌, ◌<◌, IfOk, length};
 ghost use Rattle.ndr_value.specs.Values.{msg};
-ghost use Rattle.table_form.specs.Shown.{shown};
+ghost use Rattle.ndr_value.specs.Shown.{shown};
 ghost use Rattle.manager_api.specs.Messages.{IsRequest};
 ghost use Rattle.epm_model.specs.Table.{epm_table as epm_table_spec};
 
@@ -9,10 +9,9 @@ use anyhow::{Error, Result};
 use epm_desk::EpmDesk;
 use manager_api::{Answer, Desk, Kept, Probe, has_cookies};
 use ndr_codec::{Way, decode};
-use ndr_value::{Message, Value};
+use ndr_value::{Message, Table, Value};
 use rpc_base::Order;
 use std::alloc::Global;
-use table_form::Table;
 
 /// The number of ept_lookup.
 const LOOKUP: u16 = 2;

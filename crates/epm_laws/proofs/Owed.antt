@@ -6,7 +6,7 @@ use Rattle.ndr_value.specs.declared.shape.ArrayKind.TheVariants.{ConformantVaryi
 use Rattle.ndr_value.specs.declared.shape.Count.TheVariants.{Param}
 use Rattle.ndr_value.specs.Forms.{Form, OfUint, OfArray, OfFull, OfHandle}
 use Rattle.ndr_value.specs.Values.{Val, VUint, Vals, no_val, count_of, Msg}
-use Rattle.table_form.specs.Tables.{OpForm}
+use Rattle.ndr_value.specs.Tables.{OpForm}
 use Rattle.table_parts.specs.Parts.{named}
 use Rattle.message_parts.specs.Parts.{pointers}
 use Rattle.message_parts.proofs.Counted.{count-pointers}

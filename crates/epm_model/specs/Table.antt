@@ -3,8 +3,8 @@ use Rattle.std.specs.Prelude.{ℕ, ◌+◌, List, [], ◌∷◌, Some, None, tru
 use Rattle.ndr_value.specs.declared.shape.Count.TheVariants.{Param, Member}
 use Rattle.ndr_value.specs.declared.shape.ArrayKind.TheVariants.{Conformant, ConformantVarying}
 use Rattle.ndr_value.specs.Forms.{Form, OfByte, OfUint, OfStruct, OfText, OfArray, OfRef, OfFull, OfHandle, no_form, then_form}
-use Rattle.table_form.specs.declared.operation.HandleUse.{HandleUse}
-use Rattle.table_form.specs.Tables.{ParamForm, OpForm, TableForm}
+use Rattle.ndr_value.specs.declared.operation.HandleUse.{HandleUse}
+use Rattle.ndr_value.specs.Tables.{ParamForm, OpForm, TableForm}
 use Rattle.table_parts.specs.Parts.{named, uuid_form, syntax_form, goes_in, goes_out, goes_both, number_out, procedure, used}
 
 -- ---- types, by number: a UUID, an interface, a tower, an entry

@@ -1,14 +1,13 @@
 //! The table of the interface, as its text gives it.
 ghost use Rattle.std.specs.Prelude.{◌≡◌, ◌<◌, IfOk, map};
 ghost use Rattle.ndr_value.specs.Forms.{form, types_of};
-ghost use Rattle.table_form.specs.Tables.{op_form, param_form};
-ghost use Rattle.table_form.specs.Shown.{shown};
+ghost use Rattle.ndr_value.specs.Tables.{op_form, param_form};
+ghost use Rattle.ndr_value.specs.Shown.{shown};
 ghost use Rattle.epm_model.specs.Table as spec;
 
-use ndr_value::{ArrayKind, Count, Shape, Shapes};
+use ndr_value::{ArrayKind, Count, HandleUses, Op, Ops, Param, Shape, Shapes, Table, Uses};
 use rpc_base::{NoMemory, SyntaxId};
 use std::alloc::Global;
-use table_form::{HandleUses, Op, Ops, Param, Table, Uses};
 use table_parts::{
     array_of, behind, both_ways, inward, named, number_out, one_use, outward, pointer_to,
     procedure, structure_of, syntax_shape, used, uuid_shape,

@@ -10,7 +10,7 @@ use Rattle.handle_model.specs.declared.base.Base.{Base}
 use Rattle.handle_model.specs.Folds.{base_of, advance, fold}
 use Rattle.handle_model.specs.History.{History, IsSound, since, size}
 use Rattle.handle_model.specs.Journal.{Legal, asked, waits, runs, is_shut, due}
-use Rattle.journal_laws.specs.Further.{with_entries}
+use Rattle.handle_model.specs.Further.{with_entries}
 use Rattle.journal_tables.specs.Folding.{HasBegun, BaseBegun}
 use Rattle.journal_tables.proofs.Going.{goes_on}
 use Rattle.journal_tables.proofs.Sounds.{base_sound}

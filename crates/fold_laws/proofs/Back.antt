@@ -6,7 +6,7 @@ use Rattle.handle_model.specs.Sound.{IsSoundBase}
 use Rattle.handle_model.specs.Folds.{base_of, advance}
 use Rattle.handle_model.specs.History.{History, since, size}
 use Rattle.handle_model.specs.Journal.{Legal, Allowed}
-use Rattle.journal_laws.specs.Further.{with_entries}
+use Rattle.handle_model.specs.Further.{with_entries}
 use Rattle.journal_tables.specs.Tables.{Admits}
 use Rattle.journal_tables.specs.Shown.{tables_of}
 use Rattle.journal_tables.proofs.Shown.{admits_shown, follows, base_shown}

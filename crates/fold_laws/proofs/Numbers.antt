@@ -12,7 +12,7 @@ use Rattle.handle_model.specs.Folds.{base_of}
 use Rattle.handle_model.specs.History.{History, since}
 use Rattle.handle_model.specs.Journal.{Legal, joins, asked, join_count, accept_count}
 use Rattle.handle_model.proofs.Held.{or_cases, or_right}
-use Rattle.journal_laws.specs.Calls.{accepts}
+use Rattle.handle_model.specs.CallLaws.{accepts}
 use Rattle.journal_tables.specs.Folding.{BaseBegun}
 use Rattle.journal_tables.proofs.Advanced.{advance_since}
 use Rattle.journal_tables.proofs.Folded.{front_legal}

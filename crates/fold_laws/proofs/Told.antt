@@ -14,13 +14,13 @@ use Rattle.handle_model.specs.History.{History, since}
 use Rattle.handle_model.specs.Journal.{Legal, any_since, leaves, takes, denies, cancels, orphans, ends, asked, has_joined, is_decided, is_taken, is_orphaned, accept_count}
 use Rattle.handle_model.specs.Replies.{is_lost, ended_with, replies}
 use Rattle.handle_model.proofs.Held.{and_right}
-use Rattle.journal_laws.proofs.Older.{older_since}
-use Rattle.journal_laws.proofs.Stages.{since_right, undecided}
+use Rattle.handle_model.proofs.Older.{older_since}
+use Rattle.handle_model.proofs.Stages.{since_right, undecided}
 use Rattle.call_table.proofs.Calls.{decided_within, ended_taken}
 use Rattle.journal_tables.specs.Folding.{BaseBegun}
 use Rattle.fold_laws.specs.FoldOf.{IsFoldOf}
 use Rattle.fold_laws.proofs.Alike.{folds_stand}
-use Rattle.journal_laws.specs.Calls.{accepts}
+use Rattle.handle_model.specs.CallLaws.{accepts}
 
 -- WHERE IT WAS ACCEPTED
 

@@ -7,7 +7,7 @@ use Rattle.handle_model.specs.declared.entry.Entry.{Entry}
 use Rattle.handle_model.specs.Folds.{open_calls, advance, fold}
 use Rattle.handle_model.specs.History.{History, IsSound, since, size}
 use Rattle.handle_model.specs.Journal.{Legal, Allowed, conns, join_count, accept_count, opened, asked, waits, runs, blocker, due_items, fault_in, cookies_for, is_shut, due}
-use Rattle.journal_laws.specs.Further.{with_entries}
+use Rattle.handle_model.specs.Further.{with_entries}
 use Rattle.journal_tables.specs.Folding.{BaseBegun}
 
 -- x is the journal j with its older entries in the base; none of these is a Shut, and no Shut was due behind them

@@ -8,8 +8,8 @@ use Rattle.handle_model.specs.Folds.{folded}
 use Rattle.handle_model.specs.History.{History, with_entry}
 use Rattle.handle_model.specs.Journal.{Legal, joins, is_open, runs, asked, join_count, accept_count}
 use Rattle.handle_model.specs.Replies.{replies}
-use Rattle.journal_laws.specs.Further.{with_entries}
-use Rattle.journal_laws.specs.Calls.{accepts}
+use Rattle.handle_model.specs.Further.{with_entries}
+use Rattle.handle_model.specs.CallLaws.{accepts}
 use Rattle.journal_tables.specs.Folding.{BaseBegun}
 use Rattle.fold_laws.specs.FoldOf.{IsFoldOf}
 

@@ -14,10 +14,10 @@ use Rattle.handle_model.specs.Folds.{folded}
 use Rattle.handle_model.specs.History.{History, since}
 use Rattle.handle_model.specs.Journal.{Legal, Fits, any_since, is_join, joins, leaves, takes, ends, asked, has_joined, is_open, is_taken, waits, runs}
 use Rattle.handle_model.proofs.Held.{and_left, and_right, or_right, or_cases, waits_open}
-use Rattle.journal_laws.specs.Calls.{accepts}
-use Rattle.journal_laws.proofs.Older.{shut_is_last}
-use Rattle.journal_laws.proofs.Accepted.{asks_as_accepted}
-use Rattle.journal_laws.proofs.Stages.{waits_asked, takes_after_accept}
+use Rattle.handle_model.specs.CallLaws.{accepts}
+use Rattle.handle_model.proofs.Older.{shut_is_last}
+use Rattle.handle_model.proofs.Accepted.{asks_as_accepted}
+use Rattle.handle_model.proofs.Stages.{waits_asked, takes_after_accept}
 use Rattle.journal_tables.specs.Folding.{BaseBegun}
 use Rattle.fold_laws.specs.Kept.{Keeps}
 use Rattle.fold_laws.proofs.Alike.{folds_stand}

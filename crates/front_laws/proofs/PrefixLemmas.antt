@@ -8,7 +8,7 @@ use Rattle.handle_model.specs.Bases.{empty_base}
 use Rattle.handle_model.specs.Folds.{advance}
 use Rattle.handle_model.specs.History.{History, since, size}
 use Rattle.handle_model.specs.Journal.{Legal}
-use Rattle.journal_laws.proofs.Older.{older_since}
+use Rattle.handle_model.proofs.Older.{older_since}
 use Rattle.journal_tables.proofs.Advanced.{advance_twice}
 use Rattle.fold_laws.specs.FoldOf.{IsFoldOf}
 use Rattle.hub_story.specs.declared.item.Item.{Item}

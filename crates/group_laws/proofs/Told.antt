@@ -11,7 +11,7 @@ use Rattle.handle_model.specs.declared.reply.Reply.TheVariants.{Never, Ran, Drop
 use Rattle.handle_model.specs.History.{History, with_entry}
 use Rattle.handle_model.specs.Journal.{Legal, asked}
 use Rattle.handle_model.specs.Replies.{context_mismatch, cancelled, is_lost, replies}
-use Rattle.journal_laws.proofs.ReplyStays.{denied_reply, cancelled_reply, orphaned_reply, ended_reply, left_reply, reply_stays}
+use Rattle.handle_model.proofs.ReplyStays.{denied_reply, cancelled_reply, orphaned_reply, ended_reply, left_reply, reply_stays}
 use Rattle.group_core.specs.declared.answer.Taking.TheVariants.{Denied}
 use Rattle.group_core.specs.declared.answer.Cancelled.TheVariants as cancels
 use Rattle.group_core.specs.declared.answer.Orphaned.TheVariants as orphans

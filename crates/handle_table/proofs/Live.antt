@@ -20,9 +20,9 @@ use Rattle.handle_model.specs.Slots.{wire_of, kind_of, named, names}
 use Rattle.handle_model.specs.History.{History, with_entry}
 use Rattle.handle_model.specs.Journal.{Legal, is_item_of, is_live, is_issued, is_closed, kind, cookie, issuer_kind, first_given, issues, any_closes, runs_down, suit, suits, slots, runs, numbers, opened, due_item, due_items}
 use Rattle.handle_model.proofs.Held.{and_left, and_right, or_right, opened_small}
-use Rattle.journal_laws.specs.Running.{AllUsable}
-use Rattle.journal_laws.proofs.LiveNames.{issued_within, opens_within, issued_once, named_live, no_kind, suit_opens}
-use Rattle.journal_laws.proofs.Fate.{usable_live, unclosed, kept_up, fate, FateAs}
+use Rattle.handle_model.specs.Running.{AllUsable}
+use Rattle.handle_model.proofs.LiveNames.{issued_within, opens_within, issued_once, named_live, no_kind, suit_opens}
+use Rattle.handle_model.proofs.Fate.{usable_live, unclosed, kept_up, fate, FateAs}
 use Rattle.handle_table.specs.Handles.{item_at}
 use Rattle.handle_table.specs.Kept.{Rises}
 use Rattle.handle_table.specs.Uses.{item_named}

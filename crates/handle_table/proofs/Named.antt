@@ -19,9 +19,9 @@ use Rattle.handle_model.specs.Bases.{kind_before, cookie_before, named_before, i
 use Rattle.handle_model.specs.History.{History, since}
 use Rattle.handle_model.specs.Journal.{Legal, is_item_of, is_live, is_issued, is_kind, is_usable, is_usable_as, fault_by, fault_in, kind, cookie, issuer_kind, first_given, issues, gives, suit, suits, slots, serial_named, first_named, cookie_for, cookies_for, due_item, due_items}
 use Rattle.handle_model.proofs.Held.{and_left, and_right, or_cases}
-use Rattle.journal_laws.specs.Running.{AllUsable}
-use Rattle.journal_laws.proofs.LiveNames.{serial_named_is, taken_all}
-use Rattle.journal_laws.proofs.Usable.{named_issued}
+use Rattle.handle_model.specs.Running.{AllUsable}
+use Rattle.handle_model.proofs.LiveNames.{serial_named_is, taken_all}
+use Rattle.handle_model.proofs.Usable.{named_issued}
 use Rattle.handle_table.specs.Uses.{item_named, fits_kind, fault_at, cookie_at, cookies_at}
 use Rattle.handle_table.proofs.Items.{named_at, named_is}
 use Rattle.handle_table.proofs.Live.{live_item, live_issued, due_item_at}

@@ -8,7 +8,7 @@ use Rattle.rpc_base.specs.declared.identifiers.WireHandle.{WireHandle}
 use Rattle.handle_model.specs.declared.entry.Home.{Home}
 use Rattle.handle_model.specs.declared.entry.DueItem.{DueItem}
 use Rattle.handle_model.specs.Slots.{wire_of, same_wire}
-use Rattle.journal_laws.proofs.Apart.{same_wire_is, same_wire_from}
+use Rattle.handle_model.proofs.Apart.{same_wire_is, same_wire_from}
 use Rattle.handle_table.specs.Handles.{item_at, item_of, is_wire}
 use Rattle.handle_table.specs.Kept.{Rises}
 

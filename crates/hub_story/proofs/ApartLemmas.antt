@@ -10,7 +10,7 @@ use Rattle.handle_model.specs.declared.entry.Entry.{Entry}
 use Rattle.handle_model.specs.declared.entry.Entry.TheVariants.{Join, Accept, Take, Deny, Cancel, Orphan, End, Leave, Shut}
 use Rattle.handle_model.specs.Journal.{joins, decides, takes, ends, Legal}
 use Rattle.handle_model.proofs.Tests.{and_left, and_right}
-use Rattle.journal_laws.specs.Calls.{accepts}
+use Rattle.handle_model.specs.CallLaws.{accepts}
 use Rattle.turn_lock.specs.Histories.{times, Tied, Closed, Within}
 use Rattle.turn_lock.proofs.HistoryLemmas.{at_append, at_within}
 use Rattle.turn_lock.proofs.AddingLemmas.{at_behind}

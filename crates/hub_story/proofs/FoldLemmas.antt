@@ -9,7 +9,7 @@ use Rattle.handle_model.specs.declared.base.Base.{Base}
 use Rattle.handle_model.specs.Folds.{base_of, advance, fold}
 use Rattle.handle_model.specs.History.{History, IsSound, since}
 use Rattle.handle_model.specs.Journal.{Legal, asked, is_join, is_shut, waits, runs, due}
-use Rattle.journal_laws.specs.Further.{with_entries}
+use Rattle.handle_model.specs.Further.{with_entries}
 use Rattle.journal_tables.specs.Shown.{tables_of}
 use Rattle.journal_tables.specs.Unplaced.{unplaced}
 use Rattle.journal_tables.specs.Folding.{BaseBegun, SaysSame}

@@ -9,8 +9,8 @@ use Rattle.handle_model.specs.declared.entry.Asked.{Asked}
 use Rattle.handle_model.specs.declared.entry.Entry.{Entry}
 use Rattle.handle_model.specs.declared.entry.Entry.TheVariants.{Join, Accept, Take, Deny, Cancel, Orphan, End, Leave, Shut}
 use Rattle.handle_model.specs.Journal.{joins, decides, takes, ends, Legal}
-use Rattle.journal_laws.specs.Calls.{accepts}
-use Rattle.journal_laws.proofs.Stages.{decides_after_accept}
+use Rattle.handle_model.specs.CallLaws.{accepts}
+use Rattle.handle_model.proofs.Stages.{decides_after_accept}
 use Rattle.turn_lock.proofs.HistoryLemmas.{at_append, at_within}
 use Rattle.turn_lock.proofs.AddingLemmas.{at_behind}
 use Rattle.hub_story.specs.declared.item.Item.{Item}

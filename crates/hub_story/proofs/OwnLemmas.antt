@@ -16,9 +16,9 @@ use Rattle.handle_model.specs.Bases.{empty_base}
 use Rattle.handle_model.specs.History.{since}
 use Rattle.handle_model.specs.Journal.{asked_since, slots_in, slots, suit, joins, leaves, takes, ends, decides, is_shut, is_open, has_joined, is_taken, runs, Legal}
 use Rattle.handle_model.proofs.Reversed.{list_any-reverse}
-use Rattle.journal_laws.specs.Calls.{accepts}
-use Rattle.journal_laws.proofs.Older.{older_since}
-use Rattle.journal_laws.proofs.Stages.{decides_after_accept}
+use Rattle.handle_model.specs.CallLaws.{accepts}
+use Rattle.handle_model.proofs.Older.{older_since}
+use Rattle.handle_model.proofs.Stages.{decides_after_accept}
 use Rattle.turn_lock.specs.Histories.{times, places, Tied, Closed, Within, StartsWith}
 use Rattle.turn_lock.proofs.HistoryLemmas.{at_append, at_within, times-append}
 use Rattle.hub_story.specs.declared.item.Mark.{Mark}

@@ -17,12 +17,12 @@ use Rattle.handle_model.specs.Bases.{empty_base}
 use Rattle.handle_model.specs.Journal.{any_since, asked_since, asked, joins, leaves, takes, ends, decides, is_shut, is_open, has_joined, is_taken, Legal}
 use Rattle.handle_model.specs.History.{History, since, with_entry}
 use Rattle.handle_model.proofs.Tests.{and_left}
-use Rattle.journal_laws.specs.Calls.{accepts}
-use Rattle.journal_laws.specs.Further.{with_entries}
-use Rattle.journal_laws.proofs.Joins.{joins_once, leaves_after_join, accepts_of_open}
-use Rattle.journal_laws.proofs.Accepted.{accepts_once, asks_as_accepted}
-use Rattle.journal_laws.proofs.Older.{older_since}
-use Rattle.journal_laws.proofs.Stages.{takes_once, decides_after_accept, ends_after_take}
+use Rattle.handle_model.specs.CallLaws.{accepts}
+use Rattle.handle_model.specs.Further.{with_entries}
+use Rattle.handle_model.proofs.Joins.{joins_once, leaves_after_join, accepts_of_open}
+use Rattle.handle_model.proofs.Accepted.{accepts_once, asks_as_accepted}
+use Rattle.handle_model.proofs.Older.{older_since}
+use Rattle.handle_model.proofs.Stages.{takes_once, decides_after_accept, ends_after_take}
 use Rattle.turn_lock.specs.Histories.{Tied}
 use Rattle.hub_story.specs.declared.item.Item.{Item}
 use Rattle.hub_story.specs.declared.item.Item.TheVariants.{Listed, Of}

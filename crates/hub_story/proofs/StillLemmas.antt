@@ -12,9 +12,9 @@ use Rattle.handle_model.specs.declared.entry.Entry.TheVariants.{Join, Accept, Ta
 use Rattle.handle_model.specs.Bases.{empty_base}
 use Rattle.handle_model.specs.History.{since}
 use Rattle.handle_model.specs.Journal.{asked_since, slots_in, suit, leaves, ends, Legal}
-use Rattle.journal_laws.specs.Calls.{accepts}
-use Rattle.journal_laws.proofs.Older.{older_since}
-use Rattle.journal_laws.proofs.Stages.{decides_after_accept}
+use Rattle.handle_model.specs.CallLaws.{accepts}
+use Rattle.handle_model.proofs.Older.{older_since}
+use Rattle.handle_model.proofs.Stages.{decides_after_accept}
 use Rattle.turn_lock.specs.Histories.{Within}
 use Rattle.turn_lock.proofs.HistoryLemmas.{at_append, at_within}
 use Rattle.hub_story.specs.declared.item.Mark.TheVariants.{Opened, Missed, Retired}

@@ -24,7 +24,7 @@ use Rattle.call_table.specs.Rows.{openings_of}
 use Rattle.call_table.specs.Shown.{rows_of}
 use Rattle.call_table.proofs.Calls.{waits_idle}
 use Rattle.call_table.proofs.Counts.{count_shown, openings_shown}
-use Rattle.journal_laws.specs.Further.{with_entries}
+use Rattle.handle_model.specs.Further.{with_entries}
 use Rattle.journal_tables.specs.Tables.{Tables}
 use Rattle.journal_tables.specs.Shown.{tables_of}
 use Rattle.journal_tables.specs.Unplaced.{row_unplaced, unplaced}

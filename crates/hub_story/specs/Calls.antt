@@ -7,7 +7,7 @@ use Rattle.turn_lock.specs.Histories.{times, StartsWith, places, Closed, Within,
 use Rattle.handle_model.specs.declared.entry.Entry.{Entry}
 use Rattle.handle_model.specs.declared.entry.Entry.TheVariants.{Join, Accept, Take, Deny, Cancel, Orphan, End, Leave}
 use Rattle.handle_model.specs.History.{History}
-use Rattle.journal_laws.specs.Further.{with_entries}
+use Rattle.handle_model.specs.Further.{with_entries}
 use Rattle.hub_story.specs.declared.item.Item.{Item}
 use Rattle.hub_story.specs.declared.item.Item.TheVariants.{Of}
 use Rattle.hub_story.specs.Histories.{past_in, journal_in, items_of, IsStory}

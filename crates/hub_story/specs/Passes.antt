@@ -12,7 +12,7 @@ use Rattle.handle_model.specs.declared.entry.DueItem.{DueItem}
 use Rattle.handle_model.specs.declared.entry.Entry.{Entry}
 use Rattle.handle_model.specs.declared.entry.Entry.TheVariants.{Join, Accept, Take, End, Leave, Shut}
 use Rattle.handle_model.specs.Journal.{slots, suit}
-use Rattle.journal_laws.specs.Calls.{accepts}
+use Rattle.handle_model.specs.CallLaws.{accepts}
 use Rattle.hub_story.specs.declared.item.Mark.TheVariants.{Retired}
 use Rattle.hub_story.specs.declared.item.Item.{Item}
 use Rattle.hub_story.specs.declared.item.Item.TheVariants.{Listed, Of}

@@ -11,7 +11,7 @@ use Rattle.handle_model.specs.Bases.{empty_base}
 use Rattle.handle_model.specs.Folds.{base_of, advance}
 use Rattle.handle_model.specs.History.{History, since, with_entry, size}
 use Rattle.handle_model.specs.Journal.{Legal, is_shut, join_count, due}
-use Rattle.journal_laws.specs.Further.{with_entries}
+use Rattle.handle_model.specs.Further.{with_entries}
 use Rattle.journal_tables.specs.Folding.{HasBegun, BaseBegun}
 use Rattle.journal_tables.proofs.Going.{goes_on}
 use Rattle.journal_tables.proofs.Sounds.{base_sound}

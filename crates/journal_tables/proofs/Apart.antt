@@ -11,8 +11,8 @@ use Rattle.handle_model.specs.Slots.{named, names, same_name, same_wire, same_ha
 use Rattle.handle_model.specs.Sound.{names_apart}
 use Rattle.handle_model.specs.Journal.{repeats}
 use Rattle.handle_model.proofs.Tests.{and_left, and_right, or_right, or_cases}
-use Rattle.journal_laws.proofs.Apart.{same_wire_from}
-use Rattle.journal_laws.proofs.OneSlot.{Unrepeated}
+use Rattle.handle_model.proofs.Apart.{same_wire_from}
+use Rattle.handle_model.proofs.OneSlot.{Unrepeated}
 
 -- a slot among these
 abbrev pub Within : List Slot → Slot → Type 0

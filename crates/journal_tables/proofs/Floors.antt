@@ -18,7 +18,7 @@ use Rattle.handle_model.specs.Journal.{Legal, leaves, least, lesser, join_count,
 use Rattle.handle_model.proofs.Tests.{and_left, and_right, or_right, or_cases}
 use Rattle.handle_model.proofs.Held.{joined_within}
 use Rattle.handle_model.proofs.Reversed.{list_any-reverse}
-use Rattle.journal_laws.proofs.Apart.{asked_within}
+use Rattle.handle_model.proofs.Apart.{asked_within}
 use Rattle.call_table.specs.declared.row.Row.{Row}
 use Rattle.call_table.specs.Rows.{is_call as of_call, is_running, running_places}
 use Rattle.call_table.specs.Shown.{place_since as call_since, place_of, row_as, row_in, rows_of}

@@ -13,7 +13,7 @@ use Rattle.handle_model.specs.Sound.{IsSoundBase}
 use Rattle.handle_model.specs.Folds.{base_of, advance, fold}
 use Rattle.handle_model.specs.History.{History, IsSound, since, size}
 use Rattle.handle_model.specs.Journal.{Legal, Allowed, asked, is_shut, join_count, conns, accept_count, waits, runs, blocker, opened, due_items, fault_in, cookies_for, due}
-use Rattle.journal_laws.specs.Further.{with_entries}
+use Rattle.handle_model.specs.Further.{with_entries}
 use Rattle.handle_table.specs.Uses.{fault_at, cookies_at}
 use Rattle.handle_table.proofs.Named.{fault_shown, cookies_shown}
 use Rattle.call_table.specs.Rows.{row_at, conflict_of}

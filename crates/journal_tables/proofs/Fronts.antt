@@ -9,7 +9,7 @@ use Rattle.handle_model.specs.Sound.{IsSoundBase}
 use Rattle.handle_model.specs.History.{History, since, with_entry, history_of, size}
 use Rattle.handle_model.specs.Journal.{Legal}
 use Rattle.handle_model.proofs.Reversed.{past_more}
-use Rattle.journal_laws.specs.Further.{with_entries}
+use Rattle.handle_model.specs.Further.{with_entries}
 use Rattle.journal_tables.specs.Tables.{Tables, Admits, entered}
 use Rattle.journal_tables.specs.Shown.{tables_of, base_tables}
 use Rattle.journal_tables.proofs.Shown.{admits_shown, follows, base_shown}

@@ -24,10 +24,10 @@ use Rattle.handle_model.specs.Journal.{Legal, is_item_of, is_shut, ends, join_co
 use Rattle.handle_model.proofs.Tests.{and_left, and_right, or_right, or_cases}
 use Rattle.handle_model.proofs.Held.{joined_small, accepted_small, opened_small, slots_few, waits_open, joined_within, found_call, found_passes}
 use Rattle.handle_model.proofs.Reversed.{reverse-cons, list_any-reverse}
-use Rattle.journal_laws.specs.Running.{AllUsable}
-use Rattle.journal_laws.proofs.Apart.{running_apart}
-use Rattle.journal_laws.proofs.LiveNames.{opens_serial, any_opens, opens_within, opens_free, opens_once, issued_by, Issuer, serial_named_is, named_live}
-use Rattle.journal_laws.proofs.OneSlot.{running_unrepeated, serials_differ}
+use Rattle.handle_model.specs.Running.{AllUsable}
+use Rattle.handle_model.proofs.Apart.{running_apart}
+use Rattle.handle_model.proofs.LiveNames.{opens_serial, any_opens, opens_within, opens_free, opens_once, issued_by, Issuer, serial_named_is, named_live}
+use Rattle.handle_model.proofs.OneSlot.{running_unrepeated, serials_differ}
 use Rattle.handle_table.specs.Handles.{item_at}
 use Rattle.handle_table.proofs.Live.{live_item, live_issued, due_item_at}
 use Rattle.call_table.specs.declared.row.Row.{Row}

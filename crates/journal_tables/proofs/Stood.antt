@@ -20,7 +20,7 @@ use Rattle.handle_model.specs.Folds.{call_of, call_as, call_in, open_calls, base
 use Rattle.handle_model.specs.History.{History, since, with_entry, size}
 use Rattle.handle_model.specs.Journal.{Legal, is_shut, join_count, conns, accept_count, accepted, asked, opened, is_taken, is_decided, waits, runs, due_items}
 use Rattle.handle_model.proofs.Tests.{and_left, and_right, or_right, or_cases}
-use Rattle.journal_laws.specs.Further.{with_entries}
+use Rattle.handle_model.specs.Further.{with_entries}
 use Rattle.call_table.specs.declared.row.Row.{Row}
 use Rattle.call_table.specs.Shown.{row_as, row_in, rows_of, base_row, base_rows}
 use Rattle.call_table.specs.Based.{call_with}

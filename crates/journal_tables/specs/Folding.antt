@@ -10,7 +10,7 @@ use Rattle.handle_model.specs.History.{History, IsSound, since, size}
 use Rattle.handle_model.specs.Sound.{IsSoundBase}
 use Rattle.handle_model.specs.Bases.{empty_base}
 use Rattle.handle_model.specs.Journal.{Legal, Allowed, join_count, conns, accept_count, waits, runs, blocker, opened, due_items, fault_in, cookies_for, is_shut, due}
-pub use Rattle.journal_laws.specs.Further.{with_entries}
+pub use Rattle.handle_model.specs.Further.{with_entries}
 use Rattle.journal_tables.specs.Shown.{tables_of, base_tables}
 use Rattle.journal_tables.specs.Unplaced.{unplaced}
 

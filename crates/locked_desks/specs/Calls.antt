@@ -1,6 +1,6 @@
 -- What the services of a server answer to a call, whatever the calls of others have left behind their locks.
 use Rattle.std.specs.Prelude.{◌≡◌, ℕ, Bool, List, Option, Some}
-use Rattle.table_form.specs.Tables.{TableForm}
+use Rattle.ndr_value.specs.Tables.{TableForm}
 use Rattle.manager_api.specs.Answers.{Ans, Does}
 use Rattle.manager_api.specs.Calls.{Call}
 use Rattle.probe_desk.specs.Steps.{probe_step}

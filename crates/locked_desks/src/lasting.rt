@@ -1,7 +1,7 @@
 //! Services that keep nothing, whose desks are made for a call each.
 ghost use Rattle.std.specs.Prelude.{◌≡◌, ◌<◌, ◌≤◌, true, false, length};
 ghost use Rattle.ndr_value.specs.Values.{msg};
-ghost use Rattle.table_form.specs.Shown.{shown};
+ghost use Rattle.ndr_value.specs.Shown.{shown};
 ghost use Rattle.manager_api.specs.Answers.{ans, cancelled};
 ghost use Rattle.manager_api.specs.Calls.{Owes, has_cookies, uses_at};
 ghost use Rattle.manager_api.specs.Messages.{IsRequest};
@@ -14,11 +14,10 @@ use echo_desk::EchoDesk;
 use handle_model::{CookieRow, Due};
 use manager_api::{Answer, Desk, Probe};
 use mgmt_desk::{Ids, MgmtDesk};
-use ndr_value::Message;
+use ndr_value::{Message, Table};
 use rpc_base::{Items, Status, SyntaxId};
 use std::alloc::Global;
 use std::sync::Arc;
-use table_form::Table;
 
 /// An echo of the table answers.
 pub(crate) fn echo<P: Probe>(

@@ -13,7 +13,7 @@ use epm_desk::EpmDesk;
 use handle_model::{CookieRow, Due};
 use manager_api::{Answer, Probe};
 use manager_calls::Manager;
-use ndr_value::Message;
+use ndr_value::{Message, Table};
 use probe_desk::ProbeDesk;
 use rpc_base::{Items, NoMemory, SyntaxId};
 use rpc_outside::Address;
@@ -21,7 +21,6 @@ use service_desks::tables_with as offered;
 use std::alloc::Global;
 use std::sync::{Arc, Wait};
 use store_desk::StoreDesk;
-use table_form::Table;
 
 // The numbers of the interfaces.
 const PROBE: u16 = 0;

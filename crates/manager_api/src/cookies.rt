@@ -3,8 +3,8 @@ ghost use Rattle.std.specs.Prelude.{◌≡◌, is_some, not};
 ghost use Rattle.std.specs.List.{list_any};
 ghost use Rattle.manager_api.specs.Calls as spec;
 
+use ndr_value::HandleUse;
 use rpc_base::WireHandle;
-use table_form::HandleUse;
 
 // Whether the handle parameter names a handle that the group has.
 fn is_given(handle: &HandleUse, wire: &WireHandle) -> bool

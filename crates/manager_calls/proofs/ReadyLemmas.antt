@@ -7,7 +7,7 @@ use Rattle.handle_model.specs.declared.entry.Said.TheVariants.{Out, Fault}
 use Rattle.pdu_stream.specs.declared.joined.Joined.{Joined}
 use Rattle.conn_asks.specs.Answers.{FitsStub}
 use Rattle.ndr_value.specs.Values.{Msg}
-use Rattle.table_form.specs.Tables.{TableForm, OpForm}
+use Rattle.ndr_value.specs.Tables.{TableForm, OpForm}
 use Rattle.manager_api.specs.Answers.{Ans, AOut, AFault}
 use Rattle.manager_api.specs.Calls.{Call}
 use Rattle.conn_histories.specs.Requests.{IsRefused, no_memory}

@@ -6,7 +6,7 @@ use Rattle.handle_model.specs.declared.entry.Said.{Said}
 use Rattle.handle_model.specs.declared.entry.Said.TheVariants.{Out, Fault}
 use Rattle.pdu_stream.specs.declared.joined.Joined.{Joined}
 use Rattle.ndr_value.specs.Values.{msg}
-use Rattle.table_form.specs.Tables.{TableForm}
+use Rattle.ndr_value.specs.Tables.{TableForm}
 use Rattle.conn_histories.specs.Requests.{IsAsked, IsRefused, no_memory}
 use Rattle.served_call.specs.Suited.{Opened, never_full}
 use Rattle.conn_histories.specs.declared.turn.Deed.TheVariants.{Pending}

@@ -1,7 +1,7 @@
 //! Managers.
 ghost use Rattle.std.specs.Prelude.{◌≡◌, Bool, true, false, List};
 ghost use Rattle.ndr_value.specs.Values.{msg};
-ghost use Rattle.table_form.specs.Tables.{TableForm};
+ghost use Rattle.ndr_value.specs.Tables.{TableForm};
 ghost use Rattle.manager_api.specs.Answers.{Ans, ans, cancelled};
 ghost use Rattle.manager_api.specs.Calls.{Call};
 ghost use Rattle.served_tables.specs.Calls.{IsCall, Owed};

@@ -11,9 +11,9 @@ use Rattle.idl_names.specs.Members.{attrs_of, dtors_of, lone_member, result_memb
 use Rattle.idl_names.specs.Attributes.{pointer_default, says, says_handle, is_serialised}
 use Rattle.idl_forms.specs.Forms as idl
 use Rattle.ndr_value.specs.Forms.{Form}
-use Rattle.table_form.specs.declared.operation.HandleUse.{HandleUse}
-use Rattle.table_form.specs.Ordered.{is_below}
-use Rattle.table_form.specs.Tables.{OpForm, IsTable, param_below, result_below, op_below}
+use Rattle.ndr_value.specs.declared.operation.HandleUse.{HandleUse}
+use Rattle.ndr_value.specs.Ordered.{is_below}
+use Rattle.ndr_value.specs.Tables.{OpForm, IsTable, param_below, result_below, op_below}
 use Rattle.table_scope.specs.declared.known.Sort.{Sort}
 use Rattle.table_scope.specs.declared.known.Sort.TheVariants as sorts
 use Rattle.table_scope.specs.declared.said.Terms.{Terms}

@@ -10,7 +10,7 @@ use Rattle.idl_names.specs.declared.place.Extent.{Extent}
 use Rattle.idl_names.specs.declared.place.Extent.TheVariants as extents
 use Rattle.ndr_value.specs.declared.shape.Count.{Count}
 use Rattle.ndr_value.specs.Forms.{Form, OfNamed, OfStruct, OfUnion, OfArray, OfText, OfRef, OfUnique, OfFull, Forms, no_form, then_form, Body, empty, holds, ArmForms, no_arm, then_arm}
-use Rattle.table_form.specs.Ordered.{is_below, each_below, arms_below, body_below}
+use Rattle.ndr_value.specs.Ordered.{is_below, each_below, arms_below, body_below}
 use Rattle.idl_tree.specs.declared.leaf.Num.{Num}
 use Rattle.table_scope.specs.declared.said.Terms.{Terms}
 use Rattle.idl_names.specs.Symbols.{ByName}

@@ -1,7 +1,7 @@
 -- Parameters and handles, one list behind the other.
 use Rattle.std.proofs.Common.{◌≡◌, List, [], ◌++◌, append_assoc, append-nil}
-use Rattle.table_form.specs.declared.operation.HandleUse.{HandleUse}
-use Rattle.table_form.specs.Tables.{ParamForm}
+use Rattle.ndr_value.specs.declared.operation.HandleUse.{HandleUse}
+use Rattle.ndr_value.specs.Tables.{ParamForm}
 use Rattle.table_laws.specs.Interfaces.{Listed, joined}
 
 pub joined_assoc : (a b c : Listed) → joined (joined a b) c ≡ joined a (joined b c)

@@ -14,8 +14,8 @@ use Rattle.idl_names.specs.Members.{attrs_of, dtors_of}
 use Rattle.idl_names.specs.Declarators.{all_pointed}
 use Rattle.idl_forms.specs.Forms as idl
 use Rattle.ndr_value.specs.Forms.{Form, OfNamed, OfStruct, OfUnion}
-use Rattle.table_form.specs.Ordered.{is_body, is_below, arms_below, body_below, ordered_from}
-use Rattle.table_form.specs.Ordered.{is_size as is_number_size}
+use Rattle.ndr_value.specs.Ordered.{is_body, is_below, arms_below, body_below, ordered_from}
+use Rattle.ndr_value.specs.Ordered.{is_size as is_number_size}
 use Rattle.idl_names.specs.declared.symbols.Tag.{Tag}
 use Rattle.idl_names.specs.Symbols as names
 use Rattle.idl_names.specs.Symbols.{ByName, Symbols, put, found}

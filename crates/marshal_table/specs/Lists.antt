@@ -1,6 +1,6 @@
 -- Lists that grow while an interface is gone through, as the definitions see them.
 use Rattle.std.specs.Prelude.{map}
-use Rattle.table_form.specs.Tables.{param_form, op_form}
+use Rattle.ndr_value.specs.Tables.{param_form, op_form}
 use Rattle.table_scope.specs.declared.known.Known.{Known}
 use Rattle.table_scope.specs.Scopes.{scope}
 use Rattle.table_laws.specs.Interfaces.{Listed, Draft}

@@ -1,15 +1,15 @@
 //! The table of an interface that keeps the rules.
 ghost use Rattle.std.specs.Prelude.{◌≡◌, IfOk};
-ghost use Rattle.table_form.specs.Shown.{shown};
+ghost use Rattle.ndr_value.specs.Shown.{shown};
 ghost use Rattle.table_laws.specs.Interfaces as spec;
 ghost use Rattle.table_laws.specs.Wholes.{HasEachOperation, HasEachHandle};
 ghost use Rattle.table_laws.specs.Stands.{EachNameStands};
 
 use crate::tables::build_tree;
 use idl_check::Checked;
+use ndr_value::Table;
 use rpc_base::NoMemory;
 use std::alloc::Global;
-use table_form::Table;
 
 /// The table of a checked interface.
 ///

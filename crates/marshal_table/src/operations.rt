@@ -1,7 +1,7 @@
 //! Operations.
 ghost use Rattle.std.specs.Prelude.{◌≡◌, [], map, take, IfOk, OnOk};
 ghost use Rattle.ndr_value.specs.Forms.{form};
-ghost use Rattle.table_form.specs.Tables.{result_form, param_form, op_form};
+ghost use Rattle.ndr_value.specs.Tables.{result_form, param_form, op_form};
 ghost use Rattle.idl_forms.specs.Forms as idl;
 ghost use Rattle.idl_forms.specs.Forms.{spec_form, attrs_form};
 ghost use Rattle.table_scope.specs.Scopes.{sense, scope};
@@ -13,10 +13,9 @@ use crate::listing::{Listing, Operations};
 use crate::params::{param_names, params};
 use idl_names::{Word, says};
 use idl_tree::{Attr, Ident, ParamNode, Pk, Spec};
-use ndr_value::Shape;
+use ndr_value::{HandleUses, Op, Params, Shape};
 use rpc_base::NoMemory;
 use std::alloc::Global;
-use table_form::{HandleUses, Op, Params};
 use table_scope::{Known, Meaning, Sort};
 use table_specs::meaning_of;
 

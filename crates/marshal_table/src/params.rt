@@ -1,7 +1,7 @@
 //! Parameters.
 ghost use Rattle.std.specs.Prelude.{◌≡◌, ◌++◌, ◌∷◌, [], map, IfOk, OnOk};
 ghost use Rattle.ndr_value.specs.Forms.{form};
-ghost use Rattle.table_form.specs.Tables.{param_form};
+ghost use Rattle.ndr_value.specs.Tables.{param_form};
 ghost use Rattle.idl_forms.specs.Forms as idl;
 ghost use Rattle.idl_forms.specs.Forms.{spec_form, kind_form, attrs_form};
 ghost use Rattle.idl_names.specs.declared.place.Place.TheVariants as places;
@@ -17,11 +17,10 @@ use crate::listing::Listing;
 use idl_names::{Place, Word, copy_name, says};
 use idl_tree::{Attr, Dtor, Ident, Num, ParamNode, Pk, Spec, SpecKind};
 use name_map::Names;
-use ndr_value::Shape;
+use ndr_value::{HandleUse, HandleUses, Param, Params, Shape};
 use rpc_base::NoMemory;
 use std::alloc::Global;
 use std::slice;
-use table_form::{HandleUse, HandleUses, Param, Params};
 use table_scope::{Known, Meaning, Sort, declared, range, terms};
 use table_specs::meaning_of;
 

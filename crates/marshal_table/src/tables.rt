@@ -1,15 +1,15 @@
 //! The table of an interface.
 ghost use Rattle.std.specs.Prelude.{◌≡◌, [], IfOk};
-ghost use Rattle.table_form.specs.Shown.{shown};
+ghost use Rattle.ndr_value.specs.Shown.{shown};
 ghost use Rattle.table_laws.specs.Interfaces as spec;
 
 use crate::interface::{declarations, syntax_of};
 use crate::listing::Operations;
 use idl_names::pointer_default;
 use idl_tree::Ast;
+use ndr_value::Table;
 use rpc_base::NoMemory;
 use std::alloc::Global;
-use table_form::Table;
 use table_scope::nothing_known;
 
 fn no_operations(alloc: Global) -> Operations

@@ -3,7 +3,7 @@ use Rattle.std.specs.Prelude.{List, [], ◌∷◌, Some, None, true, codes}
 use Rattle.ndr_value.specs.declared.shape.Count.TheVariants.{Param, Member}
 use Rattle.ndr_value.specs.declared.shape.ArrayKind.TheVariants.{Conformant}
 use Rattle.ndr_value.specs.Forms.{Form, OfUint, OfStruct, OfArray, OfRef, OfFull, no_form, then_form}
-use Rattle.table_form.specs.Tables.{OpForm, TableForm}
+use Rattle.ndr_value.specs.Tables.{OpForm, TableForm}
 use Rattle.table_parts.specs.Parts.{named, uuid_form, syntax_form, goes_out, goes_both, number_out, procedure}
 
 -- ---- types

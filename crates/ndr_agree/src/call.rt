@@ -2,8 +2,7 @@
 
 use crate::named::named;
 use ndr_model::Way;
-use ndr_value::{Count, Message, Value};
-use table_form::{Op, Table};
+use ndr_value::{Count, Message, Op, Table, Value};
 
 /// A message of an operation of the table. `asked` is the request, where the message is a response.
 #[derive(Clone, Copy)]

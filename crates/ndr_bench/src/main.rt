@@ -12,7 +12,7 @@ use idl_check::check;
 use idl_reader::read_idl;
 use marshal_table::build;
 use ndr_codec::{EncodeFault, NdrFault, Way, decode, encode};
-use ndr_value::{Message, Value};
+use ndr_value::{Message, Table, Value};
 use rpc_base::Order;
 use shape::{Shape, stub_of, text_of};
 use std::alloc::Global;
@@ -20,7 +20,6 @@ use std::io::Print;
 use std::rt::{Clock, Env, Files};
 use std::time::Instant;
 use std::{env, fs};
-use table_form::Table;
 
 /// The words behind the program's name.
 fn words(rt: &(impl Env + AllocGlobal), alloc: Global) -> Result<Vec<String>> {

@@ -6,9 +6,9 @@ use Rattle.rpc_base.specs.Fields.{IsOctets}
 use Rattle.ndr_value.specs.Forms.{Form}
 use Rattle.ndr_value.specs.Values.{Vals, Msg, msg}
 use Rattle.ndr_value.specs.declared.value.Message.{Message}
-use Rattle.table_form.specs.Tables.{OpForm}
-use Rattle.ndr_arrays.specs.Bind.{◌>>=◌}
-use Rattle.ndr_arrays.proofs.Steps.{ok_is}
+use Rattle.ndr_value.specs.Tables.{OpForm}
+use Rattle.ndr_model.specs.Bind.{◌>>=◌}
+use Rattle.ndr_model.proofs.Steps.{ok_is}
 use Rattle.ndr_model.specs.declared.departure.Departure.{Departure}
 use Rattle.ndr_model.specs.declared.departure.Departure.TheVariants as departures
 use Rattle.ndr_model.specs.declared.way.Way.{Way}

@@ -7,8 +7,8 @@ use Rattle.rpc_base.specs.declared.fault.NoMemory.{NoMemory}
 use Rattle.rpc_base.specs.Fields.{IsOctets}
 use Rattle.ndr_value.specs.Forms.{Form}
 use Rattle.ndr_value.specs.Values.{Msg}
-use Rattle.table_form.specs.Tables.{OpForm}
-use Rattle.ndr_arrays.proofs.Steps.{ok_is}
+use Rattle.ndr_value.specs.Tables.{OpForm}
+use Rattle.ndr_model.proofs.Steps.{ok_is}
 use Rattle.ndr_model.specs.declared.departure.Departure.{Departure}
 use Rattle.ndr_model.specs.declared.way.Way.{Way}
 use Rattle.ndr_model.specs.Message.{IsStub, read_stub}

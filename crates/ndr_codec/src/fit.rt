@@ -4,8 +4,8 @@ ghost use Rattle.rpc_base.specs.Fields.{IsOctets};
 ghost use Rattle.rpc_base.specs.declared.identifiers.Order as orders;
 ghost use Rattle.rpc_base.specs.declared.identifiers.Order.TheVariants.{Little};
 ghost use Rattle.ndr_value.specs.Values.{msg};
-ghost use Rattle.table_form.specs.Shown.{shown};
-ghost use Rattle.table_form.specs.Tables.{OpForm};
+ghost use Rattle.ndr_value.specs.Shown.{shown};
+ghost use Rattle.ndr_value.specs.Tables.{OpForm};
 ghost use Rattle.ndr_model.specs.Message.{IsStub};
 ghost use Rattle.ndr_laws.specs.Laws.{IsOp};
 ghost use Rattle.ndr_model.specs.Written.{stub};
@@ -17,11 +17,10 @@ use crate::stub::decode_op;
 use ndr_agree::Call;
 use ndr_model::{NdrFault, Way};
 use ndr_same::same_message;
-use ndr_value::Message;
+use ndr_value::{Message, Table};
 use ndr_write::write;
 use rpc_base::{NoMemory, Order};
 use std::alloc::Global;
-use table_form::Table;
 
 // In so many octets there are ids enough for each pointer.
 const IDS_SUFFICE: usize = 1 << 31;

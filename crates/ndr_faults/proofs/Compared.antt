@@ -7,10 +7,10 @@ use Rattle.ndr_value.specs.declared.shape.Count.{Count}
 use Rattle.ndr_value.specs.declared.shape.ArrayKind.{ArrayKind}
 use Rattle.ndr_value.specs.Forms.{Form, OfBool, OfByte, OfChar, OfInt, OfUint, OfEnum, OfText, OfHandle, OfNamed, OfStruct, OfUnion, OfArray, OfRef, OfUnique, OfFull, Forms, Body}
 use Rattle.ndr_value.specs.Values.{Val, VBool, VByte, VChar, VInt, VUint, VEnum, VText, VHandle, VStruct, VEmpty, VUnion, VArray, VNull, VPtr, VFull, Vals, no_val}
-use Rattle.table_form.specs.Aligned.{is_last}
-use Rattle.ndr_scalars.specs.Scalars.{up, signed}
-use Rattle.ndr_arrays.specs.declared.counts.Counts.{Counts}
-use Rattle.ndr_arrays.specs.Counted.{moved_most, a_most, HasCounts, of_fixed, of_varying, of_conformant, of_both}
+use Rattle.ndr_value.specs.Aligned.{is_last}
+use Rattle.ndr_model.specs.Scalars.{up, signed}
+use Rattle.ndr_model.specs.declared.counts.Counts.{Counts}
+use Rattle.ndr_model.specs.Counted.{moved_most, a_most, HasCounts, of_fixed, of_varying, of_conformant, of_both}
 use Rattle.ndr_model.specs.declared.departure.Departure.{Departure}
 use Rattle.ndr_model.specs.declared.departure.Departure.TheVariants.{Bound, Tag}
 use Rattle.ndr_model.specs.declared.mark.Mark.{Mark}

@@ -5,11 +5,11 @@ use Rattle.std.proofs.lemmas.List.{append-nil}
 use Rattle.rpc_base.specs.declared.identifiers.Order.{Order}
 use Rattle.ndr_value.specs.Forms.{Form}
 use Rattle.ndr_value.specs.Values.{Val, Vals, no_val, then_val, count_of, Msg}
-use Rattle.table_form.specs.declared.operation.Bounds.{Bounds}
-use Rattle.table_form.specs.Tables.{OpForm}
-use Rattle.ndr_scalars.specs.Scalars.{up}
-use Rattle.ndr_arrays.specs.Bind.{◌>>=◌}
-use Rattle.ndr_arrays.proofs.Steps.{through}
+use Rattle.ndr_value.specs.declared.operation.Bounds.{Bounds}
+use Rattle.ndr_value.specs.Tables.{OpForm}
+use Rattle.ndr_model.specs.Scalars.{up}
+use Rattle.ndr_model.specs.Bind.{◌>>=◌}
+use Rattle.ndr_model.proofs.Steps.{through}
 use Rattle.ndr_model.specs.declared.departure.Departure.{Departure}
 use Rattle.ndr_model.specs.declared.departure.Departure.TheVariants.{Bound}
 use Rattle.ndr_model.specs.declared.way.Way.{Way}

@@ -5,8 +5,8 @@ use Rattle.rpc_base.specs.declared.identifiers.Order.{Order}
 use Rattle.ndr_value.specs.Forms.{Form, OfBool, OfByte, OfChar, OfInt, OfUint, OfEnum, OfNamed, OfStruct, OfUnion, OfArray, OfText, OfRef, OfUnique, OfFull, OfHandle, Forms, no_form, then_form, Body, empty, holds}
 use Rattle.ndr_value.specs.Fits.{arm_of}
 use Rattle.ndr_value.specs.Values.{VUnion, then_val}
-use Rattle.ndr_scalars.specs.Scalars.{up}
-use Rattle.ndr_arrays.specs.Bind.{◌>>=◌}
+use Rattle.ndr_model.specs.Scalars.{up}
+use Rattle.ndr_model.specs.Bind.{◌>>=◌}
 use Rattle.ndr_model.specs.declared.mark.Mark.TheVariants.{Referent}
 use Rattle.ndr_model.specs.Places.{Place, past, Last, onto, noting}
 use Rattle.ndr_model.specs.Part.{for_last, in_place, tag_size, opened_marks, count_marks, tag_marks}

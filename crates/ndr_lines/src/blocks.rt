@@ -7,11 +7,10 @@ use idl_check::check;
 use idl_reader::read_idl;
 use marshal_table::build;
 use ndr_codec::Way;
-use ndr_value::Message;
+use ndr_value::{Message, Table};
 use rpc_base::{NoMemory, Order};
 use rpc_words::{put, put_decimal, read_octets};
 use std::alloc::Global;
-use table_form::Table;
 
 /// What was gone through so far.
 #[derive(Drop)]

@@ -2,9 +2,8 @@
 
 use call_texts::{Handles, read_row};
 use ndr_codec::Way;
-use ndr_value::{Message, Shape, Values, Wires};
+use ndr_value::{Message, Shape, Table, Values, Wires};
 use std::alloc::Global;
-use table_form::Table;
 use value_text::read_value;
 
 // Where the text goes on behind a word.

@@ -1,5 +1,9 @@
 pub mod Alike
+pub mod ArrayLaws
+pub mod Gaps
 pub mod Mets
 pub mod Pieces
+pub mod ScalarLaws
 pub mod Sound
+pub mod Steps
 pub mod Stubs

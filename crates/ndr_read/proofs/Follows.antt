@@ -4,9 +4,9 @@ use Rattle.std.proofs.lemmas.List.{drop_all}
 use Rattle.rpc_base.specs.declared.identifiers.Order.{Order}
 use Rattle.ndr_value.specs.Forms.{Form}
 use Rattle.ndr_value.specs.Values.{Val, Vals, no_val, then_val}
-use Rattle.table_form.specs.declared.operation.Param.{Param}
-use Rattle.table_form.specs.Tables.{ParamForm, param_form}
-use Rattle.ndr_arrays.specs.Bind.{◌>>=◌}
+use Rattle.ndr_value.specs.declared.operation.Param.{Param}
+use Rattle.ndr_value.specs.Tables.{ParamForm, param_form}
+use Rattle.ndr_model.specs.Bind.{◌>>=◌}
 use Rattle.ndr_model.specs.declared.departure.Departure.{Departure}
 use Rattle.ndr_model.specs.declared.way.Way.{Way}
 use Rattle.ndr_model.specs.Places.{Last, noting}

@@ -6,10 +6,10 @@ use Rattle.ndr_value.specs.declared.shape.Shape.{Shape}
 use Rattle.ndr_value.specs.declared.value.Value.{Value}
 use Rattle.ndr_value.specs.Forms.{Form, Forms, OfStruct, OfUnion, ArmForms, Body, form, forms}
 use Rattle.ndr_value.specs.Values.{Val, Vals, no_val, then_val, val, vals}
-use Rattle.ndr_arrays.specs.Bind.{◌>>=◌}
+use Rattle.ndr_model.specs.Bind.{◌>>=◌}
 use Rattle.std.specs.Prelude.{ℤ}
 use Rattle.ndr_value.specs.Fits.{arm_of}
-use Rattle.ndr_scalars.specs.Scalars.{up}
+use Rattle.ndr_model.specs.Scalars.{up}
 use Rattle.ndr_model.specs.declared.departure.Departure.{Departure}
 use Rattle.ndr_model.specs.declared.mark.Mark.TheVariants.{Number}
 use Rattle.ndr_model.specs.Part.{for_last, in_place, tag_size, opened_marks, tag_marks}

@@ -2,7 +2,7 @@
 ghost use Rattle.std.specs.Prelude.{◌≡◌, ◌∷◌, [], ◌++◌, ◌+◌, ◌-◌, ◌≤◌, ◌<◌, ◌==◌, ℕ, Option, None, Some, Ok, OnOk, true, not, length, slice_get};
 ghost use Rattle.ndr_value.specs.Forms.{form, forms, arms_of, body, OfByte, OfStruct, OfUnion, OfArray, OfRef, OfUnique, OfFull};
 ghost use Rattle.ndr_value.specs.Values.{val, vals, bytes, VStruct, VArray, VUnion, VEmpty, VPtr, VNull, VFull};
-ghost use Rattle.ndr_scalars.specs.Scalars.{up};
+ghost use Rattle.ndr_model.specs.Scalars.{up};
 ghost use Rattle.ndr_model.specs.declared.mark.Mark.TheVariants.{Referent};
 ghost use Rattle.ndr_model.specs.Places.{Last, noting, look};
 ghost use Rattle.ndr_model.specs.Reading.{number};

@@ -2,7 +2,7 @@
 //! stack.
 ghost use Rattle.std.specs.Prelude.{◌≡◌, ◌==◌, ℕ, not};
 ghost use Rattle.ndr_value.specs.Values.{val, VBool, VByte, VChar, VInt, VUint};
-ghost use Rattle.ndr_scalars.specs.Scalars.{signed};
+ghost use Rattle.ndr_model.specs.Scalars.{signed};
 ghost use Rattle.ndr_model.specs.Places.{Last};
 ghost use Rattle.ndr_model.specs.Build.{ends, built_number};
 ghost use Rattle.ndr_scan.specs.Gives.{Gives};

@@ -2,9 +2,9 @@
 ghost use Rattle.std.specs.Prelude.{◌≡◌, ◌+◌, ◌∷◌, [], ℕ, List, Option, Some, None, map, OnOk, MatchOption};
 ghost use Rattle.ndr_value.specs.Forms.{form};
 ghost use Rattle.ndr_value.specs.Values.{val, vals, msg};
-ghost use Rattle.table_form.specs.Shown.{shown};
-ghost use Rattle.table_form.specs.Tables.{param_form, result_form, op_form};
-ghost use Rattle.ndr_scalars.specs.Scalars.{up};
+ghost use Rattle.ndr_value.specs.Shown.{shown};
+ghost use Rattle.ndr_value.specs.Tables.{param_form, result_form, op_form};
+ghost use Rattle.ndr_model.specs.Scalars.{up};
 ghost use Rattle.ndr_model.specs.Part.{tag_size};
 ghost use Rattle.ndr_model.specs.Places.{noting};
 ghost use Rattle.ndr_model.specs.Stub.{Entry, param_entry, entries, entries_of, last_entry, ranged, start};
@@ -22,11 +22,10 @@ use crate::notes::note;
 use crate::state::Tail;
 use ndr_model::{Departure, Mark, Way};
 use ndr_scan::{ReadError, Reader, aligned, tag_octets};
-use ndr_value::{Message, Shape, Value, Values, Wires};
+use ndr_value::{Bounds, Message, Op, Param, Shape, Table, Value, Values, Wires};
 use rpc_base::{NoMemory, Order};
 use std::alloc::Global;
 use std::mem;
-use table_form::{Bounds, Op, Param, Table};
 
 // How deep constructs of a stub nest at most: types, parameters and results nest by value 16
 // levels, and there are 256 levels of pointers.

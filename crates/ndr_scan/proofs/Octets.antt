@@ -5,8 +5,8 @@ use Rattle.std.proofs.lemmas.Bool.{lt-ltb, le-ltb, ltb-true, ltb-false}
 use Rattle.std.proofs.lemmas.Grind.{common_steps}
 use Rattle.rpc_base.specs.declared.identifiers.Order.{Order}
 use Rattle.ndr_value.specs.Forms.{Form, OfByte}
-use Rattle.ndr_scalars.specs.Scalars.{up, number_at}
-use Rattle.ndr_arrays.specs.Bind.{◌>>=◌}
+use Rattle.ndr_model.specs.Scalars.{up, number_at}
+use Rattle.ndr_model.specs.Bind.{◌>>=◌}
 use Rattle.ndr_model.specs.declared.departure.Departure.TheVariants.{Short, TooDeep}
 use Rattle.ndr_model.specs.Places.{Place, past}
 use Rattle.ndr_model.specs.Reading.{number}

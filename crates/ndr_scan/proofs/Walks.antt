@@ -7,8 +7,8 @@ use Rattle.ndr_value.specs.declared.shape.Shape.{Shape}
 use Rattle.ndr_value.specs.Forms.{Form, OfStruct, OfUnion, ArmForms, Body, Forms, form, forms}
 use Rattle.rpc_base.specs.declared.identifiers.Order.{Order}
 use Rattle.ndr_value.specs.Fits.{arm_of}
-use Rattle.ndr_scalars.specs.Scalars.{up}
-use Rattle.ndr_arrays.specs.Bind.{◌>>=◌}
+use Rattle.ndr_model.specs.Scalars.{up}
+use Rattle.ndr_model.specs.Bind.{◌>>=◌}
 use Rattle.ndr_model.specs.declared.departure.Departure.{Departure}
 use Rattle.ndr_model.specs.Part.{for_last, in_place, tag_size}
 use Rattle.ndr_model.specs.Reading.{struct_at, tag_at}

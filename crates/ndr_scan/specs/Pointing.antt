@@ -2,8 +2,8 @@
 use Rattle.std.specs.Prelude.{ℕ, List, [], ◌∷◌, ◌++◌, Ok}
 use Rattle.rpc_base.specs.declared.identifiers.Order.{Order}
 use Rattle.ndr_value.specs.Forms.{Form}
-use Rattle.ndr_scalars.specs.Scalars.{up}
-use Rattle.ndr_arrays.specs.Bind.{◌>>=◌}
+use Rattle.ndr_model.specs.Scalars.{up}
+use Rattle.ndr_model.specs.Bind.{◌>>=◌}
 use Rattle.ndr_pointers.specs.declared.referents.Points.{Points}
 use Rattle.ndr_pointers.specs.declared.referents.Points.TheVariants.{Ref, Unique, Full}
 use Rattle.ndr_model.specs.Places.{Place, past}

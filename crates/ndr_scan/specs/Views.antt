@@ -1,7 +1,7 @@
 -- Where a reader stands, and what it was given, as the definitions see them.
 use Rattle.std.specs.Prelude.{ℕ, List}
 use Rattle.ndr_value.specs.Forms.{Form}
-use Rattle.table_form.specs.Shown.{shown}
+use Rattle.ndr_value.specs.Shown.{shown}
 use Rattle.ndr_pointers.specs.Shown.{known}
 use Rattle.ndr_model.specs.Places.{Place}
 use Rattle.ndr_scan.specs.declared.state.Reader.{Reader}

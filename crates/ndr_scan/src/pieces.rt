@@ -3,22 +3,22 @@ ghost use Rattle.std.specs.Prelude.{◌≡◌, ◌^◌, Option, ◌<◌, ◌≤�
 ghost use Rattle.rpc_base.specs.declared.identifiers.WireHandle.{WireHandle};
 ghost use Rattle.ndr_value.specs.Forms.{form, forms, arms_of, body, types_of, OfStruct, OfUnion, OfUint};
 ghost use Rattle.ndr_value.specs.Fits.{arm_of};
-ghost use Rattle.table_form.specs.Ordered.{is_size};
-ghost use Rattle.table_form.specs.Shown.{shown};
-ghost use Rattle.ndr_scalars.specs.Scalars.{up, octets_of, signed_at};
-ghost use Rattle.ndr_arrays.specs.declared.counts.Counts.{Counts};
+ghost use Rattle.ndr_value.specs.Ordered.{is_size};
+ghost use Rattle.ndr_value.specs.Shown.{shown};
+ghost use Rattle.ndr_model.specs.Scalars.{up, octets_of, signed_at};
+ghost use Rattle.ndr_model.specs.declared.counts.Counts.{Counts};
 ghost use Rattle.ndr_model.specs.Part.{in_place, tag_size};
 ghost use Rattle.ndr_model.specs.Reading.{number, name_at, wire_at, chars_at, array_at, tag_at, opened_at, begun, struct_at, unless_short};
 ghost use Rattle.ndr_scan.specs.Gives.{Gives};
 
 use crate::fault::ReadError;
 use crate::state::Reader;
-use ndr_arrays::{CountFault, Counts, TextFault, read_counts, read_text};
-use ndr_model::Departure;
-use ndr_scalars::{read_int, read_uint, read_word};
-use ndr_value::{Arm, ArrayKind, Shape, selected_arm, tag_fits};
+use ndr_model::{
+    CountFault, Counts, Departure, TextFault, read_counts, read_int, read_text, read_uint,
+    read_word,
+};
+use ndr_value::{Arm, ArrayKind, Shape, octets, selected_arm, tag_fits};
 use rpc_base::{WireHandle, get_handle};
-use table_form::octets;
 
 /// The least multiple of an alignment not below an index.
 pub fn aligned(at: usize, align: u8) -> usize
@@ -73,7 +73,7 @@ impl<'a> Reader<'a> {
     }
 
     /// An octet, and the index after it.
-    #[tactic(auto, unfolding(ndr_scalars::specs::Scalars::number_at), using(crate::proofs::Octets::octet_is))]
+    #[tactic(auto, unfolding(ndr_model::specs::Scalars::number_at), using(crate::proofs::Octets::octet_is))]
     pub fn octet(&self, at: usize) -> Result<(u8, usize), ReadError>
         ensures exact { Gives (λ (x : ℕ × ℕ). x) result (number self.now.order self.now.octets.now 1 at) }
         ensures place { IfOk result (λ x. x.1 ≡ at + 1) }

@@ -1,7 +1,7 @@
 //! The end of a flat part.
 ghost use Rattle.std.specs.Prelude.{◌≡◌, ◌-◌, ◌+◌, ◌≤◌, ◌<◌, ℕ, ℤ, Option, length, Ok, Some, None, slice_get, nat_lt, ◌==◌, if◌then◌else◌};
 ghost use Rattle.ndr_value.specs.Forms.{form, forms, body, Body, OfByte};
-ghost use Rattle.ndr_scalars.specs.Scalars.{up};
+ghost use Rattle.ndr_model.specs.Scalars.{up};
 ghost use Rattle.ndr_pointers.specs.Shown.{known};
 ghost use Rattle.ndr_model.specs.Reading.{number};
 ghost use Rattle.ndr_model.specs.Scan.{scan, scan_at, each, times, arm_scan, past_number};

@@ -1,10 +1,9 @@
 //! What a reader reads, and what it met.
 
 use ndr_pointers::Referents;
-use ndr_value::Wires;
+use ndr_value::{Table, Wires};
 use rpc_base::Order;
 use std::alloc::Global;
-use table_form::Table;
 
 /// A stub, and what it is read by.
 #[derive(Clone, Copy)]

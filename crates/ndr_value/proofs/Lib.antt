@@ -1,3 +1,5 @@
+pub mod Aligns
+pub mod Judges
 pub mod Mirror
 pub mod Names
-pub mod Judges
+pub mod Sizes

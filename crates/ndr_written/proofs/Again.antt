@@ -8,8 +8,8 @@ use Rattle.ndr_value.specs.declared.shape.Count.{Count}
 use Rattle.ndr_value.specs.Forms.{Form, OfBool, OfInt, OfNamed, OfUnion, OfFull, OfHandle, Forms, no_form, Body}
 use Rattle.ndr_value.specs.Fits.{arm_of}
 use Rattle.ndr_value.specs.Values.{Val, VBool, VInt, VUnion, VFull, VHandle, Vals, no_val, then_val, count_of}
-use Rattle.table_form.specs.Aligned.{is_last, align_of, alignments}
-use Rattle.ndr_arrays.specs.Written.{both}
+use Rattle.ndr_value.specs.Aligned.{is_last, align_of, alignments}
+use Rattle.ndr_model.specs.ArraysWritten.{both}
 use Rattle.ndr_model.specs.declared.mark.Mark.{Mark}
 use Rattle.ndr_model.specs.declared.mark.Mark.TheVariants.{Referent}
 use Rattle.ndr_model.specs.Places.{Place, Last, onto, noting}

@@ -11,11 +11,11 @@ use Rattle.ndr_value.specs.declared.shape.ArrayKind.{ArrayKind}
 use Rattle.ndr_value.specs.declared.shape.ArrayKind.TheVariants.{Fixed, Conformant, ConformantVarying}
 use Rattle.ndr_value.specs.Forms.{Form}
 use Rattle.ndr_value.specs.Values.{Vals}
-use Rattle.ndr_scalars.specs.Scalars.{Scalar}
-use Rattle.ndr_arrays.specs.declared.counts.Counts.{Counts}
-use Rattle.ndr_arrays.specs.Counted.{counts, HasMost, moved_most, a_most, HasActual, HasCounts, of_fixed, of_varying, of_conformant, of_both}
-use Rattle.ndr_arrays.specs.Texts.{HasLimit, of_size, of_count, IsText}
-use Rattle.ndr_arrays.specs.Written.{both, word, actual_octets, most_octets, size_octets, text_octets}
+use Rattle.ndr_model.specs.Scalars.{Scalar}
+use Rattle.ndr_model.specs.declared.counts.Counts.{Counts}
+use Rattle.ndr_model.specs.Counted.{counts, HasMost, moved_most, a_most, HasActual, HasCounts, of_fixed, of_varying, of_conformant, of_both}
+use Rattle.ndr_model.specs.Texts.{HasLimit, of_size, of_count, IsText}
+use Rattle.ndr_model.specs.ArraysWritten.{both, word, actual_octets, most_octets, size_octets, text_octets}
 use Rattle.ndr_model.specs.declared.mark.Mark.{Mark}
 use Rattle.ndr_model.specs.declared.mark.Mark.TheVariants.{Number}
 use Rattle.ndr_model.specs.Part.{count_marks}

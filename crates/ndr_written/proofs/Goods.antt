@@ -5,9 +5,9 @@ use Rattle.rpc_base.specs.declared.identifiers.Order.{Order}
 use Rattle.ndr_value.specs.Forms.{Form, OfUnion, Forms, Body}
 use Rattle.ndr_value.specs.Fits.{arm_of}
 use Rattle.ndr_value.specs.Values.{Val, Vals, count_of}
-use Rattle.table_form.specs.Aligned.{is_last, align_of, alignments}
-use Rattle.ndr_arrays.specs.Written.{both}
-use Rattle.ndr_scalars.specs.Scalars.{Scalar}
+use Rattle.ndr_value.specs.Aligned.{is_last, align_of, alignments}
+use Rattle.ndr_model.specs.ArraysWritten.{both}
+use Rattle.ndr_model.specs.Scalars.{Scalar}
 use Rattle.ndr_model.specs.Part.{opens_with}
 use Rattle.ndr_model.specs.Named.{Call}
 use Rattle.ndr_model.proofs.Mets.{eq_self, less_not}

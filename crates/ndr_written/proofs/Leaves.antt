@@ -12,7 +12,7 @@ use Rattle.rpc_base.specs.Fields.{IsOctets, FitsHandle, uuid_octets, handle_octe
 use Rattle.rpc_base.proofs.FieldLaws.{IsOctets-drop, IsOctets-take, IsOctets-uuid_octets, wide32, length-handle_octets, handle_again}
 use Rattle.ndr_value.specs.Forms.{Form, OfBool, OfInt}
 use Rattle.ndr_value.specs.Fits.{within}
-use Rattle.ndr_scalars.specs.Scalars.{up, octets_of, signed, unsigned, Scalar, written}
+use Rattle.ndr_model.specs.Scalars.{up, octets_of, signed, unsigned, Scalar, written}
 use Rattle.ndr_model.specs.Named.{Call}
 use Rattle.ndr_model.specs.Part.{IsWire, IsTag, tag_bool, tag_char, tag_int, tag_uint, tag_enum}
 use Rattle.ndr_model.specs.Pieces.{half, fitting_int, gap, number, signed_number}

@@ -4,10 +4,10 @@ use Rattle.std.specs.Prelude.{◌==◌, ◌||◌, if◌then◌else◌}
 use Rattle.rpc_base.specs.declared.identifiers.Order.{Order}
 use Rattle.ndr_value.specs.Forms.{Form, OfStruct, Forms}
 use Rattle.ndr_value.specs.Values.{Val, Vals}
-use Rattle.table_form.specs.Aligned.{align_of, alignments}
-use Rattle.table_form.proofs.Sizes.{alignments_size}
-use Rattle.ndr_scalars.specs.Scalars.{up}
-use Rattle.ndr_arrays.specs.Written.{both}
+use Rattle.ndr_value.specs.Aligned.{align_of, alignments}
+use Rattle.ndr_value.proofs.Sizes.{alignments_size}
+use Rattle.ndr_model.specs.Scalars.{up}
+use Rattle.ndr_model.specs.ArraysWritten.{both}
 use Rattle.ndr_model.specs.declared.mark.Mark.{Mark}
 use Rattle.ndr_model.specs.Part.{IsTag, opens_with, in_place, Opens, in_a_greater, not_open, Begins, opened_marks}
 use Rattle.ndr_model.specs.Part as part

@@ -1,7 +1,7 @@
 -- What pointers that are written point to stands behind the flat part that they stand in.
 use Rattle.std.proofs.Common.{◌≡◌, ℕ, suc, ◌+◌, ◌-◌, ◌*◌, ◌^◌, ◌<◌, ◌≤◌, true, false, List, [], ◌∷◌, ◌++◌, length, append_assoc, Option, Some, None, refl, sym, ap, subst, ◌∙◌, arith, inl, inr, ◌⊎◌}
 use Rattle.std.specs.Prelude.{slice_get, unwrap_or}
-use Rattle.ndr_scalars.specs.Scalars.{Scalar}
+use Rattle.ndr_model.specs.Scalars.{Scalar}
 use Rattle.ndr_model.specs.Same.{IsSame}
 use Rattle.ndr_model.specs.Part.{a_repeat}
 use Rattle.ndr_model.specs.Fits.{Seen, with_item}

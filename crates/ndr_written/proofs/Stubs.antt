@@ -5,9 +5,9 @@ use Rattle.rpc_base.specs.declared.identifiers.Order.{Order}
 use Rattle.rpc_base.specs.Fields.{IsOctets}
 use Rattle.ndr_value.specs.Forms.{Form}
 use Rattle.ndr_value.specs.Values.{Val, Vals, no_val, then_val, count_of, Msg}
-use Rattle.table_form.specs.declared.operation.Bounds.{Bounds}
-use Rattle.table_form.specs.Tables.{OpForm}
-use Rattle.ndr_scalars.specs.Scalars.{up}
+use Rattle.ndr_value.specs.declared.operation.Bounds.{Bounds}
+use Rattle.ndr_value.specs.Tables.{OpForm}
+use Rattle.ndr_model.specs.Scalars.{up}
 use Rattle.ndr_model.specs.declared.way.Way.{Way}
 use Rattle.ndr_model.specs.declared.mark.Mark.{Mark}
 use Rattle.ndr_model.specs.declared.mark.Mark.TheVariants.{Ranged}

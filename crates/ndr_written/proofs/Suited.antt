@@ -2,7 +2,7 @@
 use Rattle.std.proofs.Common.{◌≡◌, ℕ, suc, ◌+◌, ◌-◌, ◌^◌, ◌<◌, ℤ, pos, Bool, true, false, cond, List, [], ◌∷◌, ◌++◌, length, length-append, append_assoc, map, take, drop, Option, Some, None, refl, sym, ap, subst, ◌∙◌, arith, inl, inr}
 use Rattle.std.specs.Prelude.{◌==◌, ◌||◌, not, nat_lt, position, slice_get, if◌then◌else◌}
 use Rattle.std.specs.List.{position_or_len}
-use Rattle.table_form.specs.Aligned.{is_last}
+use Rattle.ndr_value.specs.Aligned.{is_last}
 use Rattle.std.proofs.lemmas.List.{append-nil, append_cancel_left, map-append}
 use Rattle.rpc_base.specs.declared.identifiers.Order.{Order}
 use Rattle.rpc_base.specs.Fields.{IsOctets, FitsHandle}
@@ -12,10 +12,10 @@ use Rattle.ndr_value.specs.declared.shape.ArrayKind.{ArrayKind}
 use Rattle.ndr_value.specs.Forms.{Form, OfFull, OfUnion, Forms, Body, holds}
 use Rattle.ndr_value.specs.Fits.{has_nul, arm_of}
 use Rattle.ndr_value.specs.Values.{Val, VFull, Vals, no_val, then_val, count_of}
-use Rattle.ndr_scalars.specs.Scalars.{up}
-use Rattle.ndr_arrays.specs.declared.counts.Counts.{Counts}
-use Rattle.ndr_arrays.specs.Counted.{moved_most, a_most, HasActual, HasCounts, of_fixed, of_varying, of_conformant, of_both}
-use Rattle.ndr_arrays.specs.Texts.{IsText}
+use Rattle.ndr_model.specs.Scalars.{up}
+use Rattle.ndr_model.specs.declared.counts.Counts.{Counts}
+use Rattle.ndr_model.specs.Counted.{moved_most, a_most, HasActual, HasCounts, of_fixed, of_varying, of_conformant, of_both}
+use Rattle.ndr_model.specs.Texts.{IsText}
 use Rattle.ndr_model.specs.declared.mark.Mark.{Mark}
 use Rattle.ndr_model.specs.declared.mark.Mark.TheVariants.{Number, Referent}
 use Rattle.ndr_model.specs.Places.{Place, Last, noting, look_from}

@@ -7,7 +7,7 @@ use Rattle.std.proofs.lemmas.List.{take_at, drop_at, length-replicate}
 use Rattle.rpc_base.specs.declared.identifiers.Order.{Order}
 use Rattle.rpc_base.specs.Fields.{IsOctets, number_of, number_octets}
 use Rattle.rpc_base.proofs.FieldLaws.{IsOctets-drop, IsOctets-take, wide16, wide32, wide64}
-use Rattle.ndr_scalars.specs.Scalars.{up, octets_of, number_in, cells_of, Scalar, written}
+use Rattle.ndr_model.specs.Scalars.{up, octets_of, number_in, cells_of, Scalar, written}
 use Rattle.ndr_model.specs.Pieces.{fitting}
 
 -- the octets have this text at this index

@@ -4,7 +4,7 @@ use Rattle.rpc_base.specs.declared.identifiers.Order.{Order}
 use Rattle.rpc_base.specs.Fields.{IsOctets}
 use Rattle.ndr_value.specs.Forms.{Form}
 use Rattle.ndr_value.specs.Values.{Msg}
-use Rattle.table_form.specs.Tables.{OpForm}
+use Rattle.ndr_value.specs.Tables.{OpForm}
 use Rattle.ndr_model.specs.declared.way.Way.{Way}
 use Rattle.ndr_model.specs.Message.{IsStub, read_stub}
 use Rattle.ndr_laws.specs.Laws.{IsOp}

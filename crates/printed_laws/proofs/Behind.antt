@@ -9,8 +9,8 @@ use Rattle.handle_model.specs.declared.entry.Entry.TheVariants.{Join, Accept, Ta
 use Rattle.handle_model.specs.History.{History, with_entry}
 use Rattle.handle_model.specs.Journal.{Legal, joins, leaves, takes, ends, has_joined, is_open, asked, has_left, is_decided, is_taken, is_cancelled, is_orphaned, waits, runs}
 use Rattle.handle_model.proofs.Held.{and_right, or_right, or_cases}
-use Rattle.journal_laws.proofs.Accepted.{asked_kept, accepts_new}
-use Rattle.journal_laws.proofs.Joins.{joins_new}
+use Rattle.handle_model.proofs.Accepted.{asked_kept, accepts_new}
+use Rattle.handle_model.proofs.Joins.{joins_new}
 use Rattle.conn_histories.specs.declared.turn.Deed.{Deed}
 use Rattle.conn_histories.specs.declared.turn.Deed.TheVariants.{Pending, Refused, Accepted}
 use Rattle.conn_histories.specs.declared.turn.Turn.{Turn}

@@ -13,7 +13,7 @@ use Rattle.handle_model.specs.History.{History}
 use Rattle.handle_model.specs.Journal.{Legal, joins, leaves, has_joined}
 use Rattle.handle_model.specs.Replies.{replies}
 use Rattle.handle_model.proofs.Held.{and_left, or_right, or_cases}
-use Rattle.journal_laws.specs.Calls.{accepts}
+use Rattle.handle_model.specs.CallLaws.{accepts}
 use Rattle.fold_laws.specs.FoldOf.{IsFoldOf}
 use Rattle.fold_laws.proofs.Told.{keeps_replies}
 use Rattle.conn_histories.specs.declared.turn.Off.{Off}

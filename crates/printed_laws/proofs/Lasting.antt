@@ -4,7 +4,7 @@ use Rattle.turn_lock.specs.Histories.{StartsWith}
 use Rattle.rpc_outside.specs.Links.{Shown}
 use Rattle.handle_model.specs.declared.entry.Entry.{Entry}
 use Rattle.handle_model.specs.Journal.{Legal}
-use Rattle.table_form.specs.Tables.{TableForm}
+use Rattle.ndr_value.specs.Tables.{TableForm}
 use Rattle.manager_api.specs.Answers.{Ans}
 use Rattle.manager_api.specs.Calls.{Call}
 use Rattle.conn_histories.specs.Requests.{ids_of}

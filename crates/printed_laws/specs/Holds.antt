@@ -7,7 +7,7 @@ use Rattle.handle_model.specs.declared.entry.Entry.TheVariants.{Join, Leave}
 use Rattle.handle_model.specs.History.{History}
 use Rattle.handle_model.specs.Replies.{replies}
 use Rattle.rpc_outside.specs.Links.{Shown}
-use Rattle.table_form.specs.Tables.{TableForm}
+use Rattle.ndr_value.specs.Tables.{TableForm}
 use Rattle.manager_api.specs.Answers.{Ans}
 use Rattle.manager_api.specs.Calls.{Call}
 use Rattle.conn_histories.specs.Requests.{ids_of}

@@ -1,7 +1,7 @@
 -- The table of the probe's interface.
 use Rattle.std.specs.Prelude.{[], ◌∷◌, true, false, codes}
 use Rattle.ndr_value.specs.Forms.{OfUint, OfRef, OfHandle}
-use Rattle.table_form.specs.Tables.{OpForm, TableForm}
+use Rattle.ndr_value.specs.Tables.{OpForm, TableForm}
 use Rattle.table_parts.specs.Parts.{goes_in, goes_out, goes_both, operation, used}
 
 -- probe_open(n, h): n goes in, h comes out

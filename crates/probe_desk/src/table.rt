@@ -1,13 +1,12 @@
 //! The table of the interface, as its text gives it.
 ghost use Rattle.std.specs.Prelude.{◌≡◌, IfOk, map};
-ghost use Rattle.table_form.specs.Tables.{op_form};
-ghost use Rattle.table_form.specs.Shown.{shown};
+ghost use Rattle.ndr_value.specs.Tables.{op_form};
+ghost use Rattle.ndr_value.specs.Shown.{shown};
 ghost use Rattle.probe_desk.specs.Table as spec;
 
-use ndr_value::{Shape, Shapes};
+use ndr_value::{Op, Ops, Shape, Shapes, Table, Uses};
 use rpc_base::{NoMemory, SyntaxId};
 use std::alloc::Global;
-use table_form::{Op, Ops, Table, Uses};
 use table_parts::{behind, both_ways, inward, one_use, operation, outward, used};
 use uuid::Uuid;
 

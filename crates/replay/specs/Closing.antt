@@ -2,7 +2,7 @@
 use Rattle.std.specs.Prelude.{◌≡◌, ℕ, Option, List}
 use Rattle.std.specs.List.{AllByRecursion}
 use Rattle.handle_model.specs.History.{IsSound}
-use Rattle.table_form.specs.Tables.{TableForm}
+use Rattle.ndr_value.specs.Tables.{TableForm}
 use Rattle.service_desks.specs.State.{Services}
 use Rattle.replay_world.specs.Worlds.{World}
 use Rattle.replay_world.specs.Printing.{out_text}

@@ -1,6 +1,6 @@
 -- What a line does to a player while its connection is in hand.
 use Rattle.std.specs.Prelude.{◌≡◌, ℕ, Bool, true, false, Option, Some, List}
-use Rattle.table_form.specs.Tables.{TableForm}
+use Rattle.ndr_value.specs.Tables.{TableForm}
 use Rattle.group_core.specs.declared.answer.Taking.{Taking}
 use Rattle.service_desks.specs.State.{Services}
 use Rattle.replay_script.specs.declared.line.Line.{Line}

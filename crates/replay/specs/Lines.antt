@@ -1,6 +1,6 @@
 -- What a line of a script does to a player.
 use Rattle.std.specs.Prelude.{Bool, true, false, Option}
-use Rattle.table_form.specs.Tables.{TableForm}
+use Rattle.ndr_value.specs.Tables.{TableForm}
 use Rattle.service_desks.specs.State.{Services}
 use Rattle.replay_script.specs.declared.line.Line.{Line}
 use Rattle.replay_world.specs.Worlds.{World}

@@ -1,6 +1,6 @@
 -- A player behind rounds of a load.
 use Rattle.std.specs.Prelude.{◌≡◌, ℕ, Option, None, List, length}
-use Rattle.table_form.specs.Tables.{TableForm}
+use Rattle.ndr_value.specs.Tables.{TableForm}
 use Rattle.service_desks.specs.State.{Services}
 use Rattle.replay_script.specs.declared.line.Line.{Line}
 use Rattle.replay_world.specs.Worlds.{World}

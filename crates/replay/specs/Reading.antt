@@ -1,6 +1,6 @@
 -- What was read and played of a text behind its first line.
 use Rattle.std.specs.Prelude.{◌≡◌, ◌≢◌, ℕ, ◌+◌, Option, List, [], ◌++◌, length, ◌⊎◌, ⊤}
-use Rattle.table_form.specs.Tables.{TableForm}
+use Rattle.ndr_value.specs.Tables.{TableForm}
 use Rattle.service_desks.specs.State.{Services}
 use Rattle.replay_script.specs.declared.line.Line.{Line}
 use Rattle.replay_script.specs.declared.line.Line.TheVariants.{Boot}

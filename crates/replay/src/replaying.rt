@@ -1,6 +1,6 @@
 //! Scripts are replayed.
 ghost use Rattle.std.specs.Prelude.{◌≡◌, Option, IfOk, IfErr};
-ghost use Rattle.table_form.specs.Tables.{TableForm};
+ghost use Rattle.ndr_value.specs.Tables.{TableForm};
 ghost use Rattle.service_desks.specs.Shows.{shown_by};
 ghost use Rattle.service_desks.specs.Start.{at_start};
 ghost use Rattle.replay_world.specs.declared.fault.ReplayFault.TheVariants as faults;
@@ -15,13 +15,13 @@ ghost use Rattle.replay.specs.Departures.{StopsAt};
 
 use crate::closing::close;
 use crate::reading::{first_boot, play_rest};
+use ndr_value::Table;
 use replay_events::Player;
 use replay_promises::replays_serve_all;
 use replay_realm::BuiltIn;
 use replay_world::ReplayFault;
 use rpc_base::{NoMemory, Octets};
 use std::alloc::Global;
-use table_form::Table;
 
 /// What a script puts on the two outputs.
 #[derive(Drop)]

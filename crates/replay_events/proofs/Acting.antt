@@ -6,7 +6,7 @@ use Rattle.handle_model.specs.declared.entry.Asked.{Asked}
 use Rattle.handle_model.specs.declared.reply.Reply.{Reply}
 use Rattle.handle_model.specs.Journal.{is_open, is_orphaned}
 use Rattle.handle_model.specs.Replies.{replies}
-use Rattle.table_form.specs.Tables.{TableForm}
+use Rattle.ndr_value.specs.Tables.{TableForm}
 use Rattle.pdu_stream.specs.declared.joined.Joined.{Joined}
 use Rattle.conn_asks.specs.declared.events.Act.{Act}
 use Rattle.conn_asks.specs.declared.events.Act.TheVariants as acts

@@ -3,7 +3,7 @@ use Rattle.std.proofs.Common.{◌≡◌, ◌≢◌, ℕ, ◌-◌, ◌≤◌, ◌
 use Rattle.std.specs.List.{find, list_any, AllByRecursion}
 use Rattle.std.proofs.lemmas.Bool.{eq-eqb}
 use Rattle.std.proofs.lemmas.List.{set-get_or}
-use Rattle.table_form.specs.Tables.{TableForm}
+use Rattle.ndr_value.specs.Tables.{TableForm}
 use Rattle.call_stats.specs.Numbers.{Numbers}
 use Rattle.handle_model.specs.declared.entry.Home.{Home}
 use Rattle.handle_model.specs.declared.entry.Slot.{Slot}
@@ -18,7 +18,7 @@ use Rattle.handle_model.specs.History.{History, with_entry}
 use Rattle.handle_model.specs.Calls.{slots_in}
 use Rattle.handle_model.specs.Journal.{Legal, asked, slots, cookies_for, waits, runs, is_open, has_left, leaves, due, is_orphaned}
 use Rattle.handle_model.specs.Replies.{replies, is_lost, context_mismatch}
-use Rattle.journal_laws.proofs.ReplyStays.{denied_reply, ended_reply}
+use Rattle.handle_model.proofs.ReplyStays.{denied_reply, ended_reply}
 use Rattle.conn_histories.specs.Tales.{whole}
 use Rattle.replay_realm.specs.Rows.{AreIn, HasCookies}
 use Rattle.replay_realm.specs.Rows as rows

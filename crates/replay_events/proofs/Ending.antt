@@ -1,7 +1,7 @@
 -- The call of the connection in hand ends.
 use Rattle.std.proofs.Common.{◌≡◌, ◌≢◌, ℕ, ◌≤◌, Bool, true, false, ◌||◌, if◌then◌else◌, Option, Some, None, List, [], ◌∷◌, length, refl, sym, ap, subst, ◌∙◌}
 use Rattle.std.specs.List.{list_any}
-use Rattle.table_form.specs.Tables.{TableForm}
+use Rattle.ndr_value.specs.Tables.{TableForm}
 use Rattle.call_stats.specs.Numbers.{Numbers}
 use Rattle.handle_model.specs.declared.entry.Slot.{Slot}
 use Rattle.handle_model.specs.declared.entry.Asked.{Asked}
@@ -15,7 +15,7 @@ use Rattle.handle_model.specs.History.{History, with_entry}
 use Rattle.handle_model.specs.Journal.{Legal, asked, runs, is_open, has_left, leaves, due, is_orphaned}
 use Rattle.handle_model.specs.Replies.{replies, is_lost}
 use Rattle.handle_model.proofs.Held.{open_not_due}
-use Rattle.journal_laws.proofs.ReplyStays.{ended_reply}
+use Rattle.handle_model.proofs.ReplyStays.{ended_reply}
 use Rattle.conn_histories.specs.Tales.{whole}
 use Rattle.group_core.specs.declared.answer.Rest.{Rest}
 use Rattle.group_core.specs.declared.answer.Rest.TheVariants as rest

@@ -1,7 +1,7 @@
 -- The connection in hand is lost.
 use Rattle.std.proofs.Common.{◌≡◌, ◌≢◌, ℕ, Option, Some, None, List, refl, sym, ap, subst, ◌∙◌}
 use Rattle.std.specs.List.{find, AllByRecursion}
-use Rattle.table_form.specs.Tables.{TableForm}
+use Rattle.ndr_value.specs.Tables.{TableForm}
 use Rattle.service_desks.specs.State.{Services}
 use Rattle.handle_model.specs.Journal.{is_open}
 use Rattle.replay_world.specs.declared.peer.Member.{Member}

@@ -2,7 +2,7 @@
 use Rattle.std.proofs.Common.{◌≡◌, ◌≢◌, ℕ, zero, suc, ◌-◌, ◌+◌, ◌≤◌, Bool, true, false, ◌||◌, Option, Some, None, Ok, List, [], ◌∷◌, ◌++◌, get_or, slice_set, not, refl, sym, ap, subst, ◌∙◌}
 use Rattle.std.proofs.lemmas.Bool.{eq-eqb, false_from_ne_true}
 use Rattle.std.proofs.lemmas.List.{set-get_or}
-use Rattle.table_form.specs.Tables.{TableForm}
+use Rattle.ndr_value.specs.Tables.{TableForm}
 use Rattle.handle_model.specs.declared.entry.Home.{Home}
 use Rattle.handle_model.specs.declared.entry.Entry.{Entry}
 use Rattle.handle_model.specs.declared.entry.Entry.TheVariants.{Cancel, Deny, Orphan}
@@ -12,9 +12,9 @@ use Rattle.handle_model.specs.History.{History, with_entry, IsSound}
 use Rattle.handle_model.specs.Journal.{Legal, waits, runs, asked, accept_count, is_decided, is_orphaned}
 use Rattle.handle_model.specs.Replies.{replies, cancelled, context_mismatch}
 use Rattle.handle_model.proofs.Tests.{and_left}
-use Rattle.journal_laws.proofs.Accepted.{fresh_unasked}
-use Rattle.journal_laws.proofs.Stages.{undecided, decided_some}
-use Rattle.journal_laws.proofs.ReplyStays.{cancelled_reply, orphaned_reply, denied_reply}
+use Rattle.handle_model.proofs.Accepted.{fresh_unasked}
+use Rattle.handle_model.proofs.Stages.{undecided, decided_some}
+use Rattle.handle_model.proofs.ReplyStays.{cancelled_reply, orphaned_reply, denied_reply}
 use Rattle.conn_histories.specs.Tales.{whole}
 use Rattle.service_desks.specs.State.{Services}
 use Rattle.group_core.specs.Calls.{Cancels, Orphans}

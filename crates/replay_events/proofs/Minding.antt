@@ -6,7 +6,7 @@ use Rattle.handle_model.specs.declared.entry.Entry.{Entry}
 use Rattle.handle_model.specs.History.{IsSound}
 use Rattle.handle_model.specs.Journal as journals
 use Rattle.handle_model.proofs.Steps.{empty_sound}
-use Rattle.table_form.specs.Tables.{TableForm}
+use Rattle.ndr_value.specs.Tables.{TableForm}
 use Rattle.service_desks.specs.State.{Services}
 use Rattle.replay_groups.specs.Keeps.{AllSound, whole_of, home_in}
 use Rattle.replay_world.specs.declared.peer.Member.{Member}

@@ -1,7 +1,7 @@
 -- The connection in hand calls its call off, or is closed.
 use Rattle.std.proofs.Common.{◌≡◌, ℕ, ◌≤◌, Bool, true, false, ◌||◌, Option, Some, None, List, refl, sym, ap, subst, ◌∙◌}
 use Rattle.std.specs.Prelude.{⊤}
-use Rattle.table_form.specs.Tables.{TableForm}
+use Rattle.ndr_value.specs.Tables.{TableForm}
 use Rattle.handle_model.specs.declared.reply.Reply.{Reply}
 use Rattle.handle_model.specs.Journal.{Legal, is_open}
 use Rattle.handle_model.specs.Replies.{replies}

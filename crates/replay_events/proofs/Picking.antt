@@ -2,7 +2,7 @@
 use Rattle.std.proofs.Common.{◌≡◌, ◌≢◌, ℕ, true, false, Option, Some, None, List, [], ◌∷◌, filter, refl, sym, ap, subst, ◌∙◌, inl, inr}
 use Rattle.std.specs.List.{find}
 use Rattle.std.proofs.lemmas.Bool.Decides.{eqb_tells}
-use Rattle.table_form.specs.Tables.{TableForm}
+use Rattle.ndr_value.specs.Tables.{TableForm}
 use Rattle.rpc_base.specs.declared.identifiers.SyntaxId.{SyntaxId}
 use Rattle.handle_model.specs.declared.reply.Reply.{Reply}
 use Rattle.call_stats.specs.Numbers.{none_yet}

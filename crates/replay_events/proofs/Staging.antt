@@ -1,9 +1,9 @@
 -- Where a call is, by what its group says of its stage.
 use Rattle.std.proofs.Common.{◌≡◌, ◌≢◌, ℕ, Bool, true, false, not, ◌&&◌, ◌||◌, if◌then◌else◌, Option, Some, None, refl, sym, ap, subst, ◌∙◌}
-use Rattle.table_form.specs.Tables.{TableForm}
+use Rattle.ndr_value.specs.Tables.{TableForm}
 use Rattle.handle_model.specs.History.{History}
 use Rattle.handle_model.specs.Journal.{Legal, waits, runs, is_taken}
-use Rattle.journal_laws.proofs.Stages.{waits_fresh}
+use Rattle.handle_model.proofs.Stages.{waits_fresh}
 use Rattle.group_core.specs.declared.answer.Stage.{Stage}
 use Rattle.group_core.specs.declared.answer.Stage.TheVariants.{Waiting, Running, Over}
 use Rattle.group_core.specs.Stages.{stage_of}

@@ -1,7 +1,7 @@
 -- What calls do to a player: from each world that it stands for to the next one.
 use Rattle.std.specs.Prelude.{◌≡◌, ℕ, Bool, true, false, Option, Some, None, List}
 use Rattle.std.specs.List.{find}
-use Rattle.table_form.specs.Tables.{TableForm}
+use Rattle.ndr_value.specs.Tables.{TableForm}
 use Rattle.handle_model.specs.Journal as journals
 use Rattle.group_core.specs.declared.answer.Taking.{Taking}
 use Rattle.group_core.specs.Calls.{Takes}

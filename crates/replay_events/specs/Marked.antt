@@ -1,6 +1,6 @@
 -- What comes to a call that was accepted, and what its client is then told.
 use Rattle.std.specs.Prelude.{◌≡◌, ℕ, Bool, true, ◌||◌, Option, Some, None, if◌then◌else◌, ⊤}
-use Rattle.table_form.specs.Tables.{TableForm}
+use Rattle.ndr_value.specs.Tables.{TableForm}
 use Rattle.handle_model.specs.declared.entry.Said.{Said}
 use Rattle.handle_model.specs.declared.reply.Reply.{Reply}
 use Rattle.handle_model.specs.declared.reply.Reply.TheVariants.{Never, Ran, Dropped}

@@ -1,17 +1,17 @@
 //! The player of a replay.
 ghost use Rattle.std.specs.Prelude.{IfOk, OnOk, Option};
-ghost use Rattle.table_form.specs.Tables.{TableForm};
+ghost use Rattle.ndr_value.specs.Tables.{TableForm};
 ghost use Rattle.service_desks.specs.Shows.{shown_by};
 ghost use Rattle.service_desks.specs.Start.{at_start};
 ghost use Rattle.replay_world.specs.Worlds.{booted};
 
 use call_stats::Counted;
 use handle_model::Reply;
+use ndr_value::Table;
 use replay_peers::{Peers, Played};
 use replay_realm::Realm;
 use rpc_base::NoMemory;
 use std::alloc::Global;
-use table_form::Table;
 
 /// A moment of a replay: its interfaces, groups and desks, its connections, what was counted on them, and the text on out.
 #[derive(Drop)]

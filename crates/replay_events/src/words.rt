@@ -2,7 +2,7 @@
 ghost use Rattle.std.specs.Bool.{OnTrue};
 ghost use Rattle.std.specs.Prelude.{◌≡◌, ℕ, true, Option, IfOk, OnOk};
 ghost use Rattle.std.specs.Option.{option_copied};
-ghost use Rattle.table_form.specs.Tables.{TableForm};
+ghost use Rattle.ndr_value.specs.Tables.{TableForm};
 ghost use Rattle.conn_asks.specs.Answers.{FitsStub};
 ghost use Rattle.conn_histories.specs.Histories.Decision.{ToGroup, RefuseGroup, Reply as Answer};
 ghost use Rattle.conn_histories.specs.Events.{word_of, has_run};

@@ -10,7 +10,7 @@ use Rattle.handle_model.specs.declared.entry.Entry.TheVariants.{End}
 use Rattle.ndr_value.specs.Values.{Msg}
 use Rattle.ndr_model.specs.declared.way.Way.TheVariants.{Response}
 use Rattle.ndr_model.specs.Written.{stub}
-use Rattle.table_form.specs.Tables.{OpForm, TableForm}
+use Rattle.ndr_value.specs.Tables.{OpForm, TableForm}
 use Rattle.manager_api.specs.declared.answer.Kept.{Kept}
 use Rattle.manager_api.specs.Answers.{Ans, AOut, AFault}
 use Rattle.call_stats.specs.Numbers.{Numbers}

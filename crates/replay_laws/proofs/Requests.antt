@@ -10,7 +10,7 @@ use Rattle.handle_model.specs.History.{History}
 use Rattle.handle_model.specs.Journal.{filled, next_serial}
 use Rattle.handle_model.specs.Limits.{accept_limit}
 use Rattle.ndr_value.specs.Values.{Msg}
-use Rattle.table_form.specs.Tables.{OpForm, TableForm}
+use Rattle.ndr_value.specs.Tables.{OpForm, TableForm}
 use Rattle.ndr_model.specs.declared.departure.Departure.{Departure}
 use Rattle.ndr_model.specs.declared.way.Way.TheVariants.{Request}
 use Rattle.ndr_model.specs.Message.{IsStub, read_stub}

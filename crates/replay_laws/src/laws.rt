@@ -1,13 +1,13 @@
 //! What holds of every replay.
 ghost use Rattle.std.specs.Prelude.{Option};
-ghost use Rattle.table_form.specs.Tables.{TableForm};
+ghost use Rattle.ndr_value.specs.Tables.{TableForm};
 ghost use Rattle.replay_world.specs.Plays.{OnlyThese};
 ghost use Rattle.replay_world.specs.Replays.{OneReplay};
 
 /// The desks of a replay, of which a law speaks, with an echo of any interface or without. No value of it is made.
 pub trait Serves {
     ghost use Rattle.std.specs.Prelude.{Option};
-    ghost use Rattle.table_form.specs.Tables.{TableForm};
+    ghost use Rattle.ndr_value.specs.Tables.{TableForm};
     ghost use Rattle.replay_world.specs.Services.{Service};
 
     ghost service: { Option TableForm → Service };

@@ -1,6 +1,6 @@
 //! What holds of every load.
 ghost use Rattle.std.specs.Prelude.{Option};
-ghost use Rattle.table_form.specs.Tables.{TableForm};
+ghost use Rattle.ndr_value.specs.Tables.{TableForm};
 ghost use Rattle.replay_laws.specs.Loads.{OneLoad, LoadsAreReplays};
 
 use crate::Serves;

@@ -8,7 +8,7 @@ use Rattle.handle_model.specs.declared.entry.Entry.{Entry}
 use Rattle.handle_model.specs.Journal.{Legal, has_joined, is_open, asked, joins, leaves}
 use Rattle.handle_model.proofs.Tests.{or_right, and_left, and_right}
 use Rattle.conn_histories.specs.Tales.{whole}
-use Rattle.journal_laws.proofs.Accepted.{asked_stays}
+use Rattle.handle_model.proofs.Accepted.{asked_stays}
 
 -- further entries came, the newest first
 pub record Grows (old new : List Entry) : Type 0 where

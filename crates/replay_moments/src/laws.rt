@@ -1,6 +1,6 @@
 //! Laws of the moments of a replay.
 ghost use Rattle.std.specs.Prelude.{Option};
-ghost use Rattle.table_form.specs.Tables.{TableForm};
+ghost use Rattle.ndr_value.specs.Tables.{TableForm};
 ghost use Rattle.replay_moments.specs.Laws.{HoldsAtStart, EventsKeep, LinesKeep};
 
 use replay_laws::Serves;

@@ -32,7 +32,7 @@ use Rattle.replay_world.specs.Worlds.{Peer, World, home_of, past_of, journal}
 use Rattle.rpc_base.specs.declared.identifiers.SyntaxId.{SyntaxId}
 use Rattle.rpc_base.specs.declared.identifiers.Status.{Status}
 use Rattle.rpc_base.specs.declared.identifiers.Order.{Order}
-use Rattle.table_form.specs.Tables.{TableForm}
+use Rattle.ndr_value.specs.Tables.{TableForm}
 use Rattle.handle_model.specs.declared.reply.Reply.TheVariants as said
 use Rattle.handle_model.specs.Journal.{waits, runs}
 use Rattle.handle_model.specs.Replies.{replies}

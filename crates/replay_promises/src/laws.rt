@@ -1,6 +1,6 @@
 //! The law of replays in the words of the promise.
 ghost use Rattle.std.specs.Prelude.{Option};
-ghost use Rattle.table_form.specs.Tables.{TableForm};
+ghost use Rattle.ndr_value.specs.Tables.{TableForm};
 ghost use Rattle.replay_promises.specs.Laws.{EachIsServedWhereSound, ReplaysServeAll};
 
 use replay_laws::Serves;

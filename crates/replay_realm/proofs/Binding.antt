@@ -1,6 +1,6 @@
 -- What a bind comes to in a world whose groups a realm has.
 use Rattle.std.proofs.Common.{◌≡◌, ℕ, ◌+◌, ◌==◌, if◌then◌else◌, Bool, true, false, Option, Result, Ok, Err, List, [], ◌∷◌, ◌++◌, length, refl, sym, ap, ◌∙◌}
-use Rattle.table_form.specs.Tables.{TableForm}
+use Rattle.ndr_value.specs.Tables.{TableForm}
 use Rattle.served_tables.specs.Served.{tables_in}
 use Rattle.service_desks.specs.State.{Services}
 use Rattle.service_desks.specs.Views.{services}

@@ -1,7 +1,7 @@
 -- Handles that are run down, one after the other.
 use Rattle.std.proofs.Common.{◌≡◌, ℕ, ◌==◌, Bool, true, false, if◌then◌else◌, Option, List, [], ◌∷◌, refl, ap, ◌∙◌}
 use Rattle.handle_model.specs.declared.entry.DueItem.{DueItem}
-use Rattle.table_form.specs.Tables.{TableForm}
+use Rattle.ndr_value.specs.Tables.{TableForm}
 use Rattle.service_desks.specs.State.{Services}
 use Rattle.service_desks.specs.Rundowns.{without, iface_in, keeps_nothing}
 use Rattle.replay_world.specs.Services.{AreRunDown}

@@ -10,7 +10,7 @@ use Rattle.handle_model.specs.Calls.{slots_in}
 use Rattle.handle_model.specs.Journal.{runs, slots, suit}
 use Rattle.handle_model.specs.Journal as journals
 use Rattle.handle_model.specs.History.{History}
-use Rattle.table_form.specs.Tables.{TableForm}
+use Rattle.ndr_value.specs.Tables.{TableForm}
 use Rattle.call_stats.specs.Numbers.{Numbers}
 use Rattle.group_core.specs.declared.answer.Rest.{Rest}
 use Rattle.group_core.specs.Conns.{Settles}

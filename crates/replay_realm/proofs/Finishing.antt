@@ -11,7 +11,7 @@ use Rattle.handle_model.specs.Slots.{opens}
 use Rattle.pdu_stream.specs.Fragments.{most_stub}
 use Rattle.conn_asks.specs.Answers.{FitsStub}
 use Rattle.ndr_value.specs.Values.{Msg}
-use Rattle.table_form.specs.Tables.{TableForm, OpForm}
+use Rattle.ndr_value.specs.Tables.{TableForm, OpForm}
 use Rattle.manager_api.specs.Answers.{Ans, AOut, AFault}
 use Rattle.manager_api.specs.Calls.{Call}
 use Rattle.call_stats.specs.Numbers.{Numbers}

@@ -7,7 +7,7 @@ use Rattle.handle_model.specs.declared.entry.Said.TheVariants.{Fault}
 use Rattle.handle_model.specs.declared.entry.Entry.{Entry}
 use Rattle.handle_model.specs.declared.entry.Entry.TheVariants.{End}
 use Rattle.handle_model.specs.History.{History}
-use Rattle.table_form.specs.Tables.{TableForm}
+use Rattle.ndr_value.specs.Tables.{TableForm}
 use Rattle.group_core.specs.declared.answer.Rest.{Rest}
 use Rattle.group_core.specs.Conns.{Settles}
 use Rattle.conn_histories.specs.Requests.{no_memory}

@@ -16,7 +16,7 @@ use Rattle.handle_model.specs.History.{History, with_entry}
 use Rattle.handle_model.specs.Journal.{Legal, asked, waits, runs, slots, is_open, is_decided, has_joined, leaves, opened, filled}
 use Rattle.handle_model.proofs.Tests.{and_right}
 use Rattle.pdu_stream.specs.declared.joined.Joined.{Joined}
-use Rattle.table_form.specs.Tables.{TableForm}
+use Rattle.ndr_value.specs.Tables.{TableForm}
 use Rattle.call_table.proofs.Calls.{decided_within}
 use Rattle.group_core.specs.declared.answer.AcceptRefusal.{AcceptRefusal}
 use Rattle.group_core.specs.declared.answer.AcceptRefusal.TheVariants.{Calls, Handles, Numbers, Memory}

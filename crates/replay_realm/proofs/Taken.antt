@@ -17,8 +17,8 @@ use Rattle.handle_model.specs.History.{History, since, with_entry}
 use Rattle.handle_model.specs.Slots.{opens, named, names, kind_of}
 use Rattle.handle_model.specs.Journal.{Legal, slots, cookies_for, cookie_for, cookie_of, cookie, is_usable, is_usable_as, is_live, is_issued, is_kind, kind, serial_named, serial_named_since, first_named}
 use Rattle.handle_model.proofs.Held.{and_left}
-use Rattle.journal_laws.specs.Running.{AllUsable}
-use Rattle.journal_laws.proofs.LiveNames.{taken_live}
+use Rattle.handle_model.specs.Running.{AllUsable}
+use Rattle.handle_model.proofs.LiveNames.{taken_live}
 use Rattle.handle_table.proofs.Named.{cookie_some}
 use Rattle.group_core.specs.declared.answer.Taking.TheVariants.{Run}
 use Rattle.group_core.specs.Calls.{Takes}

@@ -1,7 +1,7 @@
 -- Of which worlds a realm has the interfaces, the groups and the desks.
 use Rattle.std.specs.Prelude.{◌≡◌, ℕ, Option, Some, None, Result, Ok, Err}
 use Rattle.handle_model.specs.History.{History}
-use Rattle.table_form.specs.Tables.{TableForm}
+use Rattle.ndr_value.specs.Tables.{TableForm}
 use Rattle.served_tables.specs.Served.{tables_in}
 use Rattle.service_desks.specs.State.{Services, tables_with}
 use Rattle.service_desks.specs.Views.{services}

@@ -4,7 +4,7 @@ use Rattle.handle_model.specs.declared.entry.Slot.{Slot}
 use Rattle.handle_model.specs.declared.entry.Asked.{Asked}
 use Rattle.handle_model.specs.Journal as journals
 use Rattle.pdu_stream.specs.declared.joined.Joined.{Joined}
-use Rattle.table_form.specs.Tables.{TableForm}
+use Rattle.ndr_value.specs.Tables.{TableForm}
 use Rattle.group_core.specs.declared.answer.AcceptRefusal.{AcceptRefusal}
 use Rattle.group_core.specs.declared.answer.AcceptRefusal.TheVariants.{Memory}
 use Rattle.conn_histories.specs.Requests.{HasSlots, too_busy}

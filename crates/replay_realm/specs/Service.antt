@@ -1,6 +1,6 @@
 -- The built-in services as what answers the calls of a script.
 use Rattle.std.specs.Prelude.{◌≡◌, ℕ, Option, Some, None, List, ⊤}
-use Rattle.table_form.specs.Tables.{TableForm}
+use Rattle.ndr_value.specs.Tables.{TableForm}
 use Rattle.service_desks.specs.State.{Services, tables_with}
 use Rattle.service_desks.specs.Start.{at_start}
 use Rattle.service_desks.specs.Calls.{May}

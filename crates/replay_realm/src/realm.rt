@@ -1,6 +1,6 @@
 //! The value.
 ghost use Rattle.std.specs.Prelude.{◌≡◌, ◌++◌, IfOk, OnOk, Option};
-ghost use Rattle.table_form.specs.Tables.{TableForm};
+ghost use Rattle.ndr_value.specs.Tables.{TableForm};
 ghost use Rattle.service_desks.specs.Shows.{shown_by};
 ghost use Rattle.service_desks.specs.Start.{at_start};
 ghost use Rattle.service_desks.specs.State.{Services};
@@ -15,12 +15,12 @@ ghost use Rattle.replay_realm.specs.Service.{service_of};
 use crate::run_down;
 use group_core::Rest;
 use load_counts::Counts;
+use ndr_value::Table;
 use replay_groups::{Groups, log};
 use rpc_base::NoMemory;
 use served_tables::Served;
 use service_desks::ServiceDesks;
 use std::alloc::Global;
-use table_form::Table;
 
 /// The interfaces, groups and desks of a replay.
 #[derive(Drop)]

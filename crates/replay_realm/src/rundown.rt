@@ -1,6 +1,6 @@
 //! The handles of a group that has ended.
 ghost use Rattle.std.specs.Prelude.{◌≡◌, Option};
-ghost use Rattle.table_form.specs.Tables.{TableForm};
+ghost use Rattle.ndr_value.specs.Tables.{TableForm};
 ghost use Rattle.service_desks.specs.Views.{services};
 ghost use Rattle.replay_world.specs.Services.{AreRunDown};
 ghost use Rattle.replay_realm.specs.Service.{service_of};

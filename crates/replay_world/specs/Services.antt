@@ -2,8 +2,8 @@
 use Rattle.std.specs.Prelude.{◌≡◌, ◌≢◌, Bool, Some, List, [], ◌∷◌}
 use Rattle.std.specs.List.{AllByRecursion}
 use Rattle.handle_model.specs.declared.entry.DueItem.{DueItem}
-use Rattle.table_form.specs.Tables.{OpForm, TableForm, IsTable}
-use Rattle.table_form.specs.Nested.{IsShallow}
+use Rattle.ndr_value.specs.Tables.{OpForm, TableForm, IsTable}
+use Rattle.ndr_value.specs.Nested.{IsShallow}
 use Rattle.manager_api.specs.Answers.{Ans, AFault}
 use Rattle.manager_api.specs.Calls.{Call}
 use Rattle.call_stats.specs.Numbers.{Numbers}

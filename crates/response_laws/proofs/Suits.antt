@@ -8,7 +8,7 @@ use Rattle.ndr_value.specs.declared.shape.ArrayKind.{ArrayKind}
 use Rattle.ndr_value.specs.declared.shape.ArrayKind.TheVariants.{ConformantVarying}
 use Rattle.ndr_value.specs.Forms.{Form, OfByte, OfArray}
 use Rattle.ndr_value.specs.Values.{VArray, Vals, no_val, bytes, count_of, Msg}
-use Rattle.table_form.specs.Tables.{OpForm}
+use Rattle.ndr_value.specs.Tables.{OpForm}
 use Rattle.ndr_model.specs.declared.way.Way.TheVariants.{Response}
 use Rattle.ndr_model.specs.Stub.{Entry, entries}
 use Rattle.ndr_model.specs.Named.{Call}

@@ -5,7 +5,7 @@ use Rattle.ndr_value.specs.declared.shape.Count.TheVariants.{Param}
 use Rattle.ndr_value.specs.declared.shape.ArrayKind.TheVariants.{ConformantVarying}
 use Rattle.ndr_value.specs.Forms.{Form, OfByte, OfUint, OfArray, OfHandle}
 use Rattle.ndr_value.specs.Values.{VUint, VHandle, VArray, no_val, then_val, bytes, Msg}
-use Rattle.table_form.specs.Tables.{OpForm}
+use Rattle.ndr_value.specs.Tables.{OpForm}
 use Rattle.ndr_model.specs.declared.way.Way.TheVariants.{Response}
 use Rattle.ndr_model.specs.Stub.{Entry, entries}
 use Rattle.ndr_model.specs.Named.{named}

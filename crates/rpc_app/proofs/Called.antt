@@ -4,7 +4,7 @@ use Rattle.rpc_base.specs.Causes.{Rose}
 use Rattle.rpc_base.specs.Shelves.{Files, Tells}
 use Rattle.rpc_outside.specs.Links.{Shown}
 use Rattle.rpc_outside.specs.Dials.{DialShown}
-use Rattle.table_form.specs.Tables.{TableForm}
+use Rattle.ndr_value.specs.Tables.{TableForm}
 use Rattle.call_play.specs.declared.calling.CallEnd.{CallEnd}
 use Rattle.call_play.specs.declared.calling.CallEnd.TheVariants as ends
 use Rattle.call_play.specs.Scripts.{Ends}

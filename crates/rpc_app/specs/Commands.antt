@@ -8,7 +8,7 @@ use Rattle.idl_reader.specs.declared.fault.IdlFault.TheVariants as faults
 use Rattle.idl_reader.specs.Causes.{IsCause}
 use Rattle.idl_rules.specs.Broken.{NoneBroken, IsLeastBreach}
 use Rattle.idl_print.specs.Canonical.{canonical_text}
-use Rattle.table_form.specs.Tables.{TableForm}
+use Rattle.ndr_value.specs.Tables.{TableForm}
 use Rattle.table_laws.specs.Interfaces.{tabled}
 use Rattle.rpc_app.specs.declared.command.Command.{Command}
 use Rattle.rpc_app.specs.declared.command.Command.TheVariants.{Replay, Idl, Audit}

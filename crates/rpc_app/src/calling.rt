@@ -1,6 +1,6 @@
 //! Calls are made.
 ghost use Rattle.std.specs.Prelude.{◌≡◌, ◌≢◌, ◌≤◌, IfOk, IfErr};
-ghost use Rattle.table_form.specs.Shown.{shown};
+ghost use Rattle.ndr_value.specs.Shown.{shown};
 ghost use Rattle.call_play.specs.declared.calling.CallEnd.TheVariants as ends;
 ghost use Rattle.rpc_app.specs.Calling as spec;
 ghost use Rattle.rpc_app.specs.Calling.{HasInterface, RefusesCall, IsSaid, IsTold, CallsWith, CallsFor, printed_of};
@@ -16,10 +16,10 @@ use crate::serving::refuse_text;
 use crate::task::{TaskFault, load, text_table};
 use crate::words::CallTask;
 use call_play::{CallEnd, Called, call};
+use ndr_value::Table;
 use rpc_base::{NoMemory, Octets, Shelf, Sink};
 use rpc_outside::{Address, Dial, Link};
 use std::alloc::Global;
-use table_form::Table;
 
 /// The table of an interface, and a script of calls of its operations.
 #[derive(Drop)]

@@ -4,7 +4,7 @@ ghost use Rattle.idl_tree.specs.Idl.{IsIdl};
 ghost use Rattle.idl_forms.specs.Forms.{Same};
 ghost use Rattle.idl_rules.specs.Broken.{NoneBroken};
 ghost use Rattle.idl_print.specs.Canonical.{canonical_text};
-ghost use Rattle.table_form.specs.Shown.{shown};
+ghost use Rattle.ndr_value.specs.Shown.{shown};
 ghost use Rattle.rpc_app.specs.Commands.{IsInterface, IsPrinted, RefusesInterface, Says, place_refusal, rule_refusal};
 ghost use Rattle.rpc_app.specs.Making.{Says as Why};
 
@@ -14,11 +14,11 @@ use idl_print::print_idl;
 use idl_reader::{IdlFault, read_idl};
 use idl_tree::Ast;
 use marshal_table::build;
+use ndr_value::Table;
 use replay::Replayed;
 use rpc_base::{NoMemory, Octets};
 use rpc_words::{put, put_decimal};
 use std::alloc::Global;
-use table_form::Table;
 
 #[tactic(auto, unfolding(crate::specs::Commands::place_refusal))]
 fn place_refusal(alloc: Global, number: u64, at: usize) -> Result<Vec<u8>, NoMemory>

@@ -7,11 +7,11 @@ ghost use Rattle.rpc_app.specs.Making.{IsWhy};
 use crate::command::Command;
 use crate::idl::reprint;
 use crate::verdicts::judge;
+use ndr_value::Table;
 use replay::{ReplayFault, Replayed, replay};
 use rpc_base::NoMemory;
 use rpc_words::{put, put_decimal};
 use std::alloc::Global;
-use table_form::Table;
 
 /// Why a command makes nothing of a file.
 #[derive(Debug, Drop)]

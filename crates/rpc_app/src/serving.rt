@@ -9,13 +9,13 @@ ghost use Rattle.rpc_app.specs.Words.{told_server};
 use crate::say::{print, refuse};
 use crate::task::{TaskFault, echo_of};
 use crate::words::ServeTask;
+use ndr_value::Table;
 use rpc_base::{OutFault, Shelf, Sink};
 use rpc_outside::{Door, Link};
 use serve_command::{Printed, serve};
 use std::alloc::Global;
 use std::sync::Wait;
 use std::thread::Threads;
-use table_form::Table;
 
 /// Puts what was printed of the connections.
 fn put_served<S: Sink, L: Sink>(printed: &Printed, out: &mut S, log: &mut L) -> u8

@@ -1,6 +1,6 @@
 //! A task is done, but for the outputs.
 ghost use Rattle.std.specs.Prelude.{◌≡◌, ◌+◌, ◌<◌, ◌≤◌, ◌^◌, [], Some, None, option_map, IfOk, IfErr};
-ghost use Rattle.table_form.specs.Shown.{shown};
+ghost use Rattle.ndr_value.specs.Shown.{shown};
 ghost use Rattle.service_desks.specs.Shows.{shown_by};
 ghost use Rattle.replay_realm.specs.Service.{service_of};
 ghost use Rattle.replay_laws.specs.Loads.{IsSummary};
@@ -16,11 +16,11 @@ use crate::limits::limit;
 use crate::load::{LoadFault, load_file};
 use crate::make::{MakeFault, make};
 use crate::words::{FileTask, Task};
+use ndr_value::Table;
 use replay::Replayed;
 use rpc_base::{NoMemory, Octets, Shelf};
 use rpc_words::put;
 use std::alloc::Global;
-use table_form::Table;
 
 /// Why a task isn't done.
 #[derive(Debug, Drop)]

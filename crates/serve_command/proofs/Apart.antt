@@ -10,7 +10,7 @@ use Rattle.turn_lock.proofs.HistoryLemmas.{times-append, at_append, at_within}
 use Rattle.handle_model.specs.declared.entry.Entry.{Entry}
 use Rattle.handle_model.specs.Entries.{is_shut}
 use Rattle.handle_model.specs.Journal.{leaves}
-use Rattle.table_form.specs.Tables.{TableForm}
+use Rattle.ndr_value.specs.Tables.{TableForm}
 use Rattle.manager_api.specs.Answers.{Ans}
 use Rattle.manager_api.specs.Calls.{Call}
 use Rattle.hub_story.specs.declared.item.Item.{Item}

@@ -11,7 +11,7 @@ use Rattle.handle_model.specs.declared.entry.Entry.TheVariants.{Join, Accept, Ta
 use Rattle.handle_model.specs.Journal.{joins, is_join, join_count}
 use Rattle.handle_model.specs.Limits.{join_limit}
 use Rattle.fold_laws.proofs.Alike.{folds_stand}
-use Rattle.table_form.specs.Tables.{TableForm}
+use Rattle.ndr_value.specs.Tables.{TableForm}
 use Rattle.manager_api.specs.Answers.{Ans}
 use Rattle.manager_api.specs.Calls.{Call}
 use Rattle.hub_story.specs.declared.item.Item.{Item}

@@ -12,7 +12,7 @@ use Rattle.handle_model.specs.History.{History}
 use Rattle.handle_model.specs.Journal.{Legal, joins}
 use Rattle.handle_model.proofs.Held.{or_right, or_cases}
 use Rattle.fold_laws.proofs.Numbers.{holds_joins}
-use Rattle.table_form.specs.Tables.{TableForm}
+use Rattle.ndr_value.specs.Tables.{TableForm}
 use Rattle.manager_api.specs.Answers.{Ans}
 use Rattle.manager_api.specs.Calls.{Call}
 use Rattle.hub_story.specs.declared.item.Item.{Item}

@@ -4,7 +4,7 @@ use Rattle.rpc_base.specs.Causes.{Rose}
 use Rattle.rpc_outside.specs.Links.{Shown}
 use Rattle.rpc_outside.specs.Doors.{DoorShown, ListensAt}
 use Rattle.rpc_outside.specs.declared.address.Address.{Address}
-use Rattle.table_form.specs.Tables.{TableForm}
+use Rattle.ndr_value.specs.Tables.{TableForm}
 use Rattle.manager_api.specs.Answers.{Ans}
 use Rattle.manager_api.specs.Calls.{Call}
 use Rattle.group_hub.specs.declared.hub.Hub.{Hub}

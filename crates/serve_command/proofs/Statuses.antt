@@ -6,7 +6,7 @@ use Rattle.rpc_base.specs.Causes.{Rose}
 use Rattle.rpc_outside.specs.declared.address.Address.{Address}
 use Rattle.rpc_outside.specs.Links.{Shown}
 use Rattle.rpc_outside.specs.Doors.{DoorShown}
-use Rattle.table_form.specs.Tables.{TableForm}
+use Rattle.ndr_value.specs.Tables.{TableForm}
 use Rattle.manager_api.specs.Answers.{Ans}
 use Rattle.manager_api.specs.Calls.{Call}
 use Rattle.server_ends.specs.declared.ended.Ending.{Ending}

@@ -8,13 +8,13 @@ ghost use Rattle.serve_command.specs.Serves.{Serves, IsWhy};
 use crate::over::serve_over;
 use crate::printed::Printed;
 use call_stats::Tally;
+use ndr_value::Table;
 use rpc_base::OutFault;
 use rpc_outside::{Address, Door, Link};
 use server_rounds::DeskService;
 use std::alloc::Global;
 use std::sync::{Arc, Wait};
 use std::thread::Threads;
-use table_form::Table;
 
 /// A server of that boot word listens at the address and serves up to so many connections that come to the door, side by
 /// side, with the built-in services and an echo of that interface (C706, "Connection-oriented RPC protocol machines",

@@ -10,9 +10,9 @@ use Rattle.handle_model.specs.declared.entry.Slot.TheVariants.{Shares, Holds, Ch
 use Rattle.handle_model.specs.declared.entry.Outcome.{Outcome}
 use Rattle.handle_model.specs.Slots.{is_null, opens, with_serial}
 use Rattle.handle_model.specs.Journal.{suits, suit, next_serial, filled}
-use Rattle.table_form.specs.declared.operation.HandleUse.{HandleUse}
-use Rattle.table_form.specs.Tables.{OpForm, TableForm}
-use Rattle.table_form.specs.Sound.{IsSound}
+use Rattle.ndr_value.specs.declared.operation.HandleUse.{HandleUse}
+use Rattle.ndr_value.specs.Tables.{OpForm, TableForm}
+use Rattle.ndr_value.specs.Sound.{IsSound}
 use Rattle.ndr_value.specs.Values.{Msg}
 use Rattle.ndr_model.specs.declared.way.Way.TheVariants.{Request}
 use Rattle.ndr_model.specs.Fits.{IsOfOp}

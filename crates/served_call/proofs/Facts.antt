@@ -10,10 +10,10 @@ use Rattle.handle_model.specs.Slots.{with_serial}
 use Rattle.handle_model.specs.Journal.{suit}
 use Rattle.ndr_value.specs.Forms.{Form}
 use Rattle.ndr_value.specs.Values.{Msg}
-use Rattle.table_form.specs.declared.operation.HandleUse.{HandleUse}
-use Rattle.table_form.specs.Tables.{OpForm, TableForm, IsTable}
-use Rattle.table_form.specs.Nested.{IsShallow}
-use Rattle.table_form.specs.Sound.{IsSound}
+use Rattle.ndr_value.specs.declared.operation.HandleUse.{HandleUse}
+use Rattle.ndr_value.specs.Tables.{OpForm, TableForm, IsTable}
+use Rattle.ndr_value.specs.Nested.{IsShallow}
+use Rattle.ndr_value.specs.Sound.{IsSound}
 use Rattle.ndr_model.specs.declared.way.Way.TheVariants.{Request}
 use Rattle.ndr_model.specs.Message.{IsStub}
 use Rattle.ndr_laws.specs.Laws.{IsOp, OneMessage}

@@ -11,8 +11,8 @@ use Rattle.handle_model.specs.declared.entry.Slot.{Slot}
 use Rattle.handle_model.specs.declared.entry.Slot.TheVariants.{Shares, Holds, Changes, Opens}
 use Rattle.handle_model.specs.Slots.{is_null, with_serial}
 use Rattle.ndr_value.specs.Values.{Msg}
-use Rattle.table_form.specs.declared.operation.HandleUse.{HandleUse}
-use Rattle.table_form.specs.Tables.{OpForm, TableForm, IsTable}
+use Rattle.ndr_value.specs.declared.operation.HandleUse.{HandleUse}
+use Rattle.ndr_value.specs.Tables.{OpForm, TableForm, IsTable}
 use Rattle.ndr_model.specs.declared.way.Way.TheVariants.{Request}
 use Rattle.ndr_model.specs.Message.{IsStub}
 use Rattle.manager_api.specs.Calls.{uses_at, uses_or}

@@ -7,7 +7,7 @@ use Rattle.rpc_base.specs.declared.identifiers.Status.{Status}
 use Rattle.handle_model.specs.declared.entry.Slot.{Slot}
 use Rattle.ndr_value.specs.Forms.{Form}
 use Rattle.ndr_value.specs.Values.{Msg}
-use Rattle.table_form.specs.Tables.{OpForm, TableForm}
+use Rattle.ndr_value.specs.Tables.{OpForm, TableForm}
 use Rattle.ndr_model.specs.declared.departure.Departure.{Departure}
 use Rattle.ndr_model.specs.declared.departure.Departure.TheVariants as departures
 use Rattle.ndr_model.specs.declared.way.Way.TheVariants.{Request}

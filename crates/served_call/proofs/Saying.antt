@@ -6,7 +6,7 @@ use Rattle.handle_model.specs.declared.entry.Asked.{Asked}
 use Rattle.handle_model.specs.declared.entry.Outcome.{Outcome}
 use Rattle.handle_model.specs.declared.entry.Said.{Said}
 use Rattle.ndr_value.specs.Values.{Msg}
-use Rattle.table_form.specs.Tables.{OpForm, TableForm}
+use Rattle.ndr_value.specs.Tables.{OpForm, TableForm}
 use Rattle.ndr_model.specs.declared.way.Way.TheVariants.{Response}
 use Rattle.ndr_model.specs.Written.{stub}
 use Rattle.manager_api.specs.Answers.{Ans, AOut, AFault}

@@ -8,9 +8,9 @@ use Rattle.ndr_value.specs.declared.shape.Count.{Count}
 use Rattle.ndr_value.specs.Forms.{Form, OfHandle, OfRef, OfUnion, Forms, Body, ArmForms, no_arm, then_arm, empty, holds}
 use Rattle.ndr_value.specs.Values.{Val, Vals, no_val, Msg}
 use Rattle.ndr_value.specs.Fits.{fits_tag, with_case, with_default, or_default, selected, arm_of}
-use Rattle.table_form.specs.declared.operation.HandleUse.{HandleUse}
-use Rattle.table_form.specs.Tables.{ParamForm, OpForm}
-use Rattle.table_form.specs.Sound.{has_member, has_element, is_tag, is_sound, each_sound, arms_sound, body_sound, own_kind, handle_kind, may_range, range_sound, param_sound, result_sound, op_sound, is_use, behind_use, behind_kind, behind_param, are_none, if_left, are_uses, each_uses, IsSound}
+use Rattle.ndr_value.specs.declared.operation.HandleUse.{HandleUse}
+use Rattle.ndr_value.specs.Tables.{ParamForm, OpForm}
+use Rattle.ndr_value.specs.Sound.{has_member, has_element, is_tag, is_sound, each_sound, arms_sound, body_sound, own_kind, handle_kind, may_range, range_sound, param_sound, result_sound, op_sound, is_use, behind_use, behind_kind, behind_param, are_none, if_left, are_uses, each_uses, IsSound}
 use Rattle.ndr_laws.proofs.Grounded.{HasBody, EachArm, arm_has}
 use Rattle.ndr_model.specs.declared.way.Way.TheVariants.{Request}
 use Rattle.ndr_model.specs.Stub.{Entry, of_param, param_entry, entries_of, entries}

@@ -4,8 +4,8 @@ use Rattle.rpc_base.specs.declared.identifiers.Order.{Order}
 use Rattle.handle_model.specs.declared.entry.Slot.{Slot}
 use Rattle.handle_model.specs.Slots.{with_serial}
 use Rattle.handle_model.specs.Journal.{filled, suit}
-use Rattle.table_form.specs.Tables.{TableForm, OpForm}
-use Rattle.table_form.specs.Sound.{IsSound}
+use Rattle.ndr_value.specs.Tables.{TableForm, OpForm}
+use Rattle.ndr_value.specs.Sound.{IsSound}
 use Rattle.ndr_value.specs.Values.{Msg}
 use Rattle.ndr_model.specs.declared.way.Way.TheVariants.{Request}
 use Rattle.ndr_model.specs.Fits.{IsOfOp}

@@ -5,7 +5,7 @@ use Rattle.rpc_base.specs.declared.identifiers.Order.{Order}
 use Rattle.rpc_base.specs.declared.identifiers.Status.{Status}
 use Rattle.handle_model.specs.declared.entry.Slot.{Slot}
 use Rattle.handle_model.specs.Slots.{opens, with_serial}
-use Rattle.table_form.specs.Tables.{TableForm}
+use Rattle.ndr_value.specs.Tables.{TableForm}
 use Rattle.manager_api.specs.declared.answer.Kept.{Kept}
 use Rattle.manager_api.specs.Answers.{Ans, AOut, AFault}
 use Rattle.conn_histories.specs.Requests.{HasSlots, IsRefused}

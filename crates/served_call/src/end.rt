@@ -2,7 +2,7 @@
 ghost use Rattle.std.specs.Prelude.{◌≡◌, ◌≤◌, length, true, Some};
 ghost use Rattle.handle_model.specs.Journal.{suit};
 ghost use Rattle.ndr_value.specs.Values.{msg};
-ghost use Rattle.table_form.specs.Tables.{OpForm};
+ghost use Rattle.ndr_value.specs.Tables.{OpForm};
 ghost use Rattle.manager_api.specs.Answers.{ans};
 ghost use Rattle.conn_histories.specs.Requests.{HasSlots, IsAsked, op_of};
 ghost use Rattle.conn_histories.specs.Ends as spec;

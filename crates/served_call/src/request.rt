@@ -1,8 +1,8 @@
 //! What a request comes to, and the message of a call.
 ghost use Rattle.std.specs.Prelude.{◌≡◌, IfOk, List, slice_get, Some};
 ghost use Rattle.ndr_value.specs.Values.{msg};
-ghost use Rattle.table_form.specs.Shown.{shown};
-ghost use Rattle.table_form.specs.Tables.{TableForm};
+ghost use Rattle.ndr_value.specs.Shown.{shown};
+ghost use Rattle.ndr_value.specs.Tables.{TableForm};
 ghost use Rattle.conn_histories.specs.Requests.{HasSlots, IsAsked};
 ghost use Rattle.served_tables.specs.Served.{tables_in};
 ghost use Rattle.served_call.specs.Suited.{ComesTo};
@@ -10,11 +10,10 @@ ghost use Rattle.served_call.specs.Suited.{ComesTo};
 use crate::slots::slots_for;
 use handle_model::{Asked, Slots};
 use ndr_codec::{Way, decode};
-use ndr_value::Message;
+use ndr_value::{Message, Table};
 use rpc_base::{NoMemory, Order, Status};
 use served_tables::Served;
 use std::alloc::Global;
-use table_form::Table;
 
 // The same at the table of the interface.
 fn slots_at(

@@ -3,9 +3,9 @@ ghost use Rattle.std.specs.Prelude.{◌≡◌, ◌+◌, ◌*◌, ◌^◌, ◌++�
 ghost use Rattle.conn_histories.specs.Requests as spec;
 
 use handle_model::{Slot, Slots};
+use ndr_value::HandleUse;
 use rpc_base::{NoMemory, WireHandle};
 use std::alloc::Global;
-use table_form::HandleUse;
 
 fn kind_in(iface: u16, own: u16) -> u32
     ensures { result ≡ iface * 2 ^ 16 + own }

@@ -1,8 +1,8 @@
 //! What the end of a call says.
 ghost use Rattle.std.specs.Prelude.{◌≡◌, ◌<◌, ◌++◌, IfOk, OnOk, length, slice_get, option_to_list, Some};
 ghost use Rattle.ndr_value.specs.Values.{msg};
-ghost use Rattle.table_form.specs.Shown.{shown};
-ghost use Rattle.table_form.specs.Tables.{OpForm};
+ghost use Rattle.ndr_value.specs.Shown.{shown};
+ghost use Rattle.ndr_value.specs.Tables.{OpForm};
 ghost use Rattle.ndr_model.specs.declared.way.Way.TheVariants.{Response};
 ghost use Rattle.ndr_model.specs.Written.{stub};
 ghost use Rattle.manager_api.specs.Answers.{ans};
@@ -12,10 +12,9 @@ ghost use Rattle.served_call.specs.Said.{SaysAt};
 use handle_model::{Asked, Home, Outcome, Said, Slot};
 use manager_api::Answer;
 use ndr_codec::{EncodeFault, Way, encode};
-use ndr_value::{Message, Wires};
+use ndr_value::{Message, Table, Wires};
 use rpc_base::{NoMemory, Octets, Order, Status, WireHandle};
 use std::alloc::Global;
-use table_form::Table;
 
 // The handle that goes out at a slot.
 fn wire_at(home: Home, slot: &Slot, outcome: &Outcome) -> Option<WireHandle>

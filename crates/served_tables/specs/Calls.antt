@@ -1,6 +1,6 @@
 -- Calls of the interfaces that a server offers.
 use Rattle.std.specs.Prelude.{◌≡◌, ◌<◌, true, List, length, slice_get, Some}
-use Rattle.table_form.specs.Tables.{TableForm}
+use Rattle.ndr_value.specs.Tables.{TableForm}
 use Rattle.manager_api.specs.Answers.{Ans}
 use Rattle.manager_api.specs.Calls.{Call, Owes, has_cookies, uses_at}
 use Rattle.manager_api.specs.Messages.{IsRequest}

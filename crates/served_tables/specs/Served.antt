@@ -1,7 +1,7 @@
 -- What the tables of a server's interfaces show.
 use Rattle.std.specs.Prelude.{List, map}
-use Rattle.table_form.specs.Shown.{shown}
-use Rattle.table_form.specs.Tables.{TableForm}
+use Rattle.ndr_value.specs.Shown.{shown}
+use Rattle.ndr_value.specs.Tables.{TableForm}
 use Rattle.served_tables.specs.declared.served.Served.{Served}
 
 -- the interfaces, by number

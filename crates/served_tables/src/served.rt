@@ -1,11 +1,11 @@
 //! The interfaces by number.
 ghost use Rattle.std.specs.Prelude.{◌≡◌, ◌≤◌, ◌++◌, length, map, OnOk};
-ghost use Rattle.table_form.specs.Shown.{shown};
-ghost use Rattle.table_form.specs.Tables.{TableForm};
+ghost use Rattle.ndr_value.specs.Shown.{shown};
+ghost use Rattle.ndr_value.specs.Tables.{TableForm};
 
+use ndr_value::Table;
 use rpc_base::{Items, NoMemory, SyntaxId};
 use std::alloc::Global;
-use table_form::Table;
 
 /// The most interfaces that a server offers.
 pub const MOST_INTERFACES: usize = 16;
@@ -35,8 +35,8 @@ fn add_ids(tables: &[Table], into: &mut Items<SyntaxId>) -> Result<(), NoMemory>
 
 impl Served {
     ghost use Rattle.std.specs.Prelude.{◌≡◌, ◌≤◌, length, map, slice_get, IfOk, MatchOption, Some, None};
-    ghost use Rattle.table_form.specs.Shown.{shown};
-    ghost use Rattle.table_form.specs.Tables.{TableForm};
+    ghost use Rattle.ndr_value.specs.Shown.{shown};
+    ghost use Rattle.ndr_value.specs.Tables.{TableForm};
     ghost use Rattle.served_tables.specs.Served.{tables_in};
 
     /// The interfaces of these tables. It takes no memory.

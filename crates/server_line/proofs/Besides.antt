@@ -18,7 +18,7 @@ use Rattle.hub_story.specs.declared.item.Item.TheVariants.{Of}
 use Rattle.hub_story.specs.Histories.{home_of}
 use Rattle.hub_story.specs.Passes.{Seen, HasCall, Knows, Runs, Serves, halved, accepts_of}
 use Rattle.hub_story.specs.Still.{StillHas}
-use Rattle.journal_laws.specs.Calls.{accepts}
+use Rattle.handle_model.specs.CallLaws.{accepts}
 use Rattle.group_hub.specs.declared.hub.Hub.{Hub}
 use Rattle.group_hub.specs.declared.pass.Pass.{Pass}
 use Rattle.group_hub.specs.Shards.{shard_of}
@@ -26,7 +26,7 @@ use Rattle.group_hub.specs.Passes.{IsPassOf, at_shard, CallsAt}
 use Rattle.shard_lock.specs.Passes.{Merges}
 use Rattle.shard.specs.declared.answer.HubRest.{HubRest}
 use Rattle.shard.specs.Answers.{SettlesWith}
-use Rattle.table_form.specs.Tables.{TableForm}
+use Rattle.ndr_value.specs.Tables.{TableForm}
 use Rattle.manager_api.specs.Answers.{Ans}
 use Rattle.manager_api.specs.Calls.{Call}
 use Rattle.conn_asks.specs.declared.events.Caller.{Caller}

@@ -34,7 +34,7 @@ use Rattle.group_hub.specs.Shards.{shard_of}
 use Rattle.group_hub.specs.Passes.{IsPassOf, at_shard, CallsAt}
 use Rattle.shard.specs.declared.answer.Retired.{Retired}
 use Rattle.pdu_stream.specs.declared.joined.Joined.{Joined}
-use Rattle.table_form.specs.Tables.{TableForm}
+use Rattle.ndr_value.specs.Tables.{TableForm}
 use Rattle.manager_api.specs.Answers.{Ans}
 use Rattle.manager_api.specs.Calls.{Call}
 use Rattle.conn_histories.specs.Requests.{IsRefused}

@@ -6,7 +6,7 @@ use Rattle.hub_story.specs.Histories.{home_of}
 use Rattle.group_hub.specs.declared.hub.Hub.{Hub}
 use Rattle.group_hub.specs.declared.pass.Pass.{Pass}
 use Rattle.shard.specs.declared.answer.Retired.{Retired}
-use Rattle.table_form.specs.Tables.{TableForm}
+use Rattle.ndr_value.specs.Tables.{TableForm}
 use Rattle.manager_api.specs.Answers.{Ans}
 use Rattle.manager_api.specs.Calls.{Call}
 use Rattle.conn_asks.specs.declared.events.Caller.{Caller}

@@ -32,7 +32,7 @@ use Rattle.shard.specs.declared.answer.Retired.{Retired}
 use Rattle.shard.specs.declared.answer.HubRest.{HubRest}
 use Rattle.shard.specs.declared.answer.HubRest.TheVariants as hub_rest
 use Rattle.shard.specs.Answers.{SettlesWith}
-use Rattle.table_form.specs.Tables.{TableForm}
+use Rattle.ndr_value.specs.Tables.{TableForm}
 use Rattle.manager_api.specs.Answers.{Ans}
 use Rattle.manager_api.specs.Calls.{Call}
 use Rattle.pdu_stream.specs.declared.joined.Joined.{Joined}

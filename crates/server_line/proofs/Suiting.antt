@@ -22,8 +22,8 @@ use Rattle.handle_model.specs.Rules.{filled}
 use Rattle.handle_model.specs.Limits.{openings, accept_limit_at, accept_limit}
 use Rattle.handle_model.specs.Journal.{Legal, accept_count, waiting, running, live, opened, slots, cookies_for, cookie_for, cookie_of, is_usable_as, is_live, is_issued, is_kind, kind, serial_named, serial_named_since, first_named}
 use Rattle.handle_model.proofs.Held.{and_left}
-use Rattle.journal_laws.specs.Running.{AllUsable}
-use Rattle.journal_laws.proofs.LiveNames.{taken_live}
+use Rattle.handle_model.specs.Running.{AllUsable}
+use Rattle.handle_model.proofs.LiveNames.{taken_live}
 use Rattle.handle_table.proofs.Named.{cookie_some}
 use Rattle.group_core.specs.declared.answer.Taking.TheVariants.{Run}
 use Rattle.group_core.specs.Calls.{Takes, first_serial}

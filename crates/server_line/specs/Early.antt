@@ -4,7 +4,7 @@ use Rattle.std.specs.List.{AllByRecursion}
 use Rattle.rpc_outside.specs.Links.{Shown}
 use Rattle.hub_story.specs.Histories.{home_of}
 use Rattle.group_hub.specs.declared.pass.Pass.{Pass}
-use Rattle.table_form.specs.Tables.{TableForm}
+use Rattle.ndr_value.specs.Tables.{TableForm}
 use Rattle.manager_api.specs.Answers.{Ans}
 use Rattle.manager_api.specs.Calls.{Call}
 use Rattle.conn_asks.specs.declared.events.Waits.{Waits}

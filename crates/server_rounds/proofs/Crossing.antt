@@ -4,9 +4,9 @@ use Rattle.std.proofs.Crossing.{crosses}
 use Rattle.std.proofs.MapsCrossing.{crosses as maps}
 use Rattle.rpc_base.proofs.items.Items.TheSendSync.{the_send as items_send, the_sync as items_sync}
 use Rattle.ndr_value.proofs.shape.Shape.TheLaws.TheKnot.{crosses as shapes}
-use Rattle.table_form.specs.contracts.operation.Param as Param
-use Rattle.table_form.specs.contracts.operation.Op as Op
-use Rattle.table_form.specs.contracts.table.Table as Table
+use Rattle.ndr_value.specs.contracts.operation.Param as Param
+use Rattle.ndr_value.specs.contracts.operation.Op as Op
+use Rattle.ndr_value.specs.contracts.table.Table as Table
 use Rattle.served_tables.specs.contracts.served.Served as Served
 use Rattle.probe_desk.specs.contracts.desk.ProbeDesk as Probe
 use Rattle.store_desk.specs.contracts.desk.StoreDesk as Store

@@ -11,10 +11,10 @@ use Rattle.handle_model.specs.Bases.{empty_base}
 use Rattle.handle_model.specs.History.{History, IsSound, since, with_entry}
 use Rattle.handle_model.specs.Journal.{Legal, is_shut, joins, leaves, takes, ends, decides, has_joined, is_open, joined, conns, taken, running, join_count, asked, has_left, is_taken, runs, is_empty, due}
 use Rattle.handle_model.proofs.Held.{and_right, or_right, or_cases}
-use Rattle.journal_laws.specs.Further.{with_entries}
-use Rattle.journal_laws.proofs.Accepted.{asked_stays}
-use Rattle.journal_laws.proofs.Apart.{runs_taken_before}
-use Rattle.journal_laws.proofs.Stages.{decides_before_leave, taken_asked_since}
+use Rattle.handle_model.specs.Further.{with_entries}
+use Rattle.handle_model.proofs.Accepted.{asked_stays}
+use Rattle.handle_model.proofs.Apart.{runs_taken_before}
+use Rattle.handle_model.proofs.Stages.{decides_before_leave, taken_asked_since}
 use Rattle.conn_histories.specs.declared.turn.Turn.{Turn}
 use Rattle.conn_histories.specs.declared.turn.Turn.TheVariants.{Called}
 use Rattle.conn_histories.specs.declared.turn.Deed.{Deed}

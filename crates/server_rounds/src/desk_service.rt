@@ -7,7 +7,7 @@ use handle_model::{CookieRow, Due};
 use locked_desks::SharedDesks;
 use manager_api::{Answer, Probe};
 use manager_calls::Manager;
-use ndr_value::Message;
+use ndr_value::{Message, Table};
 use rpc_base::NoMemory;
 use rpc_outside::Address;
 use served_tables::Served;
@@ -15,7 +15,6 @@ use service_desks::tables_with;
 use std::alloc::Global;
 use std::marker::Model;
 use std::sync::{Arc, Wait};
-use table_form::Table;
 
 /// The built-in interfaces and an echo, where there is one: the probe is interface 0, the store 1, the endpoint map 2,
 /// management 3 and the echo's interface 4. Contracts see it as their managers, which keep what calls left, whichever

@@ -6,7 +6,7 @@ use Rattle.handle_model.specs.declared.entry.Asked.{Asked}
 use Rattle.handle_model.specs.Rules.{filled, next_serial}
 use Rattle.group_hub.specs.declared.hub.Hub.{Hub}
 use Rattle.pdu_stream.specs.declared.joined.Joined.{Joined}
-use Rattle.table_form.specs.Tables.{TableForm}
+use Rattle.ndr_value.specs.Tables.{TableForm}
 use Rattle.manager_api.specs.Answers.{Ans}
 use Rattle.manager_api.specs.Calls.{Call}
 use Rattle.served_call.specs.Suited.{Opened}

@@ -1,7 +1,7 @@
 -- An answer is one, unless memory ran out.
 use Rattle.std.proofs.Common.{◌≡◌, ℕ, zero, suc, ◌<◌, Bool, true, false, List, [], ◌∷◌, length, Option, Some, None, inl, inr, refl, sym, ap, subst, ◌∙◌, arith}
 use Rattle.std.specs.Prelude.{slice_get}
-use Rattle.table_form.specs.Tables.{OpForm, TableForm}
+use Rattle.ndr_value.specs.Tables.{OpForm, TableForm}
 use Rattle.ndr_value.specs.Values.{Msg}
 use Rattle.manager_api.specs.Answers.{Ans, Step, Does, no_memory, AOut}
 use Rattle.manager_api.specs.Calls.{Call}

@@ -1,7 +1,7 @@
 -- Which desk serves a call.
 use Rattle.std.proofs.Common.{◌≡◌, ◌≢◌, ℕ, zero, suc, ◌<◌, Bool, true, List, [], ◌∷◌, length, Option, Some, None, refl, sym, ap, subst, ◌∙◌}
 use Rattle.std.specs.Prelude.{slice_get}
-use Rattle.table_form.specs.Tables.{TableForm}
+use Rattle.ndr_value.specs.Tables.{TableForm}
 use Rattle.probe_desk.specs.Table.{probe_table}
 use Rattle.store_model.specs.Table.{store_table}
 use Rattle.epm_model.specs.Table.{epm_table}

@@ -1,7 +1,7 @@
 -- What the services answer to a call: the desk of its interface answers it, and the others stay as they are.
 use Rattle.std.specs.Prelude.{◌≡◌, ℕ, Bool, List, Some, map}
 use Rattle.rpc_base.specs.declared.identifiers.SyntaxId.{SyntaxId}
-use Rattle.table_form.specs.Tables.{TableForm}
+use Rattle.ndr_value.specs.Tables.{TableForm}
 use Rattle.manager_api.specs.Answers.{Ans, Does}
 use Rattle.manager_api.specs.Calls.{Call}
 use Rattle.probe_desk.specs.Steps.{probe_step}

@@ -1,8 +1,8 @@
 -- What an option of a table shows.
 use Rattle.std.specs.Prelude.{Option, Some, None}
-use Rattle.table_form.specs.declared.table.Table.{Table}
-use Rattle.table_form.specs.Shown.{shown}
-use Rattle.table_form.specs.Tables.{TableForm}
+use Rattle.ndr_value.specs.declared.table.Table.{Table}
+use Rattle.ndr_value.specs.Shown.{shown}
+use Rattle.ndr_value.specs.Tables.{TableForm}
 
 abbrev pub shown_by : {A : Type 0} → (A → Table) → Option A → Option TableForm
 shown_by seen None = None

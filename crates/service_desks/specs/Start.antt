@@ -4,7 +4,7 @@ use Rattle.rpc_base.specs.declared.identifiers.SyntaxId.{SyntaxId}
 use Rattle.uuid.specs.Parts.{zero_bytes}
 use Rattle.presentation.specs.Serving.{ndr}
 use Rattle.tower_codec.specs.declared.tower.Tower.{Tower}
-use Rattle.table_form.specs.Tables.{TableForm}
+use Rattle.ndr_value.specs.Tables.{TableForm}
 use Rattle.store_model.specs.Files.{Store}
 use Rattle.epm_model.specs.declared.entry.MapEntry.{MapEntry}
 use Rattle.epm_model.specs.Entries.{EndpointMap}

@@ -1,6 +1,6 @@
 -- The built-in services of a server, by the numbers of their interfaces.
 use Rattle.std.specs.Prelude.{ℕ, ◌==◌, if◌then◌else◌, List, [], ◌∷◌, ◌++◌, Option, Some, None}
-use Rattle.table_form.specs.Tables.{TableForm}
+use Rattle.ndr_value.specs.Tables.{TableForm}
 use Rattle.probe_desk.specs.Table.{probe_table}
 use Rattle.store_model.specs.Table.{store_table}
 use Rattle.store_model.specs.Files.{Store}

@@ -1,7 +1,7 @@
 //! Calls on the desks.
 ghost use Rattle.std.specs.Prelude.{◌≡◌, ◌<◌, ◌≤◌, true, false, length};
 ghost use Rattle.ndr_value.specs.Values.{msg};
-ghost use Rattle.table_form.specs.Shown.{shown};
+ghost use Rattle.ndr_value.specs.Shown.{shown};
 ghost use Rattle.manager_api.specs.Answers.{ans, cancelled as cancelled_answer};
 ghost use Rattle.manager_api.specs.Calls.{Owes, has_cookies, uses_at};
 ghost use Rattle.manager_api.specs.Messages.{IsRequest};
@@ -21,10 +21,9 @@ use echo_desk::EchoDesk;
 use handle_model::CookieRow;
 use manager_api::{Answer, Desk, Probe};
 use mgmt_desk::{Ids, MgmtDesk};
-use ndr_value::Message;
+use ndr_value::{Message, Table};
 use rpc_base::{Items, Status, SyntaxId};
 use std::alloc::Global;
-use table_form::Table;
 
 // The numbers of the interfaces.
 const PROBE: u16 = 0;

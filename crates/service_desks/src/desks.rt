@@ -8,13 +8,13 @@ ghost use Rattle.service_desks.specs.State.{tables_with};
 use crate::offers::register;
 use crate::tables::tables_with as offered;
 use epm_desk::EpmDesk;
+use ndr_value::Table;
 use probe_desk::{ProbeDesk, probe_table};
 use rpc_base::{Items, NoMemory, SyntaxId};
 use served_tables::Served;
 use std::alloc::Global;
 use store_desk::StoreDesk;
 use store_model::store_table;
-use table_form::Table;
 
 /// The desks behind the interfaces of a server.
 #[derive(Drop)]

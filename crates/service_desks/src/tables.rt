@@ -1,18 +1,18 @@
 //! The tables of the interfaces.
 ghost use Rattle.std.specs.Prelude.{◌≡◌, ◌++◌, ◌≤◌, IfOk, OnOk, length, map};
-ghost use Rattle.table_form.specs.Shown.{shown};
+ghost use Rattle.ndr_value.specs.Shown.{shown};
 ghost use Rattle.served_tables.specs.Served.{tables_in};
 ghost use Rattle.service_desks.specs.State as spec;
 ghost use Rattle.service_desks.specs.Shows.{shown_by};
 
 use epm_model::epm_table;
 use mgmt_desk::mgmt_table;
+use ndr_value::Table;
 use probe_desk::probe_table;
 use rpc_base::NoMemory;
 use served_tables::{Served, Tables};
 use std::alloc::Global;
 use store_model::store_table;
-use table_form::Table;
 
 // Those that every server has.
 fn built_in(alloc: Global) -> Result<Tables, NoMemory>

@@ -16,7 +16,7 @@ use Rattle.handle_model.specs.declared.base.Base.{Base}
 use Rattle.handle_model.specs.Bases.{empty_base}
 use Rattle.handle_model.specs.Journal.{Legal, is_shut, is_join}
 use Rattle.handle_model.specs.History.{History, IsSound, since, history_of, size}
-use Rattle.journal_laws.specs.Further.{with_entries}
+use Rattle.handle_model.specs.Further.{with_entries}
 use Rattle.group_core.specs.declared.answer.JoinRefusal.{JoinRefusal}
 use Rattle.group_core.specs.declared.answer.JoinRefusal.TheVariants as refusal
 use Rattle.group_core.specs.Adds.{Adds}

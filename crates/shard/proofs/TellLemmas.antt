@@ -11,7 +11,7 @@ use Rattle.handle_model.specs.declared.entry.Entry.{Entry}
 use Rattle.handle_model.specs.Bases.{empty_base}
 use Rattle.handle_model.specs.Journal.{is_shut, is_join}
 use Rattle.handle_model.specs.History.{History, IsSound, since}
-use Rattle.journal_laws.specs.Further.{with_entries}
+use Rattle.handle_model.specs.Further.{with_entries}
 use Rattle.hub_story.specs.declared.item.Mark.{Mark}
 use Rattle.hub_story.specs.declared.item.Mark.TheVariants.{Opened, Missed, Retired}
 use Rattle.hub_story.specs.declared.item.Item.{Item}

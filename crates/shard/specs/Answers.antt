@@ -7,7 +7,7 @@ use Rattle.handle_model.specs.declared.entry.Entry.{Entry}
 use Rattle.handle_model.specs.declared.entry.Entry.TheVariants as entry
 use Rattle.handle_model.specs.Journal.{is_open, is_shut, runs, suit, slots}
 use Rattle.handle_model.specs.History.{History}
-use Rattle.journal_laws.specs.Further.{with_entries}
+use Rattle.handle_model.specs.Further.{with_entries}
 use Rattle.group_core.specs.declared.answer.AcceptRefusal.{AcceptRefusal}
 use Rattle.group_core.specs.declared.answer.Taking.{Taking}
 use Rattle.group_core.specs.declared.answer.Cancelled.{Cancelled}

@@ -12,7 +12,7 @@ use Rattle.handle_model.specs.Bases.{empty_base}
 use Rattle.handle_model.specs.Journal.{is_open, runs, decides, slots, cookies_for}
 use Rattle.handle_model.specs.History.{History, since}
 use Rattle.handle_model.proofs.Steps.{open_unshut}
-use Rattle.journal_laws.specs.Further.{with_entries}
+use Rattle.handle_model.specs.Further.{with_entries}
 use Rattle.group_core.specs.declared.answer.AcceptRefusal.{AcceptRefusal}
 use Rattle.group_core.specs.declared.answer.AcceptRefusal.TheVariants as refusal
 use Rattle.group_core.specs.declared.answer.Taking.{Taking}

@@ -17,7 +17,7 @@ use Rattle.handle_model.specs.Bases.{empty_base}
 use Rattle.handle_model.proofs.Steps.{active_unshut, runs_unshut}
 use Rattle.handle_model.specs.Journal.{takes, is_shut, waits, runs, opened, slots, slots_in, asked_since, suit, cookies_for}
 use Rattle.handle_model.specs.History.{History}
-use Rattle.journal_laws.specs.Calls.{accepts}
+use Rattle.handle_model.specs.CallLaws.{accepts}
 use Rattle.group_core.specs.declared.answer.AcceptRefusal.{AcceptRefusal}
 use Rattle.group_core.specs.declared.answer.AcceptRefusal.TheVariants as refusal
 use Rattle.group_core.specs.declared.answer.Taking.{Taking}

@@ -3,8 +3,8 @@ use Rattle.std.specs.Prelude.{List, [], ◌∷◌, None, Bool, true, false, code
 use Rattle.ndr_value.specs.declared.shape.Count.TheVariants.{Param}
 use Rattle.ndr_value.specs.declared.shape.ArrayKind.TheVariants.{Conformant, ConformantVarying}
 use Rattle.ndr_value.specs.Forms.{Form, OfByte, OfUint, OfText, OfArray, OfRef, OfHandle}
-use Rattle.table_form.specs.declared.operation.HandleUse.{HandleUse}
-use Rattle.table_form.specs.Tables.{OpForm, TableForm}
+use Rattle.ndr_value.specs.declared.operation.HandleUse.{HandleUse}
+use Rattle.ndr_value.specs.Tables.{OpForm, TableForm}
 use Rattle.table_parts.specs.Parts.{goes_in, goes_out, goes_both, operation, used}
 
 -- the first handle type is the cursor's, the second the view's

@@ -1,14 +1,13 @@
 //! The table of the interface, as its text gives it.
 ghost use Rattle.std.specs.Prelude.{◌≡◌, IfOk, map};
 ghost use Rattle.ndr_value.specs.Forms.{form};
-ghost use Rattle.table_form.specs.Tables.{op_form};
-ghost use Rattle.table_form.specs.Shown.{shown};
+ghost use Rattle.ndr_value.specs.Tables.{op_form};
+ghost use Rattle.ndr_value.specs.Shown.{shown};
 ghost use Rattle.store_model.specs.Table as spec;
 
-use ndr_value::{ArrayKind, Count, Shape, Shapes};
+use ndr_value::{ArrayKind, Count, HandleUse, Op, Ops, Shape, Shapes, Table, Uses};
 use rpc_base::{NoMemory, SyntaxId};
 use std::alloc::Global;
-use table_form::{HandleUse, Op, Ops, Table, Uses};
 use table_parts::{array_of, behind, both_ways, inward, one_use, operation, outward, used};
 use uuid::Uuid;
 

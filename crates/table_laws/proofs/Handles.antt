@@ -31,8 +31,8 @@ use Rattle.idl_rules.specs.Types.{is_context_handle}
 use Rattle.idl_rules.specs.TooManyHandles.{is_handle as is_handle_declared, declared_of, handles, place_if, too_many_handles}
 use Rattle.idl_rules.specs.Broken.{NoneBroken}
 use Rattle.ndr_value.specs.Forms.{Form}
-use Rattle.table_form.specs.declared.operation.HandleUse.{HandleUse}
-use Rattle.table_form.specs.Tables.{TableForm}
+use Rattle.ndr_value.specs.declared.operation.HandleUse.{HandleUse}
+use Rattle.ndr_value.specs.Tables.{TableForm}
 use Rattle.idl_names.specs.Symbols.{Symbols, number_of, with_constant, with_names}
 use Rattle.table_scope.specs.declared.known.Sort.{Sort}
 use Rattle.table_scope.specs.declared.known.Sort.TheVariants as sorts

@@ -18,7 +18,7 @@ use Rattle.idl_outline.specs.Outline.{params_past, named_past, op_past, decl_pas
 use Rattle.idl_rules.specs.Places.{Among, at_if, gathered}
 use Rattle.idl_rules.specs.OutsideProfile.{outside_profile}
 use Rattle.idl_rules.specs.Broken.{NoneBroken}
-use Rattle.table_form.specs.Tables.{OpForm, TableForm}
+use Rattle.ndr_value.specs.Tables.{OpForm, TableForm}
 use Rattle.table_laws.specs.Interfaces.{Draft, decl_at, decls_at, op_at, nothing_declared, tabled}
 use Rattle.table_laws.specs.Wholes.{op_name, names_in, op_names, HasEachOperation}
 use Rattle.table_laws.proofs.Quiet.{Behind, Quiet, back, one_more, member_quiet, own_none, params_quiet, decls_behind}

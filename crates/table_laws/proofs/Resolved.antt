@@ -34,7 +34,7 @@ use Rattle.table_scope.specs.Scopes.{Sense, Scope, handle_sense}
 use Rattle.table_scope.specs.Declarators.{terms, declared}
 use Rattle.table_specs.specs.Specs.{attrs_at, sense_at}
 use Rattle.table_laws.specs.Interfaces.{Listed, Draft, is_binding, param_names, listed_as, param_at, params_at, typed, typedef_one, typedef_all, own_at, decl_at, decls_at, nothing_declared}
-use Rattle.table_form.specs.Tables.{ParamForm}
+use Rattle.ndr_value.specs.Tables.{ParamForm}
 use Rattle.table_laws.specs.Alike.{suits, types_suit, ResolveAlike, NamesResolveAlike, all_suit, listed_in, all_listed, decl_suits, decls_suit, OperationsSuit}
 use Rattle.table_laws.proofs.Quiet.{member_quiet, attrs_quiet}
 use Rattle.table_laws.proofs.Listed.{nil_left, nil_right, params_behind}

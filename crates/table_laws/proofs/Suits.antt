@@ -27,7 +27,7 @@ use Rattle.idl_outline.specs.Specs.{spec_type}
 use Rattle.idl_rules.specs.Types.{by_value, is_unknown, is_char}
 use Rattle.ndr_value.specs.declared.shape.Count.{Count}
 use Rattle.ndr_value.specs.Forms.{Form, OfInt, OfUint, OfNamed, OfArray, OfText, OfRef, OfUnique, OfFull}
-use Rattle.table_form.specs.Aligned.{octets_of}
+use Rattle.ndr_value.specs.Aligned.{octets_of}
 use Rattle.idl_names.specs.declared.symbols.Tag.{Tag}
 use Rattle.table_scope.specs.declared.said.Terms.{Terms}
 use Rattle.idl_names.specs.Symbols.{ByName, found}

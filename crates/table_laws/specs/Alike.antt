@@ -21,8 +21,8 @@ use Rattle.idl_rules.specs.Broken.{NoneBroken}
 use Rattle.ndr_value.specs.declared.shape.ArrayKind.{ArrayKind}
 use Rattle.ndr_value.specs.declared.shape.ArrayKind.TheVariants.{Fixed, Varying}
 use Rattle.ndr_value.specs.Forms.{Form, OfBool, OfByte, OfChar, OfInt, OfUint, OfEnum, OfNamed, OfArray, OfText, OfRef, OfUnique, OfFull, OfHandle}
-use Rattle.table_form.specs.Aligned.{octets_of}
-use Rattle.table_form.specs.Tables.{ParamForm}
+use Rattle.ndr_value.specs.Aligned.{octets_of}
+use Rattle.ndr_value.specs.Tables.{ParamForm}
 use Rattle.idl_names.specs.declared.symbols.Tag.{Tag}
 use Rattle.idl_names.specs.Symbols.{Symbols}
 use Rattle.table_scope.specs.Scopes.{Sense}

@@ -17,8 +17,8 @@ use Rattle.idl_names.specs.Walk as walk
 use Rattle.idl_names.specs.Attributes.{pointer_default, given, says, says_in, says_out, says_maybe, says_handle, is_serialised}
 use Rattle.idl_forms.specs.Forms as idl
 use Rattle.ndr_value.specs.Forms.{Form}
-use Rattle.table_form.specs.declared.operation.HandleUse.{HandleUse}
-use Rattle.table_form.specs.Tables.{ParamForm, OpForm, TableForm}
+use Rattle.ndr_value.specs.declared.operation.HandleUse.{HandleUse}
+use Rattle.ndr_value.specs.Tables.{ParamForm, OpForm, TableForm}
 use Rattle.table_scope.specs.declared.known.Sort.{Sort}
 use Rattle.table_scope.specs.declared.known.Sort.TheVariants as sorts
 use Rattle.table_scope.specs.declared.said.Terms.{Terms}

@@ -5,8 +5,8 @@ use Rattle.idl_tree.specs.declared.leaf.Pk.{Pk}
 use Rattle.idl_names.specs.Attributes.{pointer_default}
 use Rattle.idl_names.specs.Members.{result_member}
 use Rattle.idl_forms.specs.Forms as idl
-use Rattle.table_form.specs.declared.operation.HandleUse.{HandleUse}
-use Rattle.table_form.specs.Tables.{OpForm, TableForm}
+use Rattle.ndr_value.specs.declared.operation.HandleUse.{HandleUse}
+use Rattle.ndr_value.specs.Tables.{OpForm, TableForm}
 use Rattle.table_specs.specs.Specs.{sense_at}
 use Rattle.table_laws.specs.Interfaces.{Draft, param_names, params_at, decl_at, nothing_declared}
 

@@ -2,8 +2,8 @@
 use Rattle.std.specs.Prelude.{ℕ, Bool, true, false, List, Option, Some, None}
 use Rattle.ndr_value.specs.declared.shape.ArrayKind.TheVariants.{Fixed}
 use Rattle.ndr_value.specs.Forms.{Form, OfByte, OfUint, OfNamed, OfStruct, OfArray, OfRef, no_form, then_form}
-use Rattle.table_form.specs.declared.operation.HandleUse.{HandleUse}
-use Rattle.table_form.specs.Tables.{ParamForm, OpForm}
+use Rattle.ndr_value.specs.declared.operation.HandleUse.{HandleUse}
+use Rattle.ndr_value.specs.Tables.{ParamForm, OpForm}
 
 -- ---- shapes
 

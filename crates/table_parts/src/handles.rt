@@ -2,9 +2,9 @@
 ghost use Rattle.std.specs.Prelude.{◌≡◌, ◌∷◌, [], IfOk};
 ghost use Rattle.table_parts.specs.Parts as spec;
 
+use ndr_value::{HandleUse, HandleUses};
 use rpc_base::NoMemory;
 use std::alloc::Global;
-use table_form::{HandleUse, HandleUses};
 
 /// A use of a handle of a type of that number.
 pub fn used(kind: u16, inward: bool, outward: bool, serialised: bool) -> HandleUse

@@ -1,14 +1,13 @@
 //! Operations and their parameters.
 ghost use Rattle.std.specs.Prelude.{◌≡◌, IfOk, map};
 ghost use Rattle.ndr_value.specs.Forms.{form};
-ghost use Rattle.table_form.specs.Tables.{op_form, param_form, result_form};
+ghost use Rattle.ndr_value.specs.Tables.{op_form, param_form, result_form};
 ghost use Rattle.table_parts.specs.Parts as spec;
 
 use crate::shapes::behind;
-use ndr_value::Shape;
+use ndr_value::{Op, Param, Params, Shape};
 use rpc_base::{NoMemory, Octets};
 use std::alloc::Global;
-use table_form::{Op, Param, Params};
 
 /// A parameter that goes in.
 pub fn inward(shape: Shape) -> Param

@@ -20,7 +20,7 @@ use Rattle.ndr_value.specs.declared.shape.ArrayKind.TheVariants.{Fixed, Varying,
 use Rattle.ndr_value.specs.declared.shape.Count.{Count}
 use Rattle.ndr_value.specs.declared.shape.Count.TheVariants as counts
 use Rattle.ndr_value.specs.Forms.{Form, OfNamed, OfArray, OfText, OfRef, OfUnique, OfFull}
-use Rattle.table_form.specs.declared.operation.Bounds.{Bounds}
+use Rattle.ndr_value.specs.declared.operation.Bounds.{Bounds}
 use Rattle.table_scope.specs.declared.said.Terms.{Terms}
 
 -- ---- counts: they name a parameter, or a member of the same body, by its index

@@ -11,10 +11,9 @@ use crate::said::Terms;
 use idl_names::{Extent, Place, Word, extent_of, or_class, outer_class, pointer_given, says};
 use idl_tree::{Attr, Dtor, Ident, Num, Pk};
 use name_map::Names;
-use ndr_value::{ArrayKind, Count, Shape, copy_shape};
+use ndr_value::{ArrayKind, Count, MOST_LEVELS, Shape, copy_shape, has_few_levels};
 use rpc_base::NoMemory;
 use std::alloc::Global;
-use table_form::{MOST_LEVELS, has_few_levels};
 
 /// What attributes say of the declarators behind them. `names`: the names of all parameters, or of all
 /// members of the body.

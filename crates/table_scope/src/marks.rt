@@ -7,9 +7,8 @@ ghost use Rattle.table_scope.specs.Declarators.{most_in, travel_in, switch_in, r
 use crate::counts::{count, named_count, signed_64};
 use idl_names::Place;
 use idl_tree::{Attr, AttrKind, Ident};
-use ndr_value::Count;
+use ndr_value::{Bounds, Count};
 use rpc_base::NoMemory;
-use table_form::Bounds;
 
 fn most_of(kind: &AttrKind, place: Place, names: &[Ident]) -> Result<Option<Count>, NoMemory>
     ensures { IfOk result (λ c. c ≡ most_in place names.now (attr_kind_form kind.now)) }

@@ -20,7 +20,7 @@ use Rattle.idl_names.specs.Declarators.{value_of, all_pointed, label_number}
 use Rattle.idl_forms.specs.Forms as idl
 use Rattle.ndr_value.specs.Forms.{Form, OfBool, OfByte, OfChar, OfInt, OfUint, OfEnum, OfNamed, OfStruct, OfUnion, Forms, no_form, then_form, Body, empty, holds, ArmForms}
 use Rattle.ndr_value.specs.Forms.{no_arm as no_arm_form, then_arm as then_arm_form}
-use Rattle.table_form.specs.Aligned.{octets_of}
+use Rattle.ndr_value.specs.Aligned.{octets_of}
 use Rattle.table_scope.specs.declared.known.Sort.TheVariants as sorts
 use Rattle.idl_names.specs.Symbols.{ByName}
 use Rattle.table_scope.specs.Scopes.{Sense, Scope, nothing, valued, status_sense, shapeless, type_named, tag_form, with_names, begun, ended}

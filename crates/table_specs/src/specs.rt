@@ -2,7 +2,7 @@
 ghost use Rattle.std.specs.Prelude.{◌≡◌, ◌++◌, map, false, IfOk, OnOk, Some, None};
 ghost use Rattle.std.specs.Option.{option_or};
 ghost use Rattle.ndr_value.specs.Forms.{form, face, body, OfUnion};
-ghost use Rattle.table_form.specs.Tables.{result_form};
+ghost use Rattle.ndr_value.specs.Tables.{result_form};
 ghost use Rattle.idl_forms.specs.Forms.{a_member, spec_form, member_form, members_form, switch_form, arm_form, arms_form, attr_kind_form, attr_form, attrs_form};
 ghost use Rattle.idl_names.specs.declared.place.Place.TheVariants as places;
 ghost use Rattle.table_scope.specs.Scopes.{sense, scope, status_sense, shapeless, begun};
@@ -17,10 +17,9 @@ use idl_tree::{
     ArmNode, Attr, AttrKind, Base, Dtor, Ident, Member, Num, Pk, Spec, SpecKind, Switch,
 };
 use name_map::Names;
-use ndr_value::{Arm, Arms, Shape, Shapes, copy_shape};
+use ndr_value::{Arm, Arms, Shape, Shapes, copy_shape, octets};
 use rpc_base::NoMemory;
 use std::alloc::Global;
-use table_form::octets;
 use table_scope::{
     Known, Meaning, Sort, Terms, begun, declared, ended, in_16, nothing, tag_shape, terms,
     type_named, union_shape, valued, with_names,

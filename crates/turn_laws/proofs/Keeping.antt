@@ -10,7 +10,7 @@ use Rattle.handle_model.specs.declared.entry.Entry.{Entry}
 use Rattle.handle_model.specs.declared.entry.Entry.TheVariants.{Join, Accept, Take, Deny, Cancel, Orphan, End, Leave, Shut}
 use Rattle.handle_model.specs.Bases.{empty_base}
 use Rattle.handle_model.specs.Journal.{is_shut, Legal, LegalSince}
-use Rattle.table_form.specs.Tables.{TableForm}
+use Rattle.ndr_value.specs.Tables.{TableForm}
 use Rattle.conn_histories.specs.Histories.{Event}
 use Rattle.conn_histories.specs.Requests.{IsRefused}
 use Rattle.conn_histories.specs.Requests.IsRefused.{no_operation, no_stub, no_room, full}

@@ -5,7 +5,7 @@ use Rattle.rpc_base.specs.declared.identifiers.Status.{Status}
 use Rattle.rpc_base.specs.declared.identifiers.Order.{Order}
 use Rattle.handle_model.specs.declared.entry.Slot.{Slot}
 use Rattle.pdu_stream.specs.declared.joined.Joined.{Joined}
-use Rattle.table_form.specs.Tables.{TableForm}
+use Rattle.ndr_value.specs.Tables.{TableForm}
 use Rattle.conn_asks.specs.declared.events.ConnFault.{ConnFault}
 use Rattle.conn_histories.specs.Histories.{Event}
 use Rattle.conn_histories.specs.Requests.{IsRefused}

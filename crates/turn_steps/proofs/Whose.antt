@@ -19,8 +19,8 @@ use Rattle.conn_histories.specs.declared.turn.Deed.TheVariants.{Pending, Refused
 use Rattle.conn_histories.specs.declared.turn.Turn.TheVariants.{Binding, Bound, NotBound, Answered, Called, Closed}
 use Rattle.handle_model.specs.Journal.{Legal, asked, is_taken, accept_count, has_joined, leaves}
 use Rattle.handle_model.proofs.Held.{left_joined}
-use Rattle.journal_laws.proofs.Accepted.{fresh_unasked}
-use Rattle.journal_laws.proofs.Stages.{decides_after_accept, ends_after_take, taken_asked_since}
+use Rattle.handle_model.proofs.Accepted.{fresh_unasked}
+use Rattle.handle_model.proofs.Stages.{decides_after_accept, ends_after_take, taken_asked_since}
 use Rattle.conn_histories.specs.Entries.{asked_as, fate_entries, has_left, leave_behind, deed_number, number_of, numbers_of}
 use Rattle.conn_histories.specs.Tales.{of_call, of_conn, accepted_of, calls_of, DeedStands, Stands}
 use Rattle.turn_laws.specs.Laws.{AreOfOthers}

@@ -6,14 +6,13 @@ use echo_desk::EchoDesk;
 use manager_api::{Answer, Desk, Probe, has_cookies};
 use ndr_codec::{Way, decode, encode, in_range};
 use ndr_lines::{are_typed, decoded, is_fit, put_message, table_of};
-use ndr_value::{Message, Value, Wires};
+use ndr_value::{MOST_LEVELS, Message, Table, Value, Wires};
 use rpc_base::{NoMemory, Octets, Order, WireHandle};
 use rpc_words::put;
 use std::alloc::Global;
 use std::process::Abort;
 use std::test::Fail;
 use std::thread::{Builder, Threads};
-use table_form::{MOST_LEVELS, Table};
 
 /// What stands within one another, and at last a pointer.
 #[derive(Clone, Copy)]

@@ -1,6 +1,6 @@
 use Rattle.std.proofs.Common.{ℕ, List, sym, subst}
 use Rattle.call_play.specs.Scripts.{Ends}
-use Rattle.table_form.specs.Shown.{shown}
+use Rattle.ndr_value.specs.Shown.{shown}
 use Rattle.call_play.proofs.Whole.{begins, has_outs, comes_to}
 use Rattle.call_play.proofs.calling.call.Goals as goal
 

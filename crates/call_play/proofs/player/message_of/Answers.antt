@@ -1,8 +1,8 @@
 use Rattle.std.proofs.Common.{true≢false, sym, subst, ◌∙◌}
 use Rattle.ndr_value.specs.Forms.{types_of}
 use Rattle.ndr_value.specs.Values.{msg}
-use Rattle.table_form.specs.Shown.{shown}
-use Rattle.table_form.specs.Tables.{TableForm}
+use Rattle.ndr_value.specs.Shown.{shown}
+use Rattle.ndr_value.specs.Tables.{TableForm}
 use Rattle.call_play.specs.Steps.{IsRequestOf, IsNoMessage}
 use Rattle.call_play.specs.Steps.IsNoMessage.{not_of}
 use Rattle.call_play.proofs.Asking.{row_is, no_row}

@@ -1,5 +1,5 @@
 use Rattle.std.proofs.Common.{ℕ, ◌≤◌, subst}
-use Rattle.table_form.specs.Shown.{shown}
+use Rattle.ndr_value.specs.Shown.{shown}
 use Rattle.call_play.specs.Steps.{HasOp}
 use Rattle.call_play.proofs.Asking.{none_more, none_at_all, is_not}
 use Rattle.call_play.proofs.player.op_of.Goals as goal

@@ -1,4 +1,4 @@
-use Rattle.table_form.specs.Shown.{shown}
+use Rattle.ndr_value.specs.Shown.{shown}
 use Rattle.call_play.proofs.Asking.{NoneBefore}
 use Rattle.call_play.proofs.player.op_of.Given as goal
 

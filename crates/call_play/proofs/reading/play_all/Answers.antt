@@ -1,5 +1,5 @@
 use Rattle.std.proofs.Common.{sym, subst, ◌∙◌}
-use Rattle.table_form.specs.Shown.{shown}
+use Rattle.ndr_value.specs.Shown.{shown}
 use Rattle.call_play.specs.declared.calling.CallEnd.{CallEnd}
 use Rattle.call_play.specs.Plays.{AllEnds}
 use Rattle.call_play.proofs.ReadLemmas.{nothing_read, has_world, continued, continued_shorter, departed, stopped, all_played, is_empty, some_left}

@@ -1,5 +1,5 @@
 use Rattle.std.specs.Prelude.{length}
-use Rattle.table_form.specs.Shown.{shown}
+use Rattle.ndr_value.specs.Shown.{shown}
 use Rattle.call_play.proofs.ReadLemmas.{IsRead}
 use Rattle.call_play.proofs.reading.play_all.Given as goal
 

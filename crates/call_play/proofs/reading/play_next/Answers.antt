@@ -1,5 +1,5 @@
 use Rattle.std.proofs.lemmas.Result.{err_from_is_err_and}
-use Rattle.table_form.specs.Shown.{shown}
+use Rattle.ndr_value.specs.Shown.{shown}
 use Rattle.call_play.proofs.ReadLemmas.{next_played, next_departed, next_failed}
 use Rattle.call_play.proofs.reading.play_next.Goals as goal
 

@@ -1,7 +1,7 @@
 use Rattle.std.proofs.Common.{◌≡◌, ◌++◌, drop, map}
 use Rattle.ndr_value.specs.Forms.{form}
 use Rattle.ndr_value.specs.Values.{vals}
-use Rattle.table_form.specs.Tables.{param_form}
+use Rattle.ndr_value.specs.Tables.{param_form}
 use Rattle.call_texts.specs.Texts.{inwards}
 use Rattle.call_texts.specs.Heaps.{each_aims}
 use Rattle.call_texts.specs.Pointers.{aim_of}

@@ -2,7 +2,7 @@ use Rattle.std.proofs.Common.{◌≡◌, List, map, refl, sym, subst}
 use Rattle.ndr_value.specs.declared.value.Value.{Value}
 use Rattle.ndr_value.specs.Forms.{types_of}
 use Rattle.ndr_value.specs.Values.{vals}
-use Rattle.table_form.specs.Tables.{param_form}
+use Rattle.ndr_value.specs.Tables.{param_form}
 use Rattle.call_texts.specs.Texts.{inwards}
 use Rattle.call_texts.specs.Heaps.{each_aims, IsHeap}
 use Rattle.call_texts.specs.Pointers.{aim_of}

@@ -1,8 +1,8 @@
 use Rattle.std.proofs.Common.{◌≡◌, ◌==◌, ap, subst, List, ℕ, Bool, length, map}
 use Rattle.ndr_value.specs.Forms.{form, types_of}
 use Rattle.ndr_value.specs.Values.{Val}
-use Rattle.table_form.specs.declared.operation.Param.{Param}
-use Rattle.table_form.specs.Tables.{param_form}
+use Rattle.ndr_value.specs.declared.operation.Param.{Param}
+use Rattle.ndr_value.specs.Tables.{param_form}
 use Rattle.call_texts.specs.Renaming.{ItemStands}
 use Rattle.call_texts.proofs.Renamed.{nothing}
 use Rattle.call_texts.proofs.Lists.{Reached, no_row, row_start, row_more, row_stops, row_end, row_open, none_is}

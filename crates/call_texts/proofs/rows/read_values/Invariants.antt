@@ -1,6 +1,6 @@
 use Rattle.std.proofs.Common.{length, map}
 use Rattle.ndr_value.specs.Forms.{types_of}
-use Rattle.table_form.specs.Tables.{param_form}
+use Rattle.ndr_value.specs.Tables.{param_form}
 use Rattle.call_texts.proofs.Lists.{Reached}
 use Rattle.call_texts.proofs.rows.read_values.Given as goal
 

@@ -1,5 +1,5 @@
 use Rattle.std.proofs.Common.{ℕ, true, Option, List, ◌≡◌, sym, ◌∙◌, subst}
-use Rattle.table_form.specs.Tables.{TableForm}
+use Rattle.ndr_value.specs.Tables.{TableForm}
 use Rattle.hub_story.specs.Histories.{home_of}
 use Rattle.conn_histories.specs.Ends.{Meets}
 use Rattle.served_call.specs.Suited.{suit_cookies}

@@ -1,4 +1,4 @@
-use Rattle.table_form.specs.Shown.{shown}
+use Rattle.ndr_value.specs.Shown.{shown}
 use Rattle.client_asks.specs.States.{calling}
 use Rattle.client_core.proofs.Heard.{reads}
 use Rattle.client_core.proofs.Answering.{of_op}

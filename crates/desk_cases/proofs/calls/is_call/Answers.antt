@@ -1,4 +1,4 @@
-use Rattle.table_form.specs.Shown.{shown}
+use Rattle.ndr_value.specs.Shown.{shown}
 use Rattle.desk_cases.proofs.calls.is_call.Goals as goal
 
 pub returns : goal.returns

@@ -1,6 +1,6 @@
 use Rattle.std.proofs.Common.{◌≡◌, map, drop}
 use Rattle.ndr_value.specs.Values.{Vals, vals}
-use Rattle.table_form.specs.Tables.{param_form}
+use Rattle.ndr_value.specs.Tables.{param_form}
 use Rattle.message_parts.specs.Rows.{vals_then}
 use Rattle.echo_desk.specs.Numbered as numbers
 use Rattle.echo_desk.proofs.back.bring_back.Given as goal

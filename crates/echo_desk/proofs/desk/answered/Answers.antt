@@ -1,9 +1,9 @@
 use Rattle.std.proofs.Common.{◌≡◌, List, true, false, Some, sym, ap, ◌∙◌}
 use Rattle.std.specs.Prelude.{slice_get}
 use Rattle.ndr_value.specs.Values.{msg}
-use Rattle.table_form.specs.declared.operation.HandleUse.{HandleUse}
-use Rattle.table_form.specs.Shown.{shown}
-use Rattle.table_form.specs.Tables.{op_form}
+use Rattle.ndr_value.specs.declared.operation.HandleUse.{HandleUse}
+use Rattle.ndr_value.specs.Shown.{shown}
+use Rattle.ndr_value.specs.Tables.{op_form}
 use Rattle.manager_api.specs.Answers.{ans}
 use Rattle.manager_api.specs.Calls.{uses_or, uses_at}
 use Rattle.echo_desk.specs.Steps.{is_echoed}

@@ -2,8 +2,8 @@ use Rattle.std.proofs.Common.{◌≡◌, List, [], true, false, Some, sym, ap, �
 use Rattle.std.specs.Prelude.{slice_get}
 use Rattle.ndr_value.specs.Forms.{Form, types_of}
 use Rattle.ndr_value.specs.Values.{msg}
-use Rattle.table_form.specs.Shown.{shown}
-use Rattle.table_form.specs.Tables.{op_form}
+use Rattle.ndr_value.specs.Shown.{shown}
+use Rattle.ndr_value.specs.Tables.{op_form}
 use Rattle.manager_api.specs.declared.answer.Kept.{Kept}
 use Rattle.manager_api.specs.Answers.{AOut, ans}
 use Rattle.echo_desk.specs.Steps.{echo}

@@ -1,6 +1,6 @@
 use Rattle.std.proofs.Common.{◌≡◌, drop, map}
 use Rattle.std.specs.List.{list_all}
-use Rattle.table_form.specs.Tables.{param_form}
+use Rattle.ndr_value.specs.Tables.{param_form}
 use Rattle.echo_desk.specs.Steps.{comes_back}
 use Rattle.echo_desk.proofs.operations.all_come_back.Given as goal
 

@@ -1,7 +1,7 @@
 use Rattle.std.proofs.Common.{◌≡◌, drop, map}
 use Rattle.ndr_value.specs.Forms.{types_of}
 use Rattle.ndr_value.specs.Values.{vals}
-use Rattle.table_form.specs.Tables.{param_form}
+use Rattle.ndr_value.specs.Tables.{param_form}
 use Rattle.echo_desk.specs.Met as spec
 use Rattle.echo_desk.proofs.walk.met_in.Given as goal
 

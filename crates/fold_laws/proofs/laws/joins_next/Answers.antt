@@ -1,6 +1,6 @@
 use Rattle.handle_model.specs.History.{with_entry}
 use Rattle.handle_model.specs.declared.entry.Entry.TheVariants.{Join}
-use Rattle.journal_laws.proofs.Older.{older_legal}
+use Rattle.handle_model.proofs.Older.{older_legal}
 use Rattle.fold_laws.proofs.laws.joins_next.Goals as goal
 
 pub returns : goal.returns

@@ -1,5 +1,5 @@
 use Rattle.std.proofs.Common.{ap, ◌∙◌}
-use Rattle.table_form.specs.Shown.{shown}
+use Rattle.ndr_value.specs.Shown.{shown}
 use Rattle.table_laws.specs.Interfaces.{tabled}
 use Rattle.table_laws.proofs.Listed.{has_each}
 use Rattle.table_laws.proofs.Handles.{has_handles}

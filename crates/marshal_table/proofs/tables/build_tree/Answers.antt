@@ -3,9 +3,9 @@ use Rattle.idl_tree.specs.declared.declaration.Decl.{Decl}
 use Rattle.idl_tree.specs.declared.file.FileAttr.{FileAttr}
 use Rattle.idl_forms.specs.Forms.{file_form, decl_form, tree_form}
 use Rattle.idl_names.specs.Attributes.{pointer_default}
-use Rattle.table_form.specs.declared.operation.HandleUse.{HandleUse}
-use Rattle.table_form.specs.declared.operation.Op.{Op}
-use Rattle.table_form.specs.Tables.{op_form}
+use Rattle.ndr_value.specs.declared.operation.HandleUse.{HandleUse}
+use Rattle.ndr_value.specs.declared.operation.Op.{Op}
+use Rattle.ndr_value.specs.Tables.{op_form}
 use Rattle.table_scope.specs.Scopes.{Scope, scope, nothing_known}
 use Rattle.table_laws.specs.Interfaces.{Draft, decls_at, nothing_declared}
 use Rattle.marshal_table.specs.Lists.{draft}

@@ -2,7 +2,7 @@ use Rattle.std.proofs.Common.{◌≡◌, ℕ, suc, ℤ, sym, subst, ◌∙◌, �
 use mir.Val.{SFits}
 use Rattle.std.proofs.lemmas.Int.{to_z-of_z}
 use Rattle.ndr_value.specs.Fits.{arm_of}
-use Rattle.ndr_arrays.specs.Bind.{◌>>=◌}
+use Rattle.ndr_model.specs.Bind.{◌>>=◌}
 use Rattle.ndr_model.specs.declared.departure.Departure.TheVariants.{Tag}
 use Rattle.ndr_model.specs.declared.mark.Mark.TheVariants.{Number, Referent}
 use Rattle.ndr_model.specs.Places.{Last, noting, keeping}

@@ -2,8 +2,8 @@ use Rattle.std.proofs.Common.{◌≡◌, ◌∙◌, Bool, true, Ok, sym, ap, sub
 use Rattle.std.proofs.lemmas.Grind.{common_steps}
 use Rattle.ndr_value.specs.Forms.{Form}
 use Rattle.ndr_value.specs.Values.{Vals, val, vals, no_val, then_val}
-use Rattle.table_form.specs.Tables.{param_form}
-use Rattle.ndr_arrays.specs.Bind.{◌>>=◌}
+use Rattle.ndr_value.specs.Tables.{param_form}
+use Rattle.ndr_model.specs.Bind.{◌>>=◌}
 use Rattle.ndr_model.specs.Stub.{goes, param_entry}
 use Rattle.ndr_model.specs.Build.{Found}
 use Rattle.ndr_model.specs.Places.{Last}

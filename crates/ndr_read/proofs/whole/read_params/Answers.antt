@@ -1,7 +1,7 @@
 use Rattle.std.proofs.Common.{subst}
 use Rattle.std.proofs.lemmas.Result.{err_from_is_err_and}
 use Rattle.ndr_value.specs.Values.{vals}
-use Rattle.table_form.specs.Tables.{result_form}
+use Rattle.ndr_value.specs.Tables.{result_form}
 use Rattle.ndr_model.specs.Message.{enough}
 use Rattle.ndr_scan.specs.Gives.{Gives}
 use Rattle.ndr_read.specs.Readings.{Followed}

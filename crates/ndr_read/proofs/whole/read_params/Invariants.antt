@@ -1,6 +1,6 @@
 use Rattle.std.proofs.Common.{◌≡◌, map, drop}
 use Rattle.ndr_value.specs.Values.{vals}
-use Rattle.table_form.specs.Tables.{param_form, result_form}
+use Rattle.ndr_value.specs.Tables.{param_form, result_form}
 use Rattle.ndr_model.specs.Stub.{entries_of}
 use Rattle.ndr_model.specs.Build.{follows}
 use Rattle.ndr_model.specs.Message.{enough}

@@ -1,7 +1,7 @@
 use Rattle.std.proofs.Common.{◌≡◌, ◌∙◌, None, Ok, sym, ap}
 use Rattle.ndr_value.specs.Forms.{form}
 use Rattle.ndr_value.specs.Values.{Vals, val, vals, no_val, then_val}
-use Rattle.table_form.specs.Tables.{result_form}
+use Rattle.ndr_value.specs.Tables.{result_form}
 use Rattle.ndr_model.specs.Places.{Last}
 use Rattle.ndr_model.specs.Stub.{last_entry}
 use Rattle.ndr_model.specs.Message.{enough}

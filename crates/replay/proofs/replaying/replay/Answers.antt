@@ -1,5 +1,5 @@
 use Rattle.std.proofs.Common.{rules, Option}
-use Rattle.table_form.specs.Tables.{TableForm}
+use Rattle.ndr_value.specs.Tables.{TableForm}
 use Rattle.service_desks.specs.Shows.{shown_by}
 use Rattle.service_desks.specs.Start.{at_start}
 use Rattle.replay_world.specs.Worlds.{booted}

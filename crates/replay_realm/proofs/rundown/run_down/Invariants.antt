@@ -1,5 +1,5 @@
 use Rattle.std.proofs.Common.{◌≡◌, Option, length}
-use Rattle.table_form.specs.Tables.{TableForm}
+use Rattle.ndr_value.specs.Tables.{TableForm}
 use Rattle.service_desks.specs.State.{Services}
 use Rattle.service_desks.specs.Views.{services}
 use Rattle.replay_world.specs.Services.{AreRunDown}

@@ -1,5 +1,5 @@
 use Rattle.ndr_value.specs.Values.{msg}
-use Rattle.table_form.specs.Shown.{shown}
+use Rattle.ndr_value.specs.Shown.{shown}
 use Rattle.manager_api.specs.Answers.{ans}
 use Rattle.served_tables.specs.Served.{tables_in}
 use Rattle.served_call.proofs.Saying.{says_at, op_there}

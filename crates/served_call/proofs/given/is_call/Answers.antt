@@ -1,7 +1,7 @@
 use Rattle.std.proofs.Common.{sym, subst, arith, ◌∙◌}
 use Rattle.rpc_base.specs.Fields.{IsOctets}
 use Rattle.ndr_value.specs.Values.{msg}
-use Rattle.table_form.specs.Shown.{shown}
+use Rattle.ndr_value.specs.Shown.{shown}
 use Rattle.served_tables.specs.Served.{tables_in}
 use Rattle.served_call.proofs.Facts.{Facts, is_call}
 use Rattle.served_call.proofs.given.is_call.Goals as goal

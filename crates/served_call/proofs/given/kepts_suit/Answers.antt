@@ -1,7 +1,7 @@
 use Rattle.std.proofs.Common.{sym, subst, arith, ◌∙◌}
 use Rattle.rpc_base.specs.Fields.{IsOctets}
 use Rattle.ndr_value.specs.Values.{msg}
-use Rattle.table_form.specs.Shown.{shown}
+use Rattle.ndr_value.specs.Shown.{shown}
 use Rattle.manager_api.specs.Answers.{ans}
 use Rattle.served_tables.specs.Served.{tables_in}
 use Rattle.conn_histories.specs.Ends.{row_of}

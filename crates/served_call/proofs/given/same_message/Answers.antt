@@ -1,5 +1,5 @@
 use Rattle.ndr_value.specs.Values.{msg}
-use Rattle.table_form.specs.Shown.{shown}
+use Rattle.ndr_value.specs.Shown.{shown}
 use Rattle.served_tables.specs.Served.{tables_in}
 use Rattle.served_call.proofs.Facts.{same_message}
 use Rattle.served_call.proofs.given.same_message.Goals as goal

@@ -1,7 +1,7 @@
 use Rattle.std.proofs.Common.{◌≡◌, ◌<◌, length, sym, subst, arith}
 use Rattle.rpc_base.specs.declared.identifiers.Status.{Status}
 use Rattle.ndr_value.specs.Values.{msg}
-use Rattle.table_form.specs.Shown.{shown}
+use Rattle.ndr_value.specs.Shown.{shown}
 use Rattle.conn_histories.specs.Requests.{IsRefused, slots_for}
 use Rattle.served_call.specs.Suited.{never_full}
 use Rattle.served_call.proofs.Refusals.{refused, out_of_memory}

@@ -1,7 +1,7 @@
 use Rattle.std.proofs.Common.{◌≡◌, map, IfOk, OnOk, None, sym, subst}
 use Rattle.idl_forms.specs.Forms.{KindForm, switch_form, arms_form, members_form}
 use Rattle.ndr_value.specs.Forms.{Form, form}
-use Rattle.table_form.specs.Tables.{result_form}
+use Rattle.ndr_value.specs.Tables.{result_form}
 use Rattle.table_scope.specs.Scopes.{Scope, sense, scope}
 use Rattle.table_specs.specs.Specs.{kind_at, switch_at, union_at, arms_at, arm_names, members_at, or_nothing}
 use Rattle.table_specs.proofs.Members.{members_step}

@@ -1,7 +1,7 @@
 use Rattle.std.proofs.Common.{◌≡◌, ◌++◌, map, drop}
 use Rattle.std.specs.Option.{option_or}
 use Rattle.ndr_value.specs.Forms.{form, face}
-use Rattle.table_form.specs.Tables.{result_form}
+use Rattle.ndr_value.specs.Tables.{result_form}
 use Rattle.idl_forms.specs.Forms.{attrs_form, members_form, arms_form}
 use Rattle.table_scope.specs.Scopes.{scope}
 use Rattle.table_specs.specs.Specs.{attrs_at, members_at, arms_at}

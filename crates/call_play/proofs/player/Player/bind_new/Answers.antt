@@ -1,4 +1,4 @@
-use Rattle.table_form.specs.Shown.{shown}
+use Rattle.ndr_value.specs.Shown.{shown}
 use Rattle.call_play.proofs.LineLemmas.{has_index, group_barred}
 use Rattle.call_play.proofs.player.Player.bind_new.Goals as goal
 

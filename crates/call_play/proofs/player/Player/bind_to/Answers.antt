@@ -1,6 +1,6 @@
 use Rattle.std.proofs.Common.{ap, length}
 use Rattle.std.proofs.lemmas.Result.{err_from_is_err_and}
-use Rattle.table_form.specs.Shown.{shown}
+use Rattle.ndr_value.specs.Shown.{shown}
 use Rattle.call_play.proofs.LineLemmas.{open_failed, binds_to, binds_to_not}
 use Rattle.call_play.proofs.player.Player.bind_to.Goals as goal
 

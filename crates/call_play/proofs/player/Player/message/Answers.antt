@@ -1,5 +1,5 @@
 use Rattle.std.proofs.Common.{ℕ, sym, subst, ◌∙◌}
-use Rattle.table_form.specs.Tables.{TableForm}
+use Rattle.ndr_value.specs.Tables.{TableForm}
 use Rattle.call_play.specs.Steps.{HasOp}
 use Rattle.call_play.specs.Steps.BarsCall.{calling, no_op, no_message}
 use Rattle.call_play.proofs.Finding.{can_start, bars_at}

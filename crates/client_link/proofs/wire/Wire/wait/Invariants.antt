@@ -1,6 +1,6 @@
 use Rattle.std.proofs.Common.{◌<◌, List, []}
 use Rattle.rpc_outside.specs.Links.{Counts}
-use Rattle.table_form.specs.Tables.{TableForm}
+use Rattle.ndr_value.specs.Tables.{TableForm}
 use Rattle.client_asks.specs.States.{ClientState}
 use Rattle.client_asks.specs.Histories.{ClientEvent}
 use Rattle.client_link.specs.Wires.{IsOpen, Stays, Lived, RoseBy, most_quiets}

@@ -1,6 +1,6 @@
 use Rattle.std.proofs.Common.{sym, subst}
 use Rattle.ndr_value.specs.Values.{msg}
-use Rattle.table_form.specs.Shown.{shown}
+use Rattle.ndr_value.specs.Shown.{shown}
 use Rattle.manager_api.specs.Answers.{ans}
 use Rattle.echo_desk.specs.Steps.{Answers}
 use Rattle.echo_desk.proofs.Said.{settled_answers, answers_owe, answers_never}

@@ -1,6 +1,6 @@
 use Rattle.std.proofs.Common.{◌≡◌, ◌≢◌, Some, refl, ap, arith}
-use Rattle.table_form.specs.declared.table.Table.{Table}
-use Rattle.table_form.specs.Shown.{shown}
+use Rattle.ndr_value.specs.declared.table.Table.{Table}
+use Rattle.ndr_value.specs.Shown.{shown}
 use Rattle.ndr_value.specs.Values.{msg}
 use Rattle.manager_api.specs.Calls.{Call}
 use Rattle.probe_desk.specs.Table.{probe_table}

@@ -1,5 +1,0 @@
-use Rattle.journal_laws.proofs.ReplyStays.{cancelled_reply}
-use Rattle.journal_laws.proofs.replies.cancel_replies.Goals as goal
-
-pub returns : goal.returns
-returns c = λ j k l w. cancelled_reply j k l.1 w

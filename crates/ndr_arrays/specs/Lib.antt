@@ -1,4 +1,0 @@
-pub mod Bind
-pub mod Counted
-pub mod Texts
-pub mod Written
