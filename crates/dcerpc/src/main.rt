@@ -4,15 +4,12 @@
 //! the status that it answers.
 #![tactic(auto)]
 
-mod outside;
-
-use outside::{FileShelf, Output};
-use socket_links::{SocketDial, SocketDoor};
 use std::alloc::Global;
 use std::process::ExitCode;
 use std::rt::{Clock, Env};
 use std::time::{SystemTime, UNIX_EPOCH};
 use std::{env, io};
+use system_outside::{FileShelf, Output, SocketDial, SocketDoor};
 
 /// Want of memory.
 const NO_MEMORY: u8 = 5;

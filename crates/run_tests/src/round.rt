@@ -3,7 +3,6 @@ use crate::called::PROBE;
 use crate::calls::{BOOT, shelf_of, told, words_of};
 use rpc_app::run;
 use rpc_base::{NoMemory, Numbers, VecSink};
-use socket_links::{SocketDial, SocketDoor};
 use std::alloc::Global;
 use std::net::{Ipv4Addr, Net, TcpListener};
 use std::rt::Clock;
@@ -12,6 +11,7 @@ use std::test::*;
 use std::thread;
 use std::thread::Threads;
 use std::time::Duration;
+use system_outside::{SocketDial, SocketDoor};
 
 const SCRIPT: &[u8] = b"bind 1 new
 start 1 probe_open (5)

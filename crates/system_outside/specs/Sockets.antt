@@ -6,7 +6,7 @@ use Rattle.rpc_outside.specs.declared.link.Taken.TheVariants.{Bytes}
 use Rattle.rpc_outside.specs.Links.{Shown}
 use Rattle.rpc_outside.specs.Doors.{DoorShown}
 use Rattle.rpc_outside.specs.Dials.{DialShown}
-use Rattle.socket_links.specs.declared.link.SocketLink.{SocketLink}
+use Rattle.system_outside.specs.declared.link.SocketLink.{SocketLink}
 
 -- a link over a socket counts, and doesn't tell what it holds
 abbrev pub shown : SocketLink → Shown

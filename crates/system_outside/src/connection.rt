@@ -1,6 +1,6 @@
 //! Connected sockets.
 ghost use Rattle.std.specs.Prelude.{◌<◌, length, IfOk, IfSome};
-ghost use Rattle.socket_links.specs.Sockets.{Gives, IsSome};
+ghost use Rattle.system_outside.specs.Sockets.{Gives, IsSome};
 
 use crate::waiter::{TURN, Waiter};
 use mio::Interest;

@@ -85,7 +85,7 @@ impl<'a, R: Net> SocketDoor<'a, R> {
 }
 
 impl<R: Net> Door for SocketDoor<'_, R> {
-    ghost use Rattle.socket_links.specs.Sockets.{door_shown};
+    ghost use Rattle.system_outside.specs.Sockets.{door_shown};
 
     type Link = SocketLink;
 

@@ -1,5 +1,5 @@
 use Rattle.std.proofs.Common.{◌≡◌, false}
-use Rattle.socket_tests.proofs.tests.fails.Given as goal
+use Rattle.system_tests.proofs.sockets.fails.Given as goal
 
 abbrev pub invariant-loop : goal.invariant-loop
 invariant-loop g l = (g.K.Link.shows l.link).closed ≡ false

@@ -1,15 +1,15 @@
 //! A door and a dial over sockets, and links over their connections. Each port is one that the system gave.
 ghost use Rattle.std.specs.Prelude.{◌≡◌, ◌<◌, false, length};
-ghost use Rattle.socket_links.specs.Sockets.{shown};
+ghost use Rattle.system_outside.specs.Sockets.{shown};
 
 use rpc_base::{Failed, OutFault};
 use rpc_outside::{Address, Dial, Door, Link, Taken, put_all};
-use socket_links::{SocketDial, SocketDoor, SocketLink};
 use std::alloc::Global;
 use std::io::{Read, Write};
 use std::net::{Ipv4Addr, Shutdown, TcpListener, TcpStream};
 use std::test::*;
 use std::{io, thread};
+use system_outside::{SocketDial, SocketDoor, SocketLink};
 
 fn at(port: u16) -> Address {
     Address {

@@ -1,6 +1,6 @@
 //! Links over sockets.
 ghost use Rattle.rpc_outside.specs.Links.{IsNew};
-ghost use Rattle.socket_links.specs.Sockets.{shown};
+ghost use Rattle.system_outside.specs.Sockets.{shown};
 
 use crate::connection::Connection;
 use rpc_base::Failed;
@@ -36,7 +36,7 @@ impl SocketLink {
 }
 
 impl Link for SocketLink {
-    ghost use Rattle.socket_links.specs.Sockets.{shown};
+    ghost use Rattle.system_outside.specs.Sockets.{shown};
 
     ghost shows = { shown };
 

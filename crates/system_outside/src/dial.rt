@@ -41,7 +41,7 @@ impl<'a, R: Net> SocketDial<'a, R> {
 }
 
 impl<R: Net> Dial for SocketDial<'_, R> {
-    ghost use Rattle.socket_links.specs.Sockets.{dial_shown};
+    ghost use Rattle.system_outside.specs.Sockets.{dial_shown};
 
     type Link = SocketLink;
 
