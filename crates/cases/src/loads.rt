@@ -131,3 +131,13 @@ impl Cases {
         }
     }
 }
+
+/// What a text of cases comes to.
+pub fn played(alloc: Global, text: &str) -> Result<Cases, NoMemory> {
+    let mut cases = Cases::new(alloc);
+    for line in text.lines() {
+        cases.line(line.as_bytes())?;
+    }
+    cases.end_step()?;
+    Ok(cases)
+}

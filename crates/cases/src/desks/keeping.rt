@@ -1,6 +1,6 @@
 //! What an interface keeps, as far as it tells.
 
-use crate::calls::{Answered, Cancel, Request, answer_to};
+use crate::desks::calls::{Answered, Cancel, Request, answer_to};
 use rpc_base::NoMemory;
 use rpc_words::{put, put_decimal};
 use service_desks::ServiceDesks;

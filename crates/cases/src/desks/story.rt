@@ -1,9 +1,9 @@
 //! Stories: rows of calls, one after another on the same desks. An empty line and one that begins with `#` is no row.
 
-use crate::calls::{Cancel, Request, answer_to, put_answered};
-use crate::keeping::put_kept;
-use crate::octets::octets_of;
-use crate::rows::{Row, row_of};
+use crate::desks::calls::{Cancel, Request, answer_to, put_answered};
+use crate::desks::keeping::put_kept;
+use crate::desks::octets::octets_of;
+use crate::desks::rows::{Row, row_of};
 use handle_model::{DueItem, Rundown};
 use ndr_value::Table;
 use rpc_base::NoMemory;

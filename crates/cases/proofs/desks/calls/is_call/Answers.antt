@@ -1,5 +1,5 @@
 use Rattle.ndr_value.specs.Shown.{shown}
-use Rattle.desk_cases.proofs.calls.is_call.Goals as goal
+use Rattle.cases.proofs.desks.calls.is_call.Goals as goal
 
 pub returns : goal.returns
 returns c = record {
