@@ -5,7 +5,7 @@ use rpc_base::NoMemory;
 use rpc_words::{put, put_decimal};
 use std::alloc::Global;
 use std::test::*;
-use test_rows::{Answers, wrong_row};
+use test_rows::{Answers, same, wrong_row};
 
 /// Reads words.
 #[derive(Clone, Copy)]
@@ -269,8 +269,8 @@ asks|replay help|replay [help]
 ";
 
 #[test]
-fn words_ask_for_commands(rt: HostRuntime) -> Result<(), NoMemory> {
+fn words_ask_for_commands(rt: HostRuntime) -> Result<(), Fail> {
     let wrong = wrong_row(rt.alloc(), &mut Words, ROWS)?;
-    assert_eq!(rt; wrong.as_slice(), b"".as_slice());
+    same(wrong.as_slice(), b"".as_slice())?;
     Ok(())
 }

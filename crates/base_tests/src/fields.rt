@@ -7,7 +7,7 @@ use rpc_base::{
 use rpc_words::{put, put_hex, put_hex_u32, put_hex_u64, put_hex_u128};
 use std::alloc::Global;
 use std::test::*;
-use test_rows::{Answers, wrong_row};
+use test_rows::{Answers, same, wrong_row};
 
 /// Fields of that order behind one octet: what is read from them, and what is then written.
 #[derive(Clone, Copy)]
@@ -85,10 +85,10 @@ handle|*090000000004030201060508070000000100000001|00000000 01020304050607080000
 ";
 
 #[test]
-fn both_orders(rt: HostRuntime) -> Result<(), NoMemory> {
+fn both_orders(rt: HostRuntime) -> Result<(), Fail> {
     for (order, table) in [(Order::Big, BIG), (Order::Little, LITTLE)] {
         let wrong = wrong_row(rt.alloc(), &mut Fields { order }, table)?;
-        assert_eq!(rt; wrong.as_slice(), b"".as_slice());
+        same(wrong.as_slice(), b"".as_slice())?;
     }
     Ok(())
 }

@@ -5,7 +5,7 @@ use rpc_base::NoMemory;
 use rpc_words::{put, put_octets};
 use std::alloc::Global;
 use std::test::*;
-use test_rows::{Answers, wrong_row};
+use test_rows::{Answers, same, wrong_row};
 
 /// Reads the first line of a text. The octets behind `line` have no line feed, those behind `text` are as they are.
 #[derive(Clone, Copy)]
@@ -120,8 +120,8 @@ line|send 1 0x00|none
 ";
 
 #[test]
-fn what_is_read(rt: HostRuntime) -> Result<(), NoMemory> {
+fn what_is_read(rt: HostRuntime) -> Result<(), Fail> {
     let wrong = wrong_row(rt.alloc(), &mut Lines, READ)?;
-    assert_eq!(rt; wrong.as_slice(), b"".as_slice());
+    same(wrong.as_slice(), b"".as_slice())?;
     Ok(())
 }

@@ -7,7 +7,7 @@ use rpc_outside::{Link, LinkStep, LinkSteps, ScriptLink, Taken, put_all};
 use rpc_words::{cut_at, put, put_decimal, put_hex, put_octets, read_hex, read_u64, split_words};
 use std::alloc::Global;
 use std::test::*;
-use test_rows::{Answers, wrong_row};
+use test_rows::{Answers, same, wrong_row};
 
 /// Plays a link. Given are the peer's steps, how many octets one put takes, which takes and puts fail, and
 /// the calls.
@@ -187,6 +187,6 @@ take:8 put:0a take:8 take:8|await 01/9//1|quiet failed quiet quiet -
 #[test]
 fn a_link_answers_by_its_script(rt: HostRuntime) -> Result<(), Fail> {
     let wrong = wrong_row(rt.alloc(), &mut Links, ROWS)?;
-    assert_eq!(rt; wrong.as_slice(), b"".as_slice());
+    same(wrong.as_slice(), b"".as_slice())?;
     Ok(())
 }

@@ -4,7 +4,7 @@ use rpc_base::{NoMemory, Octets};
 use rpc_words::{put, put_hex, read_hex, read_u64, split_words};
 use std::alloc::Global;
 use std::test::*;
-use test_rows::{Answers, wrong_row};
+use test_rows::{Answers, same, wrong_row};
 use tower_codec::{TOWER_SIZE, Tower, TowerFault, read_tower, write_tower};
 
 /// The store at 127.0.0.1, port 5000, over NDR.
@@ -151,7 +151,7 @@ write|64 0087|the same
 #[test]
 fn towers_are_read_and_written(rt: HostRuntime) -> Result<(), Fail> {
     let wrong = wrong_row(rt.alloc(), &mut Towers, ROWS)?;
-    assert_eq!(rt; wrong.as_slice(), b"".as_slice());
+    same(wrong.as_slice(), b"".as_slice())?;
     Ok(())
 }
 
@@ -173,6 +173,6 @@ fn a_tower_ends_early_wherever_it_is_cut(rt: HostRuntime) -> Result<(), Fail> {
 #[test]
 fn want_of_memory_has_its_text(rt: HostRuntime) -> Result<(), Fail> {
     let text = format!(in rt.alloc(); "{}", TowerFault::from(NoMemory))?;
-    assert_eq!(rt; text.as_bytes(), b"out of memory".as_slice());
+    same(text.as_bytes(), b"out of memory".as_slice())?;
     Ok(())
 }

@@ -8,7 +8,7 @@ use rpc_words::{
 };
 use std::alloc::Global;
 use std::test::*;
-use test_rows::{Answers, wrong_row};
+use test_rows::{Answers, same, wrong_row};
 
 /// Reads words. What is read is written again.
 #[derive(Clone, Copy)]
@@ -167,9 +167,9 @@ words||;
 ";
 
 #[test]
-fn what_is_read(rt: HostRuntime) -> Result<(), NoMemory> {
+fn what_is_read(rt: HostRuntime) -> Result<(), Fail> {
     let wrong = wrong_row(rt.alloc(), &mut Words, READ)?;
-    assert_eq!(rt; wrong.as_slice(), b"".as_slice());
+    same(wrong.as_slice(), b"".as_slice())?;
     Ok(())
 }
 

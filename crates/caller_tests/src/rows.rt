@@ -4,7 +4,7 @@ use crate::conversations::Conversations;
 use crate::scripts::Scripts;
 use probe_desk::probe_table;
 use std::test::*;
-use test_rows::wrong_row;
+use test_rows::{same, wrong_row};
 
 /// The server's octets and those that are put are written out by hand.
 const ROWS: &str = "
@@ -28,7 +28,7 @@ fn conversations_are_told(rt: HostRuntime) -> Result<(), Fail> {
     let alloc = rt.alloc();
     let mut conversations = Conversations::new(probe_table(alloc)?);
     let wrong = wrong_row(alloc, &mut conversations, ROWS)?;
-    assert_eq!(rt; wrong.as_slice(), b"".as_slice());
+    same(wrong.as_slice(), b"".as_slice())?;
     Ok(())
 }
 
@@ -58,6 +58,6 @@ fn scripts_are_played(rt: HostRuntime) -> Result<(), Fail> {
     let alloc = rt.alloc();
     let mut scripts = Scripts::new(probe_table(alloc)?);
     let wrong = wrong_row(alloc, &mut scripts, SCRIPTS)?;
-    assert_eq!(rt; wrong.as_slice(), b"".as_slice());
+    same(wrong.as_slice(), b"".as_slice())?;
     Ok(())
 }

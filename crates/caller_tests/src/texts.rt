@@ -6,7 +6,7 @@ use rpc_base::{NoMemory, WireHandle};
 use rpc_words::{put, put_decimal};
 use std::alloc::Global;
 use std::test::*;
-use test_rows::{Answers, wrong_row};
+use test_rows::{Answers, same, wrong_row};
 
 /// Given is a row of a handle, a text and a handle, where two handles have come. Answered are the row and the attributes of its
 /// handles. A parameter that only goes out stands between them.
@@ -159,7 +159,7 @@ fn heaps_are_read(rt: HostRuntime) -> Result<(), Fail> {
     let alloc = rt.alloc();
     let mut heaps = Heaps::new(alloc)?;
     let wrong = wrong_row(alloc, &mut heaps, HEAPS)?;
-    assert_eq!(rt; wrong.as_slice(), b"".as_slice());
+    same(wrong.as_slice(), b"".as_slice())?;
     Ok(())
 }
 
@@ -168,7 +168,7 @@ fn rows_are_read_and_written(rt: HostRuntime) -> Result<(), Fail> {
     let alloc = rt.alloc();
     let mut rows = Rows::new(alloc)?;
     let wrong = wrong_row(alloc, &mut rows, ROWS)?;
-    assert_eq!(rt; wrong.as_slice(), b"".as_slice());
+    same(wrong.as_slice(), b"".as_slice())?;
     Ok(())
 }
 

@@ -9,6 +9,7 @@ use rpc_base::{NoMemory, Order};
 use std::alloc::Global;
 use std::marker::Model;
 use std::test::Fail;
+use test_rows::same;
 
 /// What is asked of the groups.
 #[derive(Clone, Copy)]
@@ -260,6 +261,6 @@ fn groups_answer(rt: HostRuntime) -> Result<(), Fail> {
     }
     let mut text = Vec::new(rt.alloc());
     log(rt.alloc(), &play.groups, &mut text)?;
-    assert_eq!(rt; text.as_slice(), LOG.as_bytes());
+    same(text.as_slice(), LOG.as_bytes())?;
     Ok(())
 }

@@ -6,7 +6,7 @@ use rpc_base::{NoMemory, Order};
 use rpc_words::put;
 use std::alloc::Global;
 use std::test::*;
-use test_rows::{Answers, wrong_row};
+use test_rows::{Answers, same, wrong_row};
 
 /// What is read at index 1 of the octets, in that order.
 #[derive(Clone, Copy)]
@@ -183,10 +183,10 @@ text|*09aaaaaa040000000000000003000000414200|AB 19
 ";
 
 #[test]
-fn read_in_both_orders(rt: HostRuntime) -> Result<(), NoMemory> {
+fn read_in_both_orders(rt: HostRuntime) -> Result<(), Fail> {
     for (order, table) in [(Order::Big, BIG), (Order::Little, LITTLE)] {
         let wrong = wrong_row(rt.alloc(), &mut Leaves { order }, table)?;
-        assert_eq!(rt; wrong.as_slice(), b"".as_slice());
+        same(wrong.as_slice(), b"".as_slice())?;
     }
     Ok(())
 }

@@ -5,6 +5,7 @@ use ndr_value::{ArrayKind, Count};
 use rpc_base::{NoMemory, Order};
 use std::alloc::Global;
 use std::test::*;
+use test_rows::same;
 
 /// A number by its size.
 #[derive(Clone, Copy)]
@@ -49,12 +50,12 @@ const NUMBERS: &[(Order, Number)] = &[
 ];
 
 #[test]
-fn numbers(rt: HostRuntime) -> Result<(), NoMemory> {
+fn numbers(rt: HostRuntime) -> Result<(), Fail> {
     let written = numbers_written(rt.alloc(), NUMBERS)?;
-    assert_eq!(rt;
+    same(
         written.as_slice(),
-        b"\xff\0\x01\x02\x02\x01\0\0\x01\x02\x03\x04\0\0\0\0\x08\x07\x06\x05\x04\x03\x02\x01".as_slice()
-    );
+        b"\xff\0\x01\x02\x02\x01\0\0\x01\x02\x03\x04\0\0\0\0\x08\x07\x06\x05\x04\x03\x02\x01".as_slice(),
+    )?;
     Ok(())
 }
 
@@ -66,12 +67,12 @@ const SIGNED: &[(Order, Number)] = &[
 ];
 
 #[test]
-fn signed_numbers(rt: HostRuntime) -> Result<(), NoMemory> {
+fn signed_numbers(rt: HostRuntime) -> Result<(), Fail> {
     let written = numbers_written(rt.alloc(), SIGNED)?;
-    assert_eq!(rt;
+    same(
         written.as_slice(),
-        b"\xff\0\xfe\xff\xff\xff\xff\xfe\xfe\xff\xff\xff\xff\xff\xff\xff".as_slice()
-    );
+        b"\xff\0\xfe\xff\xff\xff\xff\xfe\xfe\xff\xff\xff\xff\xff\xff\xff".as_slice(),
+    )?;
     Ok(())
 }
 
@@ -99,14 +100,14 @@ const COUNTS: &[Written] = &[
 ];
 
 #[test]
-fn counts(rt: HostRuntime) -> Result<(), NoMemory> {
+fn counts(rt: HostRuntime) -> Result<(), Fail> {
     let written = counts_written(rt.alloc(), COUNTS)?;
-    assert_eq!(rt;
+    same(
         written.as_slice(),
-        b"\x09\0\0\0\0\0\0\0\0\0\0\x02\x05\0\0\0".as_slice()
-    );
+        b"\x09\0\0\0\0\0\0\0\0\0\0\x02\x05\0\0\0".as_slice(),
+    )?;
     let fixed = counts_written(rt.alloc(), COUNTS.split_at(1).0)?;
-    assert_eq!(rt; fixed.as_slice(), b"\x09".as_slice());
+    same(fixed.as_slice(), b"\x09".as_slice())?;
     Ok(())
 }
 
@@ -116,12 +117,12 @@ const BOTH: &[Written] = &[
 ];
 
 #[test]
-fn both_counts(rt: HostRuntime) -> Result<(), NoMemory> {
+fn both_counts(rt: HostRuntime) -> Result<(), Fail> {
     let written = counts_written(rt.alloc(), BOTH)?;
-    assert_eq!(rt;
+    same(
         written.as_slice(),
-        b"\x09\0\0\0\0\0\0\x05\0\0\0\0\0\0\0\x02\0\0\0\0\x02\0\0\0".as_slice()
-    );
+        b"\x09\0\0\0\0\0\0\x05\0\0\0\0\0\0\0\x02\0\0\0\0\x02\0\0\0".as_slice(),
+    )?;
     Ok(())
 }
 
@@ -154,11 +155,11 @@ fn texts_written(alloc: Global) -> Result<Vec<u8>, NoMemory> {
 }
 
 #[test]
-fn texts(rt: HostRuntime) -> Result<(), NoMemory> {
+fn texts(rt: HostRuntime) -> Result<(), Fail> {
     let written = texts_written(rt.alloc())?;
-    assert_eq!(rt;
+    same(
         written.as_slice(),
-        b"\0\0\0\x03\0\0\0\0\0\0\0\x03AB\0\0\0\0\0\0\x01\0\0\0\0\0\0\0\0\0\0\0\0\0\0\x04CDE\0".as_slice()
-    );
+        b"\0\0\0\x03\0\0\0\0\0\0\0\x03AB\0\0\0\0\0\0\x01\0\0\0\0\0\0\0\0\0\0\0\0\0\0\x04CDE\0".as_slice(),
+    )?;
     Ok(())
 }

@@ -2,6 +2,7 @@
 use crate::calls::called;
 use crate::links::{servers, silent};
 use std::test::*;
+use test_rows::same;
 
 pub const PROBE: &[u8] = b"[uuid(5f0c7a12-3b4d-4e6f-8a90-b1c2d3e4f506), version(1.0)]
 interface probe {
@@ -38,10 +39,10 @@ fn all_is_done(rt: HostRuntime) -> Result<(), Fail> {
         b"bind 1 new\nstart 1 probe_open (5)\nwait 1\nstart 1 probe_close ($h1)\nwait 1\nclose 1\n";
     let links = servers(alloc, &[ACK, OPENED, CLOSED])?;
     let text = called(&rt, alloc, [PROBE, script.as_slice()], links, NONE)?;
-    assert_eq!(rt;
+    same(
         text.as_slice(),
-        b"0 1\n1 bound 1\n1 done ($h1, 0)\n1 done ($null, 0)\n=>\n".as_slice()
-    );
+        b"0 1\n1 bound 1\n1 done ($h1, 0)\n1 done ($null, 0)\n=>\n".as_slice(),
+    )?;
     Ok(())
 }
 
@@ -49,7 +50,7 @@ fn all_is_done(rt: HostRuntime) -> Result<(), Fail> {
 fn no_line_is_no_call(rt: HostRuntime) -> Result<(), Fail> {
     let alloc = rt.alloc();
     let text = called(&rt, alloc, [PROBE, b""], servers(alloc, &[])?, NONE)?;
-    assert_eq!(rt; text.as_slice(), b"0 0\n=>\n".as_slice());
+    same(text.as_slice(), b"0 0\n=>\n".as_slice())?;
     Ok(())
 }
 
@@ -60,10 +61,10 @@ fn a_call_that_failed_is_6(rt: HostRuntime) -> Result<(), Fail> {
         b"bind 1 new\nstart 1 probe_open (5)\nwait 1\nstart 1 probe_close ($h1)\nwait 1\nstart 1 probe_close ($h1)\nwait 1\nclose 1\n";
     let links = servers(alloc, &[ACK, OPENED, CLOSED, MISMATCH])?;
     let text = called(&rt, alloc, [PROBE, script.as_slice()], links, NONE)?;
-    assert_eq!(rt;
+    same(
         text.as_slice(),
-        b"6 1\n1 bound 1\n1 done ($h1, 0)\n1 done ($null, 0)\n1 fault 1c00001a not-run\n=>\n".as_slice()
-    );
+        b"6 1\n1 bound 1\n1 done ($h1, 0)\n1 done ($null, 0)\n1 fault 1c00001a not-run\n=>\n".as_slice(),
+    )?;
     Ok(())
 }
 
@@ -72,7 +73,7 @@ fn a_bind_that_is_refused_is_6(rt: HostRuntime) -> Result<(), Fail> {
     let alloc = rt.alloc();
     let links = servers(alloc, &[NAK])?;
     let text = called(&rt, alloc, [PROBE, b"bind 1 new\n"], links, NONE)?;
-    assert_eq!(rt; text.as_slice(), b"6 1\n1 refused 0\n=>\n".as_slice());
+    same(text.as_slice(), b"6 1\n1 refused 0\n=>\n".as_slice())?;
     Ok(())
 }
 
@@ -89,7 +90,7 @@ fn a_connection_that_is_lost_is_8(rt: HostRuntime) -> Result<(), Fail> {
         servers(alloc, &[ACK])?,
         NONE,
     )?;
-    assert_eq!(rt; text.as_slice(), lost.as_slice());
+    same(text.as_slice(), lost.as_slice())?;
     let text = called(
         &rt,
         alloc,
@@ -97,7 +98,7 @@ fn a_connection_that_is_lost_is_8(rt: HostRuntime) -> Result<(), Fail> {
         silent(alloc, ACK, 0)?,
         NONE,
     )?;
-    assert_eq!(rt; text.as_slice(), lost.as_slice());
+    same(text.as_slice(), lost.as_slice())?;
     let text = called(
         &rt,
         alloc,
@@ -105,7 +106,7 @@ fn a_connection_that_is_lost_is_8(rt: HostRuntime) -> Result<(), Fail> {
         silent(alloc, ACK, 2)?,
         NONE,
     )?;
-    assert_eq!(rt; text.as_slice(), lost.as_slice());
+    same(text.as_slice(), lost.as_slice())?;
     Ok(())
 }
 
@@ -119,7 +120,7 @@ fn a_connection_that_is_lost_before_a_call_prints_nothing(rt: HostRuntime) -> Re
         servers(alloc, &[])?,
         NONE,
     )?;
-    assert_eq!(rt; text.as_slice(), b"8 1\n=>\n".as_slice());
+    same(text.as_slice(), b"8 1\n=>\n".as_slice())?;
     Ok(())
 }
 
@@ -134,16 +135,16 @@ fn a_line_that_departs_is_2(rt: HostRuntime) -> Result<(), Fail> {
         links,
         NONE,
     )?;
-    assert_eq!(rt;
+    same(
         text.as_slice(),
-        b"2 0\nrefused: script line 1\n=>\n".as_slice()
-    );
+        b"2 0\nrefused: script line 1\n=>\n".as_slice(),
+    )?;
     let links = servers(alloc, &[ACK])?;
     let text = called(&rt, alloc, [PROBE, b"bind 1 new\nwait 1\n"], links, NONE)?;
-    assert_eq!(rt;
+    same(
         text.as_slice(),
-        b"2 1\n1 bound 1\nrefused: script line 2\n=>\n".as_slice()
-    );
+        b"2 1\n1 bound 1\nrefused: script line 2\n=>\n".as_slice(),
+    )?;
     Ok(())
 }
 
@@ -162,7 +163,7 @@ fn an_interface_text_that_is_refused_is_2(rt: HostRuntime) -> Result<(), Fail> {
     for (idl, wanted) in REFUSED {
         let links = servers(alloc, &[ACK])?;
         let text = called(&rt, alloc, [*idl, b"bind 1 new\n"], links, NONE)?;
-        assert_eq!(rt; text.as_slice(), *wanted);
+        same(text.as_slice(), *wanted)?;
     }
     Ok(())
 }
@@ -174,19 +175,19 @@ fn a_file_that_is_too_long_is_2(rt: HostRuntime) -> Result<(), Fail> {
     long.resize(1_048_577, b' ')?;
     let links = servers(alloc, &[ACK])?;
     let text = called(&rt, alloc, [long.as_slice(), b"bind 1 new\n"], links, NONE)?;
-    assert_eq!(rt;
+    same(
         text.as_slice(),
-        b"2 0\nrefused: file too long\n=>\n".as_slice()
-    );
+        b"2 0\nrefused: file too long\n=>\n".as_slice(),
+    )?;
     long.resize(67_108_865, b' ')?;
     let links = servers(alloc, &[ACK])?;
     let probe = PROBE.to_vec(alloc)?;
     let files = [probe.as_slice(), long.as_slice()];
     let text = called(&rt, alloc, files, links, NONE)?;
-    assert_eq!(rt;
+    same(
         text.as_slice(),
-        b"2 0\nrefused: file too long\n=>\n".as_slice()
-    );
+        b"2 0\nrefused: file too long\n=>\n".as_slice(),
+    )?;
     Ok(())
 }
 
@@ -212,7 +213,7 @@ fn failures_of_the_outside_are_3_4_and_7(rt: HostRuntime) -> Result<(), Fail> {
             links,
             *faults,
         )?;
-        assert_eq!(rt; text.as_slice(), *wanted);
+        same(text.as_slice(), *wanted)?;
     }
     Ok(())
 }

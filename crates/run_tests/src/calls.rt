@@ -2,15 +2,12 @@
 ghost use Rattle.std.specs.Prelude.{◌≡◌, true};
 ghost use Rattle.rpc_outside.specs.LinkLists.{are_new};
 
-use rpc_app::run;
+use crate::outcome::ran;
 use rpc_base::{MapShelf, NoMemory, Numbers, Octets, ShelfFile, ShelfFiles, VecSink};
 use rpc_outside::{Links, ScriptDial, ScriptDoor};
 use std::alloc::Global;
 use std::sync::Wait;
 use std::thread::Threads;
-
-/// The server's boot word.
-pub const BOOT: u64 = 0x0102_0304_0506_0708;
 
 /// The words of a line.
 pub fn words_of(alloc: Global, line: &str) -> Result<Vec<String>, NoMemory> {
@@ -82,8 +79,8 @@ pub fn called<R: Wait + Threads + Send + Sync + Copy + 'static>(
     let mut out = VecSink::new(alloc, failing(alloc, faults[2])?);
     let mut log = VecSink::new(alloc, Numbers::new(alloc));
     let words = list.as_slice();
-    let status = run(
-        rt, alloc, words, BOOT, &mut shelf, &mut door, &mut dial, &mut out, &mut log,
+    let status = ran(
+        rt, alloc, words, &mut shelf, &mut door, &mut dial, &mut out, &mut log,
     );
     told(alloc, status, dial.given_back().len(), &out, &log)
 }

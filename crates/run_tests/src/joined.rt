@@ -1,16 +1,14 @@
 //! Two connections of one group.
 use crate::held::{Flag, Gates, HeldDoor, Peer};
 use crate::links::steps;
-use rpc_app::run;
+use crate::outcome::ran;
 use rpc_base::{MapShelf, Numbers, ShelfFiles, VecSink};
 use rpc_outside::{Links, ScriptDial};
 use std::alloc::{AllocError, Global};
 use std::sync::Arc;
 use std::sync::atomic::AtomicBool;
 use std::test::*;
-
-/// The server's boot word.
-const BOOT: u64 = 0x0102_0304_0506_0708;
+use test_rows::same;
 
 /// A bind of call 1 to a new group, and one to group 1: context 0 of the store, over NDR.
 const BIND: &str =
@@ -95,11 +93,11 @@ fn what_one_connection_appends_another_sees(rt: HostRuntime) -> Result<(), Fail>
     let mut out = VecSink::new(alloc, Numbers::new(alloc));
     let mut log = VecSink::new(alloc, Numbers::new(alloc));
     let words = words.as_slice();
-    let status = run(
-        &rt, alloc, words, BOOT, &mut shelf, &mut door, &mut dial, &mut out, &mut log,
+    let status = ran(
+        &rt, alloc, words, &mut shelf, &mut door, &mut dial, &mut out, &mut log,
     );
     assert_eq!(rt; status, 0);
-    assert_eq!(rt; out.written().as_slice(), OUT.as_bytes());
-    assert_eq!(rt; log.written().as_slice(), LOG.as_bytes());
+    same(out.written().as_slice(), OUT.as_bytes())?;
+    same(log.written().as_slice(), LOG.as_bytes())?;
     Ok(())
 }

@@ -1,7 +1,7 @@
 //! The program calls itself, over sockets of the loopback.
 use crate::called::PROBE;
-use crate::calls::{BOOT, shelf_of, told, words_of};
-use rpc_app::run;
+use crate::calls::{shelf_of, told, words_of};
+use crate::outcome::ran;
 use rpc_base::{NoMemory, Numbers, VecSink};
 use std::alloc::Global;
 use std::net::{Ipv4Addr, Net, TcpListener};
@@ -12,6 +12,7 @@ use std::thread;
 use std::thread::Threads;
 use std::time::Duration;
 use system_outside::{SocketDial, SocketDoor};
+use test_rows::same;
 
 const SCRIPT: &[u8] = b"bind 1 new
 start 1 probe_open (5)
@@ -71,8 +72,8 @@ fn outcome<R: Wait + Threads + Net + Send + Sync + Copy + 'static>(
     let mut out = VecSink::new(alloc, Numbers::new(alloc));
     let mut log = VecSink::new(alloc, Numbers::new(alloc));
     let words = list.as_slice();
-    let status = run(
-        rt, alloc, words, BOOT, &mut shelf, &mut door, &mut dial, &mut out, &mut log,
+    let status = ran(
+        rt, alloc, words, &mut shelf, &mut door, &mut dial, &mut out, &mut log,
     );
     told(alloc, status, 0, &out, &log)
 }
@@ -106,7 +107,7 @@ fn the_program_calls_its_own_server(rt: HostRuntime) -> Result<(), Fail> {
         || outcome(&rt, alloc, serve.as_str()),
         || outcome_once_heard(&rt, alloc, call.as_str()),
     );
-    assert_eq!(rt; called?.as_slice(), CALLED);
-    assert_eq!(rt; served?.as_slice(), SERVED);
+    same(called?.as_slice(), CALLED)?;
+    same(served?.as_slice(), SERVED)?;
     Ok(())
 }

@@ -2,6 +2,7 @@
 use crate::links::{failing, one, two};
 use crate::outcome::outcome;
 use std::test::*;
+use test_rows::same;
 
 /// A bind of call 1: a new group, context 0 of the probe, over NDR.
 const BIND: &str =
@@ -30,7 +31,7 @@ fn two_links_are_served_side_by_side(rt: HostRuntime) -> Result<(), Fail> {
     let alloc = rt.alloc();
     let links = two(alloc, &[BIND, OPEN, CLOSE])?;
     let text = outcome(&rt, alloc, "serve 127.0.0.1:5000 --connections 2", links, 0)?;
-    assert_eq!(rt; text.as_slice(), TWO_CLOSED.as_bytes());
+    same(text.as_slice(), TWO_CLOSED.as_bytes())?;
     Ok(())
 }
 
@@ -45,7 +46,7 @@ fn a_door_that_closes_ends_the_round(rt: HostRuntime) -> Result<(), Fail> {
         links,
         0,
     )?;
-    assert_eq!(rt; text.as_slice(), TWO_CLOSED.as_bytes());
+    same(text.as_slice(), TWO_CLOSED.as_bytes())?;
     Ok(())
 }
 
@@ -54,7 +55,7 @@ fn a_door_that_does_not_listen_is_7(rt: HostRuntime) -> Result<(), Fail> {
     let alloc = rt.alloc();
     let links = two(alloc, &[BIND])?;
     let text = outcome(&rt, alloc, "serve 127.0.0.1:5000 --connections 2", links, 1)?;
-    assert_eq!(rt; text.as_slice(), b"7 0\n=>\n".as_slice());
+    same(text.as_slice(), b"7 0\n=>\n".as_slice())?;
     Ok(())
 }
 
@@ -63,10 +64,10 @@ fn a_door_that_fails_outweighs_the_rest(rt: HostRuntime) -> Result<(), Fail> {
     let alloc = rt.alloc();
     let links = one(alloc, "05000b03 10000000 4800")?;
     let text = outcome(&rt, alloc, "serve 127.0.0.1:5000 --connections 2", links, 3)?;
-    assert_eq!(rt;
+    same(
         text.as_slice(),
-        b"7 1\nconnection 1 cut 10\nstats 0 0 0 0\n=>\n".as_slice()
-    );
+        b"7 1\nconnection 1 cut 10\nstats 0 0 0 0\n=>\n".as_slice(),
+    )?;
     Ok(())
 }
 
@@ -75,10 +76,10 @@ fn ten_octets_are_cut(rt: HostRuntime) -> Result<(), Fail> {
     let alloc = rt.alloc();
     let links = one(alloc, "05000b03 10000000 4800")?;
     let text = outcome(&rt, alloc, "serve 127.0.0.1:5000 --connections 1", links, 0)?;
-    assert_eq!(rt;
+    same(
         text.as_slice(),
-        b"8 1\nconnection 1 cut 10\nstats 0 0 0 0\n=>\n".as_slice()
-    );
+        b"8 1\nconnection 1 cut 10\nstats 0 0 0 0\n=>\n".as_slice(),
+    )?;
     Ok(())
 }
 
@@ -87,10 +88,10 @@ fn a_put_fails(rt: HostRuntime) -> Result<(), Fail> {
     let alloc = rt.alloc();
     let links = failing(alloc, BIND)?;
     let text = outcome(&rt, alloc, "serve 127.0.0.1:5000 --connections 1", links, 0)?;
-    assert_eq!(rt;
+    same(
         text.as_slice(),
-        b"8 1\nconnection 1 link\nstats 0 0 1 0\n=>\ngroup 1 boot 0102030405060708\njoin 1\nleave 1\nshut -\n".as_slice()
-    );
+        b"8 1\nconnection 1 link\nstats 0 0 1 0\n=>\ngroup 1 boot 0102030405060708\njoin 1\nleave 1\nshut -\n".as_slice(),
+    )?;
     Ok(())
 }
 
@@ -109,7 +110,7 @@ fn words_are_refused(rt: HostRuntime) -> Result<(), Fail> {
     for words in NO_WORDS {
         let links = one(alloc, BIND)?;
         let text = outcome(&rt, alloc, words, links, 0)?;
-        assert_eq!(rt; text.as_slice(), b"1 0\nrefused: words\n=>\n".as_slice());
+        same(text.as_slice(), b"1 0\nrefused: words\n=>\n".as_slice())?;
     }
     Ok(())
 }

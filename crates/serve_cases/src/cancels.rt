@@ -15,6 +15,7 @@ use server_ends::{Ending, Finished};
 use std::sync::Wait;
 use std::test::*;
 use std::thread;
+use test_rows::same;
 
 /// A co_cancel of call 2, and the fault that its probe_open ends with then: it ran, and nca_s_fault_cancel.
 const CANCEL: &str = "05001203 10000000 10000000 02000000";
@@ -88,9 +89,9 @@ fn a_cancel_reaches_a_running_call(rt: HostRuntime) -> Result<(), Fail> {
     let Finished { link, ending, .. } = done;
     let mut wanted = octets(alloc, ACK)?;
     wanted.append(octets(alloc, CANCELLED)?.as_slice())?;
-    assert_eq!(rt; link.written().as_slice(), wanted.as_slice());
+    same(link.written().as_slice(), wanted.as_slice())?;
     assert_eq!(rt; ending, Ending::Closed);
-    assert_eq!(rt; journals.as_slice(), CANCELLED_JOURNAL.as_bytes());
+    same(journals.as_slice(), CANCELLED_JOURNAL.as_bytes())?;
     Ok(())
 }
 
@@ -110,9 +111,9 @@ fn a_brief_call_runs_where_it_was_heard(rt: HostRuntime) -> Result<(), Fail> {
     let Finished { link, ending, .. } = done;
     let mut wanted = octets(alloc, ACK)?;
     wanted.append(octets(alloc, OPENED)?.as_slice())?;
-    assert_eq!(rt; link.written().as_slice(), wanted.as_slice());
+    same(link.written().as_slice(), wanted.as_slice())?;
     assert_eq!(rt; ending, Ending::Closed);
-    assert_eq!(rt; journals.as_slice(), OPENED_JOURNAL.as_bytes());
+    same(journals.as_slice(), OPENED_JOURNAL.as_bytes())?;
     Ok(())
 }
 
@@ -128,8 +129,8 @@ fn a_cancel_before_its_request_is_none(rt: HostRuntime) -> Result<(), Fail> {
     let Finished { link, ending, .. } = done;
     let mut wanted = octets(alloc, ACK)?;
     wanted.append(octets(alloc, OPENED)?.as_slice())?;
-    assert_eq!(rt; link.written().as_slice(), wanted.as_slice());
+    same(link.written().as_slice(), wanted.as_slice())?;
     assert_eq!(rt; ending, Ending::Closed);
-    assert_eq!(rt; journals.as_slice(), OPENED_JOURNAL.as_bytes());
+    same(journals.as_slice(), OPENED_JOURNAL.as_bytes())?;
     Ok(())
 }

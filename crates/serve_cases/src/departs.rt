@@ -14,6 +14,7 @@ use std::sync::Wait;
 use std::sync::atomic::AtomicBool;
 use std::test::*;
 use std::thread::Threads;
+use test_rows::same;
 
 /// An orphaned of call 2.
 const ORPHANED: &str = "05001303 10000000 10000000 02000000";
@@ -79,7 +80,7 @@ fn a_handle_that_is_issued_behind_the_leave_is_run_down(rt: HostRuntime) -> Resu
     let left = depart(&rt, alloc, all)?;
     assert_eq!(rt; (left.joined, left.ending), (Some((1, 1)), Ending::Closed));
     assert_eq!(rt; left.retired, Some(Retired { group: 1 }));
-    assert_eq!(rt; left.journals.as_slice(), JOURNAL.as_bytes());
+    same(left.journals.as_slice(), JOURNAL.as_bytes())?;
     assert_eq!(rt; left.handles, 0);
     Ok(())
 }
@@ -93,7 +94,7 @@ fn a_call_that_is_orphaned_while_it_runs_goes_on(rt: HostRuntime) -> Result<(), 
     let left = depart(&rt, alloc, all)?;
     assert_eq!(rt; (left.joined, left.ending), (Some((1, 1)), Ending::Closed));
     assert_eq!(rt; left.retired, Some(Retired { group: 1 }));
-    assert_eq!(rt; left.journals.as_slice(), ORPHANED_JOURNAL.as_bytes());
+    same(left.journals.as_slice(), ORPHANED_JOURNAL.as_bytes())?;
     assert_eq!(rt; left.handles, 0);
     Ok(())
 }

@@ -18,6 +18,7 @@ use std::alloc::Global;
 use std::sync::Wait;
 use std::test::*;
 use std::thread::Threads;
+use test_rows::same;
 
 /// Of the server with which its handles begin.
 pub const BOOT: u64 = 0x0102_0304_0506_0708;
@@ -90,7 +91,7 @@ fn a_call_is_answered_and_the_group_is_retired(rt: HostRuntime) -> Result<(), Fa
     } = done;
     let mut wanted = octets(alloc, ACK)?;
     wanted.append(octets(alloc, OPENED)?.as_slice())?;
-    assert_eq!(rt; link.written().as_slice(), wanted.as_slice());
+    same(link.written().as_slice(), wanted.as_slice())?;
     assert_eq!(rt; (joined, ending), (Some((1, 1)), Ending::Closed));
     assert_eq!(rt; retired, Some(Retired { group: 1 }));
     Ok(())
@@ -109,7 +110,7 @@ fn ten_octets_of_a_further_pdu_are_cut(rt: HostRuntime) -> Result<(), Fail> {
         ending,
         retired: _,
     } = done;
-    assert_eq!(rt; link.written().as_slice(), octets(alloc, ACK)?.as_slice());
+    same(link.written().as_slice(), octets(alloc, ACK)?.as_slice())?;
     assert_eq!(rt; (joined, ending), (Some((1, 1)), Ending::Cut(10)));
     Ok(())
 }

@@ -2,5 +2,7 @@
 #![tactic(auto)]
 
 mod rows;
+mod same;
 
 pub use rows::{Answers, wrong_row};
+pub use same::same;

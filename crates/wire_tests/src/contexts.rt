@@ -6,7 +6,7 @@ use rpc_base::{NoMemory, SyntaxId};
 use rpc_words::{cut_at, put, put_decimal, read_u16, split_words};
 use std::alloc::Global;
 use std::test::*;
-use test_rows::{Answers, wrong_row};
+use test_rows::{Answers, same, wrong_row};
 use uuid::Uuid;
 
 /// Interfaces and transfer syntaxes by their names. FEATURES is the bind time feature negotiation of Windows.
@@ -161,11 +161,11 @@ find|9|none
 ";
 
 #[test]
-fn reasons(rt: HostRuntime) -> Result<(), NoMemory> {
+fn reasons(rt: HostRuntime) -> Result<(), Fail> {
     for table in [WINDOWS, REASONS] {
         let mut offers = server(rt.alloc(), &[("PROBE", "1.2"), ("STORE", "1.0")])?;
         let wrong = wrong_row(rt.alloc(), &mut offers, table)?;
-        assert_eq!(rt; wrong.as_slice(), b"".as_slice());
+        same(wrong.as_slice(), b"".as_slice())?;
     }
     Ok(())
 }
@@ -181,15 +181,15 @@ find|32|none
 ";
 
 #[test]
-fn thirty_two_contexts(rt: HostRuntime) -> Result<(), NoMemory> {
+fn thirty_two_contexts(rt: HostRuntime) -> Result<(), Fail> {
     let mut offers = server(rt.alloc(), &[("PROBE", "1.2"), ("STORE", "1.0")])?;
     for context in 0..32 {
         let text = format!(in rt.alloc(); "offer|{context} PROBE 1.0 NDR 2.0|0 0 NDR;")?;
         let wrong = wrong_row(rt.alloc(), &mut offers, text.as_str())?;
-        assert_eq!(rt; wrong.as_slice(), b"".as_slice());
+        same(wrong.as_slice(), b"".as_slice())?;
     }
     let wrong = wrong_row(rt.alloc(), &mut offers, FULL)?;
-    assert_eq!(rt; wrong.as_slice(), b"".as_slice());
+    same(wrong.as_slice(), b"".as_slice())?;
     Ok(())
 }
 
@@ -201,10 +201,10 @@ find|1|1
 ";
 
 #[test]
-fn one_interface_twice(rt: HostRuntime) -> Result<(), NoMemory> {
+fn one_interface_twice(rt: HostRuntime) -> Result<(), Fail> {
     let named = [("PROBE", "2.0"), ("STORE", "1.4"), ("STORE", "1.5")];
     let mut offers = server(rt.alloc(), &named)?;
     let wrong = wrong_row(rt.alloc(), &mut offers, TWICE)?;
-    assert_eq!(rt; wrong.as_slice(), b"".as_slice());
+    same(wrong.as_slice(), b"".as_slice())?;
     Ok(())
 }

@@ -8,7 +8,7 @@ use rpc_base::{NoMemory, Order};
 use rpc_words::{put, put_hex};
 use std::alloc::Global;
 use std::test::*;
-use test_rows::{Answers, wrong_row};
+use test_rows::{Answers, same, wrong_row};
 
 /// Reads the octets that a row gives.
 #[derive(Clone, Copy)]
@@ -137,9 +137,9 @@ head|0501 0bc7 0f000000 00480000 00000102|Characters RawHead { kind: 11, order: 
 ";
 
 #[test]
-fn faults(rt: HostRuntime) -> Result<(), NoMemory> {
+fn faults(rt: HostRuntime) -> Result<(), Fail> {
     let wrong = wrong_row(rt.alloc(), &mut Pdus, FAULTS)?;
-    assert_eq!(rt; wrong.as_slice(), b"".as_slice());
+    same(wrong.as_slice(), b"".as_slice())?;
     Ok(())
 }
 
@@ -157,9 +157,9 @@ read|ORPHANED|Pdu { minor: 0, flags: 3, order: Little, call_id: 2, body: Orphane
 ";
 
 #[test]
-fn what_is_read(rt: HostRuntime) -> Result<(), NoMemory> {
+fn what_is_read(rt: HostRuntime) -> Result<(), Fail> {
     let wrong = wrong_row(rt.alloc(), &mut Pdus, READ)?;
-    assert_eq!(rt; wrong.as_slice(), b"".as_slice());
+    same(wrong.as_slice(), b"".as_slice())?;
     Ok(())
 }
 

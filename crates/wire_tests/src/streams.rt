@@ -8,7 +8,7 @@ use rpc_base::{Items, NoMemory, Octets, Order};
 use rpc_words::{put, put_decimal, put_hex, read_u16, read_u64, split_words};
 use std::alloc::Global;
 use std::test::*;
-use test_rows::{Answers, wrong_row};
+use test_rows::{Answers, same, wrong_row};
 
 /// Cuts streams, cuts stubs, and joins fragments.
 #[derive(Clone, Copy)]
@@ -221,9 +221,9 @@ piece|18446744073709551615 1432 24 18446744073709551615|none
 ";
 
 #[test]
-fn cuts(rt: HostRuntime) -> Result<(), NoMemory> {
+fn cuts(rt: HostRuntime) -> Result<(), Fail> {
     let wrong = wrong_row(rt.alloc(), &mut Streams, CUTS)?;
-    assert_eq!(rt; wrong.as_slice(), b"".as_slice());
+    same(wrong.as_slice(), b"".as_slice())?;
     Ok(())
 }
 
@@ -248,9 +248,9 @@ join|STREAM =17:02 <35|.nothing!Version!Version!Version!Version
 ";
 
 #[test]
-fn joins(rt: HostRuntime) -> Result<(), NoMemory> {
+fn joins(rt: HostRuntime) -> Result<(), Fail> {
     let wrong = wrong_row(rt.alloc(), &mut Streams, JOINS)?;
-    assert_eq!(rt; wrong.as_slice(), b"".as_slice());
+    same(wrong.as_slice(), b"".as_slice())?;
     Ok(())
 }
 

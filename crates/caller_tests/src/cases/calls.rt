@@ -1,8 +1,8 @@
 //! Calls: what begins them, and what other than a response comes.
 
 use crate::cases::story::{BOUND, wrong_in};
-use rpc_base::NoMemory;
 use std::test::*;
+use test_rows::same;
 
 const CALLS: &[&str] = &[
     // What names no call that is out, and what doesn't answer one.
@@ -123,17 +123,17 @@ put|1401|(1 1408 1409)(2 1 1)
 ];
 
 #[test]
-fn calls_are_told(rt: HostRuntime) -> Result<(), NoMemory> {
+fn calls_are_told(rt: HostRuntime) -> Result<(), Fail> {
     let wrong = wrong_in(rt.alloc(), BOUND, CALLS)?;
-    assert_eq!(rt; wrong.as_slice(), b"".as_slice());
+    same(wrong.as_slice(), b"".as_slice())?;
     Ok(())
 }
 
 #[test]
-fn requests_are_cut_as_the_server_takes_them(rt: HostRuntime) -> Result<(), NoMemory> {
+fn requests_are_cut_as_the_server_takes_them(rt: HostRuntime) -> Result<(), Fail> {
     let wrong = wrong_in(rt.alloc(), BOUND, CUTS)?;
-    assert_eq!(rt; wrong.as_slice(), b"".as_slice());
+    same(wrong.as_slice(), b"".as_slice())?;
     let wrong = wrong_in(rt.alloc(), "", ACKS)?;
-    assert_eq!(rt; wrong.as_slice(), b"".as_slice());
+    same(wrong.as_slice(), b"".as_slice())?;
     Ok(())
 }

@@ -1,8 +1,8 @@
 //! Binds and alter_contexts, and what answers them.
 
 use crate::cases::story::{BOUND, wrong_in};
-use rpc_base::NoMemory;
 use std::test::*;
+use test_rows::same;
 
 const BINDS: &[&str] = &[
     // Nothing is out at first, and a bind no longer once it is answered.
@@ -94,15 +94,15 @@ hear|05000203 10000000 1c000000 03000000 04000000 00000000 06000000|done (6)
 ];
 
 #[test]
-fn binds_are_told(rt: HostRuntime) -> Result<(), NoMemory> {
+fn binds_are_told(rt: HostRuntime) -> Result<(), Fail> {
     let wrong = wrong_in(rt.alloc(), "", BINDS)?;
-    assert_eq!(rt; wrong.as_slice(), b"".as_slice());
+    same(wrong.as_slice(), b"".as_slice())?;
     Ok(())
 }
 
 #[test]
-fn alter_contexts_are_told(rt: HostRuntime) -> Result<(), NoMemory> {
+fn alter_contexts_are_told(rt: HostRuntime) -> Result<(), Fail> {
     let wrong = wrong_in(rt.alloc(), BOUND, ALTERS)?;
-    assert_eq!(rt; wrong.as_slice(), b"".as_slice());
+    same(wrong.as_slice(), b"".as_slice())?;
     Ok(())
 }

@@ -1,8 +1,8 @@
 //! Responses: stubs, and fragments, to a call for at most four octets.
 
 use crate::cases::story::{READING, wrong_in};
-use rpc_base::NoMemory;
 use std::test::*;
+use test_rows::same;
 
 const STUBS: &[&str] = &[
     "
@@ -79,15 +79,15 @@ hear|05000202 10000000 22000000 02000000 0a000000 00000000 00000000 02000000 010
 ];
 
 #[test]
-fn responses_are_messages_or_none(rt: HostRuntime) -> Result<(), NoMemory> {
+fn responses_are_messages_or_none(rt: HostRuntime) -> Result<(), Fail> {
     let wrong = wrong_in(rt.alloc(), READING, STUBS)?;
-    assert_eq!(rt; wrong.as_slice(), b"".as_slice());
+    same(wrong.as_slice(), b"".as_slice())?;
     Ok(())
 }
 
 #[test]
-fn fragments_are_joined_in_their_order(rt: HostRuntime) -> Result<(), NoMemory> {
+fn fragments_are_joined_in_their_order(rt: HostRuntime) -> Result<(), Fail> {
     let wrong = wrong_in(rt.alloc(), READING, FRAGMENTS)?;
-    assert_eq!(rt; wrong.as_slice(), b"".as_slice());
+    same(wrong.as_slice(), b"".as_slice())?;
     Ok(())
 }

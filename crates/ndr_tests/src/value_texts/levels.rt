@@ -6,6 +6,7 @@ use rpc_base::{NoMemory, Octets};
 use rpc_words::put;
 use std::alloc::Global;
 use std::test::*;
+use test_rows::same;
 use value_text::{TextFault, print_value, read_value};
 
 const LEVELS: usize = 256;
@@ -75,7 +76,7 @@ fn nothing_stands_behind_a_text(rt: HostRuntime) -> Result<(), NoMemory> {
 }
 
 #[test]
-fn bytes_have_one_text_in_either_form(rt: HostRuntime) -> Result<(), NoMemory> {
+fn bytes_have_one_text_in_either_form(rt: HostRuntime) -> Result<(), Fail> {
     let alloc = rt.alloc();
     let mut bytes = Vec::new(alloc);
     let mut octets = Octets::new(alloc);
@@ -86,6 +87,6 @@ fn bytes_have_one_text_in_either_form(rt: HostRuntime) -> Result<(), NoMemory> {
     let mut text = Vec::new(alloc);
     print_value(alloc, &Value::Array(bytes), &mut text)?;
     print_value(alloc, &Value::Octets(octets), &mut text)?;
-    assert_eq!(rt; text.as_slice(), b"[7, 0, 255][7, 0, 255]".as_slice());
+    same(text.as_slice(), b"[7, 0, 255][7, 0, 255]".as_slice())?;
     Ok(())
 }

@@ -7,7 +7,7 @@ use rpc_base::NoMemory;
 use rpc_words::put;
 use std::alloc::Global;
 use std::test::*;
-use test_rows::{Answers, wrong_row};
+use test_rows::{Answers, same, wrong_row};
 use value_text::{TextFault, print_value, read_value};
 
 /// Reads texts of shapes that stand behind another text.
@@ -92,15 +92,15 @@ fn wrong_behind(alloc: Global, front: &'static [u8]) -> Result<Vec<u8>, NoMemory
 }
 
 #[test]
-fn texts_are_values_or_depart(rt: HostRuntime) -> Result<(), NoMemory> {
+fn texts_are_values_or_depart(rt: HostRuntime) -> Result<(), Fail> {
     let wrong = wrong_behind(rt.alloc(), b"")?;
-    assert_eq!(rt; wrong.as_slice(), b"".as_slice());
+    same(wrong.as_slice(), b"".as_slice())?;
     Ok(())
 }
 
 #[test]
-fn texts_are_read_from_a_place_on(rt: HostRuntime) -> Result<(), NoMemory> {
+fn texts_are_read_from_a_place_on(rt: HostRuntime) -> Result<(), Fail> {
     let wrong = wrong_behind(rt.alloc(), b"{1, ")?;
-    assert_eq!(rt; wrong.as_slice(), b"".as_slice());
+    same(wrong.as_slice(), b"".as_slice())?;
     Ok(())
 }

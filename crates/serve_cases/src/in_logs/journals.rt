@@ -3,6 +3,7 @@ use group_hub::Hub;
 use hub_journals::put_journals;
 use hub_play::{leave, open, retire};
 use std::test::*;
+use test_rows::same;
 
 const WANTED: &str =
     "group 1 boot 0000000000000001\njoin 1\nleave 1\nshut -\ngroup 2 boot 0000000000000001\njoin 1\n";
@@ -19,6 +20,6 @@ fn each_group_that_was_opened_is_logged_by_rising_id(rt: HostRuntime) -> Result<
     assert!(rt; open(&rt, &hub, &mut pass).is_ok());
     let mut log = Vec::new(alloc);
     put_journals(&rt, alloc, &hub, &mut pass, &mut log)?;
-    assert_eq!(rt; log.as_slice(), WANTED.as_bytes());
+    same(log.as_slice(), WANTED.as_bytes())?;
     Ok(())
 }

@@ -12,6 +12,7 @@ use std::alloc::Global;
 use std::sync::{Arc, Wait};
 use std::test::*;
 use std::thread::Threads;
+use test_rows::same;
 
 /// The bind_ack with group 1, and the response to probe_open with its first handle.
 const ACK: &str =
@@ -68,7 +69,7 @@ fn two_calls_run_at_once(rt: HostRuntime) -> Result<(), Fail> {
     let alloc = rt.alloc();
     for brief in [false, true] {
         let (finished, journals) = meet(rt, alloc, brief)?;
-        assert_eq!(rt; journals.as_slice(), JOURNALS.as_bytes());
+        same(journals.as_slice(), JOURNALS.as_bytes())?;
         assert_eq!(rt; finished.len(), 2);
         for settled in finished {
             let Settled {
@@ -80,10 +81,10 @@ fn two_calls_run_at_once(rt: HostRuntime) -> Result<(), Fail> {
             assert_eq!(rt; ending, Ending::Closed);
             let (group, _) = joined.unwrap_or((0, 0));
             let link = link.into_inner();
-            assert_eq!(rt;
+            same(
                 link.written().as_slice(),
-                answered(alloc, group)?.as_slice()
-            );
+                answered(alloc, group)?.as_slice(),
+            )?;
         }
     }
     Ok(())
