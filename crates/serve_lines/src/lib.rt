@@ -6,6 +6,3 @@ mod status;
 
 pub use lines::{connection_line, stats_line};
 pub use status::status_of;
-
-#[cfg(test)]
-mod tests;

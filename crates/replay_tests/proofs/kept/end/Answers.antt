@@ -2,7 +2,7 @@ use Rattle.std.proofs.Common.{◌≡◌, true, List, subst}
 use Rattle.handle_model.specs.declared.entry.Outcome.{Outcome}
 use Rattle.handle_model.specs.Journal as journals
 use Rattle.replay_groups.specs.Keeps.{Known}
-use Rattle.groups_tests.proofs.kept.end.Goals as goal
+use Rattle.replay_tests.proofs.kept.end.Goals as goal
 
 -- src/kept.rt:128:10
 pub end-requires-clause-runs : goal.end-requires-clause-runs

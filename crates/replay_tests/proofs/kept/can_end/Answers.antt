@@ -1,7 +1,7 @@
 use Rattle.std.proofs.Common.{◌≡◌, true, ◌∙◌}
 use Rattle.handle_rules.specs.Told.{told}
-use Rattle.groups_tests.proofs.Keeping.{yes_of, end_known}
-use Rattle.groups_tests.proofs.kept.can_end.Goals as goal
+use Rattle.replay_tests.proofs.Keeping.{yes_of, end_known}
+use Rattle.replay_tests.proofs.kept.can_end.Goals as goal
 
 pub returns : goal.returns
 returns c =

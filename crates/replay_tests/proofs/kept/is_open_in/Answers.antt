@@ -1,7 +1,7 @@
 use Rattle.std.proofs.Common.{◌∙◌}
 use Rattle.handle_rules.specs.Told.{told}
-use Rattle.groups_tests.proofs.Keeping.{open_known}
-use Rattle.groups_tests.proofs.kept.is_open_in.Goals as goal
+use Rattle.replay_tests.proofs.Keeping.{open_known}
+use Rattle.replay_tests.proofs.kept.is_open_in.Goals as goal
 
 pub returns : goal.returns
 returns c =
