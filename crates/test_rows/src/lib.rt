@@ -1,8 +1,8 @@
 //! Tables of tests, row by row.
 #![tactic(auto)]
 
+mod octets;
 mod rows;
-mod same;
 
+pub use octets::same;
 pub use rows::{Answers, wrong_row};
-pub use same::same;
