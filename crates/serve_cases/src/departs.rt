@@ -1,12 +1,10 @@
 //! Calls that end behind their connection's Leave.
 ghost use Rattle.std.specs.Prelude.{◌≡◌, false};
 
-use crate::held::{Gates, Held, HeldLink};
+use crate::held::{Gates, Held, HeldLink, Place};
 use crate::links::{link, octets, steps};
 use crate::served::{BIND, OPEN, serve_at};
 use group_hub::Retired;
-use locked_desks::Locked;
-use probe_desk::ProbeDesk;
 use rpc_outside::{LinkStep, LinkSteps};
 use server_ends::{Ending, Finished};
 use std::alloc::Global;
@@ -48,12 +46,7 @@ fn depart<R: Wait + Threads + Sync>(rt: &R, alloc: Global, steps: LinkSteps) -> 
         end: &begun,
         closed: &gone,
     };
-    let manager = Held {
-        desk: Locked::new(ProbeDesk::new(alloc)),
-        op: 0,
-        begun: &begun,
-        goes_on: &gone,
-    };
+    let manager = Held::new(alloc, Place::Held(0), &begun, &gone);
     let link = HeldLink::new(link(alloc, steps), gates);
     let (done, journals) = serve_at(rt, alloc, link, &manager)?;
     let Finished {
@@ -62,13 +55,12 @@ fn depart<R: Wait + Threads + Sync>(rt: &R, alloc: Global, steps: LinkSteps) -> 
         retired,
         ..
     } = done;
-    let Held { desk, .. } = manager;
     Ok(Left {
         joined,
         ending,
         retired,
         journals,
-        handles: desk.into_inner().open_handles(),
+        handles: manager.into_handles(),
     })
 }
 

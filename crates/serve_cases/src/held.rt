@@ -7,8 +7,9 @@ use manager_api::{Answer, Probe};
 use manager_calls::Manager;
 use ndr_value::Message;
 use probe_desk::ProbeDesk;
-use rpc_base::Failed;
+use rpc_base::{Failed, Octets};
 use rpc_outside::{Link, ScriptLink, Taken};
+use std::alloc::Global;
 use std::sync::Wait;
 use std::sync::atomic::{AtomicBool, Ordering};
 use std::thread;
@@ -54,6 +55,11 @@ impl<'a> HeldLink<'a> {
             closed: false,
         }
     }
+
+    /// The octets that were put on it.
+    pub fn written(&self) -> &Octets {
+        self.link.written()
+    }
 }
 
 impl<'a> Link for HeldLink<'a> {
@@ -98,18 +104,50 @@ impl<'a> Link for HeldLink<'a> {
     }
 }
 
-/// A manager of the probe's interface whose calls of one operation wait.
+/// Where calls run.
+#[derive(Clone, Copy, PartialEq, Eq)]
+pub enum Place {
+    /// In their connection's thread.
+    Here,
+    /// In threads of their own.
+    Beside,
+    /// The same, where those of an operation wait.
+    Held(u16),
+}
+
+/// A manager of the probe's interface.
 #[derive(Drop)]
 pub struct Held<'a> {
-    pub desk: Locked<ProbeDesk>,
-    pub op: u16,
-    /// This is set once such a call has begun.
-    pub begun: &'a AtomicBool,
+    desk: Locked<ProbeDesk>,
+    place: Place,
+    /// This is set once a call that waits has begun.
+    begun: &'a AtomicBool,
     /// Such a call goes on once this is set.
-    pub goes_on: &'a AtomicBool,
+    goes_on: &'a AtomicBool,
 }
 
 impl<'a> Held<'a> {
+    /// A new one.
+    pub fn new(
+        alloc: Global,
+        place: Place,
+        begun: &'a AtomicBool,
+        goes_on: &'a AtomicBool,
+    ) -> Held<'a> {
+        Held {
+            desk: Locked::new(ProbeDesk::new(alloc)),
+            place,
+            begun,
+            goes_on,
+        }
+    }
+
+    /// How many handles its calls left open.
+    pub fn into_handles(self) -> usize {
+        let Held { desk, .. } = self;
+        desk.into_inner().open_handles()
+    }
+
     fn wait(&self) {
         self.begun.store(true, Ordering::SeqCst);
         for _ in 0..TRIES {
@@ -138,14 +176,14 @@ impl<'a> Manager for Held<'a> {
         cookies: CookieRow,
         probe: &mut P,
     ) -> Answer {
-        if op == self.op {
+        if self.place == Place::Held(op) {
             self.wait();
         }
         self.desk.call(rt, iface, op, message, cookies, probe)
     }
 
     fn is_brief(&self, _iface: u16, _op: u16, _stub: usize) -> bool {
-        false
+        self.place == Place::Here
     }
 
     fn rundown<R: Wait>(&self, rt: &R, due: Due) {

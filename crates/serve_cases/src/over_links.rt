@@ -2,7 +2,7 @@
 //! calls, and calls that wait for another connection's.
 
 mod failing;
-mod held;
+mod flags;
 mod hostile;
 mod journals;
 mod links;

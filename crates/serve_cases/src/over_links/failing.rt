@@ -1,5 +1,5 @@
 //! A conversation over a link that fails at one of its takes, or of its puts.
-use crate::over_links::held::Place;
+use crate::held::Place;
 use crate::over_links::journals::{JOINED, OPENED as OPENED_JOURNAL};
 use crate::over_links::links::{ask, link, link_by, octets};
 use crate::over_links::pdus::{ACK, BIND, CLOSE, CLOSED, OPEN, OPENED};

@@ -1,7 +1,7 @@
 //! Streams that break the protocol, or end early, and what they come to.
 ghost use Rattle.std.specs.Prelude.{◌<◌};
 
-use crate::over_links::held::Place;
+use crate::held::Place;
 use crate::over_links::journals::{JOINED as JOINED_JOURNAL, OPENED as OPENED_JOURNAL};
 use crate::over_links::links::{link, octets, send};
 use crate::over_links::pdus::{

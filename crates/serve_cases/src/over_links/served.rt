@@ -4,7 +4,8 @@ ghost use Rattle.group_hub.specs.Passes.{IsPassOf};
 ghost use Rattle.probe_desk.specs.Table as probe;
 ghost use Rattle.served_tables.specs.Served.{tables_in};
 
-use crate::over_links::held::{Flags, Held, HeldLink, Place};
+use crate::held::{HeldLink, Place};
+use crate::over_links::flags::Flags;
 use group_hub::{Hub, Pass, Retired};
 use hub_journals::put_journals;
 use manager_calls::Manager;
@@ -104,7 +105,7 @@ pub fn comes_to<R: Wait + Threads + Sync>(
     requires { link.closed ≡ false }
 {
     let flags = Flags::new(true);
-    let manager = Held::new(alloc, place, &flags);
-    let (done, journals) = serve(rt, alloc, HeldLink::new(link, &flags), &manager)?;
+    let manager = flags.manager(alloc, place);
+    let (done, journals) = serve(rt, alloc, HeldLink::new(link, flags.gates()), &manager)?;
     Ok(is_wanted(&done, journals.as_slice(), wanted) && manager.into_handles() == 0)
 }

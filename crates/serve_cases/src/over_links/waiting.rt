@@ -4,7 +4,8 @@ ghost use Rattle.std.specs.Prelude.{◌≡◌, [], ◌∷◌, false, IfOk};
 ghost use Rattle.group_hub.specs.Passes.{IsPassOf};
 ghost use Rattle.probe_desk.specs.Table as probe;
 
-use crate::over_links::held::{Flags, Held, HeldLink, Place};
+use crate::held::{HeldLink, Place};
+use crate::over_links::flags::Flags;
 use crate::over_links::links::{ask, link, octets, send};
 use crate::over_links::pdus::{
     ACK, BIND, CANCEL, CANCELLED, CLOSE, CLOSED, OPEN, OPENED, ORPHANED, OTHER_BIND, SECOND_CLOSE,
@@ -132,10 +133,10 @@ fn journal_with(alloc: Global, entry: &str) -> Result<Octets, NoMemory> {
 fn holds<R: Wait + Threads + Sync>(rt: &R, alloc: Global, row: &Row) -> Result<bool, NoMemory> {
     let (sent, put, entry) = *row;
     let (free, flags) = (Flags::new(true), Flags::new(false));
-    let manager = Held::new(alloc, Place::Held(1), &flags);
+    let manager = flags.manager(alloc, Place::Held(1));
     let first = link(alloc, ask(alloc, &[BIND, OPEN, CLOSE], 72)?, &[], &[])?;
-    let first = HeldLink::new(first, &free);
-    let second = HeldLink::new(second_link(alloc, sent)?, &flags);
+    let first = HeldLink::new(first, free.gates());
+    let second = HeldLink::new(second_link(alloc, sent)?, flags.gates());
     let (first, second, text) = serve_two(rt, alloc, (first, second), &manager)?;
     let all = octets(alloc, &[ACK, OPENED, CLOSED])?;
     let put = octets(alloc, put)?;
