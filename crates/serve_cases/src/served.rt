@@ -1,11 +1,12 @@
 //! One connection at a server of the probe.
 ghost use Rattle.std.specs.Prelude.{◌≡◌, IfOk, [], ◌∷◌, false};
+ghost use Rattle.group_hub.specs.Passes.{IsPassOf};
 ghost use Rattle.probe_desk.specs.Table as probe;
 ghost use Rattle.served_tables.specs.Served.{tables_in};
 
 use crate::journals::journals;
 use crate::links::{link, octets, steps};
-use group_hub::{Hub, Retired};
+use group_hub::{Hub, Pass, Retired};
 use locked_desks::Locked;
 use manager_calls::Manager;
 use probe_desk::{ProbeDesk, probe_table};
@@ -37,7 +38,7 @@ pub const OPENED: &str =
     "05000203 10000000 30000000 02000000 18000000 00000000 00000000 04030201 0605 0807 0000 000100000001 00000000";
 
 /// The interfaces of a server of the probe alone.
-pub fn probe_alone(alloc: Global) -> Result<Served, NoMemory>
+fn probe_alone(alloc: Global) -> Result<Served, NoMemory>
     ensures { IfOk result (λ served. tables_in served ≡ probe.probe_table ∷ []) }
 {
     let mut tables: Tables = Vec::new(alloc);
@@ -45,22 +46,37 @@ pub fn probe_alone(alloc: Global) -> Result<Served, NoMemory>
     Ok(Served::new(tables))
 }
 
-/// What a connection over a link comes to at a new server of the probe, which that manager answers, and the journals that
-/// it leaves.
+/// What a connection over a link comes to at a server of the probe alone, which that manager answers.
+pub fn serve_on<R: Wait + Threads + Sync, K: Link, M: Manager + Sync>(
+    rt: &R,
+    alloc: Global,
+    hub: &Hub,
+    pass: Pass,
+    link: K,
+    manager: &M,
+) -> Result<Finished<K>, NoMemory>
+    requires pass { IsPassOf hub.now pass }
+    requires open { (K.shows link).closed ≡ false }
+    requires table { M.tables manager.now ≡ probe.probe_table ∷ [] }
+{
+    let served = probe_alone(alloc)?;
+    Ok(serve_connection(rt, alloc, hub, pass, link, &served, manager))
+}
+
+/// The same at a new server, and the journals that it leaves.
 pub fn serve_at<R: Wait + Threads + Sync, K: Link, M: Manager + Sync>(
     rt: &R,
     alloc: Global,
     link: K,
     manager: &M,
-) -> Result<(Finished<K>, Vec<u8>), Fail>
+) -> Result<(Finished<K>, Vec<u8>), NoMemory>
     requires open { (K.shows link).closed ≡ false }
     requires table { M.tables manager.now ≡ probe.probe_table ∷ [] }
 {
-    let served = probe_alone(alloc)?;
     let (hub, pass) = Hub::new(alloc, BOOT)?;
     let mut other = pass;
     let pass = hub.split(&mut other);
-    let done = serve_connection(rt, alloc, &hub, pass, link, &served, manager);
+    let done = serve_on(rt, alloc, &hub, pass, link, manager)?;
     let text = journals(rt, alloc, &hub, other)?;
     Ok((done, text))
 }
@@ -70,7 +86,7 @@ fn serve<R: Wait + Threads + Sync>(
     rt: &R,
     alloc: Global,
     link: ScriptLink,
-) -> Result<Finished<ScriptLink>, Fail>
+) -> Result<Finished<ScriptLink>, NoMemory>
     requires { link.closed ≡ false }
 {
     let manager = Locked::new(ProbeDesk::new(alloc));

@@ -1,29 +1,19 @@
 //! Links in memory, and the octets on them.
 ghost use Rattle.std.specs.Prelude.{◌≡◌, ◌<◌, false, IfOk};
 
+use crate::links;
 use rpc_base::{Items, NoMemory, Numbers, Octets};
 use rpc_outside::{LinkStep, LinkSteps, ScriptLink};
-use rpc_words::{read_hex, split_words};
 use std::alloc::Global;
 
 /// How many octets one put takes at most.
 const MOST: usize = 8;
 
-/// Adds the octets of words in hexadecimal; a word that is none adds nothing.
-fn add_octets(alloc: Global, text: &str, all: &mut Octets) -> Result<(), NoMemory> {
-    for word in &split_words(alloc, text.as_bytes())? {
-        if let Some(some) = read_hex(alloc, word)? {
-            all.append(some.as_slice())?;
-        }
-    }
-    Ok(())
-}
-
 /// The octets of texts, one after the other.
 pub fn octets(alloc: Global, texts: &[&str]) -> Result<Octets, NoMemory> {
     let mut all = Octets::new(alloc);
     for text in texts {
-        add_octets(alloc, text, &mut all)?;
+        all.append(links::octets(alloc, text)?.as_slice())?;
     }
     Ok(all)
 }

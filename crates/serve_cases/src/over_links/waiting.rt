@@ -5,12 +5,13 @@ ghost use Rattle.group_hub.specs.Passes.{IsPassOf};
 ghost use Rattle.probe_desk.specs.Table as probe;
 
 use crate::held::{HeldLink, Place};
+use crate::journals::journals;
 use crate::over_links::flags::Flags;
 use crate::over_links::links::{ask, link, octets, send};
 use crate::over_links::pdus::{
     ACK, BIND, CANCEL, CANCELLED, CLOSE, CLOSED, OPEN, OPENED, ORPHANED, OTHER_BIND, SECOND_CLOSE,
 };
-use crate::over_links::served::{BOOT, journals, serve_on};
+use crate::served::{BOOT, serve_on};
 use group_hub::{Hub, Pass, Retired};
 use manager_calls::Manager;
 use rpc_base::{NoMemory, Octets};
