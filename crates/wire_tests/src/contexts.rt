@@ -1,6 +1,6 @@
 //! Offers as clients make them, and what they are answered.
 
-use pdu_codec::{Element, Elements, Syntaxes};
+use pdu_codec::{ContextResult, Element, Elements, Syntaxes};
 use presentation::{Contexts, ndr};
 use rpc_base::{NoMemory, SyntaxId};
 use rpc_words::{cut_at, put, put_decimal, read_u16, split_words};
@@ -71,6 +71,25 @@ impl Answers for Offers {
     }
 }
 
+/// A result and its reason, and which transfer syntax it names.
+fn put_result(alloc: Global, one: &ContextResult, into: &mut Vec<u8>) -> Result<(), NoMemory> {
+    let nil = SyntaxId {
+        id: Uuid::from_u128(0),
+        major: 0,
+        minor: 0,
+    };
+    put_decimal(alloc, one.result as u64, into)?;
+    put(b" ", into)?;
+    put_decimal(alloc, one.reason as u64, into)?;
+    if one.transfer == ndr() {
+        put(b" NDR;", into)
+    } else if one.transfer == nil {
+        put(b" nil;", into)
+    } else {
+        put(b" other;", into)
+    }
+}
+
 /// The answers to the elements of one PDU, between which there are commas: result, reason, and whether NDR comes
 /// with it or zeros do.
 fn put_results(
@@ -87,22 +106,8 @@ fn put_results(
         elements.push(element)?;
     }
     let results = contexts.offer(&elements)?;
-    let nil = SyntaxId {
-        id: Uuid::from_u128(0),
-        major: 0,
-        minor: 0,
-    };
     for one in results.as_slice() {
-        put_decimal(alloc, one.result as u64, into)?;
-        put(b" ", into)?;
-        put_decimal(alloc, one.reason as u64, into)?;
-        if one.transfer == ndr() {
-            put(b" NDR;", into)?;
-        } else if one.transfer == nil {
-            put(b" nil;", into)?;
-        } else {
-            put(b" other;", into)?;
-        }
+        put_result(alloc, one, into)?;
     }
     Ok(())
 }

@@ -159,23 +159,34 @@ fn put_pdu(
     }
 }
 
+/// What an octet more does.
+fn put_join(
+    alloc: Global,
+    feed: &mut Feed,
+    joiner: &mut Joiner,
+    octet: u8,
+    into: &mut Vec<u8>,
+) -> Result<(), NoMemory> {
+    feed.push(&[octet])?;
+    match feed.next() {
+        Ok(None) => Ok(()),
+        Ok(Some(pdu)) => {
+            put(b".", into)?;
+            put_pdu(alloc, joiner, pdu, into)
+        }
+        Err(fault) => {
+            let text = format!(in alloc; "!{fault:?}")?;
+            put(text.as_bytes(), into)
+        }
+    }
+}
+
 /// What each PDU does, when octets come one by one, and the fault behind them, which stays.
 fn put_joins(alloc: Global, octets: &[u8], into: &mut Vec<u8>) -> Result<(), NoMemory> {
     let mut feed = Feed::new(alloc);
     let mut joiner = Joiner::new();
     for octet in octets {
-        feed.push(&[*octet])?;
-        match feed.next() {
-            Ok(None) => {}
-            Ok(Some(pdu)) => {
-                put(b".", into)?;
-                put_pdu(alloc, &mut joiner, pdu, into)?;
-            }
-            Err(fault) => {
-                let text = format!(in alloc; "!{fault:?}")?;
-                put(text.as_bytes(), into)?;
-            }
-        }
+        put_join(alloc, &mut feed, &mut joiner, *octet, into)?;
     }
     Ok(())
 }
@@ -254,19 +265,35 @@ fn joins(rt: HostRuntime) -> Result<(), Fail> {
     Ok(())
 }
 
+/// Whether octets begin with a PDU, how many remain behind it, the fault there, how many remain when they come again, and
+/// the first that is held.
+type Held = (bool, usize, Option<PduFault>, usize, Option<u8>);
+
+fn held_of(feed: &mut Feed, octets: &[u8]) -> Result<Held, NoMemory> {
+    feed.push(octets)?;
+    let begins = feed.next().is_ok();
+    let rest = feed.rest();
+    let fault = feed.next().err();
+    feed.push(octets)?;
+    Ok((
+        begins,
+        rest,
+        fault,
+        feed.rest(),
+        feed.held().first().copied(),
+    ))
+}
+
 #[test]
 fn what_a_feed_holds(rt: HostRuntime) -> Result<(), NoMemory> {
     let Some(octets) = octets_of(rt.alloc(), b"STREAM =17:02")? else {
         return Err(NoMemory);
     };
     let mut feed = Feed::new(rt.alloc());
-    feed.push(octets.as_slice())?;
-    assert!(rt; feed.next().is_ok());
-    assert_eq!(rt; feed.rest(), 44);
-    assert!(rt; feed.next().err() == Some(PduFault::Version));
-    feed.push(octets.as_slice())?;
-    assert_eq!(rt; feed.rest(), 104);
-    assert!(rt; feed.held().first() == Some(&5));
+    assert_eq!(rt;
+        held_of(&mut feed, octets.as_slice())?,
+        (true, 44, Some(PduFault::Version), 104, Some(5))
+    );
     Ok(())
 }
 

@@ -99,17 +99,27 @@ fn step(alloc: Global, conn: &mut Conn, line: &[u8], singly: bool) -> Result<boo
     }
 }
 
-fn play(alloc: Global, text: &str, singly: bool) -> Result<usize, NoMemory> {
-    let mut conn = server(alloc)?;
-    let lines = lines(alloc, text)?;
+/// The number of the first of these lines that a connection doesn't hold to, or 0.
+fn wrong_step(
+    alloc: Global,
+    conn: &mut Conn,
+    lines: &[&[u8]],
+    singly: bool,
+) -> Result<usize, NoMemory> {
     let mut at = 0_usize;
-    for line in &lines {
+    for line in lines {
         at = at.saturating_add(1);
-        if !step(alloc, &mut conn, line, singly)? {
+        if !step(alloc, conn, line, singly)? {
             return Ok(at);
         }
     }
     Ok(0)
+}
+
+fn play(alloc: Global, text: &str, singly: bool) -> Result<usize, NoMemory> {
+    let lines = lines(alloc, text)?;
+    let mut conn = server(alloc)?;
+    wrong_step(alloc, &mut conn, lines.as_slice(), singly)
 }
 
 /// The same, where octets come whole alone.
@@ -194,6 +204,28 @@ fn take_acts(
     Ok(conn.next()?.is_none().then_some(done))
 }
 
+/// Whether a connection comes to the acts where octets come in these pieces, one after the other.
+fn hears<'a>(
+    alloc: Global,
+    conn: &mut Conn,
+    front: &[u8],
+    pieces: impl Iterator<Item = &'a [u8]>,
+    lines: &[&[u8]],
+) -> Result<bool, NoMemory> {
+    conn.feed(front)?;
+    let Some(mut done) = take_acts(alloc, conn, lines, 0)? else {
+        return Ok(false);
+    };
+    for piece in pieces {
+        conn.feed(piece)?;
+        let Some(further) = take_acts(alloc, conn, lines, done)? else {
+            return Ok(false);
+        };
+        done = further;
+    }
+    Ok(done == lines.len())
+}
+
 /// Whether the stream comes to the acts where it comes in a first piece, and then in pieces of a size.
 fn comes_to(
     alloc: Global,
@@ -204,18 +236,8 @@ fn comes_to(
 ) -> Result<bool, NoMemory> {
     let mut conn = server(alloc)?;
     let (front, back) = stream.split_at(first.min(stream.len()));
-    conn.feed(front)?;
-    let Some(mut done) = take_acts(alloc, &mut conn, lines, 0)? else {
-        return Ok(false);
-    };
-    for piece in back.chunks(size.max(1)) {
-        conn.feed(piece)?;
-        let Some(further) = take_acts(alloc, &mut conn, lines, done)? else {
-            return Ok(false);
-        };
-        done = further;
-    }
-    Ok(done == lines.len())
+    let pieces = back.chunks(size.max(1));
+    hears(alloc, &mut conn, front, pieces, lines)
 }
 
 /// The octets of a text's words, on whatever lines they stand.
