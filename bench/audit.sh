@@ -8,8 +8,7 @@
 set -eu
 top=$(cd "$(dirname "$0")/.." && pwd)
 . "$top/bench/timing.sh"
-program=$top/crates/audit_bench/out/audit_bench
-(cd "$top/crates/audit_bench" && rt run >/dev/null) # builds it where it is stale
+build_bench
 text=$(mktemp)
 trap 'rm -f "$text"' EXIT
 
@@ -78,7 +77,7 @@ for kind in base-calls joins leaves accepts cancels calls groups; do
     before=
     for mib in 1 4 16 64; do
         journal "$kind" $((mib * 1048576)) >"$text"
-        time=$(least 0 "$program" "$text")
+        time=$(least 0 "$bench" audit "$text")
         show "$kind $mib MiB" "$time" "$before"
         before=$time
     done
@@ -88,7 +87,7 @@ for kind in open-calls one-shared one-held connections handles; do
     before=
     for count in 25000 100000 400000; do
         held "$kind" "$count" >"$text"
-        time=$(least 0 "$program" "$text")
+        time=$(least 0 "$bench" audit "$text")
         show "$kind $count" "$time" "$before"
         before=$time
     done

@@ -4,11 +4,11 @@
 # Each time is the least of three. Behind them come the times of lookups in a full endpoint map (`epm.sh`).
 set -eu
 top=$(cd "$(dirname "$0")/.." && pwd)
-program=$top/crates/desk_bench/out/desk_bench
-(cd "$top/crates/desk_bench" && rt run -- append 3 >/dev/null) # builds it where it is stale
+source "$top/bench/timing.sh"
+build_bench
 
 run() { # WORK N: octets, and microseconds of the fastest run
-    for _ in 1 2 3; do "$program" "$1" "$2" time; done | awk '
+    for _ in 1 2 3; do "$bench" desk "$1" "$2" time; done | awk '
         NF != 4 { exit 1 }
         best == "" || $4 < best { best = $4; line = $2 " " $4 }
         END { print line }'

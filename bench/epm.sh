@@ -4,11 +4,11 @@
 # the entries once. Each time is the least of three.
 set -eu
 top=$(cd "$(dirname "$0")/.." && pwd)
-program=$top/crates/epm_bench/out/epm_bench
-(cd "$top/crates/epm_bench" && rt run -- 4096 1 >/dev/null) # builds it where it is stale
+source "$top/bench/timing.sh"
+build_bench
 
 for most in 4096 1024 256 64; do
-    for _ in 1 2 3; do "$program" "$most" 20 time; done | awk -v most="$most" '
+    for _ in 1 2 3; do "$bench" epm "$most" 20 time; done | awk -v most="$most" '
         NF != 4 { exit 1 }
         best == "" || $4 < best { best = $4; entries = $2 }
         END { calls = 20 * 4096 / most; printf "%5d entries a call %9.3f s, %8.1f us a call, %6.2f us an entry\n", most, best / 1e6, best / calls, best / entries }'

@@ -1,5 +1,5 @@
 #!/usr/bin/env bash
-# Times a group by `group_bench`: how the cost of a call (accepted, taken and ended) grows with the
+# Times a group by `bench group`: how the cost of a call (accepted, taken and ended) grows with the
 # entries of the journal, with the calls that wait and with the live handles, also where each call closes
 # the oldest handle; and what a connection costs that joins before the last one leaves, so that the
 # journal is folded, with as many folds and with more, and with more live handles. What it takes to make
@@ -7,18 +7,17 @@
 set -eu
 top=$(cd "$(dirname "$0")/.." && pwd)
 source "$top/bench/timing.sh"
-(cd "$top/crates/group_bench" && rt run >/dev/null) # builds it where it is older than its sources
-program=$top/crates/group_bench/out/group_bench
+build_bench
 
 # The time of one of so many, in thousandths of a microsecond: calls, closes or visits. A group that stops early ends
 # the script.
 each() { # COUNT LIVE WAITING ROUNDS CLOSES VISITS
     local count=$1 bare whole said
     shift
-    said=$("$program" "$@")
+    said=$("$bench" group "$@")
     case $said in *entries) ;; *) echo "$said: $*" >&2; return 1 ;; esac
-    bare=$(least 0 "$program" "$1" "$2" 0 0 0)
-    whole=$(least 0 "$program" "$@")
+    bare=$(least 0 "$bench" group "$1" "$2" 0 0 0)
+    whole=$(least 0 "$bench" group "$@")
     echo $(((whole - bare) * 1000 / count))
 }
 

@@ -1,5 +1,5 @@
 #!/usr/bin/env bash
-# Times calls on a hub by `hub_bench`, each accepted, taken and ended: calls a second by 1, 2 and 4 threads in one group,
+# Times calls on a hub by `bench hub`, each accepted, taken and ended: calls a second by 1, 2 and 4 threads in one group,
 # in groups of one shard and in groups of different shards, with the ratio to one thread; and how the cost of a call of
 # one thread grows with the calls before, with the open groups and with the live handles. A connection leaves after 250
 # calls and joins again. Where it isn't said that journals fold, the connection that opened the group stays, so nothing is
@@ -9,16 +9,16 @@
 # alone and taken off. Each time is the least of three.
 set -eu
 top=$(cd "$(dirname "$0")/.." && pwd)
-program=$top/crates/hub_bench/out/hub_bench
-(cd "$top/crates/hub_bench" && rt run -- 1 1 1 0 1 1 >/dev/null) # builds it where it is stale
+source "$top/bench/timing.sh"
+build_bench
 calls=250
 
 # The least time of the threads of three runs, in microseconds. A run that failed ends the script.
 told() { # THREADS STEP GROUPS HANDLES VISITS ROLLS
     local best='' time
     for _ in 1 2 3; do
-        time=$("$program" "$1" "$2" "$3" "$4" "$5" "$calls" "$6" 2>&1 >/dev/null) || {
-            echo "failed: $program $*: $time" >&2
+        time=$("$bench" hub "$1" "$2" "$3" "$4" "$5" "$calls" "$6" 2>&1 >/dev/null) || {
+            echo "failed: $bench hub $*: $time" >&2
             return 1
         }
         if [ -z "$best" ] || [ "$time" -lt "$best" ]; then best=$time; fi

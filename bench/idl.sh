@@ -1,7 +1,7 @@
 #!/usr/bin/env bash
 # Times `dcerpc idl`: interface texts of 64 KiB to 1 MiB that are read, checked and printed, with the ratio
 # of each time to the one before, a text of 1 MiB of names alone, and one that departs at its end. Then
-# texts of many parts of one shape that are read, checked and tabled (`idl_bench`), each twice as large as
+# texts of many parts of one shape that are read, checked and tabled (`bench idl`), each twice as large as
 # the one before: interfaces, texts that break a rule, and types that nest too deep. Each time is the least of
 # three; making the texts isn't counted.
 set -eu
@@ -47,18 +47,16 @@ show "1 MiB that ends early" "$(least 2 "$program" idl "$work/early")"
 } | head -c 1048576 >"$work/names"
 show "65,537 names of one enum" "$(least 2 "$program" idl "$work/names")"
 
-# the program is built anew where it is older than its sources
-(cd "$top/crates/idl_bench" && rt run -- stars 1 >/dev/null)
-bench=$top/crates/idl_bench/out/idl_bench
+build_bench
 doubled() { # SHAPE LEAST
     local shape=$1 n time before=
     for n in $2 $(($2 * 2)) $(($2 * 4)) $(($2 * 8)); do
-        "$bench" "$shape" "$n" >"$work/text"
-        time=$(least 0 "$bench" "$work/text")
+        "$bench" idl "$shape" "$n" >"$work/text"
+        time=$(least 0 "$bench" idl "$work/text")
         show "$shape $n" "$time" "$before"
         before=$time
     done
-    "$bench" "$work/text"
+    "$bench" idl "$work/text"
 }
 doubled structures 3000
 doubled operations 1500

@@ -6,12 +6,12 @@
 # ratio of the times. Each time is the least of three; making the stubs isn't counted.
 set -eu
 top=$(cd "$(dirname "$0")/.." && pwd)
-program=$top/crates/ndr_bench/out/ndr_bench
-(cd "$top/crates/ndr_bench" && rt run -- bytes 1 >/dev/null) # builds it where it is stale
+source "$top/bench/timing.sh"
+build_bench
 
 # octets and microseconds of the copies; then of decoding, and of encoding, the least microseconds and the KiB of that run
 run() { # SHAPE N TIMES
-    for _ in 1 2 3; do "$program" "$@"; done | awk '
+    for _ in 1 2 3; do "$bench" ndr "$@"; done | awk '
         NF != 16 { exit 1 }
         copied == "" || $4 < copied { copied = $4 }
         decoded == "" || $6 < decoded { decoded = $6; room = $10 - $8 }

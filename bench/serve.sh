@@ -1,5 +1,5 @@
 #!/usr/bin/env bash
-# Times calls of `dcerpc serve` over the loopback, by `serve_load`: calls a second over 1, 4 and 16 connections, each
+# Times calls of `dcerpc serve` over the loopback, by `bench load`: calls a second over 1, 4 and 16 connections, each
 # with one call out at a time, of the probe, where a handle is opened and closed, and of the store, where 4 or 4,096
 # octets are appended to a file and read. Each rate is the greatest of three, from when all connections are bound until
 # the last call is answered. A file has 16 MiB at most, and the three runs append no more than that. Behind each rate
@@ -15,15 +15,14 @@ trap stop EXIT
 
 build_dcerpc
 program=$top/crates/dcerpc/out/dcerpc
-load=$top/crates/serve_load/out/serve_load
-(cd "$top/crates/serve_load" && rt run >/dev/null) # builds it where it is stale
+build_bench
 
 # The least microseconds of three runs of a load. A run that fails ends the script.
 told() { # CONNECTIONS ROUNDS OCTETS
     local best='' line
     for _ in 1 2 3; do
-        line=$("$load" "127.0.0.1:$port" "$1" "$2" "$3") || {
-            echo "failed: $load 127.0.0.1:$port $*" >&2
+        line=$("$bench" load "127.0.0.1:$port" "$1" "$2" "$3") || {
+            echo "failed: $bench load 127.0.0.1:$port $*" >&2
             return 1
         }
         line=${line##* }

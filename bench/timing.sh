@@ -7,6 +7,13 @@ build_dcerpc() {
     [ "$status" = 1 ]
 }
 
+# Builds `bench` where it isn't built or is older than its sources, and sets `bench` to the program; without words it
+# says what its words may be.
+build_bench() {
+    (cd "$top/crates/bench" && rt run >/dev/null)
+    bench=$top/crates/bench/out/bench
+}
+
 # The least time of three runs of a command, in microseconds. A run that ends with another status ends the script.
 least() { # STATUS COMMAND..
     local wanted=$1 from time best='' status

@@ -6,13 +6,12 @@
 set -eu
 top=$(cd "$(dirname "$0")/.." && pwd)
 . "$top/bench/timing.sh"
-program=$top/crates/wire_bench/out/wire_bench
-(cd "$top/crates/wire_bench" && rt run -- made 1 1 1 1 >/dev/null) # builds it where it is stale
+build_bench
 
 taken() { # TAKER REQUESTS FRAGMENTS PART PIECE
     local made all
-    made=$(least 0 "$program" made "${@:2}") || return 1
-    all=$(least 0 "$program" "$@") || return 1
+    made=$(least 0 "$bench" wire made "${@:2}") || return 1
+    all=$(least 0 "$bench" wire "$@") || return 1
     echo $((all > made ? all - made : 0))
 }
 

@@ -1,5 +1,0 @@
-use Rattle.std.proofs.Common.{length}
-use Rattle.group_bench.proofs.run_down.Given as goal
-
-abbrev pub decreases-loop-due : goal.decreases-loop-due
-decreases-loop-due l = length l.list

@@ -1,5 +1,0 @@
-use Rattle.group_hub.specs.Passes.{IsPassOf}
-use Rattle.hub_bench.proofs.visits.Given as goal
-
-abbrev pub invariant-loop : goal.invariant-loop
-invariant-loop g l = IsPassOf l.hub l.pass
