@@ -90,6 +90,11 @@ fn departing_line(alloc: Global, text: &[u8]) -> Option<usize> {
     }
 }
 
+/// Whether a text is played to its end.
+fn is_played(alloc: Global, text: &[u8]) -> bool {
+    replay(alloc, text, None).is_ok()
+}
+
 /// Whether the script departs at a row's line.
 fn departs(alloc: Global, row: &str) -> Result<bool, Fail> {
     let Some((number, line)) = row.split_once(" ") else {
@@ -134,7 +139,7 @@ fn a_lost_connection_takes_nothing(rt: HostRuntime) -> Result<(), Fail> {
     }
     for row in NOT_BEHIND.lines() {
         let text = with_row(alloc, row)?;
-        assert!(rt; replay(alloc, text.as_slice(), None).is_ok(), "{row}");
+        assert!(rt; is_played(alloc, text.as_slice()), "{row}");
     }
     Ok(())
 }
@@ -150,7 +155,7 @@ fn a_script_ends_with_any_line(rt: HostRuntime) -> Result<(), Fail> {
         let departs = if whole { None } else { Some(lines) };
         assert_eq!(rt; departing_line(alloc, front), departs);
     }
-    assert!(rt; replay(alloc, text.as_slice(), None).is_ok());
+    assert!(rt; is_played(alloc, text.as_slice()));
     text.push(b'\n')?;
     assert_eq!(rt;
         departing_line(alloc, text.as_slice()),

@@ -19,7 +19,7 @@ pub fn words_of(alloc: Global, line: &str) -> Result<Vec<String>, NoMemory> {
 }
 
 /// The number of a call that is to fail.
-fn failing(alloc: Global, number: u64) -> Result<Numbers, NoMemory> {
+pub fn fault_at(alloc: Global, number: u64) -> Result<Numbers, NoMemory> {
     let mut numbers = Numbers::new(alloc);
     numbers.push(number)?;
     Ok(numbers)
@@ -40,7 +40,7 @@ pub fn shelf_of(alloc: Global, texts: [&[u8]; 2], fault: u64) -> Result<MapShelf
         name: octets(alloc, b"s")?,
         octets: octets(alloc, texts[1])?,
     })?;
-    Ok(MapShelf::new(files, failing(alloc, fault)?))
+    Ok(MapShelf::new(files, fault_at(alloc, fault)?))
 }
 
 /// The status, how many links were given back, what is on out and what is on log.
@@ -74,9 +74,9 @@ pub fn called<R: Wait + Threads + Send + Sync + Copy + 'static>(
 {
     let list = words_of(alloc, "call 127.0.0.1:5000 i s")?;
     let mut door = ScriptDoor::new(alloc, Links::new(alloc), Numbers::new(alloc));
-    let mut dial = ScriptDial::new(alloc, links, failing(alloc, faults[1])?);
+    let mut dial = ScriptDial::new(alloc, links, fault_at(alloc, faults[1])?);
     let mut shelf = shelf_of(alloc, texts, faults[0])?;
-    let mut out = VecSink::new(alloc, failing(alloc, faults[2])?);
+    let mut out = VecSink::new(alloc, fault_at(alloc, faults[2])?);
     let mut log = VecSink::new(alloc, Numbers::new(alloc));
     let words = list.as_slice();
     let status = ran(

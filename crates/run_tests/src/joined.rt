@@ -1,4 +1,5 @@
 //! Two connections of one group.
+use crate::calls::words_of;
 use crate::held::{Flag, Gates, HeldDoor, Peer};
 use crate::links::steps;
 use crate::outcome::ran;
@@ -83,10 +84,7 @@ fn door(alloc: Global) -> Result<HeldDoor, Fail> {
 #[test]
 fn what_one_connection_appends_another_sees(rt: HostRuntime) -> Result<(), Fail> {
     let alloc = rt.alloc();
-    let mut words = Vec::new(alloc);
-    for word in ["serve", "127.0.0.1:5000", "--connections", "2"] {
-        words.push(String::from_str(alloc, word)?)?;
-    }
+    let words = words_of(alloc, "serve 127.0.0.1:5000 --connections 2")?;
     let mut door = door(alloc)?;
     let mut dial = ScriptDial::new(alloc, Links::new(alloc), Numbers::new(alloc));
     let mut shelf = MapShelf::new(ShelfFiles::new(alloc), Numbers::new(alloc));

@@ -2,6 +2,7 @@
 ghost use Rattle.std.specs.Prelude.{◌≡◌, true};
 ghost use Rattle.rpc_outside.specs.LinkLists.{are_new};
 
+use crate::calls::{fault_at, told, words_of};
 use rpc_app::run;
 use rpc_base::{MapShelf, NoMemory, Numbers, ShelfFiles, VecSink};
 use rpc_outside::{Dial, Door, Links, ScriptDial, ScriptDoor};
@@ -44,13 +45,8 @@ pub fn outcome<R: Wait + Threads + Send + Sync + Copy + 'static>(
 ) -> Result<Vec<u8>, NoMemory>
     requires { are_new links.items ≡ true }
 {
-    let mut list = Vec::new(alloc);
-    for word in words.split_whitespace() {
-        list.push(String::from_str(alloc, word)?)?;
-    }
-    let mut faults = Numbers::new(alloc);
-    faults.push(failing)?;
-    let mut door = ScriptDoor::new(alloc, links, faults);
+    let list = words_of(alloc, words)?;
+    let mut door = ScriptDoor::new(alloc, links, fault_at(alloc, failing)?);
     let mut dial = ScriptDial::new(alloc, Links::new(alloc), Numbers::new(alloc));
     let mut shelf = MapShelf::new(ShelfFiles::new(alloc), Numbers::new(alloc));
     let mut out = VecSink::new(alloc, Numbers::new(alloc));
@@ -59,11 +55,5 @@ pub fn outcome<R: Wait + Threads + Send + Sync + Copy + 'static>(
     let status = ran(
         rt, alloc, words, &mut shelf, &mut door, &mut dial, &mut out, &mut log,
     );
-    let back = door.given_back().len();
-    let head = format!(in alloc; "{status} {back}\n")?;
-    let mut text = head.as_bytes().to_vec(alloc)?;
-    text.extend_from_slice(out.written().as_slice())?;
-    text.extend_from_slice(b"=>\n")?;
-    text.extend_from_slice(log.written().as_slice())?;
-    Ok(text)
+    told(alloc, status, door.given_back().len(), &out, &log)
 }
