@@ -204,19 +204,20 @@ fn take_acts(
     Ok(conn.next()?.is_none().then_some(done))
 }
 
-/// Whether a connection comes to the acts where octets come in these pieces, one after the other.
-fn hears<'a>(
+/// Whether a connection comes to the acts where these octets come, and then the others in pieces of a size.
+fn hears(
     alloc: Global,
     conn: &mut Conn,
     front: &[u8],
-    pieces: impl Iterator<Item = &'a [u8]>,
+    others: (&[u8], usize),
     lines: &[&[u8]],
 ) -> Result<bool, NoMemory> {
     conn.feed(front)?;
     let Some(mut done) = take_acts(alloc, conn, lines, 0)? else {
         return Ok(false);
     };
-    for piece in pieces {
+    let (back, size) = others;
+    for piece in back.chunks(size.max(1)) {
         conn.feed(piece)?;
         let Some(further) = take_acts(alloc, conn, lines, done)? else {
             return Ok(false);
@@ -236,8 +237,7 @@ fn comes_to(
 ) -> Result<bool, NoMemory> {
     let mut conn = server(alloc)?;
     let (front, back) = stream.split_at(first.min(stream.len()));
-    let pieces = back.chunks(size.max(1));
-    hears(alloc, &mut conn, front, pieces, lines)
+    hears(alloc, &mut conn, front, (back, size), lines)
 }
 
 /// The octets of a text's words, on whatever lines they stand.
