@@ -1,6 +1,6 @@
-pub mod Keyed
-pub mod Using
-pub mod Rows
-pub mod Indexed
-pub mod Started
 pub mod Held
+pub mod Indexed
+pub mod Keyed
+pub mod Rows
+pub mod Started
+pub mod Using

@@ -1,7 +1,7 @@
-pub mod Keyed
-pub mod Users
-pub mod Index
 pub mod Calls
 pub mod Conns
 pub mod Handles
+pub mod Index
 pub mod Kept
+pub mod Keyed
+pub mod Users

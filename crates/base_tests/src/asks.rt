@@ -1,8 +1,8 @@
 //! What words ask, with a space between two of them.
 
-use command_line::{Asked, asked};
+use app_words::{Asked, asked};
+use base_words::{put, put_decimal};
 use rpc_base::NoMemory;
-use rpc_words::{put, put_decimal};
 use std::alloc::Global;
 use std::test::*;
 use test_rows::{Answers, same, wrong_row};

@@ -1,10 +1,10 @@
 //! The fields of PDUs and stubs, in either order.
 
+use base_words::{put, put_hex, put_hex_u32, put_hex_u64, put_hex_u128};
 use rpc_base::{
     NoMemory, Order, drep_order, get_handle, get_syntax, get_u16, get_u32, get_u64, get_uuid,
     put_handle, put_syntax, put_u16, put_u32, put_u64, put_uuid,
 };
-use rpc_words::{put, put_hex, put_hex_u32, put_hex_u64, put_hex_u128};
 use std::alloc::Global;
 use std::test::*;
 use test_rows::{Answers, same, wrong_row};

@@ -1,8 +1,8 @@
 //! The spelling of each line of a replay script, and each way in which a line departs from it.
 
+use base_words::{put, put_octets};
 use replay_script::{Line, next_line};
 use rpc_base::NoMemory;
-use rpc_words::{put, put_octets};
 use std::alloc::Global;
 use std::test::*;
 use test_rows::{Answers, same, wrong_row};

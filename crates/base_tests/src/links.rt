@@ -2,9 +2,9 @@
 ghost use Rattle.std.specs.Prelude.{◌≡◌, false};
 ghost use Rattle.rpc_outside.specs.ScriptLinks.{shown};
 
+use base_words::{cut_at, put, put_decimal, put_hex, put_octets, read_hex, read_u64, split_words};
 use rpc_base::{Items, NoMemory, Numbers, Octets};
 use rpc_outside::{Link, LinkStep, LinkSteps, ScriptLink, Taken, put_all};
-use rpc_words::{cut_at, put, put_decimal, put_hex, put_octets, read_hex, read_u64, split_words};
 use std::alloc::Global;
 use std::test::*;
 use test_rows::{Answers, same, wrong_row};

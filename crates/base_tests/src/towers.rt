@@ -1,7 +1,7 @@
 //! Towers that are read and written.
 
+use base_words::{put, put_hex, read_hex, read_u64, split_words};
 use rpc_base::{NoMemory, Octets};
-use rpc_words::{put, put_hex, read_hex, read_u64, split_words};
 use std::alloc::Global;
 use std::test::*;
 use test_rows::{Answers, same, wrong_row};

@@ -1,11 +1,11 @@
 //! Words, read and written.
 
-use rpc_base::NoMemory;
-use rpc_words::{
+use base_words::{
     cut_at, cut_line, put, put_decimal, put_hex, put_hex_u32, put_hex_u64, put_hex_u128,
     put_octets, read_between, read_hex, read_hex_u32, read_hex_u64, read_hex_u128, read_octets,
     read_u8, read_u16, read_u32, read_u64, split_words,
 };
+use rpc_base::NoMemory;
 use std::alloc::Global;
 use std::test::*;
 use test_rows::{Answers, same, wrong_row};

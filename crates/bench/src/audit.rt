@@ -2,8 +2,8 @@
 //! or the first line that departs. `bench/audit.sh` times it.
 
 use anyhow::Result;
-use handle_rules::Verdict;
 use journal_audit::{AuditFault, Verdicts, audit};
+use journal_rules::Verdict;
 use std::alloc::Global;
 use std::fs;
 use std::io::Print;

@@ -11,8 +11,7 @@ use std::alloc::Global;
 use std::io::Print;
 use std::rt::Clock;
 use std::time::Instant;
-use store_desk::StoreDesk;
-use store_model::store_table;
+use store_manager::{StoreDesk, store_table};
 
 /// What is timed.
 #[derive(Clone, Copy)]

@@ -13,7 +13,7 @@ use coding::{message_of, octets_of, parts};
 use idl_check::check;
 use idl_reader::read_idl;
 use marshal_table::build;
-use ndr_value::Table;
+use ndr_table::Table;
 use shape::{Shape, stub_of, text_of};
 use std::alloc::Global;
 use std::io::Print;

@@ -1,14 +1,15 @@
 //! Calls on desks from their stubs.
 ghost use Rattle.std.specs.Prelude.{◌≡◌, ◌<◌, IfOk, length};
 ghost use Rattle.ndr_value.specs.Values.{msg};
-ghost use Rattle.ndr_value.specs.Shown.{shown};
+ghost use Rattle.ndr_table.specs.Shown.{shown};
 ghost use Rattle.manager_api.specs.Messages.{IsRequest};
 
 use anyhow::{Error, Result};
 use handle_model::CookieRow;
 use manager_api::{Answer, Desk, Probe, has_cookies};
 use ndr_codec::{Way, decode};
-use ndr_value::{Message, Table};
+use ndr_table::Table;
+use ndr_value::Message;
 use rpc_base::Order;
 use std::alloc::Global;
 

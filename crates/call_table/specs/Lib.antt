@@ -1,7 +1,7 @@
-pub mod Rows
-pub mod Kept
-pub mod Shown
 pub mod Based
+pub mod Kept
 pub mod Laws
+pub mod Rows
+pub mod Shown
 pub mod Sought
 pub mod Tally

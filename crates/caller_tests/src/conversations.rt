@@ -2,13 +2,13 @@
 ghost use Rattle.std.specs.Prelude.{◌≡◌, false};
 ghost use Rattle.rpc_outside.specs.ScriptLinks.{shown};
 
-use call_answers::put_answer;
-use call_texts::{Handles, read_row};
+use base_words::{cut_at, put, put_hex, read_hex, read_u16, read_u32, split_words};
 use client_link::{BeginFault, Stop, Told, Wire};
-use ndr_value::{Message, Table};
+use client_texts::{Handles, put_answer, read_row};
+use ndr_table::Table;
+use ndr_value::Message;
 use rpc_base::{Items, NoMemory, Numbers, Octets};
 use rpc_outside::{LinkStep, LinkSteps, ScriptLink};
-use rpc_words::{cut_at, put, put_hex, read_hex, read_u16, read_u32, split_words};
 use std::alloc::Global;
 use test_rows::Answers;
 

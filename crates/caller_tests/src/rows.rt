@@ -2,7 +2,7 @@
 
 use crate::conversations::Conversations;
 use crate::scripts::Scripts;
-use probe_desk::probe_table;
+use echo_manager::probe_table;
 use std::test::*;
 use test_rows::{same, wrong_row};
 

@@ -4,11 +4,11 @@ ghost use Rattle.std.specs.Prelude.{◌≡◌, true, IfOk};
 ghost use Rattle.rpc_outside.specs.LinkLists.{is_new};
 
 use crate::conversations::steps_of;
-use call_play::{CallEnd, call};
-use ndr_value::Table;
+use base_words::{cut_at, put, put_decimal, put_hex};
+use client_script::{CallEnd, call};
+use ndr_table::Table;
 use rpc_base::{Items, NoMemory, Numbers};
 use rpc_outside::{Address, Links, ScriptDial, ScriptLink};
-use rpc_words::{cut_at, put, put_decimal, put_hex};
 use std::alloc::Global;
 use test_rows::Answers;
 

@@ -1,9 +1,10 @@
 //! Rows of the values of requests: each is read, and what comes is written again.
 
-use call_texts::{Handles, put_row, read_row};
-use ndr_value::{Message, Param, Params, Shape, Shapes};
+use base_words::{put, put_decimal};
+use client_texts::{Handles, put_row, read_row};
+use ndr_table::{Param, Params};
+use ndr_value::{Message, Shape, Shapes};
 use rpc_base::{NoMemory, WireHandle};
-use rpc_words::{put, put_decimal};
 use std::alloc::Global;
 use std::test::*;
 use test_rows::{Answers, same, wrong_row};

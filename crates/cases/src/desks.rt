@@ -11,7 +11,7 @@ use anyhow::{Error, Result};
 use idl_check::check;
 use idl_reader::read_idl;
 use marshal_table::build;
-use ndr_value::Table;
+use ndr_table::Table;
 use std::alloc::Global;
 use story::Story;
 

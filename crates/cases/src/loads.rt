@@ -1,10 +1,9 @@
 //! Steps of loads beside what another program makes of them. A line `number N` begins the load of that number, and `step` its
 //! next step. Behind it stand the lines of the step, in the form of a script, and answered PDUs, each behind `= `.
 
-use load_script::{Load, MOST_STEPS, Step, lines};
-use replay_script::{Line, next_line};
+use base_words::{put, read_hex, read_u64};
+use replay_script::{Line, Load, MOST_STEPS, Step, lines, next_line};
 use rpc_base::{NoMemory, Octets};
-use rpc_words::{put, read_hex, read_u64};
 use std::alloc::Global;
 
 /// What was made so far.

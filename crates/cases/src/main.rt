@@ -9,7 +9,7 @@ mod loads;
 mod stubs;
 
 use anyhow::{Context, Result};
-use ndr_value::Table;
+use ndr_table::Table;
 use std::alloc::Global;
 use std::rt::Env;
 use std::{env, fs};

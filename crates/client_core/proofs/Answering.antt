@@ -13,17 +13,17 @@ use Rattle.pdu_stream.specs.declared.joined.JoinFault.{JoinFault}
 use Rattle.pdu_stream.specs.Fragments.{Fragment, Joining}
 use Rattle.ndr_value.specs.Values.{msg}
 use Rattle.ndr_value.specs.declared.value.Message.{Message}
-use Rattle.ndr_value.specs.Tables.{OpForm, TableForm}
+use Rattle.ndr_table.specs.Tables.{OpForm, TableForm}
 use Rattle.ndr_model.specs.declared.way.Way.TheVariants.{Response}
 use Rattle.ndr_model.specs.declared.fault.NdrFault.{NdrFault}
 use Rattle.ndr_model.specs.Fits.{IsOfOp}
-use Rattle.client_asks.specs.declared.begun.Out.{Out}
-use Rattle.client_asks.specs.declared.begun.Out.TheVariants as outs
-use Rattle.client_asks.specs.declared.told.ClientFault.TheVariants.{Direction}
-use Rattle.client_asks.specs.declared.told.Told.{Told}
-use Rattle.client_asks.specs.States.{Outcome, told, Calling, ClientState, is_calling}
-use Rattle.client_asks.specs.States.Outcome.{TBound, TNotBound, TDone, TFault, TBroken}
-use Rattle.client_asks.specs.Hears.{Silent, Breaks, result_told, AcksBind, AcksAlter, HearsBindAck, HearsBindNak, HearsAlterResp, FaultTells, joined_so_far}
+use Rattle.client_core.specs.declared.begun.Out.{Out}
+use Rattle.client_core.specs.declared.begun.Out.TheVariants as outs
+use Rattle.client_core.specs.declared.told.ClientFault.TheVariants.{Direction}
+use Rattle.client_core.specs.declared.told.Told.{Told}
+use Rattle.client_core.specs.States.{Outcome, told, Calling, ClientState, is_calling}
+use Rattle.client_core.specs.States.Outcome.{TBound, TNotBound, TDone, TFault, TBroken}
+use Rattle.client_core.specs.Hears.{Silent, Breaks, result_told, AcksBind, AcksAlter, HearsBindAck, HearsBindNak, HearsAlterResp, FaultTells, joined_so_far}
 use Rattle.client_core.specs.Parts.{joining_in, JoinsEach}
 use Rattle.client_core.specs.Answers.{IsOfCall, AnswersOut}
 use Rattle.client_core.proofs.Heard.{by_call, found_op}

@@ -6,21 +6,21 @@ use Rattle.rpc_base.specs.declared.fault.NoMemory.{NoMemory}
 use Rattle.rpc_base.specs.declared.identifiers.Order.TheVariants.{Little}
 use Rattle.pdu_stream.specs.Fragments.{Joining}
 use Rattle.ndr_value.specs.Values.{Msg}
-use Rattle.ndr_value.specs.Tables.{OpForm, TableForm, IsTable}
-use Rattle.ndr_value.specs.Nested.{IsShallow}
+use Rattle.ndr_table.specs.Tables.{OpForm, TableForm, IsTable}
+use Rattle.ndr_table.specs.Nested.{IsShallow}
 use Rattle.ndr_model.specs.declared.way.Way.TheVariants.{Request}
 use Rattle.ndr_model.specs.declared.fault.NdrFault.{NdrFault}
 use Rattle.ndr_model.specs.declared.fault.NdrFault.TheVariants.{Memory}
 use Rattle.ndr_model.specs.Message.{IsStub}
 use Rattle.ndr_laws.specs.Laws.{IsOp}
-use Rattle.ndr_written.specs.Laws.{WrittenIsStub}
+use Rattle.ndr_laws.specs.WrittenLaws.{WrittenIsStub}
 use Rattle.ndr_model.specs.Fits.{IsOfOp}
 use Rattle.ndr_codec.specs.declared.written.EncodeFault.{EncodeFault}
 use Rattle.ndr_codec.specs.Faults.{IsThat}
-use Rattle.client_asks.specs.declared.begun.CallOut.{CallOut}
-use Rattle.client_asks.specs.Octets.{IsRequest}
-use Rattle.client_asks.specs.States.{ClientState, Calling, calling, next_id}
-use Rattle.client_asks.specs.Calls.{asking, IsMessage, out_call, CallsOp, Calls}
+use Rattle.client_core.specs.declared.begun.CallOut.{CallOut}
+use Rattle.client_core.specs.Octets.{IsRequest}
+use Rattle.client_core.specs.States.{ClientState, Calling, calling, next_id}
+use Rattle.client_core.specs.Calls.{asking, IsMessage, out_call, CallsOp, Calls}
 use Rattle.client_core.specs.Parts.{HasOp, FindsCall, Finds, CallsEach}
 use Rattle.client_core.proofs.Heard.{found_op}
 

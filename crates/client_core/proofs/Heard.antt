@@ -13,18 +13,18 @@ use Rattle.pdu_stream.specs.declared.joined.JoinFault.TheVariants as joins
 use Rattle.pdu_stream.specs.Fragments.{Fragment, Joining, AddsFragment}
 use Rattle.ndr_value.specs.Values.{msg}
 use Rattle.ndr_value.specs.declared.value.Message.{Message}
-use Rattle.ndr_value.specs.Tables.{OpForm, TableForm}
+use Rattle.ndr_table.specs.Tables.{OpForm, TableForm}
 use Rattle.ndr_model.specs.declared.way.Way.TheVariants.{Response}
 use Rattle.ndr_model.specs.Message.{IsStub, read_stub}
 use Rattle.ndr_model.specs.declared.fault.NdrFault.{NdrFault}
 use Rattle.ndr_codec.specs.Faults.{Decodes}
-use Rattle.client_asks.specs.declared.begun.Out.{Out}
-use Rattle.client_asks.specs.declared.begun.Out.TheVariants as outs
-use Rattle.client_asks.specs.declared.told.ClientFault.TheVariants.{Direction, Join, Ndr}
-use Rattle.client_asks.specs.declared.told.Told.{Told}
-use Rattle.client_asks.specs.declared.told.Told.TheVariants as variants
-use Rattle.client_asks.specs.States.{Outcome, told, Calling, ClientState, out_with, is_calling}
-use Rattle.client_asks.specs.Hears.{answer_fragment, joined_so_far, Hears}
+use Rattle.client_core.specs.declared.begun.Out.{Out}
+use Rattle.client_core.specs.declared.begun.Out.TheVariants as outs
+use Rattle.client_core.specs.declared.told.ClientFault.TheVariants.{Direction, Join, Ndr}
+use Rattle.client_core.specs.declared.told.Told.{Told}
+use Rattle.client_core.specs.declared.told.Told.TheVariants as variants
+use Rattle.client_core.specs.States.{Outcome, told, Calling, ClientState, out_with, is_calling}
+use Rattle.client_core.specs.Hears.{answer_fragment, joined_so_far, Hears}
 use Rattle.client_core.specs.Parts.{joining_in, JoinsOut, Joins, JoinsEach, FragmentTells, FragmentTellsEach, HearsOut, ReadsStub, WholeTells, TellsEach}
 
 -- the call that is out

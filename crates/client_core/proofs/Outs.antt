@@ -2,8 +2,8 @@
 use Rattle.std.proofs.Common.{◌≡◌, ℕ, Bool, true, false, cond, eqb, Option, Some, None, refl}
 use Rattle.std.specs.Prelude.{◌&&◌, is_some}
 use Rattle.std.specs.List.{list_any}
-use Rattle.client_asks.specs.declared.begun.Out.TheVariants as outs
-use Rattle.client_asks.specs.States.{ClientState, Calling, is_binding_at, bind_id, has_id, is_id, is_calling, out_with}
+use Rattle.client_core.specs.declared.begun.Out.TheVariants as outs
+use Rattle.client_core.specs.States.{ClientState, Calling, is_binding_at, bind_id, has_id, is_id, is_calling, out_with}
 
 no_alter : (b : Bool) → cond b (Some outs.Alter) None ≡ Some outs.Call → ⊥
 no_alter true h = cc (h)

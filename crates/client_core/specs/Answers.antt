@@ -1,11 +1,11 @@
 -- What is told of a call is a message of its operation.
 use Rattle.std.specs.Prelude.{◌≡◌, Option, Some, slice_get, ⊤}
 use Rattle.ndr_value.specs.Values.{Msg}
-use Rattle.ndr_value.specs.Tables.{OpForm, TableForm}
+use Rattle.ndr_table.specs.Tables.{OpForm, TableForm}
 use Rattle.ndr_model.specs.declared.way.Way.TheVariants.{Response}
 use Rattle.ndr_model.specs.Fits.{IsOfOp}
-use Rattle.client_asks.specs.States.{Outcome, Calling, ClientState}
-use Rattle.client_asks.specs.States.Outcome.{TDone}
+use Rattle.client_core.specs.States.{Outcome, Calling, ClientState}
+use Rattle.client_core.specs.States.Outcome.{TDone}
 
 -- the message is one of the call's operation, as a response to what was asked
 abbrev pub IsOfCall : TableForm → Calling → Msg → Type 0

@@ -7,7 +7,7 @@ use Rattle.pdu_stream.specs.declared.joined.JoinFault.{JoinFault}
 use Rattle.pdu_stream.specs.Fragments.{Fragment, Joining, AddsFragment}
 use Rattle.ndr_value.specs.Values.{Msg, msg}
 use Rattle.ndr_value.specs.declared.value.Message.{Message}
-use Rattle.ndr_value.specs.Tables.{OpForm, TableForm}
+use Rattle.ndr_table.specs.Tables.{OpForm, TableForm}
 use Rattle.ndr_codec.specs.declared.written.EncodeFault.{EncodeFault}
 use Rattle.ndr_codec.specs.Encoded.{Encodes}
 use Rattle.ndr_model.specs.Faults.{IsFault}
@@ -15,16 +15,16 @@ use Rattle.ndr_model.specs.declared.way.Way.TheVariants.{Response}
 use Rattle.ndr_model.specs.Message.{IsStub, read_stub}
 use Rattle.ndr_model.specs.declared.fault.NdrFault.{NdrFault}
 use Rattle.ndr_model.specs.declared.fault.NdrFault.TheVariants as faults
-use Rattle.client_asks.specs.declared.begun.CallOut.{CallOut}
-use Rattle.client_asks.specs.declared.begun.Out.{Out}
-use Rattle.client_asks.specs.declared.begun.Out.TheVariants as outs
-use Rattle.client_asks.specs.declared.told.ClientFault.TheVariants.{Direction, Ndr}
-use Rattle.client_asks.specs.declared.told.Told.{Told}
-use Rattle.client_asks.specs.declared.told.Told.TheVariants as variants
-use Rattle.client_asks.specs.States.{told, Calling, calling, ClientState, next_id}
-use Rattle.client_asks.specs.Octets.{IsRequest}
-use Rattle.client_asks.specs.Calls.{asking, out_call, CallsOp}
-use Rattle.client_asks.specs.Hears.{AnswersCall, RunsShortAt, joined_so_far, IsAnswer, Departs}
+use Rattle.client_core.specs.declared.begun.CallOut.{CallOut}
+use Rattle.client_core.specs.declared.begun.Out.{Out}
+use Rattle.client_core.specs.declared.begun.Out.TheVariants as outs
+use Rattle.client_core.specs.declared.told.ClientFault.TheVariants.{Direction, Ndr}
+use Rattle.client_core.specs.declared.told.Told.{Told}
+use Rattle.client_core.specs.declared.told.Told.TheVariants as variants
+use Rattle.client_core.specs.States.{told, Calling, calling, ClientState, next_id}
+use Rattle.client_core.specs.Octets.{IsRequest}
+use Rattle.client_core.specs.Calls.{asking, out_call, CallsOp}
+use Rattle.client_core.specs.Hears.{AnswersCall, RunsShortAt, joined_so_far, IsAnswer, Departs}
 
 -- ---- what is kept
 

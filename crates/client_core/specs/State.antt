@@ -1,7 +1,7 @@
 -- The state in which a caller's connection is.
 use Rattle.std.specs.Option.{option_map}
-use Rattle.ndr_value.specs.Shown.{shown}
-use Rattle.client_asks.specs.States.{ClientState, calling}
+use Rattle.ndr_table.specs.Shown.{shown}
+use Rattle.client_core.specs.States.{ClientState, calling}
 use Rattle.client_core.specs.declared.client.Client.{Client}
 
 abbrev pub state : Client → ClientState

@@ -1,12 +1,13 @@
 //! A caller's connection.
 ghost use Rattle.std.specs.Prelude.{◌≤◌, ◌<◌, length, IfSome};
-ghost use Rattle.ndr_value.specs.Shown.{shown};
+ghost use Rattle.ndr_table.specs.Shown.{shown};
 ghost use Rattle.std.proofs.Props.{props};
 ghost use Rattle.pdu_codec.specs.Constants.{least_fragment, most_fragment};
 
-use client_asks::{BIND_ID, CallOut, Out, Stage};
+use crate::{BIND_ID, CallOut, Out, Stage};
 use ndr_codec::EncodeFault;
-use ndr_value::{Message, Table};
+use ndr_table::Table;
+use ndr_value::Message;
 use pdu_codec::LEAST_FRAGMENT;
 use rpc_base::{NoMemory, Octets};
 use std::alloc::Global;
@@ -32,8 +33,8 @@ impl Client {
     ghost use Rattle.std.specs.List.{list_any};
     ghost use Rattle.ndr_value.specs.Values.{msg};
     ghost use Rattle.client_core.specs.State.{state};
-    ghost use Rattle.client_asks.specs.States as states;
-    ghost use Rattle.client_asks.specs.Calls as spec;
+    ghost use Rattle.client_core.specs.States as states;
+    ghost use Rattle.client_core.specs.Calls as spec;
 
     /// A caller of the interface, which began nothing. It takes no memory.
     pub fn new(alloc: Global, table: Table) -> Client
@@ -78,7 +79,7 @@ impl Client {
         requires { states.is_bound (state self.old) ≡ false }
         ensures { spec.Binds (state self.old) group result (state self.new) }
     {
-        let octets = client_asks::bind(self.alloc, self.table.syntax(), group)?;
+        let octets = crate::bind(self.alloc, self.table.syntax(), group)?;
         self.begin_anew(BIND_ID, Stage::Binding);
         Ok(octets)
     }
@@ -102,7 +103,7 @@ impl Client {
         ensures { spec.Alters (state self.old) context result (state self.new) }
     {
         let call_id = self.newest.wrapping_add(1);
-        let octets = client_asks::alter(self.alloc, call_id, self.table.syntax(), context)?;
+        let octets = crate::alter(self.alloc, call_id, self.table.syntax(), context)?;
         self.alters.push(call_id)?;
         self.newest = call_id;
         Ok(octets)
@@ -129,7 +130,7 @@ impl Client {
         ensures { spec.Cancels (state self.old) result (state self.new) }
     {
         match &self.call {
-            Some(call) => client_asks::co_cancel(self.alloc, call.call_id),
+            Some(call) => crate::co_cancel(self.alloc, call.call_id),
             None => unreachable!(),
         }
     }

@@ -3,17 +3,16 @@ ghost use Rattle.std.specs.Prelude.{◌≡◌, ◌≤◌, true, Some, slice_get,
 ghost use Rattle.std.specs.Option.{option_map};
 ghost use Rattle.pdu_codec.specs.Constants.{least_fragment, most_fragment};
 ghost use Rattle.ndr_value.specs.Values.{msg};
-ghost use Rattle.client_asks.specs.declared.told.ClientFault.TheVariants.{Direction};
-ghost use Rattle.client_asks.specs.States.{told, is_calling, out_with, without, without_out};
-ghost use Rattle.client_asks.specs.States.Outcome.{TBroken, TDone};
-ghost use Rattle.client_asks.specs.Hears as spec;
+ghost use Rattle.client_core.specs.declared.told.ClientFault.TheVariants.{Direction};
+ghost use Rattle.client_core.specs.States.{told, is_calling, out_with, without, without_out};
+ghost use Rattle.client_core.specs.States.Outcome.{TBroken, TDone};
+ghost use Rattle.client_core.specs.Hears as spec;
 ghost use Rattle.client_core.specs.State.{state};
 ghost use Rattle.client_core.specs.Parts as parts;
 ghost use Rattle.client_core.specs.Answers.{AnswersOut};
 
-use crate::Client;
 use crate::responses::{join_to, read_response};
-use client_asks::{ClientFault, Out, Stage, Told};
+use crate::{Client, ClientFault, Out, Stage, Told};
 use ndr_codec::NdrFault;
 use ndr_value::Message;
 use pdu_codec::{

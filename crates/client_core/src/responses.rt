@@ -2,16 +2,17 @@
 ghost use Rattle.std.specs.Prelude.{◌≡◌, ◌<◌, true, is_some, length, IfOk};
 ghost use Rattle.std.specs.Option.{option_map};
 ghost use Rattle.ndr_value.specs.Values.{msg};
-ghost use Rattle.ndr_value.specs.Shown.{shown};
-ghost use Rattle.ndr_value.specs.Tables.{TableForm};
-ghost use Rattle.client_asks.specs.States.{calling};
-ghost use Rattle.client_asks.specs.Hears.{fragment_of};
+ghost use Rattle.ndr_table.specs.Shown.{shown};
+ghost use Rattle.ndr_table.specs.Tables.{TableForm};
+ghost use Rattle.client_core.specs.States.{calling};
+ghost use Rattle.client_core.specs.Hears.{fragment_of};
 ghost use Rattle.client_core.specs.Parts.{HasOp, JoinsOut, ReadsStub};
 ghost use Rattle.client_core.specs.Answers.{IsOfCall};
 
-use client_asks::CallOut;
+use crate::CallOut;
 use ndr_codec::{NdrFault, Way, decode};
-use ndr_value::{Message, Table};
+use ndr_table::Table;
+use ndr_value::Message;
 use pdu_codec::{RequestBody, ResponseBody};
 use pdu_stream::{JoinFault, Joined};
 use rpc_base::Order;

@@ -8,12 +8,12 @@ use Rattle.rpc_outside.proofs.LinkLemmas.{counts_then}
 use Rattle.pdu_codec.specs.declared.pdu.Pdu.{Pdu}
 use Rattle.pdu_stream.specs.Cuts.{Fed, HasGiven, IsPartial, GivesNext}
 use Rattle.pdu_stream.proofs.Given.{goes_on, push_goes_on}
-use Rattle.ndr_value.specs.Tables.{TableForm}
-use Rattle.client_asks.specs.declared.told.Told.{Told}
-use Rattle.client_asks.specs.States.{Outcome, ClientState, at_start, told}
-use Rattle.client_asks.specs.Hears.{HearsBody}
-use Rattle.client_asks.specs.Histories.{ClientEvent, Happens, Lives, sent}
-use Rattle.client_asks.specs.Histories.ClientEvent.{DidBind, DidAlter, DidCall, DidCancel, Received, Lost}
+use Rattle.ndr_table.specs.Tables.{TableForm}
+use Rattle.client_core.specs.declared.told.Told.{Told}
+use Rattle.client_core.specs.States.{Outcome, ClientState, at_start, told}
+use Rattle.client_core.specs.Hears.{HearsBody}
+use Rattle.client_core.specs.Histories.{ClientEvent, Happens, Lives, sent}
+use Rattle.client_core.specs.Histories.ClientEvent.{DidBind, DidAlter, DidCall, DidCancel, Received, Lost}
 use Rattle.client_core.specs.State.{state}
 use Rattle.client_core.specs.declared.client.Client.{Client}
 use Rattle.client_link.specs.declared.wire.Wire.{Wire}

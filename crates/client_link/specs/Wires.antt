@@ -7,13 +7,13 @@ use Rattle.pdu_codec.specs.declared.pdu.Pdu.{Pdu}
 use Rattle.pdu_codec.specs.declared.fault.PduFault.{PduFault}
 use Rattle.pdu_stream.specs.Cuts.{Fed, HasGiven, IsPartial, IsStop}
 use Rattle.ndr_value.specs.Values.{Msg}
-use Rattle.ndr_value.specs.Tables.{OpForm, TableForm}
-use Rattle.client_asks.specs.Calls.{asking}
-use Rattle.client_asks.specs.declared.told.Told.{Told}
-use Rattle.client_asks.specs.States.{Outcome, ClientState, at_start, told}
-use Rattle.client_asks.specs.Hears.{HearsBody}
-use Rattle.client_asks.specs.Histories.{ClientEvent, Happens, Lives, sent}
-use Rattle.client_asks.specs.Histories.ClientEvent.{Received}
+use Rattle.ndr_table.specs.Tables.{OpForm, TableForm}
+use Rattle.client_core.specs.Calls.{asking}
+use Rattle.client_core.specs.declared.told.Told.{Told}
+use Rattle.client_core.specs.States.{Outcome, ClientState, at_start, told}
+use Rattle.client_core.specs.Hears.{HearsBody}
+use Rattle.client_core.specs.Histories.{ClientEvent, Happens, Lives, sent}
+use Rattle.client_core.specs.Histories.ClientEvent.{Received}
 use Rattle.client_core.specs.State.{state}
 use Rattle.client_core.specs.Answers.{AnswersOut}
 use Rattle.client_link.specs.declared.wire.Wire.{Wire}

@@ -2,9 +2,9 @@
 ghost use Rattle.std.specs.Prelude.{◌≡◌, ◌≢◌, ◌⊎◌, ℕ, List, [], IfOk};
 ghost use Rattle.rpc_outside.specs.Links.{Counts};
 ghost use Rattle.pdu_stream.specs.Cuts.{IsPartial};
-ghost use Rattle.ndr_value.specs.Tables.{TableForm};
-ghost use Rattle.client_asks.specs.States.{ClientState, told};
-ghost use Rattle.client_asks.specs.Histories.{ClientEvent};
+ghost use Rattle.ndr_table.specs.Tables.{TableForm};
+ghost use Rattle.client_core.specs.States.{ClientState, told};
+ghost use Rattle.client_core.specs.Histories.{ClientEvent};
 ghost use Rattle.client_link.specs.Wires.{IsOpen, Stays, Lived, Looks, Waits, IsQuieter, MayBeTold, LooksRightly};
 
 use crate::wire::Wire;

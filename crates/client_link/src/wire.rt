@@ -1,18 +1,19 @@
 //! A connection on its link, and what it begins.
 ghost use Rattle.std.specs.Prelude.{◌≡◌, ◌≢◌, ◌<◌, ◌^◌, ℕ, List, [], ⊤, Ok, Err, false, true, length, slice_get, IfErr};
-ghost use Rattle.ndr_value.specs.Shown.{shown};
-ghost use Rattle.ndr_value.specs.Tables.{OpForm, TableForm};
+ghost use Rattle.ndr_table.specs.Shown.{shown};
+ghost use Rattle.ndr_table.specs.Tables.{OpForm, TableForm};
 ghost use Rattle.ndr_value.specs.Values.{msg};
-ghost use Rattle.client_asks.specs.Calls.{IsMessage, asking};
-ghost use Rattle.client_asks.specs.States.{ClientState, at_start, is_bound, is_calling};
-ghost use Rattle.client_asks.specs.Histories.{ClientEvent};
-ghost use Rattle.client_asks.specs.Histories.ClientEvent.{DidBind, DidCall, DidCancel};
+ghost use Rattle.client_core.specs.Calls.{IsMessage, asking};
+ghost use Rattle.client_core.specs.States.{ClientState, at_start, is_bound, is_calling};
+ghost use Rattle.client_core.specs.Histories.{ClientEvent};
+ghost use Rattle.client_core.specs.Histories.ClientEvent.{DidBind, DidCall, DidCancel};
 ghost use Rattle.client_core.specs.State.{state};
 ghost use Rattle.client_link.specs.Wires.{IsOpen, Stays, Lived, Begins, IsTooLong};
 
 use client_core::Client;
 use ndr_codec::EncodeFault;
-use ndr_value::{Message, Table};
+use ndr_table::Table;
+use ndr_value::Message;
 use pdu_stream::Feed;
 use rpc_base::{Failed, NoMemory};
 use rpc_outside::{Link, put_all};

@@ -1,4 +1,4 @@
-pub mod Asks
-pub mod Asking
 pub mod Answers
+pub mod Asking
+pub mod Asks
 pub mod States

@@ -1,9 +1,9 @@
+pub mod CalledOff
 pub mod Causes
 pub mod Fits
-pub mod Turns
 pub mod Heard
 pub mod Hearing
 pub mod Passing
-pub mod CalledOff
-pub mod Waiting
 pub mod Skipping
+pub mod Turns
+pub mod Waiting

@@ -1,4 +1,4 @@
-pub mod Fields
 pub mod Doing
+pub mod Fields
 pub mod Steps
 pub mod Uncut

@@ -13,7 +13,7 @@ use Rattle.handle_model.specs.declared.entry.Said.TheVariants.{Out, Fault}
 use Rattle.handle_model.specs.declared.entry.Asked.{Asked}
 use Rattle.handle_model.specs.Slots.{wire_of}
 use Rattle.ndr_value.specs.Values.{Msg}
-use Rattle.ndr_value.specs.Tables.{OpForm, TableForm}
+use Rattle.ndr_table.specs.Tables.{OpForm, TableForm}
 use Rattle.manager_api.specs.Messages.{Response}
 use Rattle.manager_api.specs.Messages.{stub}
 use Rattle.manager_api.specs.declared.answer.Kept.{Kept}

@@ -1,9 +1,9 @@
-pub mod Histories
-pub mod Plays
-pub mod Requests
+pub mod Answers
 pub mod Ends
 pub mod Entries
 pub mod Events
-pub mod Tales
+pub mod Histories
+pub mod Plays
+pub mod Requests
 pub mod Stories
-pub mod Answers
+pub mod Tales

@@ -9,8 +9,8 @@ use Rattle.handle_model.specs.declared.entry.Slot.TheVariants.{Shares, Holds, Ch
 use Rattle.handle_model.specs.Slots.{is_null, with_serial}
 use Rattle.ndr_value.specs.Forms.{Form}
 use Rattle.ndr_value.specs.Values.{Msg}
-use Rattle.ndr_value.specs.declared.operation.HandleUse.{HandleUse}
-use Rattle.ndr_value.specs.Tables.{OpForm, TableForm}
+use Rattle.ndr_table.specs.declared.operation.HandleUse.{HandleUse}
+use Rattle.ndr_table.specs.Tables.{OpForm, TableForm}
 use Rattle.manager_api.specs.Messages.{Departure}
 use Rattle.manager_api.specs.Messages.{Request}
 use Rattle.manager_api.specs.Messages.{IsStub, read_stub}

@@ -1,5 +1,5 @@
-pub mod Laws
 pub mod Histories
-pub mod WholeRuns
-pub mod Serving
+pub mod Laws
 pub mod Played
+pub mod Serving
+pub mod WholeRuns

@@ -4,12 +4,12 @@
 //! the status that it answers.
 #![tactic(auto)]
 
+use base_system::{FileShelf, Output, SocketDial, SocketDoor};
 use std::alloc::Global;
 use std::process::ExitCode;
 use std::rt::{Clock, Env};
 use std::time::{SystemTime, UNIX_EPOCH};
 use std::{env, io};
-use system_outside::{FileShelf, Output, SocketDial, SocketDoor};
 
 /// Want of memory.
 const NO_MEMORY: u8 = 5;

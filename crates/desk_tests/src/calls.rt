@@ -1,12 +1,12 @@
 //! Calls from their stubs.
 ghost use Rattle.std.specs.Prelude.{◌≡◌};
-ghost use Rattle.ndr_value.specs.Shown.{shown};
+ghost use Rattle.ndr_table.specs.Shown.{shown};
 
+use base_words::{put, put_hex};
 use manager_api::{Answer, Desk, Probe, has_cookies};
 use ndr_codec::{Way, decode, encode};
-use ndr_value::Table;
+use ndr_table::Table;
 use rpc_base::{NoMemory, Order};
-use rpc_words::{put, put_hex};
 use std::alloc::Global;
 use std::test::Fail;
 

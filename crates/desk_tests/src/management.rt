@@ -1,8 +1,8 @@
 //! Management over plain numbers, over shared ones, and where nothing is served.
 
 use crate::calls::response_to;
-use call_stats::{Counted, Stats, Tally};
-use mgmt_desk::{Ids, MgmtDesk, mgmt_table};
+use desk_counts::{Counted, Stats, Tally};
+use mgmt_manager::{Ids, MgmtDesk, mgmt_table};
 use rpc_base::{Items, NoMemory, SyntaxId};
 use std::alloc::Global;
 use std::process::Abort;

@@ -1,9 +1,8 @@
 //! Entries that are registered in the endpoint map.
 ghost use Rattle.std.specs.Prelude.{◌≡◌, true};
-ghost use Rattle.epm_model.specs.Entries.{is_note};
+ghost use Rattle.epm_manager.specs.Entries.{is_note};
 
-use epm_desk::{EpmDesk, RegisterRefusal};
-use epm_model::MapEntry;
+use epm_manager::{EpmDesk, MapEntry, RegisterRefusal};
 use rpc_base::{Octets, SyntaxId};
 use std::alloc::Global;
 use std::test::Fail;

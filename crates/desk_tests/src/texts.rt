@@ -1,17 +1,17 @@
 //! The interfaces' texts: read, checked and built, they give the tables that are written by hand.
 
-use epm_model::{EPM_IDL, epm_table};
+use echo_manager::{PROBE_IDL, probe_table};
+use epm_manager::{EPM_IDL, epm_table};
 use idl_check::check;
 use idl_reader::read_idl;
 use marshal_table::{HandleUses, Op, Param, Table, build};
-use mgmt_desk::{MGMT_IDL, mgmt_table};
+use mgmt_manager::{MGMT_IDL, mgmt_table};
 use ndr_pointers::same_shape;
 use ndr_value::Shape;
-use probe_desk::{PROBE_IDL, probe_table};
 use std::alloc::Global;
 use std::process::Abort;
 use std::test::Fail;
-use store_model::{STORE_IDL, store_table};
+use store_manager::{STORE_IDL, store_table};
 
 // The table of a text.
 fn built(alloc: Global, text: &str) -> Result<Table, Fail> {

@@ -10,8 +10,8 @@ use crate::group::Group;
 use crate::log::Log;
 use call_table::CallTable;
 use handle_model::{Asked, count_opens};
-use handle_rules::number_slots;
 use handle_table::HandleTable;
+use journal_rules::number_slots;
 use rpc_base::NoMemory;
 
 impl Group {

@@ -1,4 +1,10 @@
+pub mod CallLemmas
+pub mod FindLemmas
 pub mod ListLemmas
-pub mod PassLemmas
-pub mod OpenLemmas
 pub mod MakeLemmas
+pub mod OpenLemmas
+pub mod PassLemmas
+pub mod RetireLemmas
+pub mod ShardOpen
+pub mod StillLemmas
+pub mod TurnLemmas

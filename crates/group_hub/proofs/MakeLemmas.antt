@@ -4,8 +4,8 @@ use mathlib.Core.Logic.{dite}
 use native.Mathlib.Decide.{ℕ_discrete}
 use Rattle.hub_story.specs.declared.item.Item.TheVariants.{Begun}
 use Rattle.hub_story.specs.Passes.{Seen, halved}
-use Rattle.shard_lock.specs.declared.lock.ShardLock.{ShardLock}
-use Rattle.shard_lock.specs.Passes.{IsOf, Merges}
+use Rattle.group_hub.specs.declared.lock.ShardLock.{ShardLock}
+use Rattle.group_hub.specs.ShardPasses.{IsOf, Merges}
 use Rattle.group_hub.specs.declared.hub.Hub.{Hub}
 use Rattle.group_hub.specs.declared.pass.Pass.{Pass}
 use Rattle.group_hub.specs.Shards.{AreShards}

@@ -8,12 +8,12 @@ use Rattle.hub_story.specs.Passes.{Seen, Serves}
 use Rattle.turn_lock.specs.Histories.{Within}
 use Rattle.hub_story.specs.Still.{StillHas}
 use Rattle.hub_story.proofs.StillLemmas.{still_has, still_self}
-use Rattle.shard_lock.proofs.OpenLemmas.{opened_serves, opened_still}
+use Rattle.group_hub.proofs.ShardOpen.{opened_serves, opened_still}
 use Rattle.group_hub.specs.declared.hub.Hub.{Hub}
 use Rattle.group_hub.proofs.ListLemmas.{some_item}
 use Rattle.hub_story.specs.Calls.{Enters}
-use Rattle.shard.specs.declared.answer.OpenRefusal.{OpenRefusal}
-use Rattle.shard.specs.declared.answer.OpenRefusal.TheVariants.{GroupsFull, Ids, Memory}
+use Rattle.hub_shard.specs.declared.answer.OpenRefusal.{OpenRefusal}
+use Rattle.hub_shard.specs.declared.answer.OpenRefusal.TheVariants.{GroupsFull, Ids, Memory}
 use Rattle.group_hub.specs.declared.pass.Pass.{Pass}
 use Rattle.group_hub.specs.Shards.{shard_of}
 use Rattle.group_hub.specs.Passes.{at_shard, At, IsPassOf}

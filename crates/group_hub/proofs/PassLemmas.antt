@@ -3,8 +3,8 @@ use Rattle.std.proofs.Common.{◌≡◌, ◌≢◌, ℕ, ◌<◌, length, slice_
 use mathlib.Core.Logic.{dite}
 use native.Mathlib.Decide.{ℕ_discrete}
 use Rattle.hub_story.specs.Passes.{Seen}
-use Rattle.shard_lock.specs.declared.lock.ShardLock.{ShardLock}
-use Rattle.shard_lock.specs.Passes.{unseen, IsOf}
+use Rattle.group_hub.specs.declared.lock.ShardLock.{ShardLock}
+use Rattle.group_hub.specs.ShardPasses.{unseen, IsOf}
 use Rattle.group_hub.specs.declared.hub.Hub.{Hub}
 use Rattle.group_hub.specs.declared.pass.Pass.{Pass}
 use Rattle.group_hub.specs.Passes.{at_shard, IsPassOf, At}

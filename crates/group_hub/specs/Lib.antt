@@ -1,4 +1,7 @@
-pub mod Shards
-pub mod Passes
-pub mod Openings
+pub mod Locks
 pub mod Making
+pub mod Openings
+pub mod Passes
+pub mod ShardPasses
+pub mod Shards
+pub mod Turns

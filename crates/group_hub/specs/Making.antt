@@ -2,8 +2,8 @@
 use Rattle.std.specs.Prelude.{◌≡◌, ℕ, ◌<◌, ◌≤◌, List, [], ◌∷◌, length, slice_index_or}
 use Rattle.hub_story.specs.declared.item.Item.TheVariants.{Begun}
 use Rattle.hub_story.specs.Passes.{halved}
-use Rattle.shard_lock.specs.declared.lock.ShardLock.{ShardLock}
-use Rattle.shard_lock.specs.Passes.{IsOf, Merges}
+use Rattle.group_hub.specs.declared.lock.ShardLock.{ShardLock}
+use Rattle.group_hub.specs.ShardPasses.{IsOf, Merges}
 use Rattle.group_hub.specs.declared.hub.Hub.{Hub}
 use Rattle.group_hub.specs.declared.pass.Pass.{Pass}
 use Rattle.group_hub.specs.Passes.{at_shard}

@@ -5,9 +5,9 @@ use Rattle.hub_story.specs.Directories.{is_full, is_used_up}
 use Rattle.hub_story.specs.Histories.{marks_in, journal_in}
 use Rattle.hub_story.specs.Passes.{Seen}
 use Rattle.hub_story.specs.Calls.{IsNewConn, Enters}
-use Rattle.shard.specs.declared.answer.OpenRefusal.{OpenRefusal}
-use Rattle.shard.specs.declared.answer.OpenRefusal.TheVariants.{GroupsFull, Ids, Memory}
-use Rattle.shard.specs.Openings.{gives_open}
+use Rattle.hub_shard.specs.declared.answer.OpenRefusal.{OpenRefusal}
+use Rattle.hub_shard.specs.declared.answer.OpenRefusal.TheVariants.{GroupsFull, Ids, Memory}
+use Rattle.hub_shard.specs.Openings.{gives_open}
 use Rattle.group_hub.specs.declared.pass.Pass.{Pass}
 use Rattle.group_hub.specs.declared.opening.Looked.{Looked}
 use Rattle.group_hub.specs.declared.opening.Looked.TheVariants.{Opened, NoRoom, NoMemory}

@@ -3,11 +3,11 @@ use Rattle.std.specs.Prelude.{◌≡◌, ◌≢◌, ℕ, ◌<◌, List, [], ◌+
 use Rattle.handle_model.specs.History.{History}
 use Rattle.hub_story.specs.declared.item.Item.{Item}
 use Rattle.hub_story.specs.Passes.{Seen, HasShut}
-use Rattle.shard.specs.declared.answer.HubRest.{HubRest}
-use Rattle.shard.specs.declared.answer.HubRest.TheVariants.{Stays, Shut}
+use Rattle.hub_shard.specs.declared.answer.HubRest.{HubRest}
+use Rattle.hub_shard.specs.declared.answer.HubRest.TheVariants.{Stays, Shut}
 use Rattle.hub_story.specs.Calls.{Enters, Calls}
-use Rattle.shard_lock.specs.declared.lock.ShardLock.{ShardLock}
-pub use Rattle.shard_lock.specs.Passes.{unseen, IsOf}
+use Rattle.group_hub.specs.declared.lock.ShardLock.{ShardLock}
+pub use Rattle.group_hub.specs.ShardPasses.{unseen, IsOf}
 use Rattle.group_hub.specs.declared.hub.Hub.{Hub}
 use Rattle.group_hub.specs.declared.pass.Pass.{Pass}
 use Rattle.group_hub.specs.Shards.{shard_of}

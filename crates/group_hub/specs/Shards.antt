@@ -1,6 +1,6 @@
 -- The shards of a hub.
 use Rattle.std.specs.Prelude.{◌≡◌, ℕ, ◌-◌, ◌%◌, ◌<◌, List, length, slice_index_or}
-pub use Rattle.shard_lock.specs.declared.lock.ShardLock.{ShardLock}
+pub use Rattle.group_hub.specs.declared.lock.ShardLock.{ShardLock}
 
 -- the shard of an id
 abbrev pub shard_of : ℕ → ℕ

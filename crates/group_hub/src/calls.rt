@@ -12,7 +12,7 @@ ghost use Rattle.hub_story.specs.Folded.{kept};
 ghost use Rattle.hub_story.specs.Passes.{Serves, HasCall, Knows, Runs};
 ghost use Rattle.hub_story.specs.Calls.{IsNewCall};
 ghost use Rattle.hub_story.specs.Still.{StillHas, IsAccepted, IfTaken};
-ghost use Rattle.shard.specs.Answers.{SettlesWith};
+ghost use Rattle.hub_shard.specs.Answers.{SettlesWith};
 ghost use Rattle.group_hub.specs.Shards.{shard_of};
 ghost use Rattle.group_hub.specs.Passes.{IsPassOf, at_shard, CallsAt, LooksAt, HasItsShut};
 
@@ -20,7 +20,7 @@ use crate::hub::{Hub, shard_of};
 use crate::pass::Pass;
 use group_core::{AcceptRefusal, Cancelled, Orphaned, Stage, Taking};
 use handle_model::{Asked, Outcomes, Said};
-use shard::HubRest;
+use hub_shard::HubRest;
 use std::sync::Wait;
 
 impl Hub {

@@ -4,16 +4,16 @@ ghost use Rattle.hub_story.specs.Histories.{journal_in};
 ghost use Rattle.hub_story.specs.Passes.{Serves};
 ghost use Rattle.hub_story.specs.Calls.{IsNewConn};
 ghost use Rattle.hub_story.specs.Still.{StillHas};
-ghost use Rattle.shard.specs.Finds.{gives_find};
-ghost use Rattle.shard.specs.Copies.{gives_copy};
+ghost use Rattle.hub_shard.specs.Finds.{gives_find};
+ghost use Rattle.hub_shard.specs.Copies.{gives_copy};
 ghost use Rattle.group_hub.specs.Passes.{IsPassOf, at_shard, EntersAt};
 ghost use Rattle.group_hub.specs.Shards.{shard_of};
 
 use crate::hub::{Hub, shard_of};
 use crate::pass::Pass;
 use group_core::Journal;
+use hub_shard::FindRefusal;
 use rpc_base::NoMemory;
-use shard::FindRefusal;
 use std::sync::Wait;
 
 impl Hub {

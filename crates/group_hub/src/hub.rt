@@ -2,7 +2,7 @@
 ghost use Rattle.std.specs.Prelude.{◌≡◌, ◌<◌, slice_index_or};
 ghost use Rattle.group_hub.specs.Shards.{AreShards, shard_of};
 
-use shard_lock::ShardLock;
+use crate::ShardLock;
 use std::sync::atomic::AtomicU64;
 
 /// The groups of a server, in sixteen shards, each behind its own lock.

@@ -3,10 +3,10 @@ ghost use Rattle.std.specs.Prelude.{◌≡◌, ◌<◌, ℕ, [], ◌∷◌, IfOk
 ghost use Rattle.hub_story.specs.declared.item.Item.TheVariants.{Begun};
 ghost use Rattle.group_hub.specs.Passes.{IsPassOf, at_shard};
 
+use crate::ShardLock;
 use crate::hub::Hub;
 use crate::pass::Pass;
 use rpc_base::NoMemory;
-use shard_lock::ShardLock;
 use std::alloc::Global;
 use std::sync::atomic::AtomicU64;
 

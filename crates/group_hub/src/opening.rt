@@ -8,7 +8,7 @@ ghost use Rattle.group_hub.specs.Openings.{Opens, LooksAmong, Tries, looked_of};
 
 use crate::hub::Hub;
 use crate::pass::Pass;
-use shard::OpenRefusal;
+use hub_shard::OpenRefusal;
 use std::sync::Wait;
 use std::sync::atomic::Ordering;
 

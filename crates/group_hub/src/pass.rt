@@ -1,7 +1,7 @@
 //! What a thread has at a hub.
 ghost use Rattle.std.specs.Prelude.{◌≡◌, length};
 
-use shard_lock::ShardPass;
+use crate::ShardPass;
 
 /// A thread's part in a hub: what it has seen of each shard, and which entries there are its own.
 #[derive(Drop)]

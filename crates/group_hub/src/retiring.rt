@@ -9,7 +9,7 @@ ghost use Rattle.group_hub.specs.Shards.{shard_of};
 
 use crate::hub::{Hub, shard_of};
 use crate::pass::Pass;
-use shard::{Retired, ShutKey};
+use hub_shard::{Retired, ShutKey};
 use std::sync::Wait;
 
 impl Hub {

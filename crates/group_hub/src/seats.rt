@@ -1,13 +1,13 @@
 //! Passes for other threads.
 ghost use Rattle.std.specs.Prelude.{◌≡◌, ◌≢◌, ◌<◌, ℕ, length, slice_index_or};
 ghost use Rattle.hub_story.specs.Passes.{halved};
-ghost use Rattle.shard_lock.specs.Passes.{IsOf, Merges};
-ghost use Rattle.shard_lock.specs.declared.lock.ShardLock.{ShardLock};
+ghost use Rattle.group_hub.specs.ShardPasses.{IsOf, Merges};
+ghost use Rattle.group_hub.specs.declared.lock.ShardLock.{ShardLock};
 ghost use Rattle.group_hub.specs.Passes.{IsPassOf, At, at_shard};
 
+use crate::ShardPass;
 use crate::hub::Hub;
 use crate::pass::Pass;
-use shard_lock::ShardPass;
 use std::mem;
 
 impl Hub {

@@ -1,13 +1,13 @@
 //! Calls on a group whose conditions are tried first.
 ghost use Rattle.std.specs.Prelude.{◌≡◌};
 ghost use Rattle.handle_model.specs.History.{IsSound};
-ghost use Rattle.handle_rules.specs.Told.{told};
+ghost use Rattle.journal_rules.specs.Told.{told};
 
 use crate::step::{Answer, Step};
 use group_core::{AcceptRefusal, Group, Rest};
 use group_rounds::{Halt, issue};
 use handle_model::{Asked, DueItem, DueList, Entry, Outcomes, Rundown, Said};
-use handle_rules::{Record, is_open, runs, slots, suit};
+use journal_rules::{Record, is_open, runs, slots, suit};
 use std::alloc::Global;
 
 /// The journal of a group.

@@ -11,7 +11,7 @@ ghost use Rattle.group_rounds.specs.Rounds as rounds;
 
 use group_core::{AcceptRefusal, Group, JoinRefusal, Rest, Stage, Taking};
 use handle_model::{Asked, DueItem, DueList, Home, Outcome, Outcomes, Rundown, Said, Slot};
-use handle_rules::suit;
+use journal_rules::suit;
 use rpc_base::{Items, NoMemory, Octets, Order};
 use std::alloc::Global;
 

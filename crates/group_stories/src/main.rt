@@ -7,7 +7,7 @@ mod words;
 
 use group_core::Group;
 use group_play::{Answer, play};
-use handle_text::journal_text;
+use journal_text::journal_text;
 use rpc_base::NoMemory;
 use std::alloc::Global;
 use std::io;

@@ -1,6 +1,6 @@
 //! What a call on a group has to come to, by the plain rules over the journal before it.
 ghost use Rattle.std.specs.Prelude.{◌<◌, ◌^◌};
-ghost use Rattle.handle_rules.specs.Told.{told};
+ghost use Rattle.journal_rules.specs.Told.{told};
 ghost use Rattle.handle_model.specs.Journal as spec;
 
 use crate::whole::{is_known, number};
@@ -9,7 +9,7 @@ use group_play::{Answer, Step};
 use handle_model::{
     AcceptLimit, Asked, CookieRow, Cookies, Entry, JoinLimit, Outcomes, Said, Slot, count_opens,
 };
-use handle_rules::{
+use journal_rules::{
     Record, accept_count, accept_limit, blocker, cookies_of, fault, is_cancelled, is_open,
     is_orphaned, join_count, join_limit, number_slots, opened, runs, slots, suit, waits,
 };

@@ -1,12 +1,12 @@
 //! Calls on a group picked by a fixed sequence of numbers.
 ghost use Rattle.std.specs.Prelude.{◌<◌, ◌^◌};
-ghost use Rattle.handle_rules.specs.Told.{told};
+ghost use Rattle.journal_rules.specs.Told.{told};
 ghost use Rattle.handle_model.specs.Journal as spec;
 
 use crate::whole::number;
 use group_play::Step;
 use handle_model::{Asked, Entry, Home, Outcome, Outcomes, Said, Slot, Slots, handle_of};
-use handle_rules::{Record, accept_count, is_open, join_count, opened, runs, slots, waits};
+use journal_rules::{Record, accept_count, is_open, join_count, opened, runs, slots, waits};
 use rpc_base::{Items, NoMemory, Octets, Order, Status, WireHandle};
 use std::alloc::Global;
 

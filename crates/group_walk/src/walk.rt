@@ -1,7 +1,7 @@
 //! A fixed walk over all calls of a group: each answer is compared with what the plain rules say of the
 //! whole journal before it, which is never folded, and each join with where they fold it.
 ghost use Rattle.std.specs.Prelude.{◌<◌, ◌^◌};
-ghost use Rattle.handle_rules.specs.Told.{told};
+ghost use Rattle.journal_rules.specs.Told.{told};
 ghost use Rattle.handle_model.specs.Journal as spec;
 
 use crate::plain::{Came, expected, is_asked_since, stage};
@@ -10,8 +10,8 @@ use crate::whole::{Whole, base_of, floor, number, open_asked};
 use group_core::Group;
 use group_play::{Answer, Step, play};
 use handle_model::{Base, Entry, Home};
-use handle_rules::{Record, Verdict, accept_count, audited, is_due};
-use handle_text::journal_text;
+use journal_rules::{Record, Verdict, accept_count, audited, is_due};
+use journal_text::journal_text;
 use rpc_base::NoMemory;
 use std::alloc::Global;
 

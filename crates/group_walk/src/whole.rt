@@ -1,13 +1,13 @@
 //! The whole journal of a group, which is never folded.
 ghost use Rattle.std.specs.Prelude.{◌≡◌, ◌<◌, ◌≤◌, ◌^◌, [], length, IfOk};
-ghost use Rattle.handle_rules.specs.Told.{told};
+ghost use Rattle.journal_rules.specs.Told.{told};
 ghost use Rattle.handle_model.specs.Bases.{empty_base};
 ghost use Rattle.handle_model.specs.History.{since};
 ghost use Rattle.handle_model.specs.Journal as spec;
 
 use group_core::Journal;
 use handle_model::{Asked, Base, BaseCall, BaseCalls, Conns, Entry, Home, count_opens};
-use handle_rules::{
+use journal_rules::{
     Record, accept_count, due_items, is_cancelled, is_open, is_orphaned, join_count, opened, runs,
     waits,
 };

@@ -1,6 +1,6 @@
-pub mod Handles
-pub mod Uses
+pub mod Cells
 pub mod Ended
+pub mod Handles
 pub mod Kept
 pub mod Laws
-pub mod Cells
+pub mod Uses

@@ -2,11 +2,10 @@
 ghost use Rattle.std.specs.Prelude.{◌≤◌};
 ghost use Rattle.group_hub.specs.Passes.{IsPassOf};
 
-use base_rules::is_sound_base;
 use group_core::Journal;
 use group_hub::{Hub, Pass};
 use handle_model::{Entry, Home};
-use handle_rules::{Verdict, audited};
+use journal_rules::{Verdict, audited, is_sound_base};
 use std::alloc::Global;
 use std::sync::Wait;
 

@@ -20,7 +20,7 @@ use Rattle.group_core.proofs.Pruning.{asked_stays}
 use Rattle.hub_story.specs.Folded.{kept_since, kept}
 use Rattle.hub_story.specs.Histories.{journal_in, home_of, past_in}
 use Rattle.hub_story.specs.declared.item.Item.{Item}
-use Rattle.fold_laws.specs.FoldOf.{IsFoldOf}
+use Rattle.journal_tables.specs.FoldOf.{IsFoldOf}
 use Rattle.hub_story.proofs.FoldLemmas.{Alike, alike, kept_folds}
 
 asked_to : (home : Home) (base : Base) (newer older : List Entry) (k : ℕ) → BaseBegun base → Legal (since home base (newer ++ older)) → list_any is_shut older ≡ false → due (since home base older) ≡ false

@@ -18,9 +18,9 @@ use Rattle.journal_tables.proofs.Sounds.{base_sound}
 use Rattle.journal_tables.proofs.Stood.{stands, asked_newer}
 use Rattle.journal_tables.proofs.Advanced.{has_begun, advance_since}
 use Rattle.journal_tables.proofs.Folded.{front_legal, Moved, moved}
-use Rattle.fold_laws.specs.FoldOf.{IsFoldOf, StandsFor}
-pub use Rattle.fold_laws.proofs.Alike.{folds_stand, folds_once, folds_on, folds_twice, folds_again}
-use Rattle.fold_laws.proofs.Back.{folds_back}
+use Rattle.journal_tables.specs.FoldOf.{IsFoldOf, StandsFor}
+pub use Rattle.journal_tables.proofs.Alike.{folds_stand, folds_once, folds_on, folds_twice, folds_again}
+use Rattle.journal_tables.proofs.Back.{folds_back}
 use Rattle.handle_model.specs.Bases.{empty_base}
 use Rattle.handle_model.specs.Folds.{folded, floor}
 use Rattle.handle_model.specs.History.{with_entry}

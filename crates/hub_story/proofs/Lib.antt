@@ -1,10 +1,13 @@
-pub mod ItemLemmas
-pub mod PlaceLemmas
 pub mod ApartLemmas
-pub mod OwnLemmas
-pub mod FoldLemmas
-pub mod WholeLemmas
 pub mod AskedLemmas
+pub mod FoldLemmas
+mod FrontOwn
 pub mod HaveLemmas
-pub mod StillLemmas
+pub mod ItemLemmas
 pub mod NewLemmas
+mod OpenLemmas
+pub mod OwnLemmas
+pub mod PlaceLemmas
+mod PrefixLemmas
+pub mod StillLemmas
+pub mod WholeLemmas

@@ -47,9 +47,9 @@ use Rattle.group_core.specs.Calls.{Accepts, Takes, Cancels, Orphans, numbered, c
 use Rattle.group_core.specs.Stages.{stage_of}
 use Rattle.hub_story.specs.Folded.{kept_since, kept_with, kept}
 use Rattle.hub_story.specs.Answers.{JoinsWhole}
-use Rattle.fold_laws.specs.FoldOf.{IsFoldOf, StandsFor}
-use Rattle.fold_laws.proofs.Alike.{folds_stand, folds_on}
-use Rattle.fold_laws.proofs.Back.{folds_back}
+use Rattle.journal_tables.specs.FoldOf.{IsFoldOf, StandsFor}
+use Rattle.journal_tables.proofs.Alike.{folds_stand, folds_on}
+use Rattle.journal_tables.proofs.Back.{folds_back}
 use Rattle.hub_story.proofs.FoldLemmas.{Alike, alike, says, sound_more, refold, shut_kept, kept_folds}
 
 -- the group, which kept the journal of these entries, keeps it with some more, and answers so by the whole one

@@ -9,7 +9,7 @@ use Rattle.handle_model.specs.declared.entry.Entry.TheVariants.{Join, Take}
 use Rattle.handle_model.specs.Bases.{empty_base}
 use Rattle.handle_model.specs.History.{since}
 use Rattle.handle_model.specs.Journal.{Legal, is_join, leaves, ends, suit, runs}
-use Rattle.fold_laws.specs.FoldOf.{IsFoldOf}
+use Rattle.journal_tables.specs.FoldOf.{IsFoldOf}
 use Rattle.group_core.specs.Stages.{is_asked}
 use Rattle.hub_story.specs.Folded.{kept_since, kept}
 use Rattle.hub_story.specs.declared.item.Item.{Item}

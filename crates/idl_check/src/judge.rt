@@ -5,7 +5,7 @@ ghost use Rattle.idl_outline.specs.Outline as outlines;
 ghost use Rattle.idl_check.specs.Firsts as spec;
 
 use crate::firsts::Firsts;
-use idl_counts::{outside_profile, too_many_handles, union_tag};
+use crate::{outside_profile, too_many_handles, union_tag};
 use idl_outline::{Event, Outline};
 use idl_rules::{duplicate, recursion, unknown};
 use idl_tree::Ast;

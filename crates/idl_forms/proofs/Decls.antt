@@ -1,8 +1,8 @@
 -- Declarations and whole trees, off their tokens.
 use Rattle.std.proofs.Common.{◌≡◌, ℕ, ◌≤◌, ◌&&◌, Bool, true, false, eqb, List, [], ◌∷◌, ◌++◌, length, map, refl, ap, sym, ◌∙◌, None, Some, Option, arith}
 use Rattle.std.specs.Prelude.{if◌then◌else◌}
-use Rattle.ebnf.specs.Ebnf.{has}
-use Rattle.ebnf.specs.Checks.{apart}
+use Rattle.idl_tokens.specs.Ebnf.{has}
+use Rattle.idl_tokens.specs.Checks.{apart}
 use Rattle.idl_tokens.specs.declared.words.Word.TheVariants as words
 use Rattle.idl_tokens.specs.declared.marks.Mark.TheVariants as marks
 use Rattle.idl_tokens.specs.declared.marks.Bracket.TheVariants as brackets

@@ -35,7 +35,7 @@ use Rattle.idl_forms.proofs.Readers.{mapped, both, behind, upto, split, single, 
 use Rattle.idl_forms.proofs.Reading.{Reads, heads_append, heads_placed, heads_right, reads_as, reads_any, reads_right, reads_fewer, reads_mapped, reads_both, reads_then, behind_word, behind_mark, upto_mark, inside, split_yes, split_no, split_none, reads_single, reads_bad, flag_word, flag_mark, maybe_none, maybe_some, reads_placed, reads_loop, reads_listed, reads_maybe_listed}
 use Rattle.idl_tree.specs.Combinators.{name_classes}
 use Rattle.idl_tree.proofs.Classes.{is_name_class}
-use Rattle.ebnf.proofs.Sets.{has_right}
+use Rattle.idl_tokens.proofs.Sets.{has_right}
 
 -- ---- what tokens hold
 

@@ -1,6 +1,6 @@
 -- Parts of a text off its tokens, and what is left of them: how each is read by the tokens that come next.
 use Rattle.std.specs.Prelude.{ℕ, zero, suc, Bool, true, false, eqb, List, [], ◌∷◌, Option, Some, None, if◌then◌else◌}
-use Rattle.ebnf.specs.Ebnf.{has}
+use Rattle.idl_tokens.specs.Ebnf.{has}
 use Rattle.idl_forms.proofs.Stream.{Seen, head, tail, place}
 use Rattle.idl_tokens.specs.Terminals.{of_mark, opening}
 use Rattle.idl_tokens.specs.declared.marks.Mark.TheVariants as marks

@@ -3,9 +3,9 @@ use Rattle.std.proofs.Common.{◌≡◌, ℕ, zero, suc, ◌≤◌, Bool, true, 
 use Rattle.std.specs.List.{flat_map}
 use Rattle.std.proofs.lemmas.Bool.{eq-eqb}
 use Rattle.std.proofs.Math.Bool.{or-false}
-use Rattle.ebnf.specs.Ebnf.{has}
-use Rattle.ebnf.specs.Checks.{apart}
-use Rattle.ebnf.proofs.Sets.{has_either, has_left, has_right}
+use Rattle.idl_tokens.specs.Ebnf.{has}
+use Rattle.idl_tokens.specs.Checks.{apart}
+use Rattle.idl_tokens.proofs.Sets.{has_either, has_left, has_right}
 use Rattle.idl_tokens.specs.declared.words.Word.{Word}
 use Rattle.idl_tokens.specs.declared.marks.Mark.{Mark}
 use Rattle.idl_tokens.specs.declared.marks.Mark.TheVariants as marks

@@ -2,7 +2,7 @@
 use Rattle.std.proofs.Common.{◌≡◌, ap, ℕ, zero, suc, true, eqb, List, [], ◌∷◌, ◌++◌, map, refl, sym, ◌∙◌, subst, None, Some, Option, Vec, Global, Box, append-nil, arith, inl, inr}
 use Rattle.std.specs.Prelude.{if◌then◌else◌, ◌⊎◌}
 use Rattle.std.specs.List.{flat_map}
-use Rattle.ebnf.specs.Checks.{apart}
+use Rattle.idl_tokens.specs.Checks.{apart}
 use Rattle.idl_tokens.specs.declared.words.Word.TheVariants as words
 use Rattle.idl_tokens.specs.declared.marks.Mark.TheVariants as marks
 use Rattle.idl_tokens.specs.declared.marks.Bracket.TheVariants as brackets

@@ -3,10 +3,10 @@ use Rattle.std.proofs.Common.{◌≡◌, ℕ, suc, ◌≤◌, ◌+◌, Bool, tru
 use Rattle.std.specs.Prelude.{if◌then◌else◌}
 use Rattle.std.proofs.lemmas.Bool.{eqb-true, eq-eqb}
 use Rattle.std.proofs.Math.Bool.{or-false}
-use Rattle.ebnf.specs.Ebnf.{has}
-use Rattle.ebnf.specs.Checks.{apart}
-use Rattle.ebnf.proofs.Sound.{and_both}
-use Rattle.ebnf.proofs.Sets.{are_apart, has_either, has_left, has_right, or_left}
+use Rattle.idl_tokens.specs.Ebnf.{has}
+use Rattle.idl_tokens.specs.Checks.{apart}
+use Rattle.idl_tokens.proofs.Sound.{and_both}
+use Rattle.idl_tokens.proofs.Sets.{are_apart, has_either, has_left, has_right, or_left}
 use Rattle.idl_tokens.specs.declared.kinds.Kind.{Kind}
 use Rattle.idl_tokens.specs.declared.kinds.Kind.TheVariants as kinds
 use Rattle.idl_tokens.specs.declared.kinds.Token.{Token}

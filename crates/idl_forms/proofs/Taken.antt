@@ -3,10 +3,10 @@ use Rattle.std.proofs.Common.{◌≡◌, ℕ, ◌<◌, ◌+◌, ◌^◌, ◌&&�
 use Rattle.std.specs.Prelude.{if◌then◌else◌}
 use Rattle.std.proofs.lemmas.Bool.{eq-eqb}
 use Rattle.std.proofs.Math.Bool.{or-false}
-use Rattle.ebnf.specs.Ebnf.{Ebnf, Terminal, has, Matches}
-use Rattle.ebnf.specs.Ebnf.Ebnf.{One, Seq, Alt, Opt, Many, Within}
-use Rattle.ebnf.specs.Ebnf.Matches.{one, seq, left, right, none, some, stop, more, within}
-use Rattle.ebnf.proofs.Sound.{and_both}
+use Rattle.idl_tokens.specs.Ebnf.{Ebnf, Terminal, has, Matches}
+use Rattle.idl_tokens.specs.Ebnf.Ebnf.{One, Seq, Alt, Opt, Many, Within}
+use Rattle.idl_tokens.specs.Ebnf.Matches.{one, seq, left, right, none, some, stop, more, within}
+use Rattle.idl_tokens.proofs.Sound.{and_both}
 use Rattle.idl_tokens.specs.declared.kinds.Token.{Token}
 use Rattle.idl_tokens.specs.Terminals.{terminals, bad_class}
 use Rattle.idl_tree.specs.Combinators.{a_word, a_mark, a_name, a_range, a_number, a_text, a_uuid, the_end}

@@ -2,8 +2,8 @@
 use Rattle.std.proofs.Common.{◌≡◌, ℕ, List, [], ◌∷◌, ◌++◌, refl, ap, sym, ◌∙◌, Option, Some, None}
 use Rattle.idl_tokens.specs.declared.kinds.Kind.{Kind}
 use Rattle.idl_tokens.specs.declared.kinds.Token.{Token}
-use Rattle.idl_layout.specs.declared.sorts.Sort.{Sort}
-use Rattle.idl_layout.specs.Layout.{token_text, sort_of, between, indent_behind, printed, layout, kinds_of}
+use Rattle.idl_print.specs.declared.sorts.Sort.{Sort}
+use Rattle.idl_print.specs.Layout.{token_text, sort_of, between, indent_behind, printed, layout, kinds_of}
 use Rattle.idl_tree.specs.Pieces.{What, Of, Opens, Pieces, Stands, Front}
 use Rattle.idl_tree.specs.Files.{ast_pieces}
 use Rattle.idl_tree.specs.Idl.{IsTree, IsIdl}

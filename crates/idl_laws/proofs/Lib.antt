@@ -1,4 +1,4 @@
-pub mod Swap
-pub mod Same
-pub mod Once
 pub mod Again
+pub mod Once
+pub mod Same
+pub mod Swap

@@ -1,7 +1,7 @@
 -- A text departs from the grammar once.
 use Rattle.std.proofs.Common.{◌≡◌, Bool, true, false, List, [], ◌∷◌, ◌++◌, refl, ap, sym, ◌∙◌, subst, inl, inr, append_assoc}
 use Rattle.std.specs.Prelude.{◌⊎◌}
-use Rattle.ebnf.specs.Ebnf.{Terminal, Matches}
+use Rattle.idl_tokens.specs.Ebnf.{Terminal, Matches}
 use Rattle.idl_tokens.specs.declared.kinds.Token.{Token}
 use Rattle.idl_tokens.specs.Terminals.{terminal, terminals}
 use Rattle.idl_tree.specs.Grammar.{rule, file}

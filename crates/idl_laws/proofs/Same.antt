@@ -1,9 +1,9 @@
 -- What takes the same, whatever brackets hold.
 use Rattle.std.proofs.Common.{ℕ, Bool, true, false, eqb, List, []}
 use Rattle.std.specs.Prelude.{◌↔◌, if◌then◌else◌}
-use Rattle.ebnf.specs.Ebnf.{Ebnf, Terminal, Matches}
-use Rattle.ebnf.specs.Ebnf.Ebnf.{Seq, Alt, Opt, Many}
-use Rattle.ebnf.specs.Ebnf.Matches.{seq, left, right, none, some, stop, more}
+use Rattle.idl_tokens.specs.Ebnf.{Ebnf, Terminal, Matches}
+use Rattle.idl_tokens.specs.Ebnf.Ebnf.{Seq, Alt, Opt, Many}
+use Rattle.idl_tokens.specs.Ebnf.Matches.{seq, left, right, none, some, stop, more}
 use Rattle.idl_tokens.specs.declared.words.Word.TheVariants as words
 use Rattle.idl_tokens.specs.declared.marks.Mark.TheVariants as marks
 use Rattle.idl_tree.specs.Combinators.{◌⨟◌, ◌∣◌, a_word, a_mark, a_name, a_text, a_uuid, listed}

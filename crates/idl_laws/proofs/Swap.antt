@@ -1,7 +1,7 @@
 -- Rules that take the same may stand for one another.
 use Rattle.std.proofs.Common.{ℕ, zero, suc, ◌≤◌, ◌<◌, List, length, arith}
-use Rattle.ebnf.specs.Ebnf.{Ebnf, Terminal, Matches}
-use Rattle.ebnf.specs.Ebnf.Matches.{one, seq, left, right, none, some, stop, more, within}
+use Rattle.idl_tokens.specs.Ebnf.{Ebnf, Terminal, Matches}
+use Rattle.idl_tokens.specs.Ebnf.Matches.{one, seq, left, right, none, some, stop, more, within}
 
 module _ (body : ℕ → Ebnf) where
   pub shorter : {g : Ebnf} {ts rest : List Terminal} → Matches body g ts rest → length rest ≤ length ts

@@ -1,8 +1,8 @@
 -- The grammar of interface texts as it is written, with alternatives that one token doesn't tell (C706, "Interface
 -- Definition Language"). What isn't here is as in the grammar in which one token decides.
 use Rattle.std.specs.Prelude.{ℕ, [], ◌∷◌, if◌then◌else◌, eqb}
-use Rattle.ebnf.specs.Ebnf.{Ebnf}
-use Rattle.ebnf.specs.Ebnf.Ebnf.{Opt, Many}
+use Rattle.idl_tokens.specs.Ebnf.{Ebnf}
+use Rattle.idl_tokens.specs.Ebnf.Ebnf.{Opt, Many}
 use Rattle.idl_tokens.specs.declared.words.Word.TheVariants as words
 use Rattle.idl_tokens.specs.declared.marks.Mark.TheVariants as marks
 use Rattle.idl_tree.specs.Combinators.{◌⨟◌, ◌∣◌, a_word, any_word, a_mark, a_name, a_text, a_uuid, listed}

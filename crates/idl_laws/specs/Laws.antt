@@ -1,6 +1,6 @@
 -- Laws of interface texts.
 use Rattle.std.specs.Prelude.{◌≡◌, ◌↔◌, List, [], Bool}
-use Rattle.ebnf.specs.Ebnf.{Terminal, Matches}
+use Rattle.idl_tokens.specs.Ebnf.{Terminal, Matches}
 use Rattle.idl_tokens.specs.declared.kinds.Token.{Token}
 use Rattle.idl_tokens.specs.Terminals.{terminals}
 use Rattle.idl_tree.specs.Grammar.{rule, file}

@@ -1,5 +1,5 @@
-pub mod Symbols
 pub mod Attributes
 pub mod Declarators
 pub mod Members
+pub mod Symbols
 pub mod Walk

@@ -1,7 +1,7 @@
 -- What names stand for at a place of an interface's text. A name stands for what its newest declaration of that kind declares; types,
 -- constants and the tags of structures are the kinds.
 use Rattle.std.specs.Prelude.{ℕ, ◌+◌, Bool, false, ◌||◌, List, [], ◌∷◌, Option, Some, None, if◌then◌else◌, bytes_eq}
-use Rattle.name_map.specs.Named.{at_name}
+use Rattle.rpc_base.specs.Named.{at_name}
 use Rattle.idl_tree.specs.declared.leaf.Ident.{Ident}
 use Rattle.idl_tree.specs.declared.leaf.Num.{Num}
 use Rattle.idl_names.specs.declared.symbols.Tag.{Tag}

@@ -1,11 +1,11 @@
 //! What declarators and labels say.
 ghost use Rattle.std.specs.Prelude.{◌≡◌};
-ghost use Rattle.name_map.specs.Named.{at_name};
+ghost use Rattle.rpc_base.specs.Named.{at_name};
 ghost use Rattle.idl_names.specs.Declarators as spec;
 
 use crate::place::Extent;
 use idl_tree::{ArraySize, Dtor, Ident, LabelKind, Num};
-use name_map::{Names, named};
+use rpc_base::{Names, named};
 
 fn constant(constants: &Names<Num>, name: &Ident) -> Option<Num>
     ensures { result ≡ at_name constants.now name.now.text }

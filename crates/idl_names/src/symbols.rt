@@ -1,12 +1,11 @@
 //! What names stand for, and what declarations add.
 ghost use Rattle.std.specs.Prelude.{◌≡◌, ℕ, List, Some, OnOk, OnErr, option_copied, bytes_eq, if◌then◌else◌};
-ghost use Rattle.name_map.specs.Named.{at_name};
+ghost use Rattle.rpc_base.specs.Named.{at_name};
 ghost use Rattle.idl_names.specs.Symbols as spec;
 ghost use Rattle.idl_names.specs.Symbols.{symbols};
 
 use idl_tree::{Ident, Num};
-use name_map::{Names, named};
-use rpc_base::NoMemory;
+use rpc_base::{Names, NoMemory, named};
 use std::alloc::Global;
 
 /// What a structure's tag stands for.
@@ -42,7 +41,7 @@ pub fn number_of(name: &Ident, behind: u64) -> Num
 /// # Errors
 ///
 /// `NoMemory` where there is no memory for it; all is then as it was.
-#[tactic(auto, using(name_map::proofs::Puts::puts))]
+#[tactic(auto, using(rpc_base::proofs::NamePuts::puts))]
 pub fn declare<X: Drop>(
     names: &mut Names<X>,
     alloc: Global,

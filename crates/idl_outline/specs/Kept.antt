@@ -1,7 +1,7 @@
 -- What is kept beside the events of an outline, so that names are looked up and not searched for.
 use Rattle.std.specs.Prelude.{◌≡◌, ℕ, Bool, is_some, if◌then◌else◌}
 use Rattle.std.specs.List.{count_by}
-use Rattle.name_map.specs.Named.{at_name}
+use Rattle.rpc_base.specs.Named.{at_name}
 use Rattle.idl_names.specs.Symbols.{symbols}
 use Rattle.idl_outline.specs.declared.known.Known.{Known}
 use Rattle.idl_outline.specs.Names.{Past, Declarations, declarations, is_operation, is_typedef_event}

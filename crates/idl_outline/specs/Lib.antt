@@ -1,7 +1,7 @@
-pub mod Types
-pub mod Names
-pub mod Kept
 pub mod Holding
+pub mod Kept
+pub mod Names
+pub mod Outline
 pub mod Parts
 pub mod Specs
-pub mod Outline
+pub mod Types

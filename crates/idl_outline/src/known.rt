@@ -6,8 +6,7 @@ ghost use Rattle.idl_outline.specs.Kept.{shown};
 use crate::event::Event;
 use crate::ty::DataType;
 use idl_names::{SymbolTable, Tag, declare};
-use name_map::Names;
-use rpc_base::NoMemory;
+use rpc_base::{Names, NoMemory};
 use std::alloc::Global;
 
 /// What is declared.

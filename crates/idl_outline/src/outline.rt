@@ -1,7 +1,7 @@
 //! The events of an interface's text, and what its names stand for.
 ghost use Rattle.std.specs.Prelude.{◌≡◌, ◌∷◌, [], reverse, OnOk};
 ghost use Rattle.std.specs.List.{count_by};
-ghost use Rattle.name_map.specs.Named.{at_name};
+ghost use Rattle.rpc_base.specs.Named.{at_name};
 ghost use Rattle.idl_outline.specs.Kept as kept;
 ghost use Rattle.idl_outline.specs.Names as spec;
 
@@ -9,8 +9,7 @@ use crate::event::{Event, Events};
 use crate::known::Known;
 use crate::ty::DataType;
 use idl_tree::Num;
-use name_map::Names;
-use rpc_base::NoMemory;
+use rpc_base::{Names, NoMemory};
 use std::alloc::Global;
 use std::marker::Model;
 

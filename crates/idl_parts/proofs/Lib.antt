@@ -1,4 +1,4 @@
-pub mod Taking
+pub mod Loops
 pub mod Orders
 pub mod Parts
-pub mod Loops
+pub mod Taking

@@ -1,12 +1,12 @@
 -- The readers' order and the grammar are one.
 use Rattle.std.proofs.Common.{◌≡◌, ℕ, Bool, true, false, List, [], ◌∷◌, refl, ◌^◌, ap, sym, ◌∙◌}
 use Rattle.std.specs.Prelude.{if◌then◌else◌, Result, Ok, Err, ◌++◌}
-use Rattle.ebnf.specs.Ebnf.{Ebnf, Terminal}
-use Rattle.ebnf.specs.Ebnf.Ebnf.{One, Seq, Alt, Opt, Many, Within}
-use Rattle.ebnf.specs.Machine.{null, Stuck, parse, token, ◌>>=◌}
-use Rattle.ebnf.specs.Checks.{first, heads}
-use Rattle.ebnf.proofs.Equations.{parse_one, parse_seq, parse_opt, parse_alt, parse_many, parse_within}
-use Rattle.ebnf.proofs.Starts.{starts_first}
+use Rattle.idl_tokens.specs.Ebnf.{Ebnf, Terminal}
+use Rattle.idl_tokens.specs.Ebnf.Ebnf.{One, Seq, Alt, Opt, Many, Within}
+use Rattle.idl_tokens.specs.Machine.{null, Stuck, parse, token, ◌>>=◌}
+use Rattle.idl_tokens.specs.Checks.{first, heads}
+use Rattle.idl_tokens.proofs.Equations.{parse_one, parse_seq, parse_opt, parse_alt, parse_many, parse_within}
+use Rattle.idl_tokens.proofs.Starts.{starts_first}
 use Rattle.idl_tokens.specs.declared.marks.Mark.TheVariants as marks
 use Rattle.idl_tokens.specs.declared.marks.Bracket.TheVariants as brackets
 use Rattle.idl_tree.specs.Combinators.{a_word, a_mark, a_name, a_number, in_brackets, name_classes, level_limit}

@@ -1,7 +1,7 @@
 -- The small parts.
 use Rattle.std.proofs.Common.{◌≡◌, ℕ, ◌≤◌, ◌+◌, suc, zero, Bool, true, false, eqb, ◌||◌, List, [], ◌∷◌, ◌++◌, refl, ap, sym, ◌∙◌, subst, None, Some, length, map, inl, inr, append_assoc, append-nil, add-one, arith}
 use Rattle.std.specs.Prelude.{◌⊎◌}
-use Rattle.ebnf.specs.Ebnf.{has}
+use Rattle.idl_tokens.specs.Ebnf.{has}
 use Rattle.std.proofs.lemmas.Bool.{eqb-true}
 use Rattle.idl_tokens.specs.declared.words.Word.{Word}
 use Rattle.idl_tokens.specs.declared.words.Word.TheVariants as words

@@ -3,8 +3,8 @@ use Rattle.std.proofs.Common.{◌≡◌, ℕ, ◌<◌, ◌≤◌, ◌≢◌, Boo
 use Rattle.std.specs.Prelude.{◌⊎◌, Ok, Err, if◌then◌else◌}
 use Rattle.std.proofs.lemmas.Bool.{eqb-true, eq-eqb, lt-ltb, le-ltb, false_from_ne_true}
 use Rattle.std.proofs.Math.Bool.{or-false}
-use Rattle.ebnf.specs.Ebnf.{has}
-use Rattle.ebnf.specs.Machine.{token, sized}
+use Rattle.idl_tokens.specs.Ebnf.{has}
+use Rattle.idl_tokens.specs.Machine.{token, sized}
 use Rattle.idl_tokens.specs.declared.words.Word.{Word}
 use Rattle.idl_tokens.specs.declared.marks.Mark.{Mark}
 use Rattle.idl_tokens.specs.declared.marks.Bracket.{Bracket}

@@ -1,9 +1,9 @@
 -- The machine along each part, in the readers' order.
 use Rattle.std.specs.Prelude.{ℕ, ◌^◌, List, [], ◌∷◌, if◌then◌else◌, Result, Ok, ◌++◌}
-use Rattle.ebnf.specs.Ebnf.{Terminal, Ebnf}
-use Rattle.ebnf.specs.Ebnf.Ebnf.{Many, Seq}
-use Rattle.ebnf.specs.Machine.{Stuck, ◌>>=◌, token, parse}
-use Rattle.ebnf.specs.Checks.{heads}
+use Rattle.idl_tokens.specs.Ebnf.{Terminal, Ebnf}
+use Rattle.idl_tokens.specs.Ebnf.Ebnf.{Many, Seq}
+use Rattle.idl_tokens.specs.Machine.{Stuck, ◌>>=◌, token, parse}
+use Rattle.idl_tokens.specs.Checks.{heads}
 use Rattle.idl_tokens.specs.declared.marks.Mark.TheVariants as marks
 use Rattle.idl_tokens.specs.declared.marks.Bracket.TheVariants as brackets
 use Rattle.idl_tree.specs.Combinators.{a_mark, a_name, name_classes, level_limit}

@@ -1,2 +1,2 @@
-pub mod Reads
 pub mod Along
+pub mod Reads

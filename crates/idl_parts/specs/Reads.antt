@@ -1,7 +1,7 @@
 -- What a reader of a part of the grammar says.
 use Rattle.std.specs.Prelude.{◌≡◌, ℕ, ◌<◌, List, ◌∷◌, Result, Ok, Err}
-use Rattle.ebnf.specs.Ebnf.{Terminal}
-use Rattle.ebnf.specs.Machine.{Stuck}
+use Rattle.idl_tokens.specs.Ebnf.{Terminal}
+use Rattle.idl_tokens.specs.Machine.{Stuck}
 use Rattle.idl_tokens.specs.declared.kinds.Token.{Token}
 use Rattle.idl_tokens.specs.Terminals.{terminal, terminals}
 use Rattle.idl_parts.specs.declared.stop.Stop.{Stop}

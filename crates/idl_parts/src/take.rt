@@ -1,8 +1,8 @@
 //! Readers of single tokens.
 ghost use Rattle.std.specs.Prelude.{◌≡◌, ◌+◌, ◌<◌, ◌≤◌, [], ◌∷◌, IfOk, length, map, true, false};
-ghost use Rattle.ebnf.specs.Machine.{token};
-ghost use Rattle.ebnf.specs.Ebnf.{has};
-ghost use Rattle.ebnf.specs.Checks.{heads};
+ghost use Rattle.idl_tokens.specs.Machine.{token};
+ghost use Rattle.idl_tokens.specs.Ebnf.{has};
+ghost use Rattle.idl_tokens.specs.Checks.{heads};
 ghost use Rattle.idl_tokens.specs.Terminals.{terminals, of_word, of_mark, opening, closing, number_class};
 ghost use Rattle.idl_tree.specs.Pieces.{Written, BeginsAt, word_pieces, mark_pieces, open_pieces, shut_pieces, end_pieces, text_pieces, uuid_pieces, ident_pieces, range_pieces, num_pieces, if_word, if_mark, if_ident};
 ghost use Rattle.idl_parts.specs.Reads.{Gives, IsTaken};

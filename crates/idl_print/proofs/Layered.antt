@@ -4,7 +4,7 @@ use Rattle.std.specs.List.{flat_map}
 use Rattle.idl_tokens.specs.declared.words.Word.TheVariants as words
 use Rattle.idl_tokens.specs.declared.marks.Mark.TheVariants as marks
 use Rattle.idl_tokens.specs.declared.marks.Bracket.TheVariants as brackets
-use Rattle.idl_layout.specs.declared.page.Page.{Page}
+use Rattle.idl_print.specs.declared.page.Page.{Page}
 use Rattle.idl_tree.specs.declared.leaf.Ident.{Ident}
 use Rattle.idl_tree.specs.declared.leaf.Num.{Num}
 use Rattle.idl_tree.specs.declared.leaf.SizeRef.{SizeRef}

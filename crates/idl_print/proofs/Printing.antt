@@ -6,9 +6,9 @@ use Rattle.std.proofs.lemmas.List.{take_more, take_all}
 use Rattle.idl_tokens.specs.declared.marks.Mark.TheVariants as marks
 use Rattle.idl_tokens.specs.declared.kinds.Kind.{Kind}
 use Rattle.idl_tokens.specs.declared.kinds.Kind.TheVariants as kinds
-use Rattle.idl_layout.specs.declared.page.Page.{Page}
-use Rattle.idl_layout.specs.Pages.{Puts}
-use Rattle.idl_layout.proofs.Joins.{puts_join, puts_none}
+use Rattle.idl_print.specs.declared.page.Page.{Page}
+use Rattle.idl_print.specs.Pages.{Puts}
+use Rattle.idl_print.proofs.Joins.{puts_join, puts_none}
 use Rattle.idl_tree.specs.declared.leaf.Num.{Num}
 use Rattle.idl_tree.specs.Pieces.{Pieces, placed, mark_pieces, number_pieces, num_pieces, if_mark, star_pieces}
 use Rattle.idl_print.specs.Canonical.{kind_of, kinds_in}

@@ -3,19 +3,19 @@ use Rattle.std.proofs.Common.{◌≡◌, ◌≢◌, ℕ, ◌<◌, ◌^◌, Bool,
 use Rattle.std.proofs.lemmas.Bool.{false≢true, eq-eqb}
 use Rattle.std.proofs.lemmas.Bool.Decides.{nat_tests}
 use Rattle.std.specs.Prelude.{if◌then◌else◌}
-use Rattle.ebnf.specs.Ebnf.{Ebnf, Terminal, Matches, has}
-use Rattle.ebnf.specs.Ebnf.Ebnf.{One, Seq, Alt, Opt, Many, Within}
-use Rattle.ebnf.specs.Ebnf.Matches.{one, seq, left, right, none, some, stop, more, within}
-use Rattle.ebnf.proofs.Sets.{or_left}
+use Rattle.idl_tokens.specs.Ebnf.{Ebnf, Terminal, Matches, has}
+use Rattle.idl_tokens.specs.Ebnf.Ebnf.{One, Seq, Alt, Opt, Many, Within}
+use Rattle.idl_tokens.specs.Ebnf.Matches.{one, seq, left, right, none, some, stop, more, within}
+use Rattle.idl_tokens.proofs.Sets.{or_left}
 use Rattle.idl_tokens.specs.declared.kinds.Kind.{Kind}
 use Rattle.idl_tokens.specs.declared.kinds.Kind.TheVariants as kinds
 use Rattle.idl_tokens.specs.declared.kinds.Token.{Token}
 use Rattle.idl_tokens.specs.Terminals.{terminal, terminals, bad_class}
 use Rattle.idl_tokens.specs.Tokens.{AreTokens}
 use Rattle.idl_tokens.proofs.Once.{cut_once}
-use Rattle.idl_layout.specs.declared.sorts.Sort.{Sort}
-use Rattle.idl_layout.specs.Layout.{token_text, sort_of, between, indent_behind, printed, layout, kinds_of, HasText, HaveTexts}
-use Rattle.idl_layout.proofs.Printed.{layout_again}
+use Rattle.idl_print.specs.declared.sorts.Sort.{Sort}
+use Rattle.idl_print.specs.Layout.{token_text, sort_of, between, indent_behind, printed, layout, kinds_of, HasText, HaveTexts}
+use Rattle.idl_print.proofs.Printed.{layout_again}
 use Rattle.idl_tree.specs.Pieces.{What, Pieces, Stands, Front, Written}
 use Rattle.idl_tree.specs.Pieces.What.{Of, Opens}
 use Rattle.idl_tree.specs.Files.{ast_pieces}

@@ -2,7 +2,7 @@
 use Rattle.std.specs.Prelude.{ℕ, List, map}
 use Rattle.idl_tokens.specs.declared.kinds.Kind.{Kind}
 use Rattle.idl_tokens.specs.declared.kinds.Kind.TheVariants as kinds
-use Rattle.idl_layout.specs.Layout.{layout}
+use Rattle.idl_print.specs.Layout.{layout}
 use Rattle.idl_tree.specs.Pieces.{What, Pieces}
 use Rattle.idl_tree.specs.Pieces.What.{Of, Opens}
 use Rattle.idl_tree.specs.Files.{ast_pieces}

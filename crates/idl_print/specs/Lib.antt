@@ -1,2 +1,4 @@
 pub mod Canonical
+pub mod Layout
+pub mod Pages
 pub mod Prints

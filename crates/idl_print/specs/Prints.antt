@@ -1,6 +1,6 @@
 -- What the parts of a tree leave on a page.
-use Rattle.idl_layout.specs.declared.page.Page.{Page}
-use Rattle.idl_layout.specs.Pages.{Puts}
+use Rattle.idl_print.specs.declared.page.Page.{Page}
+use Rattle.idl_print.specs.Pages.{Puts}
 use Rattle.idl_tree.specs.Pieces.{Pieces}
 use Rattle.idl_print.specs.Canonical.{kinds_in}
 

@@ -7,10 +7,10 @@ ghost use Rattle.idl_tree.specs.Pieces.{within, word_pieces, ident_pieces, if_ma
 ghost use Rattle.idl_tree.specs.Trees.{label_kind_pieces, label_pieces, dtors_pieces, names_pieces, tag_pieces};
 ghost use Rattle.idl_print.specs.Prints.{Prints};
 
+use crate::Page;
 use crate::leaf::{dtor, mark_if, num, size_ref};
 use crate::list::{Print, with_commas};
 use crate::tokens::{bad, mark, name, open, range_word, shut, word};
-use idl_layout::Page;
 use idl_tokens::{Bracket, Mark, Word};
 use idl_tree::{Dtor, Ident, Label, LabelKind, Num, SizeRef};
 use rpc_base::NoMemory;

@@ -9,12 +9,12 @@ ghost use Rattle.idl_tree.specs.Trees.{attrs_pieces, spec_pieces, dtors_pieces};
 ghost use Rattle.idl_tree.specs.Files.{minor_pieces, file_attr_kind_pieces, file_attr_pieces, param_pieces, params_pieces, decl_kind_pieces, decl_pieces, ast_pieces};
 ghost use Rattle.idl_print.specs.Prints.{Prints};
 
+use crate::Page;
 use crate::attribute::dtors;
 use crate::leaf::{base, dtor, num, pk, word_if};
 use crate::list::{Print, each, with_commas};
 use crate::tokens::{end, mark, name, open, shut, text, uuid, word};
 use crate::types::{attrs, spec};
-use idl_layout::Page;
 use idl_tokens::{Bracket, Mark, Word};
 use idl_tree::{
     Ast, Attr, Base, Decl, DeclKind, Dtor, FileAttr, FileAttrKind, Ident, Num, ParamNode, Spec,

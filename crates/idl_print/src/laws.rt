@@ -1,10 +1,10 @@
 //! The laws of canonical texts.
 ghost use Rattle.std.specs.Prelude.{◌≡◌, ℕ, Bool, List, []};
-ghost use Rattle.ebnf.specs.Ebnf.{Matches};
+ghost use Rattle.idl_tokens.specs.Ebnf.{Matches};
 ghost use Rattle.idl_tokens.specs.declared.kinds.Token.{Token};
 ghost use Rattle.idl_tokens.specs.Terminals.{terminals};
 ghost use Rattle.idl_tokens.specs.Tokens.{AreTokens};
-ghost use Rattle.idl_layout.specs.Layout.{kinds_of};
+ghost use Rattle.idl_print.specs.Layout.{kinds_of};
 ghost use Rattle.idl_tree.specs.declared.declaration.Ast.{Ast};
 ghost use Rattle.idl_tree.specs.Grammar.{rule, file};
 ghost use Rattle.idl_tree.specs.Idl.{IsTree, IsIdl, FirstDeparture};

@@ -4,8 +4,8 @@ ghost use Rattle.idl_tokens.specs.declared.marks.Mark.TheVariants as marks;
 ghost use Rattle.idl_tree.specs.Pieces.{if_word, if_mark, if_ident, num_pieces, pk_pieces, int_size_pieces, base_pieces, size_pieces, array_pieces, star_pieces, dtor_pieces, ref_pieces};
 ghost use Rattle.idl_print.specs.Prints.{Prints};
 
+use crate::Page;
 use crate::tokens::{bad, mark, name, open, shut, word};
-use idl_layout::Page;
 use idl_tokens::{Bracket, Mark, Word};
 use idl_tree::{ArraySize, Base, Dtor, Ident, Num, Pk, SizeRef};
 use rpc_base::NoMemory;

@@ -5,8 +5,8 @@ ghost use Rattle.idl_tokens.specs.declared.marks.Mark.TheVariants as marks;
 ghost use Rattle.idl_tree.specs.Pieces.{commas, mark_pieces};
 ghost use Rattle.idl_print.specs.Prints.{Prints};
 
+use crate::Page;
 use crate::tokens::mark;
-use idl_layout::Page;
 use idl_tokens::Mark;
 use rpc_base::NoMemory;
 

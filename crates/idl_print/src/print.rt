@@ -2,8 +2,8 @@
 ghost use Rattle.std.specs.Prelude.{◌≡◌, ◌++◌, OnOk, OnErr};
 ghost use Rattle.idl_print.specs.Canonical.{canonical_text};
 
+use crate::Page;
 use crate::declaration::ast;
-use idl_layout::Page;
 use idl_tree::Ast;
 use rpc_base::NoMemory;
 use std::alloc::Global;

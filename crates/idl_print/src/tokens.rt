@@ -4,7 +4,7 @@ ghost use Rattle.idl_tokens.specs.declared.kinds.Kind.TheVariants as kinds;
 ghost use Rattle.idl_tree.specs.Pieces.{alone, word_pieces, mark_pieces, open_pieces, shut_pieces, end_pieces, text_pieces, uuid_pieces, ident_pieces, range_pieces};
 ghost use Rattle.idl_print.specs.Prints.{Prints};
 
-use idl_layout::Page;
+use crate::Page;
 use idl_tokens::{Bracket, Mark, RANGE_WORD, Word};
 use idl_tree::Ident;
 use rpc_base::NoMemory;

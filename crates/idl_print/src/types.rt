@@ -8,11 +8,11 @@ ghost use Rattle.idl_tree.specs.Pieces.{within, word_pieces, mark_pieces, if_ide
 ghost use Rattle.idl_tree.specs.Trees.{attr_kind_pieces, kind_pieces, spec_pieces, attr_pieces, attrs_pieces, member_pieces, switch_pieces, arm_member_pieces, arm_pieces, names_pieces, tag_pieces};
 ghost use Rattle.idl_print.specs.Prints.{Prints};
 
+use crate::Page;
 use crate::attribute::{dtors, names, range, sized, switch_is, tag_alone};
 use crate::leaf::{base, name_if, pk};
 use crate::list::each;
 use crate::tokens::{mark, name, open, shut, word};
-use idl_layout::Page;
 use idl_tokens::{Bracket, Mark, Word};
 use idl_tree::{ArmNode, Attr, AttrKind, Ident, Member, Spec, SpecKind, Switch};
 use rpc_base::NoMemory;

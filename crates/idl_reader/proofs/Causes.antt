@@ -2,7 +2,7 @@
 use Rattle.std.proofs.Common.{◌≡◌, ℕ, ◌<◌, ◌-◌, Bool, true, List, refl, subst, inl, inr, length, get_or, arith}
 use Rattle.std.specs.Prelude.{◌⊎◌, Result, Ok, Err, IfErr}
 use Rattle.idl_tokens.proofs.Once.{cut_once}
-use Rattle.ebnf.specs.Machine.{parse}
+use Rattle.idl_tokens.specs.Machine.{parse}
 use Rattle.idl_tokens.specs.declared.kinds.Kind.{Kind}
 use Rattle.idl_tokens.specs.declared.kinds.Kind.TheVariants as kinds
 use Rattle.idl_tokens.specs.declared.kinds.Token.{Token}

@@ -1,10 +1,10 @@
 -- A class that a grammar lacks the machine never passes.
 use Rattle.std.proofs.Common.{◌≡◌, ℕ, Bool, true, false, eqb, nat_lt, cond, ◌&&◌, ◌||◌, not, List, [], ◌∷◌, ◌++◌, refl, ap, ◌∙◌, subst, inl, inr, Option, None, Some}
 use Rattle.std.specs.Prelude.{Result, Ok, Err}
-use Rattle.ebnf.specs.Ebnf.{Ebnf, Terminal, has}
-use Rattle.ebnf.specs.Ebnf.Ebnf.{One, Seq, Alt, Opt, Many, Within}
-use Rattle.ebnf.specs.Machine.{null, nulls, joined, or_else, after, after_all, Next, Stuck, ended, sized, go}
-use Rattle.ebnf.proofs.Sound.{and_both, cond_is, joined_is, or_is}
+use Rattle.idl_tokens.specs.Ebnf.{Ebnf, Terminal, has}
+use Rattle.idl_tokens.specs.Ebnf.Ebnf.{One, Seq, Alt, Opt, Many, Within}
+use Rattle.idl_tokens.specs.Machine.{null, nulls, joined, or_else, after, after_all, Next, Stuck, ended, sized, go}
+use Rattle.idl_tokens.proofs.Sound.{and_both, cond_is, joined_is, or_is}
 use Rattle.idl_tokens.specs.Terminals.{closing}
 
 -- no token of the class is in it, but in its brackets

@@ -1,18 +1,18 @@
 -- The readers' order and the grammar are one.
 use Rattle.std.proofs.Common.{◌≡◌, ℕ, Bool, true, false, List, [], ◌∷◌, refl, ◌^◌, ap, sym, ◌∙◌, ◌||◌, eqb, nat_lt}
 use Rattle.std.specs.Prelude.{◌&&◌, if◌then◌else◌, Result, Ok, Err}
-use Rattle.ebnf.specs.Ebnf.{Ebnf, Terminal, has}
-use Rattle.ebnf.specs.Ebnf.Ebnf.{Seq, Alt, Opt, Many}
-use Rattle.ebnf.specs.Machine.{null, Stuck, parse, token, sized, ◌>>=◌}
-use Rattle.ebnf.specs.Checks.{first, heads}
+use Rattle.idl_tokens.specs.Ebnf.{Ebnf, Terminal, has}
+use Rattle.idl_tokens.specs.Ebnf.Ebnf.{Seq, Alt, Opt, Many}
+use Rattle.idl_tokens.specs.Machine.{null, Stuck, parse, token, sized, ◌>>=◌}
+use Rattle.idl_tokens.specs.Checks.{first, heads}
 use Rattle.idl_tokens.specs.declared.marks.Mark.TheVariants as marks
 use Rattle.idl_tokens.specs.declared.words.Word.TheVariants as words
 use Rattle.idl_tree.specs.Combinators.{a_word, a_mark, a_name, a_number, a_text, a_uuid, the_end, name_classes, level_limit}
 use Rattle.idl_tree.specs.Grammar.{rule, base, sizeable, dtor, body, struct_rest, union_body, union_rest, enum_body, enum_rest, typed, plain, spec, spec_but_void, attrs, param, param_but_void, more_params, params, op_rest, tagged_or, lone_or_op, const_decl, typedef_decl, decl, version, file_attr, file}
 use Rattle.idl_parts.specs.Along.{Along, if_next, in_round, more_of, name_at, signed_at, pk_at, base_at, dtor_at, dtors_at, enum_body_at, enum_rest_at, word_at, mark_at, uuid_at, end_at, text_at}
-use Rattle.idl_types.specs.Along.{typed_at, plain_at, struct_rest_at, union_body_at, union_rest_at, spec_at, if_attrs_at}
+use Rattle.idl_reader.specs.TypesAlong.{typed_at, plain_at, struct_rest_at, union_body_at, union_rest_at, spec_at, if_attrs_at}
 use Rattle.idl_parts.proofs.Orders.{Law, bind_same, law_seq, law_opt, law_alt, law_within, law_one, law_same, law_many, law_more, name_law, signed_law, pk_law, base_law, dtor_law, dtors_law, enum_body_law, enum_rest_law}
-use Rattle.idl_types.proofs.Orders.{tagged_struct_law, union_body_law, struct_rest_law, union_rest_law, typed_law, plain_law, spec_law, attrs_spec_law, if_attrs_law, semicolon_law}
+use Rattle.idl_reader.proofs.TypesOrders.{tagged_struct_law, union_body_law, struct_rest_law, union_rest_law, typed_law, plain_law, spec_law, attrs_spec_law, if_attrs_law, semicolon_law}
 use Rattle.idl_reader.specs.Along.{version_number_at, minor_at, version_at, comma_text_at, texts_at, uuid_attr_at, version_attr_at, default_attr_at, endpoint_attr_at, file_attr_at, comma_file_attr_at, file_attr_list_at, file_attrs_at, param_at, comma_param_at, params_start, void_first_at, params_at, op_rest_at, is_tagged, tail_at, lone_or_op_at, const_decl_at, typedef_decl_at, decl_at, decl_start, decls_at, decl_body_at, file_at}
 use Rattle.idl_tokens.specs.Terminals.{of_word, of_mark, opening, closing, number_class, text_class, uuid_class, end_class}
 use Rattle.idl_tokens.specs.declared.marks.Bracket.TheVariants as brackets

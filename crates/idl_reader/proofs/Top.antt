@@ -2,14 +2,14 @@
 use Rattle.std.proofs.Common.{◌≡◌, ℕ, ◌<◌, ◌≤◌, ◌-◌, ◌+◌, Bool, true, false, eqb, List, [], ◌∷◌, ◌++◌, refl, ap, sym, ◌∙◌, subst, inl, inr, Option, None, Some, length, length-append, get_or, arith}
 use Rattle.std.specs.Prelude.{◌⊎◌, Result, Ok, Err, if◌then◌else◌}
 use Rattle.std.proofs.Math.Seq.{get_or-append_seam}
-use Rattle.ebnf.specs.Ebnf.{Ebnf, Terminal, Matches, has}
-use Rattle.ebnf.specs.Ebnf.Ebnf.{Seq}
-use Rattle.ebnf.specs.Machine.{Stuck, parse, token, sized, ◌>>=◌}
-use Rattle.ebnf.specs.Stacks.{Begins, CannotGoOn}
-use Rattle.ebnf.specs.Laws.{Gone}
-use Rattle.ebnf.proofs.Departs.{go_departs, go_sound}
-use Rattle.ebnf.proofs.Once.{go_complete}
-use Rattle.ebnf.proofs.Equations.{parse_seq, parse_one}
+use Rattle.idl_tokens.specs.Ebnf.{Ebnf, Terminal, Matches, has}
+use Rattle.idl_tokens.specs.Ebnf.Ebnf.{Seq}
+use Rattle.idl_tokens.specs.Machine.{Stuck, parse, token, sized, ◌>>=◌}
+use Rattle.idl_tokens.specs.Stacks.{Begins, CannotGoOn}
+use Rattle.idl_tokens.specs.EbnfLaws.{Gone}
+use Rattle.idl_tokens.proofs.Departs.{go_departs, go_sound}
+use Rattle.idl_tokens.proofs.EbnfOnce.{go_complete}
+use Rattle.idl_tokens.proofs.Equations.{parse_seq, parse_one}
 use Rattle.idl_tokens.specs.declared.kinds.Token.{Token}
 use Rattle.idl_tokens.specs.Terminals.{terminal, terminals, bad_class, end_class}
 use Rattle.idl_tokens.specs.Laws.{EndsOnce}

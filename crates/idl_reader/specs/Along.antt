@@ -1,13 +1,13 @@
 -- The machine along the parts of a whole text, in the readers' order.
 use Rattle.std.specs.Prelude.{ℕ, ◌^◌, List, [], ◌∷◌, Bool, false, ◌&&◌, if◌then◌else◌, Ok, ◌++◌}
-use Rattle.ebnf.specs.Ebnf.{Terminal}
-use Rattle.ebnf.specs.Ebnf.Ebnf.{Many}
-use Rattle.ebnf.specs.Machine.{◌>>=◌, token, parse}
-use Rattle.ebnf.specs.Checks.{heads}
+use Rattle.idl_tokens.specs.Ebnf.{Terminal}
+use Rattle.idl_tokens.specs.Ebnf.Ebnf.{Many}
+use Rattle.idl_tokens.specs.Machine.{◌>>=◌, token, parse}
+use Rattle.idl_tokens.specs.Checks.{heads}
 use Rattle.idl_tree.specs.Combinators.{a_text, name_classes}
 use Rattle.idl_tree.specs.Grammar.{rule, param, file_attr, decl}
 use Rattle.idl_parts.specs.Along.{Along, if_next, in_round, more_of, name_at, signed_at, pk_at, base_at, dtor_at, dtors_at, word_at, mark_at, open_at, shut_at, text_at, uuid_at, end_at}
-use Rattle.idl_types.specs.Along.{spec_at, if_attrs_at, base_start, spec_start}
+use Rattle.idl_reader.specs.TypesAlong.{spec_at, if_attrs_at, base_start, spec_start}
 use Rattle.idl_tokens.specs.Terminals.{of_word, of_mark, opening, number_class}
 use Rattle.idl_tokens.specs.declared.words.Word.TheVariants as words
 use Rattle.idl_tokens.specs.declared.marks.Mark.TheVariants as marks

@@ -1,7 +1,7 @@
 //! Readers of declarations.
 ghost use Rattle.std.specs.Prelude.{◌≡◌, ℕ, ◌<◌, ◌≤◌, ◌++◌, List, [], ◌∷◌, IfOk, length};
 ghost use Rattle.std.specs.List.{flat_map};
-ghost use Rattle.ebnf.specs.Checks.{heads};
+ghost use Rattle.idl_tokens.specs.Checks.{heads};
 ghost use Rattle.idl_tokens.specs.declared.kinds.Token.{Token};
 ghost use Rattle.idl_tokens.specs.declared.marks.Bracket.TheVariants as brackets;
 ghost use Rattle.idl_tokens.specs.Terminals.{terminals};
@@ -12,12 +12,12 @@ ghost use Rattle.idl_parts.specs.Reads.{Gives};
 ghost use Rattle.idl_reader.specs.Along.{is_tagged as has_tag_next, lone_or_op_at, const_decl_at, typedef_decl_at, decl_at, decl_start, decl_body_at};
 
 use crate::operations::op_rest;
+use crate::{attrs, spec};
 use idl_parts::{
     Stop, base, dtors, is_mark, is_next, is_word, mark, name, open, place, shut, signed, word,
 };
 use idl_tokens::{Bracket, Mark, Token, Word, class};
 use idl_tree::{Attr, Decl, DeclKind};
-use idl_types::{attrs, spec};
 use std::alloc::Global;
 
 /// Reads a constant.

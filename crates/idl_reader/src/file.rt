@@ -1,6 +1,6 @@
 //! The reader of the tokens of a whole text.
 ghost use Rattle.std.specs.Prelude.{◌≡◌, IfOk};
-ghost use Rattle.ebnf.specs.Machine.{parse};
+ghost use Rattle.idl_tokens.specs.Machine.{parse};
 ghost use Rattle.idl_tokens.specs.Terminals.{terminals};
 ghost use Rattle.idl_tree.specs.Grammar.{rule, file as file_part};
 ghost use Rattle.idl_tree.specs.Pieces.{Written};

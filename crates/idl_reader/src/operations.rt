@@ -1,6 +1,6 @@
 //! Readers of parameters and of what makes a declaration an operation.
 ghost use Rattle.std.specs.Prelude.{◌≡◌, ℕ, ◌<◌, ◌≤◌, ◌++◌, List, [], ◌∷◌, IfOk, length};
-ghost use Rattle.ebnf.specs.Checks.{heads};
+ghost use Rattle.idl_tokens.specs.Checks.{heads};
 ghost use Rattle.idl_tokens.specs.declared.kinds.Token.{Token};
 ghost use Rattle.idl_tokens.specs.declared.marks.Mark.TheVariants as marks;
 ghost use Rattle.idl_tokens.specs.declared.marks.Bracket.TheVariants as brackets;
@@ -12,10 +12,10 @@ ghost use Rattle.idl_parts.specs.Reads.{Gives};
 ghost use Rattle.idl_parts.specs.Along.{more_of};
 ghost use Rattle.idl_reader.specs.Along.{param_at, comma_param_at, params_start, void_first_at, params_at, op_rest_at};
 
+use crate::{attrs, spec};
 use idl_parts::{Stop, dtor, is_mark, is_next, is_word, mark, name, open, place, shut, word};
 use idl_tokens::{Bracket, Mark, Token, Word, class};
 use idl_tree::{Ident, ParamNode, Spec, SpecKind};
-use idl_types::{attrs, spec};
 use std::alloc::Global;
 
 /// Reads a parameter.

@@ -1,4 +1,4 @@
 pub mod Leasts
 pub mod Mapped
-pub mod Twins
 pub mod Seen
+pub mod Twins

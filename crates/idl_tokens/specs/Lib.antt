@@ -1,7 +1,12 @@
+pub mod Checks
 pub mod Contexts
+pub mod Ebnf
+pub mod EbnfLaws
 pub mod Firsts
 pub mod Laws
+pub mod Machine
 pub mod Runs
-pub mod Terminals
 pub mod Spellings
+pub mod Stacks
+pub mod Terminals
 pub mod Tokens

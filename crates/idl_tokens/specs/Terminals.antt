@@ -1,6 +1,6 @@
 -- How the grammar sees tokens.
 use Rattle.std.specs.Prelude.{ℕ, ◌^◌, List, [], ◌∷◌, None, Some, codes, bytes_eq, if◌then◌else◌}
-use Rattle.ebnf.specs.Ebnf.{Terminal}
+use Rattle.idl_tokens.specs.Ebnf.{Terminal}
 use Rattle.idl_tokens.specs.declared.words.Word.{Word}
 use Rattle.idl_tokens.specs.declared.words.Word.TheVariants as words
 use Rattle.idl_tokens.specs.declared.marks.Mark.{Mark}

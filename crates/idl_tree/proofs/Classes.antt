@@ -4,8 +4,8 @@ use Rattle.std.specs.Prelude.{◌⊎◌, Bool, true, false, bytes_eq, if◌then�
 use Rattle.std.proofs.lemmas.Bool.{eqb-true}
 use Rattle.std.proofs.lemmas.Slice.Eq.{bytes_eq-Decides}
 use Rattle.std.proofs.Math.Bool.{or-false}
-use Rattle.ebnf.specs.Ebnf.{has}
-use Rattle.ebnf.proofs.Sets.{has_either}
+use Rattle.idl_tokens.specs.Ebnf.{has}
+use Rattle.idl_tokens.proofs.Sets.{has_either}
 use Rattle.idl_tree.specs.Combinators.{name_classes}
 use Rattle.idl_tokens.specs.declared.words.Word.{Word}
 use Rattle.idl_tokens.specs.declared.words.Word.TheVariants as words

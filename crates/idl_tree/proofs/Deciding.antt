@@ -2,13 +2,13 @@
 use Rattle.std.proofs.Common.{◌≡◌, ℕ, Bool, true, false, eqb, List, [], ◌∷◌, ◌++◌, refl, subst, ◌^◌, sym, append_assoc, ◌<◌, arith}
 use Rattle.std.specs.Prelude.{if◌then◌else◌}
 use Rattle.std.proofs.lemmas.Bool.{eq-eqb}
-use Rattle.ebnf.specs.Ebnf.{Ebnf, Terminal, Matches}
-use Rattle.ebnf.specs.Ebnf.Ebnf.{One, Seq, Alt, Opt, Many, Within}
-use Rattle.ebnf.specs.Ebnf.Matches.{one, seq, left, right, none, stop, within}
-use Rattle.ebnf.specs.Checks.{decides, full, fulls}
-use Rattle.ebnf.specs.Stacks.{Good}
-use Rattle.ebnf.specs.Laws.{Word, Sorted}
-use Rattle.ebnf.proofs.Sets.{or_left}
+use Rattle.idl_tokens.specs.Ebnf.{Ebnf, Terminal, Matches}
+use Rattle.idl_tokens.specs.Ebnf.Ebnf.{One, Seq, Alt, Opt, Many, Within}
+use Rattle.idl_tokens.specs.Ebnf.Matches.{one, seq, left, right, none, stop, within}
+use Rattle.idl_tokens.specs.Checks.{decides, full, fulls}
+use Rattle.idl_tokens.specs.Stacks.{Good}
+use Rattle.idl_tokens.specs.EbnfLaws.{Word, Sorted}
+use Rattle.idl_tokens.proofs.Sets.{or_left}
 use Rattle.idl_tree.specs.Combinators.{a_word, a_mark, a_name, a_range, a_number, a_text, a_uuid, the_end, level_limit}
 use Rattle.idl_tree.specs.Grammar.{pk, signed, bounds, sizeable, base, array_size, dtor, dtors, body, struct_rest, switch_part, union_body, union_rest, enum_body, enum_rest, typed, plain, spec, spec_but_void, star_name, size_ref, attr, attrs, member, members, label, arm, arms, param, param_but_void, more_params, params, op_rest, lone_or_op, const_decl, typedef_decl, decl, version, file_attr, file, rule}
 use Rattle.idl_tokens.specs.Terminals.{of_word, of_mark, opening, closing, name_class, number_class, text_class, uuid_class, range_class}

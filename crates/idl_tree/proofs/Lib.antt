@@ -1,4 +1,4 @@
 pub mod Classes
-pub mod Writing
 pub mod Deciding
 pub mod Layers
+pub mod Writing

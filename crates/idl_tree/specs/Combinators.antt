@@ -1,7 +1,7 @@
 -- Of what the grammar of interface texts is made: single tokens, one part after the other, either of two, brackets, lists.
 use Rattle.std.specs.Prelude.{ℕ, ◌^◌, List, [], ◌∷◌, if◌then◌else◌, eqb, map}
-use Rattle.ebnf.specs.Ebnf.{Ebnf}
-use Rattle.ebnf.specs.Ebnf.Ebnf.{One, Seq, Alt, Opt, Many, Within}
+use Rattle.idl_tokens.specs.Ebnf.{Ebnf}
+use Rattle.idl_tokens.specs.Ebnf.Ebnf.{One, Seq, Alt, Opt, Many, Within}
 use Rattle.idl_tokens.specs.declared.words.Word.{Word}
 use Rattle.idl_tokens.specs.declared.words.Word.TheVariants as words
 use Rattle.idl_tokens.specs.declared.marks.Mark.{Mark}

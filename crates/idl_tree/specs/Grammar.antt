@@ -1,7 +1,7 @@
 -- The grammar of interface texts, in the form in which one token decides (C706, "Interface Definition Language").
 use Rattle.std.specs.Prelude.{ℕ, ◌^◌, List, [], ◌∷◌, if◌then◌else◌, eqb, map}
-use Rattle.ebnf.specs.Ebnf.{Ebnf}
-use Rattle.ebnf.specs.Ebnf.Ebnf.{One, Seq, Alt, Opt, Many, Within}
+use Rattle.idl_tokens.specs.Ebnf.{Ebnf}
+use Rattle.idl_tokens.specs.Ebnf.Ebnf.{One, Seq, Alt, Opt, Many, Within}
 use Rattle.idl_tokens.specs.declared.words.Word.{Word}
 use Rattle.idl_tokens.specs.declared.words.Word.TheVariants as words
 use Rattle.idl_tokens.specs.declared.marks.Mark.{Mark}

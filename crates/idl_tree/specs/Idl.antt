@@ -1,6 +1,6 @@
 -- Which tree a text has, and where a text departs from the grammar (C706, "Interface Definition Language").
 use Rattle.std.specs.Prelude.{◌≡◌, ℕ, List, [], ◌∷◌, ◌++◌, ◌↔◌, Bool, true}
-use Rattle.ebnf.specs.Ebnf.{Terminal, Matches}
+use Rattle.idl_tokens.specs.Ebnf.{Terminal, Matches}
 use Rattle.idl_tokens.specs.declared.kinds.Token.{Token}
 use Rattle.idl_tokens.specs.Terminals.{terminal, terminals}
 use Rattle.idl_tokens.specs.Tokens.{AreTokens}

@@ -1,6 +1,6 @@
 pub mod Combinators
+pub mod Files
 pub mod Grammar
+pub mod Idl
 pub mod Pieces
 pub mod Trees
-pub mod Files
-pub mod Idl

@@ -8,8 +8,7 @@ ghost use Rattle.idl_uses.specs.Offers as spec;
 
 use idl_outline::{Declared, Field};
 use idl_rules::{Asked, Saying, by_value, has, is_asked, is_one_pointer, is_parameter, is_unknown};
-use name_map::{Names, named, put};
-use rpc_base::NoMemory;
+use rpc_base::{Names, NoMemory, named, put};
 use std::alloc::Global;
 use std::collections::BTreeMap;
 

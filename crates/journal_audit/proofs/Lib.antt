@@ -1,2 +1,14 @@
+pub mod Conflicts
+pub mod Departures
+pub mod Items
+pub mod Journals
+pub mod Keeps
+pub mod Lines
+pub mod Lookups
+pub mod Orders
 pub mod Read
 pub mod Seen
+pub mod Sets
+pub mod SoFar
+pub mod Sounds
+pub mod Verdicts

@@ -10,20 +10,20 @@ use Rattle.handle_model.specs.declared.base.Base.{Base}
 use Rattle.handle_model.specs.Bases.{empty_base}
 use Rattle.handle_model.specs.Sound.{is_held, IsSoundBase}
 use Rattle.handle_model.proofs.Steps.{empty_base_sound}
-use Rattle.handle_text.specs.Texts.{group_text, base_text, base_call_text, base_calls_text, entry_text, entries_text}
+use Rattle.journal_text.specs.Texts.{group_text, base_text, base_call_text, base_calls_text, entry_text, entries_text}
 use Rattle.journal_reader.specs.Fits.{FitsCall, FitsEntry}
 use Rattle.journal_reader.specs.Lines.{BeginsWithGroup, BeginsWithNoGroup, BeginsWithBase, BeginsWithNoBase, BeginsWithCall, BeginsWithNoCall, BeginsWithEntry, BeginsWithNoEntry}
 use Rattle.journal_reader.proofs.Heads.{group_fed, base_fed, call_fed, entry_fed}
 use Rattle.journal_reader.proofs.Listing.{fit_more}
-use Rattle.handle_rules.specs.Verdicts.{Tells}
+use Rattle.journal_rules.specs.Verdicts.{Tells}
 use Rattle.journal_audit.specs.declared.verdict.GroupVerdict.{GroupVerdict}
 use Rattle.journal_audit.specs.declared.verdict.AuditFault.{AuditFault}
 use Rattle.journal_audit.specs.declared.verdict.AuditFault.TheVariants as faults
-use Rattle.journal_bases.specs.SoFar.{with_call, IsSoundSoFar}
+use Rattle.journal_audit.specs.SoFar.{with_call, IsSoundSoFar}
 use Rattle.journal_audit.specs.Files.{Journal, HasBase, GoesOnFrom, HasJournal, journal_size, HasJournals, sizes}
 use Rattle.journal_audit.specs.Told.{TellsOf, TellsAll, Audited, Faulted, ToldOf, JournalFault, BaseRead, BaseFault}
 use Rattle.journal_audit.specs.Watching.{Watched, started, Watches, WatchesAll, said_of, EntriesRead}
-use Rattle.journal_bases.proofs.Sounds.{sound_by_lines}
+use Rattle.journal_audit.proofs.Sounds.{sound_by_lines}
 use Rattle.journal_audit.proofs.Seen.{seen_start, seen_all, seen_told}
 
 -- LENGTHS

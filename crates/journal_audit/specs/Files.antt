@@ -7,10 +7,10 @@ use Rattle.handle_model.specs.declared.base.BaseCall.{BaseCall}
 use Rattle.handle_model.specs.declared.base.Base.{Base}
 use Rattle.handle_model.specs.Bases.{empty_base}
 use Rattle.handle_model.specs.Sound.{is_held}
-use Rattle.handle_text.specs.Texts.{base_text, base_calls_text, entries_text}
+use Rattle.journal_text.specs.Texts.{base_text, base_calls_text, entries_text}
 use Rattle.journal_reader.specs.Fits.{FitsBase, FitsCall, FitsEntry}
 use Rattle.journal_reader.specs.Lines.{BeginsWithGroup, BeginsWithNoGroup, BeginsWithBase, BeginsWithNoBase, BeginsWithCall, BeginsWithNoCall, BeginsWithNoEntry}
-use Rattle.journal_bases.specs.SoFar.{with_call, IsSoundSoFar}
+use Rattle.journal_audit.specs.SoFar.{with_call, IsSoundSoFar}
 
 -- A journal as its lines have it: whose it is, what it goes on from, and its entries, oldest first.
 pub record Journal : Type 0 where

@@ -3,8 +3,8 @@ ghost use Rattle.std.specs.Prelude.{◌≡◌, ◌+◌, ◌≤◌, ◌<◌, ◌^
 ghost use Rattle.journal_audit.specs.Told.{BaseRead, BaseFault};
 
 use crate::verdict::AuditFault;
+use crate::{Growing, is_sound_head};
 use handle_model::{Base, Home};
-use journal_bases::{Growing, is_sound_head};
 use journal_reader::{next_base, next_call};
 use std::alloc::Global;
 

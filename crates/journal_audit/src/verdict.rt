@@ -2,7 +2,7 @@
 ghost use Rattle.std.specs.Prelude.{◌≡◌};
 ghost use Rattle.journal_audit.specs.declared.verdict.AuditFault.TheVariants.{Memory};
 
-use handle_rules::Verdict;
+use journal_rules::Verdict;
 use rpc_base::{Items, NoMemory};
 use thiserror::Error;
 

@@ -6,7 +6,7 @@ ghost use Rattle.journal_audit.specs.Watching as spec;
 
 use audit_tables::AuditTables;
 use handle_model::{Base, Entry, Home};
-use handle_rules::Verdict;
+use journal_rules::Verdict;
 use rpc_base::NoMemory;
 use std::alloc::Global;
 use std::marker::Model;

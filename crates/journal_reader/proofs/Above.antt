@@ -7,18 +7,18 @@ use Rattle.std.proofs.lemmas.Bool.{and_parts}
 use Rattle.std.proofs.lemmas.Bool.Decides.{nat_tests}
 use Rattle.std.proofs.lemmas.List.Elements.{All-cons, All-nil, All-append}
 use Rattle.hex.specs.Hex.{encode_lower, IsBytes}
-use Rattle.rpc_words.specs.Reads.{HasNo}
-use Rattle.rpc_words.specs.Words.{hex_u32, hex_u64, hex_u128, is_hex_mark}
-use Rattle.rpc_words.proofs.Hexadecimal.{marks-encode}
-use Rattle.rpc_words.proofs.Numbers.{IsBytes-be_4, IsBytes-be_8}
-use Rattle.rpc_words.proofs.Wide.{hex_u128-halves}
+use Rattle.base_words.specs.Reads.{HasNo}
+use Rattle.base_words.specs.Words.{hex_u32, hex_u64, hex_u128, is_hex_mark}
+use Rattle.base_words.proofs.Hexadecimal.{marks-encode}
+use Rattle.base_words.proofs.Numbers.{IsBytes-be_4, IsBytes-be_8}
+use Rattle.base_words.proofs.Wide.{hex_u128-halves}
 use Rattle.rpc_base.specs.declared.identifiers.WireHandle.{WireHandle}
 use Rattle.handle_model.specs.declared.entry.Slot.{Slot}
 use Rattle.handle_model.specs.declared.entry.Slot.TheVariants.{Shares, Holds, Changes, Opens}
 use Rattle.handle_model.specs.declared.entry.Outcome.{Outcome}
 use Rattle.handle_model.specs.declared.entry.Outcome.TheVariants.{Keep, Close, Issue, Nothing}
 use Rattle.handle_model.specs.declared.entry.DueItem.{DueItem}
-use Rattle.handle_text.specs.Texts.{wire_text, use_word, slot_text, outcome_text, cookie_text, due_text, list_text, tail_text}
+use Rattle.journal_text.specs.Texts.{wire_text, use_word, slot_text, outcome_text, cookie_text, due_text, list_text, tail_text}
 use Rattle.journal_reader.specs.Fits.{FitsSlot, FitsOutcome, FitsCookie, FitsDue, FitsConn}
 use Rattle.journal_reader.specs.Lists.{IsItemText}
 use Rattle.journal_reader.proofs.Marks.{marks_decimal}

@@ -1,14 +1,14 @@
 -- The words of the lines that begin a journal.
 use Rattle.std.proofs.Common.{◌≡◌, ℕ, Bool, true, false, List, [], ◌∷◌, ◌++◌, length, refl, sym, ◌∙◌, ap, arith, append_assoc, codes, decimal}
 use Rattle.std.specs.List.{join_with_byte, AllByRecursion}
-use Rattle.rpc_words.specs.Reads.{HasNo}
-use Rattle.rpc_words.specs.Words.{octets_text, hex_u64}
-use Rattle.rpc_words.proofs.Ink.{HasNo-ink, ink_octets, ink_hex_u64}
+use Rattle.base_words.specs.Reads.{HasNo}
+use Rattle.base_words.specs.Words.{octets_text, hex_u64}
+use Rattle.base_words.proofs.Ink.{HasNo-ink, ink_octets, ink_hex_u64}
 use Rattle.handle_model.specs.declared.entry.Home.{Home}
 use Rattle.handle_model.specs.declared.entry.Asked.{Asked}
 use Rattle.handle_model.specs.declared.base.BaseCall.{BaseCall}
 use Rattle.handle_model.specs.declared.base.Base.{Base}
-use Rattle.handle_text.specs.Texts.{headed, slot_text, due_text, order_text, reply_text, asked_text, list_text, stage_text, base_lists, base_end, base_line, call_line}
+use Rattle.journal_text.specs.Texts.{headed, slot_text, due_text, order_text, reply_text, asked_text, list_text, stage_text, base_lists, base_end, base_line, call_line}
 use Rattle.journal_reader.specs.Fits.{FitsSlot, FitsDue, FitsConn, FitsHome, FitsBase, FitsCalled, FitsCall}
 use Rattle.journal_reader.specs.Parts.{Apart, home_parts, home_text, base_parts, base_rest, operation_text, called_parts, called_text, call_parts, call_text}
 use Rattle.journal_reader.proofs.Above.{above_slot, above_due, above_conn, list_no}

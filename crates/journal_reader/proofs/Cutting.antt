@@ -2,8 +2,8 @@
 use Rattle.std.proofs.Common.{◌≡◌, ℕ, ◌≤◌, Option, Some, None, List, [], ◌∷◌, ◌++◌, length, refl, ap, sym, ◌∙◌, arith, suc, Result, Ok, Err}
 use Rattle.std.specs.Prelude.{IfOk}
 use Rattle.std.specs.List.{join_with_byte}
-use Rattle.rpc_words.specs.Reads.{HasNo, Reads}
-use Rattle.rpc_words.proofs.Cuts.{same_cut, no_cut}
+use Rattle.base_words.specs.Reads.{HasNo, Reads}
+use Rattle.base_words.proofs.Cuts.{same_cut, no_cut}
 use Rattle.journal_reader.specs.Parts.{Apart, IsCut, NoCut, OneOrTwo}
 
 -- a text has as many parts in one way

@@ -2,15 +2,15 @@
 use Rattle.std.proofs.Common.{◌≢◌, ℕ, List, [], ◌∷◌, ◌++◌, refl, subst, arith, codes, decimal}
 use Rattle.std.specs.List.{join_with_byte, AllByRecursion}
 use Rattle.std.proofs.lemmas.List.Elements.{All-cons, All-nil, All-append}
-use Rattle.rpc_words.specs.Reads.{HasNo}
-use Rattle.rpc_words.specs.Words.{octets_text, hex_u32}
-use Rattle.rpc_words.proofs.Ink.{HasNo-ink, ink_octets, ink_hex_u32}
+use Rattle.base_words.specs.Reads.{HasNo}
+use Rattle.base_words.specs.Words.{octets_text, hex_u32}
+use Rattle.base_words.proofs.Ink.{HasNo-ink, ink_octets, ink_hex_u32}
 use Rattle.handle_model.specs.declared.entry.Asked.{Asked}
 use Rattle.handle_model.specs.declared.entry.Said.{Said}
 use Rattle.handle_model.specs.declared.entry.Said.TheVariants.{Out, Fault}
 use Rattle.handle_model.specs.declared.entry.Entry.{Entry}
 use Rattle.handle_model.specs.declared.entry.Entry.TheVariants.{Join, Accept, Take, Deny, Cancel, Orphan, End, Leave, Shut}
-use Rattle.handle_text.specs.Texts.{slot_text, outcome_text, cookie_text, due_text, said_text, asked_text, list_text}
+use Rattle.journal_text.specs.Texts.{slot_text, outcome_text, cookie_text, due_text, said_text, asked_text, list_text}
 use Rattle.journal_reader.specs.Fits.{FitsSlot, FitsOutcome, FitsCookie, FitsDue, FitsSaid, FitsAsked, FitsEntry}
 use Rattle.journal_reader.specs.Parts.{asked_parts, entry_parts}
 use Rattle.journal_reader.proofs.Above.{above_slot, above_outcome, above_cookie, above_due, list_no}

@@ -1,12 +1,12 @@
 -- Lines: their first words, and the line feed behind them.
 use Rattle.std.proofs.Common.{◌≡◌, ℕ, List, [], ◌∷◌, ◌++◌, length, refl, sym, ap, subst, arith, append_assoc, codes, decimal}
-use Rattle.rpc_words.specs.Reads.{HasNo}
-use Rattle.rpc_words.proofs.Cuts.{same_cut, no_cut}
+use Rattle.base_words.specs.Reads.{HasNo}
+use Rattle.base_words.proofs.Cuts.{same_cut, no_cut}
 use Rattle.handle_model.specs.declared.entry.Home.{Home}
 use Rattle.handle_model.specs.declared.entry.Entry.{Entry}
 use Rattle.handle_model.specs.declared.base.BaseCall.{BaseCall}
 use Rattle.handle_model.specs.declared.base.Base.{Base}
-use Rattle.handle_text.specs.Texts.{line, group_text, entry_text, base_line, call_line, base_text, base_call_text}
+use Rattle.journal_text.specs.Texts.{line, group_text, entry_text, base_line, call_line, base_text, base_call_text}
 use Rattle.journal_reader.specs.Fits.{FitsHome, FitsBase, FitsCall, FitsEntry}
 use Rattle.journal_reader.specs.Parts.{Apart, home_parts, base_parts, called_parts, called_text, entry_parts, group_line, group_parts, headed_base, headed_call}
 use Rattle.journal_reader.proofs.BaseWords.{home_joined, base_joined, call_joined, feed_home, feed_base, feed_called}

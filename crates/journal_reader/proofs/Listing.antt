@@ -2,9 +2,9 @@
 use Rattle.std.proofs.Common.{◌≡◌, ◌≢◌, ℕ, List, [], ◌∷◌, ◌++◌, refl, ap, sym, ◌∙◌, subst, append_assoc, codes}
 use Rattle.std.specs.List.{AllByRecursion}
 use Rattle.std.proofs.lemmas.List.{append-nil}
-use Rattle.rpc_words.specs.Reads.{HasNo}
-use Rattle.rpc_words.proofs.Cuts.{same_cut, no_cut}
-use Rattle.handle_text.specs.Texts.{list_text}
+use Rattle.base_words.specs.Reads.{HasNo}
+use Rattle.base_words.proofs.Cuts.{same_cut, no_cut}
+use Rattle.journal_text.specs.Texts.{list_text}
 use Rattle.journal_reader.specs.Lists.{IsItemText}
 
 -- a list of what is left

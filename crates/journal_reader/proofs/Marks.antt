@@ -5,8 +5,8 @@ use Rattle.std.proofs.lemmas.Bool.{and_parts}
 use Rattle.std.proofs.lemmas.Bool.Decides.{nat_tests}
 use Rattle.std.proofs.lemmas.List.Elements.{All-cons, All-nil, All-append}
 use Rattle.std.proofs.lemmas.Fmt.{decimal_by_steps}
-use Rattle.rpc_words.specs.Reads.{HasNo}
-use Rattle.rpc_words.specs.Words.{is_hex_mark}
+use Rattle.base_words.specs.Reads.{HasNo}
+use Rattle.base_words.specs.Words.{is_hex_mark}
 use Rattle.handle_model.specs.declared.entry.Slot.{Slot}
 use Rattle.handle_model.specs.declared.entry.Slot.TheVariants.{Shares, Holds, Changes, Opens}
 use Rattle.handle_model.specs.declared.entry.DueItem.{DueItem}
@@ -14,7 +14,7 @@ use Rattle.handle_model.specs.declared.entry.Outcome.{Outcome}
 use Rattle.handle_model.specs.declared.entry.Outcome.TheVariants.{Keep, Close, Issue, Nothing}
 use Rattle.handle_model.specs.declared.entry.Said.{Said}
 use Rattle.handle_model.specs.declared.entry.Said.TheVariants.{Out, Fault}
-use Rattle.handle_text.specs.Texts.{wire_text, use_word, slot_text, due_text, outcome_text, said_text}
+use Rattle.journal_text.specs.Texts.{wire_text, use_word, slot_text, due_text, outcome_text, said_text}
 use Rattle.journal_reader.specs.Fits.{FitsSlot, FitsDue, FitsIssue, FitsOutcome, FitsSaid}
 use Rattle.journal_reader.specs.Parts.{Apart, OneOrTwo, due_parts, slot_parts, use_name, issue_parts, issue_text, outcome_parts, said_parts}
 

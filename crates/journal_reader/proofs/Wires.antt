@@ -5,8 +5,8 @@ use Rattle.std.proofs.lemmas.List.{take_at, drop_at, take_all, take-append-drop}
 use Rattle.hex.specs.Hex.{lower_digits}
 use Rattle.hex.proofs.HexLemmas.{length-encode_with}
 use Rattle.rpc_base.specs.declared.identifiers.WireHandle.{WireHandle}
-use Rattle.rpc_words.specs.Words.{hex_u32, hex_u128}
-use Rattle.handle_text.specs.Texts.{wire_text}
+use Rattle.base_words.specs.Words.{hex_u32, hex_u128}
+use Rattle.journal_text.specs.Texts.{wire_text}
 
 length-hex_u32 : (n : ℕ) → length (hex_u32 n) ≡ 8
 unfolding hex_u32

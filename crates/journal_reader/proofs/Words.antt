@@ -2,8 +2,8 @@
 use Rattle.std.proofs.Common.{◌≡◌, ◌≢◌, ℕ, Bool, true, false, Option, List, [], ◌∷◌, ◌++◌, length, refl, sym, ◌∙◌, ap, arith, append_assoc, get_or, codes, decimal}
 use Rattle.std.specs.List.{join_with_byte}
 use Rattle.std.proofs.lemmas.List.Elements.{All-cons, All-append}
-use Rattle.rpc_words.specs.Reads.{HasNo}
-use Rattle.rpc_words.specs.Words.{octets_text, is_hex_mark}
+use Rattle.base_words.specs.Reads.{HasNo}
+use Rattle.base_words.specs.Words.{octets_text, is_hex_mark}
 use Rattle.rpc_base.specs.declared.identifiers.Order.{Order}
 use Rattle.rpc_base.specs.declared.identifiers.Order.TheVariants.{Big, Little}
 use Rattle.handle_model.specs.declared.entry.Asked.{Asked}
@@ -11,7 +11,7 @@ use Rattle.handle_model.specs.declared.entry.Outcome.{Outcome}
 use Rattle.handle_model.specs.declared.entry.Said.{Said}
 use Rattle.handle_model.specs.declared.entry.Entry.{Entry}
 use Rattle.handle_model.specs.declared.entry.Entry.TheVariants.{Join, Accept, Take, Deny, Cancel, Orphan, End, Leave, Shut}
-use Rattle.handle_text.specs.Texts.{headed, line, slot_text, outcome_text, cookie_text, said_text, order_text, reply_text, asked_text, list_text}
+use Rattle.journal_text.specs.Texts.{headed, line, slot_text, outcome_text, cookie_text, said_text, order_text, reply_text, asked_text, list_text}
 use Rattle.journal_reader.specs.Fits.{FitsSlot, FitsOutcome, FitsOperation, FitsAsked, FitsAccept, FitsTake, FitsDeny, FitsEnd, FitsEntry}
 use Rattle.journal_reader.specs.Parts.{Apart, operation_parts, operation_text, asked_parts, accept_parts, accept_text, take_parts, take_text, deny_parts, deny_text, end_parts, end_text, entry_parts}
 use Rattle.journal_reader.proofs.Above.{above_slot, above_outcome, list_no}

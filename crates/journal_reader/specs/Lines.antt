@@ -4,7 +4,7 @@ use Rattle.handle_model.specs.declared.entry.Home.{Home}
 use Rattle.handle_model.specs.declared.entry.Entry.{Entry}
 use Rattle.handle_model.specs.declared.base.BaseCall.{BaseCall}
 use Rattle.handle_model.specs.declared.base.Base.{Base}
-use Rattle.handle_text.specs.Texts.{group_text, entry_text, base_text, base_call_text}
+use Rattle.journal_text.specs.Texts.{group_text, entry_text, base_text, base_call_text}
 use Rattle.journal_reader.specs.Fits.{FitsHome, FitsBase, FitsCall, FitsEntry}
 
 -- the heading of a journal

@@ -1,8 +1,8 @@
 -- Texts in parts, with an octet between each two. Only the readers' own clauses speak of this.
 use Rattle.std.specs.Prelude.{◌≡◌, ℕ, Bool, List, Option, [], ◌∷◌, ◌++◌, length, codes, decimal}
 use Rattle.std.specs.List.{join_with_byte}
-use Rattle.rpc_words.specs.Reads.{HasNo}
-use Rattle.rpc_words.specs.Words.{octets_text, hex_u32, hex_u64}
+use Rattle.base_words.specs.Reads.{HasNo}
+use Rattle.base_words.specs.Words.{octets_text, hex_u32, hex_u64}
 use Rattle.handle_model.specs.declared.entry.Home.{Home}
 use Rattle.handle_model.specs.declared.entry.Slot.{Slot}
 use Rattle.handle_model.specs.declared.entry.Slot.TheVariants.{Shares, Holds, Changes, Opens}
@@ -17,7 +17,7 @@ use Rattle.handle_model.specs.declared.entry.DueItem.{DueItem}
 use Rattle.handle_model.specs.declared.base.BaseCall.{BaseCall}
 use Rattle.handle_model.specs.declared.base.Base.{Base}
 use Rattle.handle_model.specs.Slots.{kind_of}
-use Rattle.handle_text.specs.Texts.{headed, object_text, slot_text, outcome_text, cookie_text, due_text, order_text, reply_text, said_text, asked_text, list_text, stage_text}
+use Rattle.journal_text.specs.Texts.{headed, object_text, slot_text, outcome_text, cookie_text, due_text, order_text, reply_text, said_text, asked_text, list_text, stage_text}
 
 -- no part but the last has the octet
 abbrev pub Apart : ℕ → List (List ℕ) → Type 0

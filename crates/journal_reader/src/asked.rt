@@ -1,16 +1,16 @@
 //! Reads what a call asks.
 ghost use Rattle.std.specs.Prelude.{◌≡◌, ◌∷◌, [], IfOk};
-ghost use Rattle.rpc_words.specs.Reads.{Reads};
-ghost use Rattle.handle_text.specs.Texts as spec;
+ghost use Rattle.base_words.specs.Reads.{Reads};
+ghost use Rattle.journal_text.specs.Texts as spec;
 ghost use Rattle.journal_reader.specs.Fits.{FitsOperation, FitsAsked};
 ghost use Rattle.journal_reader.specs.Parts as parts;
 
 use crate::cut::{cut_six, cut_two};
 use crate::list::read_slots;
 use crate::part::{read_order, read_reply};
+use base_words::{read_octets, read_u16, read_u32};
 use handle_model::Asked;
 use rpc_base::NoMemory;
-use rpc_words::{read_octets, read_u16, read_u32};
 use std::alloc::Global;
 
 fn operation_of(iface: &[u8], op: &[u8]) -> Option<(u16, u16)>

@@ -1,18 +1,18 @@
 //! Reads the lines that begin a journal, behind their first words: whose it is, and what it goes on
 //! from.
 ghost use Rattle.std.specs.Prelude.{◌≡◌, ◌∷◌, [], IfOk};
-ghost use Rattle.rpc_words.specs.Reads.{Reads};
+ghost use Rattle.base_words.specs.Reads.{Reads};
 ghost use Rattle.journal_reader.specs.Fits.{FitsHome, FitsBase, FitsCalled, FitsCall};
-ghost use Rattle.handle_text.specs.Texts as texts;
+ghost use Rattle.journal_text.specs.Texts as texts;
 ghost use Rattle.journal_reader.specs.Parts as parts;
 
 use crate::asked::asked_of;
 use crate::cut::{cut_seven, cut_six, cut_three, cut_two};
 use crate::list::{read_conns, read_dues};
 use crate::part::{Stage, read_count, read_stage};
+use base_words::{read_hex_u64, read_u32};
 use handle_model::{Asked, Base, BaseCall, Home};
 use rpc_base::{Items, NoMemory};
-use rpc_words::{read_hex_u64, read_u32};
 use std::alloc::Global;
 
 fn home_of(group: &[u8], word: &[u8], boot: &[u8]) -> Option<Home>

@@ -2,7 +2,7 @@
 ghost use Rattle.std.specs.Prelude.{[], ◌∷◌, MatchOption};
 ghost use Rattle.journal_reader.specs.Parts.{IsCut, NoCut};
 
-use rpc_words::cut_at;
+use base_words::cut_at;
 
 /// Two parts: what stands before the first such octet, and what stands behind it.
 pub(crate) fn cut_two(octet: u8, text: &[u8]) -> Option<(&[u8], &[u8])>

@@ -1,7 +1,7 @@
 //! Reads the line of an entry.
 ghost use Rattle.std.specs.Prelude.{◌≡◌, ◌∷◌, [], IfOk};
-ghost use Rattle.rpc_words.specs.Reads.{Reads};
-ghost use Rattle.handle_text.specs.Texts as spec;
+ghost use Rattle.base_words.specs.Reads.{Reads};
+ghost use Rattle.journal_text.specs.Texts as spec;
 ghost use Rattle.journal_reader.specs.Fits.{FitsAccept, FitsTake, FitsDeny, FitsEnd, FitsEntry};
 ghost use Rattle.journal_reader.specs.Parts as parts;
 
@@ -9,9 +9,9 @@ use crate::asked::read_asked;
 use crate::cut::{cut_three, cut_two};
 use crate::list::{read_cookies, read_dues, read_outcomes};
 use crate::part::read_said;
+use base_words::{read_u8, read_u32};
 use handle_model::{Asked, Cookies, Entry, Outcomes, Said};
 use rpc_base::NoMemory;
-use rpc_words::{read_u8, read_u32};
 use std::alloc::Global;
 
 fn accept_of(alloc: Global, call: &[u8], asked: &[u8]) -> Result<Option<(u32, Asked)>, NoMemory>

@@ -1,21 +1,21 @@
 //! Reads the lists of a line.
 ghost use Rattle.std.specs.Prelude.{◌≡◌, IfOk, decimal};
 ghost use Rattle.std.specs.List.{AllByRecursion};
-ghost use Rattle.rpc_words.specs.Reads.{Reads};
-ghost use Rattle.handle_text.specs.Texts as spec;
+ghost use Rattle.base_words.specs.Reads.{Reads};
+ghost use Rattle.journal_text.specs.Texts as spec;
 ghost use Rattle.journal_reader.specs.Fits.{FitsSlot, FitsOutcome, FitsCookie, FitsDue, FitsConn};
 ghost use Rattle.journal_reader.specs.Lists.{IsItemText};
 
 use crate::part::{read_cookie, read_due, read_outcome, read_slot};
+use base_words::{cut_at, read_u32};
 use handle_model::{Conns, Cookies, DueItem, DueItems, Outcome, Outcomes, Slot, Slots};
 use rpc_base::{Items, NoMemory};
-use rpc_words::{cut_at, read_u32};
 use std::alloc::Global;
 
 /// What stands in a list.
 trait Item: Drop + Sized {
     ghost use Rattle.std.specs.Prelude.{List, ℕ};
-    ghost use Rattle.rpc_words.specs.Reads.{Reads};
+    ghost use Rattle.base_words.specs.Reads.{Reads};
 
     ghost fits_item: { Self → Type 0 };
 

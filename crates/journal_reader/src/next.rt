@@ -1,22 +1,22 @@
 //! Reads line after line. What a line carries is decoded once, straight from the text.
 ghost use Rattle.std.specs.Prelude.{◌≡◌, ◌++◌, IfOk, MatchOption};
-ghost use Rattle.rpc_words.specs.Reads.{HasNo};
-ghost use Rattle.handle_text.specs.Texts.{line, base_line, call_line};
+ghost use Rattle.base_words.specs.Reads.{HasNo};
+ghost use Rattle.journal_text.specs.Texts.{line, base_line, call_line};
 ghost use Rattle.journal_reader.specs.Fits.{FitsHome, FitsBase, FitsCall, FitsEntry};
 ghost use Rattle.journal_reader.specs.Lines as lines;
 ghost use Rattle.journal_reader.specs.Parts.{group_line, Begins, BeginsNot};
 
 use crate::bases::{read_base_line, read_call_line, read_group_line};
 use crate::entries::read_entry_line;
+use base_words::cut_line;
 use handle_model::{Base, BaseCall, Entry, Home};
 use rpc_base::NoMemory;
-use rpc_words::cut_line;
 use std::alloc::Global;
 
 /// What has a line of its own.
 trait Lined: Drop + Sized {
     ghost use Rattle.std.specs.Prelude.{List, ℕ, IfOk};
-    ghost use Rattle.rpc_words.specs.Reads.{Reads};
+    ghost use Rattle.base_words.specs.Reads.{Reads};
 
     ghost fits_line: { Self → Type 0 };
 

@@ -1,16 +1,16 @@
 //! Reads the parts of a line.
 ghost use Rattle.std.specs.Prelude.{◌≡◌, ◌++◌, ◌∷◌, [], decimal, IfOk};
-ghost use Rattle.rpc_words.specs.Reads.{Reads};
-ghost use Rattle.handle_text.specs.Texts as spec;
+ghost use Rattle.base_words.specs.Reads.{Reads};
+ghost use Rattle.journal_text.specs.Texts as spec;
 ghost use Rattle.journal_reader.specs.Fits.{FitsWire, FitsSlot, FitsOutcome, FitsIssue, FitsCookie, FitsDue, FitsSaid, FitsAlways, FitsCount, FitsStage};
 ghost use Rattle.journal_reader.specs.Parts as parts;
 
 use crate::cut::{cut_three, cut_two};
-use handle_model::{DueItem, Outcome, Said, Slot};
-use rpc_base::{NoMemory, Order, Status, WireHandle};
-use rpc_words::{
+use base_words::{
     cut_at, read_between, read_hex_u32, read_hex_u128, read_octets, read_u32, read_u64,
 };
+use handle_model::{DueItem, Outcome, Said, Slot};
+use rpc_base::{NoMemory, Order, Status, WireHandle};
 use std::alloc::Global;
 
 fn due_of(serial: &[u8], kind: &[u8], cookie: &[u8]) -> Option<DueItem>
@@ -161,7 +161,7 @@ pub(crate) fn read_said(alloc: Global, text: &[u8]) -> Result<Option<Said>, NoMe
     said_of(alloc, name, rest)
 }
 
-#[tactic(auto, unfolding(handle_text::specs::Texts::order_text))]
+#[tactic(auto, unfolding(journal_text::specs::Texts::order_text))]
 pub(crate) fn read_order(text: &[u8]) -> Option<Order>
     ensures { Reads FitsAlways spec.order_text text.now result }
 {
@@ -175,7 +175,7 @@ pub(crate) fn read_order(text: &[u8]) -> Option<Order>
 }
 
 /// Whether the caller waits for an answer.
-#[tactic(auto, unfolding(handle_text::specs::Texts::reply_text))]
+#[tactic(auto, unfolding(journal_text::specs::Texts::reply_text))]
 pub(crate) fn read_reply(text: &[u8]) -> Option<bool>
     ensures { Reads FitsAlways spec.reply_text text.now result }
 {
@@ -198,7 +198,7 @@ pub(crate) fn read_count(text: &[u8]) -> Option<u64>
 /// How far a call of a base has come: whether it was taken, cancelled, orphaned.
 pub(crate) type Stage = (bool, bool, bool);
 
-#[tactic(auto, unfolding(handle_text::specs::Texts::stage_text))]
+#[tactic(auto, unfolding(journal_text::specs::Texts::stage_text))]
 pub(crate) fn read_stage(text: &[u8]) -> Option<Stage>
     ensures { Reads FitsStage spec.stage_text text.now result }
 {

@@ -1,7 +1,9 @@
 pub mod Conns
-pub mod Tables
-pub mod Shown
 pub mod Floor
-pub mod Laws
-pub mod Unplaced
+pub mod FoldOf
 pub mod Folding
+pub mod Kept
+pub mod Laws
+pub mod Shown
+pub mod Tables
+pub mod Unplaced

@@ -5,9 +5,8 @@ ghost use Rattle.handle_model.specs.Journal.{is_shut};
 ghost use Rattle.handle_model.specs.Sound.{IsSoundBase};
 
 use crate::words::HOME;
-use base_rules::is_sound_base;
 use handle_model::{Base, Entry, Home};
-use handle_rules::{Verdict, audited};
+use journal_rules::{Verdict, audited, is_sound_base};
 use journal_tables::folded_base;
 use std::alloc::Global;
 
@@ -17,7 +16,7 @@ fn any_shut(entries: &[Entry]) -> bool
     entries.iter().any(|entry| entry.is_shut())
 }
 
-#[tactic(auto, using(handle_rules::proofs::Sets::reversed))]
+#[tactic(auto, using(journal_rules::proofs::Sets::reversed))]
 fn goes_on(entries: &[Entry]) -> bool
     ensures { result ≡ not (list_any is_shut (reverse entries.now)) }
 {

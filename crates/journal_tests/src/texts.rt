@@ -1,7 +1,7 @@
 //! The line of each kind of entry.
 use crate::words::read_entry;
 use handle_model::Home;
-use handle_text::{entry_text, group_text};
+use journal_text::{entry_text, group_text};
 use std::alloc::Global;
 use std::test::Fail;
 

@@ -3,7 +3,7 @@
 use crate::bases::judged;
 use crate::words::{HOME, number, read_entry};
 use handle_model::{Base, Entry};
-use handle_rules::{Record, Verdict, cookies_of, reply};
+use journal_rules::{Record, Verdict, cookies_of, reply};
 use std::alloc::Global;
 
 /// What is done with the lines of a journal, at which line, and the line that is put there.

@@ -5,8 +5,8 @@ use Rattle.std.specs.List.{list_any}
 use Rattle.rpc_base.specs.declared.identifiers.WireHandle.{WireHandle}
 use Rattle.handle_model.specs.Slots.{is_null}
 use Rattle.ndr_value.specs.Values.{Msg}
-use Rattle.ndr_value.specs.declared.operation.HandleUse.{HandleUse}
-use Rattle.ndr_value.specs.Tables.{TableForm}
+use Rattle.ndr_table.specs.declared.operation.HandleUse.{HandleUse}
+use Rattle.ndr_table.specs.Tables.{TableForm}
 use Rattle.manager_api.specs.declared.answer.Kept.{Kept}
 use Rattle.manager_api.specs.declared.answer.Kept.TheVariants.{Stays, Cookie, Null}
 use Rattle.manager_api.specs.Answers.{Ans, AOut, AFault}

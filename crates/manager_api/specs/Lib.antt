@@ -1,6 +1,8 @@
 pub mod Answers
 pub mod Arguments
-pub mod Handles
-pub mod Responses
-pub mod Messages
 pub mod Calls
+pub mod Handles
+pub mod Messages
+pub mod Responses
+pub mod Served
+pub mod ServedCalls

@@ -1,7 +1,7 @@
 -- Messages of a table's operations, and their stubs.
 use Rattle.std.specs.Prelude.{◌≡◌, ℕ, slice_get, Some, None}
 use Rattle.ndr_value.specs.Values.{Msg}
-use Rattle.ndr_value.specs.Tables.{OpForm, TableForm}
+use Rattle.ndr_table.specs.Tables.{OpForm, TableForm}
 pub use Rattle.ndr_model.specs.declared.way.Way.TheVariants.{Request, Response}
 pub use Rattle.ndr_model.specs.declared.departure.Departure.{Departure}
 pub use Rattle.ndr_model.specs.Message.{IsStub, read_stub}

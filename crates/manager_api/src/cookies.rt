@@ -3,7 +3,7 @@ ghost use Rattle.std.specs.Prelude.{◌≡◌, is_some, not};
 ghost use Rattle.std.specs.List.{list_any};
 ghost use Rattle.manager_api.specs.Calls as spec;
 
-use ndr_value::HandleUse;
+use ndr_table::HandleUse;
 use rpc_base::WireHandle;
 
 // Whether the handle parameter names a handle that the group has.

@@ -1,7 +1,7 @@
 //! Desks.
 ghost use Rattle.std.specs.Prelude.{◌≡◌, ◌<◌, Bool, true, false, length};
 ghost use Rattle.ndr_value.specs.Values.{msg};
-ghost use Rattle.ndr_value.specs.Tables.{TableForm};
+ghost use Rattle.ndr_table.specs.Tables.{TableForm};
 ghost use Rattle.manager_api.specs.Answers.{Ans, ans, cancelled};
 ghost use Rattle.manager_api.specs.Calls.{Call, Owes, has_cookies, uses_at};
 ghost use Rattle.manager_api.specs.Messages.{IsRequest};

@@ -11,16 +11,16 @@ use Rattle.idl_names.specs.Members.{attrs_of, dtors_of, lone_member, result_memb
 use Rattle.idl_names.specs.Attributes.{pointer_default, says, says_handle, is_serialised}
 use Rattle.idl_forms.specs.Forms as idl
 use Rattle.ndr_value.specs.Forms.{Form}
-use Rattle.ndr_value.specs.declared.operation.HandleUse.{HandleUse}
-use Rattle.ndr_value.specs.Ordered.{is_below}
-use Rattle.ndr_value.specs.Tables.{OpForm, IsTable, param_below, result_below, op_below}
-use Rattle.table_scope.specs.declared.known.Sort.{Sort}
-use Rattle.table_scope.specs.declared.known.Sort.TheVariants as sorts
-use Rattle.table_scope.specs.declared.said.Terms.{Terms}
-use Rattle.table_scope.specs.Scopes.{Sense, Scope, handle_sense}
-use Rattle.table_scope.specs.Declarators.{terms, declared}
-use Rattle.table_specs.specs.Specs.{within, attrs_within, member_within, sense_at}
-use Rattle.table_laws.specs.Interfaces.{Listed, Draft, is_binding, param_names, listed_as, param_at, params_at, sort_result, op_of, op_at, typed, typedef_one, typedef_all, own_at, decl_at, decls_at, nothing_declared, declared_in}
+use Rattle.ndr_table.specs.declared.operation.HandleUse.{HandleUse}
+use Rattle.ndr_table.specs.Ordered.{is_below}
+use Rattle.ndr_table.specs.Tables.{OpForm, IsTable, param_below, result_below, op_below}
+use Rattle.idl_scopes.specs.declared.known.Sort.{Sort}
+use Rattle.idl_scopes.specs.declared.known.Sort.TheVariants as sorts
+use Rattle.idl_scopes.specs.declared.said.Terms.{Terms}
+use Rattle.idl_scopes.specs.Scopes.{Sense, Scope, handle_sense}
+use Rattle.idl_scopes.specs.Declarators.{terms, declared}
+use Rattle.idl_shapes.specs.Specs.{within, attrs_within, member_within, sense_at}
+use Rattle.idl_tables.specs.Interfaces.{Listed, Draft, is_binding, param_names, listed_as, param_at, params_at, sort_result, op_of, op_at, typed, typedef_one, typedef_all, own_at, decl_at, decls_at, nothing_declared, declared_in}
 use Rattle.marshal_table.proofs.Fitting.{both_of, and_of, less_of, or_left, or_right, fits_more, declared_fits}
 use Rattle.marshal_table.proofs.Sounds.{SenseFits, put_all, Sound, Goes, reach_near, reach_far, pointed_not, shapes_fit, sense_sound}
 

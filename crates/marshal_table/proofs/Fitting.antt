@@ -10,13 +10,13 @@ use Rattle.idl_names.specs.declared.place.Extent.{Extent}
 use Rattle.idl_names.specs.declared.place.Extent.TheVariants as extents
 use Rattle.ndr_value.specs.declared.shape.Count.{Count}
 use Rattle.ndr_value.specs.Forms.{Form, OfNamed, OfStruct, OfUnion, OfArray, OfText, OfRef, OfUnique, OfFull, Forms, no_form, then_form, Body, empty, holds, ArmForms, no_arm, then_arm}
-use Rattle.ndr_value.specs.Ordered.{is_below, each_below, arms_below, body_below}
+use Rattle.ndr_table.specs.Ordered.{is_below, each_below, arms_below, body_below}
 use Rattle.idl_tree.specs.declared.leaf.Num.{Num}
-use Rattle.table_scope.specs.declared.said.Terms.{Terms}
+use Rattle.idl_scopes.specs.declared.said.Terms.{Terms}
 use Rattle.idl_names.specs.Symbols.{ByName}
 use Rattle.idl_names.specs.Declarators.{extent_of}
-use Rattle.table_scope.specs.Declarators.{pointer, chain, array, text, outermost, tied, if_tied, by_value, target, shaped, declared}
-use Rattle.table_specs.specs.Specs.{Face, row, arm_row, held}
+use Rattle.idl_scopes.specs.Declarators.{pointer, chain, array, text, outermost, tied, if_tied, by_value, target, shaped, declared}
+use Rattle.idl_shapes.specs.Specs.{Face, row, arm_row, held}
 
 pub both_of : (a b : Bool) → (a && b) ≡ true → (a ≡ true) × (b ≡ true)
 both_of true true e = (refl, refl)

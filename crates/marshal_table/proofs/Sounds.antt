@@ -14,14 +14,14 @@ use Rattle.idl_names.specs.Members.{attrs_of, dtors_of}
 use Rattle.idl_names.specs.Declarators.{all_pointed}
 use Rattle.idl_forms.specs.Forms as idl
 use Rattle.ndr_value.specs.Forms.{Form, OfNamed, OfStruct, OfUnion}
-use Rattle.ndr_value.specs.Ordered.{is_body, is_below, arms_below, body_below, ordered_from}
-use Rattle.ndr_value.specs.Ordered.{is_size as is_number_size}
+use Rattle.ndr_table.specs.Ordered.{is_body, is_below, arms_below, body_below, ordered_from}
+use Rattle.ndr_table.specs.Ordered.{is_size as is_number_size}
 use Rattle.idl_names.specs.declared.symbols.Tag.{Tag}
 use Rattle.idl_names.specs.Symbols as names
 use Rattle.idl_names.specs.Symbols.{ByName, Symbols, put, found}
-use Rattle.table_scope.specs.Scopes.{Sense, Scope, type_named, numbered, tag_form, with_constant, begun, with_entry, ended, or_nothing as or_sense}
-use Rattle.table_scope.specs.Declarators.{terms}
-use Rattle.table_specs.specs.Specs.{Face, shapes_of, base_form, row, arm_row, or_nothing, struct_at, union_at, member_names, arm_names, within, kind_within, switch_within, member_within, members_within, arm_within, arms_within, mark_within, attr_within, attrs_within, spec_at, kind_at, switch_at, mark_at, attr_at, attrs_at, sense_at, members_at, arm_at, arms_at}
+use Rattle.idl_scopes.specs.Scopes.{Sense, Scope, type_named, numbered, tag_form, with_constant, begun, with_entry, ended, or_nothing as or_sense}
+use Rattle.idl_scopes.specs.Declarators.{terms}
+use Rattle.idl_shapes.specs.Specs.{Face, shapes_of, base_form, row, arm_row, or_nothing, struct_at, union_at, member_names, arm_names, within, kind_within, switch_within, member_within, members_within, arm_within, arms_within, mark_within, attr_within, attrs_within, spec_at, kind_at, switch_at, mark_at, attr_at, attrs_at, sense_at, members_at, arm_at, arms_at}
 use Rattle.marshal_table.proofs.Fitting.{both_of, and_of, less_is, fits_more, body_more, all_declared, AllFit, all_more, all_join, row_fits, held_fits, FacesFit, arm_row_fits}
 
 abbrev pub SenseFits : ℕ → ℕ → Option Sense → Type 0

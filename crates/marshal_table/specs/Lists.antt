@@ -1,9 +1,9 @@
 -- Lists that grow while an interface is gone through, as the definitions see them.
 use Rattle.std.specs.Prelude.{map}
-use Rattle.ndr_value.specs.Tables.{param_form, op_form}
-use Rattle.table_scope.specs.declared.known.Known.{Known}
-use Rattle.table_scope.specs.Scopes.{scope}
-use Rattle.table_laws.specs.Interfaces.{Listed, Draft}
+use Rattle.ndr_table.specs.Tables.{param_form, op_form}
+use Rattle.idl_scopes.specs.declared.known.Known.{Known}
+use Rattle.idl_scopes.specs.Scopes.{scope}
+use Rattle.idl_tables.specs.Interfaces.{Listed, Draft}
 use Rattle.marshal_table.specs.declared.listing.Listing.{Listing}
 use Rattle.marshal_table.specs.declared.listing.Operations.{Operations}
 

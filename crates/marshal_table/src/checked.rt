@@ -1,13 +1,13 @@
 //! The table of an interface that keeps the rules.
 ghost use Rattle.std.specs.Prelude.{◌≡◌, IfOk};
-ghost use Rattle.ndr_value.specs.Shown.{shown};
-ghost use Rattle.table_laws.specs.Interfaces as spec;
-ghost use Rattle.table_laws.specs.Wholes.{HasEachOperation, HasEachHandle};
-ghost use Rattle.table_laws.specs.Stands.{EachNameStands};
+ghost use Rattle.ndr_table.specs.Shown.{shown};
+ghost use Rattle.idl_tables.specs.Interfaces as spec;
+ghost use Rattle.idl_tables.specs.Wholes.{HasEachOperation, HasEachHandle};
+ghost use Rattle.idl_tables.specs.Stands.{EachNameStands};
 
 use crate::tables::build_tree;
 use idl_check::Checked;
-use ndr_value::Table;
+use ndr_table::Table;
 use rpc_base::NoMemory;
 use std::alloc::Global;
 

@@ -1,22 +1,21 @@
 //! Declarations, and the interface's own attributes.
 ghost use Rattle.std.specs.Prelude.{◌≡◌, map, IfOk, OnOk};
 ghost use Rattle.idl_forms.specs.Forms.{a_member, spec_form, attrs_form, decl_kind_form, decl_form, file_kind_form, file_form};
-ghost use Rattle.table_scope.specs.Scopes.{sense, scope};
-ghost use Rattle.name_map.specs.Named.{at_name};
-ghost use Rattle.table_laws.specs.Interfaces as spec;
+ghost use Rattle.idl_scopes.specs.Scopes.{sense, scope};
+ghost use Rattle.rpc_base.specs.Named.{at_name};
+ghost use Rattle.idl_tables.specs.Interfaces as spec;
 ghost use Rattle.marshal_table.specs.Lists as lists;
 
 use crate::listing::Operations;
 use crate::operations::operation;
 use idl_names::{Place, Word, is_serialised, says};
-use idl_tree::{ArraySize, Attr, Decl, DeclKind, Dtor, FileAttr, FileAttrKind, Num, Pk, Spec};
-use name_map::Names;
-use rpc_base::{NoMemory, SyntaxId};
-use std::alloc::Global;
-use table_scope::{
+use idl_scopes::{
     Known, Meaning, Sort, Terms, declared, in_16, terms, with_constant, with_handle, with_type,
 };
-use table_specs::meaning_of;
+use idl_shapes::meaning_of;
+use idl_tree::{ArraySize, Attr, Decl, DeclKind, Dtor, FileAttr, FileAttrKind, Num, Pk, Spec};
+use rpc_base::{Names, NoMemory, SyntaxId};
+use std::alloc::Global;
 use uuid::Uuid;
 
 fn bare_sort(array: &Option<ArraySize>, sort: Sort) -> Sort

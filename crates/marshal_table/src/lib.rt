@@ -10,4 +10,4 @@ mod params;
 mod tables;
 
 pub use checked::build;
-pub use ndr_value::{Bounds, HandleUse, HandleUses, Op, Ops, Param, Params, Table, Uses};
+pub use ndr_table::{Bounds, HandleUse, HandleUses, Op, Ops, Param, Params, Table, Uses};

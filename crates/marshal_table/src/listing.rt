@@ -1,6 +1,6 @@
 //! Lists that grow while an interface is gone through.
 
-use ndr_value::{HandleUses, Ops, Params, Uses};
+use ndr_table::{HandleUses, Ops, Params, Uses};
 
 /// The parameters of an operation that are listed, and those of them that are context handles.
 #[derive(Drop)]

@@ -1,23 +1,24 @@
 //! Operations.
 ghost use Rattle.std.specs.Prelude.{◌≡◌, [], map, take, IfOk, OnOk};
 ghost use Rattle.ndr_value.specs.Forms.{form};
-ghost use Rattle.ndr_value.specs.Tables.{result_form, param_form, op_form};
+ghost use Rattle.ndr_table.specs.Tables.{result_form, param_form, op_form};
 ghost use Rattle.idl_forms.specs.Forms as idl;
 ghost use Rattle.idl_forms.specs.Forms.{spec_form, attrs_form};
-ghost use Rattle.table_scope.specs.Scopes.{sense, scope};
+ghost use Rattle.idl_scopes.specs.Scopes.{sense, scope};
 ghost use Rattle.idl_names.specs.Members.{result_member};
-ghost use Rattle.table_laws.specs.Interfaces as spec;
+ghost use Rattle.idl_tables.specs.Interfaces as spec;
 ghost use Rattle.marshal_table.specs.Lists as lists;
 
 use crate::listing::{Listing, Operations};
 use crate::params::{param_names, params};
 use idl_names::{Word, says};
+use idl_scopes::{Known, Meaning, Sort};
+use idl_shapes::meaning_of;
 use idl_tree::{Attr, Ident, ParamNode, Pk, Spec};
-use ndr_value::{HandleUses, Op, Params, Shape};
+use ndr_table::{HandleUses, Op, Params};
+use ndr_value::Shape;
 use rpc_base::NoMemory;
 use std::alloc::Global;
-use table_scope::{Known, Meaning, Sort};
-use table_specs::meaning_of;
 
 fn result_of(sort: Sort, shape: Shape) -> Option<Shape>
     ensures { result_form result ≡ spec.sort_result sort (form shape) }

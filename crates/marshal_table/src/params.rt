@@ -1,28 +1,28 @@
 //! Parameters.
 ghost use Rattle.std.specs.Prelude.{◌≡◌, ◌++◌, ◌∷◌, [], map, IfOk, OnOk};
 ghost use Rattle.ndr_value.specs.Forms.{form};
-ghost use Rattle.ndr_value.specs.Tables.{param_form};
+ghost use Rattle.ndr_table.specs.Tables.{param_form};
 ghost use Rattle.idl_forms.specs.Forms as idl;
 ghost use Rattle.idl_forms.specs.Forms.{spec_form, kind_form, attrs_form};
 ghost use Rattle.idl_names.specs.declared.place.Place.TheVariants as places;
 ghost use Rattle.idl_names.specs.Members.{param_member};
-ghost use Rattle.table_scope.specs.Scopes.{sense, scope};
-ghost use Rattle.table_scope.specs.Declarators as declarators;
+ghost use Rattle.idl_scopes.specs.Scopes.{sense, scope};
+ghost use Rattle.idl_scopes.specs.Declarators as declarators;
 ghost use Rattle.idl_names.specs.Attributes as attributes;
-ghost use Rattle.name_map.specs.Named.{at_name};
-ghost use Rattle.table_laws.specs.Interfaces as spec;
+ghost use Rattle.rpc_base.specs.Named.{at_name};
+ghost use Rattle.idl_tables.specs.Interfaces as spec;
 ghost use Rattle.marshal_table.specs.Lists as lists;
 
 use crate::listing::Listing;
 use idl_names::{Place, Word, copy_name, says};
+use idl_scopes::{Known, Meaning, Sort, declared, range, terms};
+use idl_shapes::meaning_of;
 use idl_tree::{Attr, Dtor, Ident, Num, ParamNode, Pk, Spec, SpecKind};
-use name_map::Names;
-use ndr_value::{HandleUse, HandleUses, Param, Params, Shape};
-use rpc_base::NoMemory;
+use ndr_table::{HandleUse, HandleUses, Param, Params};
+use ndr_value::Shape;
+use rpc_base::{Names, NoMemory};
 use std::alloc::Global;
 use std::slice;
-use table_scope::{Known, Meaning, Sort, declared, range, terms};
-use table_specs::meaning_of;
 
 fn is_binding_kind(kind: &SpecKind) -> bool
     ensures { result ≡ spec.is_binding_kind (kind_form kind.now) }

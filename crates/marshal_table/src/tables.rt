@@ -1,16 +1,16 @@
 //! The table of an interface.
 ghost use Rattle.std.specs.Prelude.{◌≡◌, [], IfOk};
-ghost use Rattle.ndr_value.specs.Shown.{shown};
-ghost use Rattle.table_laws.specs.Interfaces as spec;
+ghost use Rattle.ndr_table.specs.Shown.{shown};
+ghost use Rattle.idl_tables.specs.Interfaces as spec;
 
 use crate::interface::{declarations, syntax_of};
 use crate::listing::Operations;
 use idl_names::pointer_default;
+use idl_scopes::nothing_known;
 use idl_tree::Ast;
-use ndr_value::Table;
+use ndr_table::Table;
 use rpc_base::NoMemory;
 use std::alloc::Global;
-use table_scope::nothing_known;
 
 fn no_operations(alloc: Global) -> Operations
     ensures ops { result.ops.items ≡ [] }

@@ -2,7 +2,7 @@
 use Rattle.std.proofs.Common.{◌≡◌, ℤ, Bool, true, false, List, [], ◌∷◌, Option, Some, None, refl, sym, ap, ◌∙◌, arith}
 use Rattle.std.specs.Prelude.{int_le, ◌&&◌, ◌≤ℤ◌, ◌↔◌}
 use Rattle.ndr_value.specs.Values.{Val, Vals, no_val, then_val}
-use Rattle.ndr_value.specs.declared.operation.Bounds.{Bounds}
+use Rattle.ndr_table.specs.declared.operation.Bounds.{Bounds}
 use Rattle.ndr_model.specs.Stub.{Entry}
 use Rattle.ndr_model.specs.Named.{number}
 use Rattle.ndr_model.specs.Agree.{IsWithin}

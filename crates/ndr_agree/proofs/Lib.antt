@@ -1,3 +1,5 @@
-pub mod Items
-pub mod Steps
 pub mod Bounded
+pub mod Items
+pub mod Parts
+pub mod Sames
+pub mod Steps

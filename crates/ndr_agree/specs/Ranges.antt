@@ -1,7 +1,7 @@
 -- Numbers with ranges.
 use Rattle.std.specs.Prelude.{ℤ, int_le, Bool, true, false, ◌&&◌, List, [], ◌∷◌, Option, Some, None}
 use Rattle.ndr_value.specs.Values.{Val, Vals, no_val, then_val}
-use Rattle.ndr_value.specs.declared.operation.Bounds.{Bounds}
+use Rattle.ndr_table.specs.declared.operation.Bounds.{Bounds}
 use Rattle.ndr_model.specs.Stub.{Entry}
 use Rattle.ndr_model.specs.Named.{number}
 use Rattle.ndr_model.specs.Agree.{IsWithin}

@@ -3,8 +3,8 @@ use Rattle.std.specs.Prelude.{List, Option, Some, None}
 use Rattle.ndr_value.specs.Forms.{Form}
 use Rattle.ndr_value.specs.Values.{Msg, val, vals, msg}
 use Rattle.ndr_value.specs.declared.value.Message.{Message}
-use Rattle.ndr_value.specs.Shown.{shown}
-use Rattle.ndr_value.specs.Tables.{op_form}
+use Rattle.ndr_table.specs.Shown.{shown}
+use Rattle.ndr_table.specs.Tables.{op_form}
 use Rattle.ndr_model.specs.Named as names
 use Rattle.ndr_model.specs.Compare as comparing
 use Rattle.ndr_agree.specs.declared.call.Call.{Call}

@@ -2,7 +2,8 @@
 
 use crate::named::named;
 use ndr_model::Way;
-use ndr_value::{Count, Message, Op, Table, Value};
+use ndr_table::{Op, Table};
+use ndr_value::{Count, Message, Value};
 
 /// A message of an operation of the table. `asked` is the request, where the message is a response.
 #[derive(Clone, Copy)]

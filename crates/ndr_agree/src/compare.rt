@@ -189,7 +189,7 @@ fn compare_struct(
 }
 
 // The last member alone has the max_count that moved.
-#[tactic(auto, using(ndr_value::proofs::Aligns::last_is))]
+#[tactic(auto, using(ndr_table::proofs::Aligns::last_is))]
 fn for_last(others: &[Shape], own: Option<Stood>) -> Option<Stood>
     ensures { result ≡ agree.stood_last (forms others.now) own }
 {

@@ -2,7 +2,7 @@
 ghost use Rattle.std.specs.Prelude.{◌≡◌, [], map, None, Some};
 ghost use Rattle.ndr_value.specs.Forms.{form};
 ghost use Rattle.ndr_value.specs.Values.{val, vals, no_val};
-ghost use Rattle.ndr_value.specs.Tables.{param_form, result_form, op_form};
+ghost use Rattle.ndr_table.specs.Tables.{param_form, result_form, op_form};
 ghost use Rattle.ndr_model.specs.Named.{number};
 ghost use Rattle.ndr_model.specs.Stub as stub;
 ghost use Rattle.ndr_model.specs.Compare as spec;
@@ -14,7 +14,8 @@ use crate::check::Check;
 use crate::compare::compare_value;
 use crate::named::{goes, number as number_of};
 use ndr_model::{Departure, Mark, Way};
-use ndr_value::{Bounds, Param, Shape, Value};
+use ndr_table::{Bounds, Param};
+use ndr_value::{Shape, Value};
 
 // Between a pointer and the next stand less than 1024 constructs and names, and there are 256 levels
 // of pointers.

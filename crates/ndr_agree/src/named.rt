@@ -1,14 +1,15 @@
 //! What counts and switches have to be.
 ghost use Rattle.std.specs.Prelude.{◌≡◌, ◌≤◌, ◌^◌, pos, neg_ℤ, ◌≤ℤ◌, ◌<ℤ◌, map, take, slice_get, MatchOption, IfSome, None, Some};
 ghost use Rattle.ndr_value.specs.Values.{val, vals, msg};
-ghost use Rattle.ndr_value.specs.Tables.{op_form, param_form};
+ghost use Rattle.ndr_table.specs.Tables.{op_form, param_form};
 ghost use Rattle.ndr_model.specs.Stub as stub;
 ghost use Rattle.ndr_model.specs.Named as spec;
 ghost use Rattle.ndr_agree.specs.Views.{call_of, known_of};
 
 use crate::call::Call;
 use ndr_model::Way;
-use ndr_value::{Count, Message, Op, Param, Value};
+use ndr_table::{Op, Param};
+use ndr_value::{Count, Message, Value};
 
 /// A value, and the heap that it points into.
 #[derive(Clone, Copy)]

@@ -1,13 +1,14 @@
 //! Numbers with ranges.
 ghost use Rattle.std.specs.Prelude.{◌≡◌, ◌↔◌, IsTrue, map, Some};
 ghost use Rattle.ndr_value.specs.Values.{val, vals, msg};
-ghost use Rattle.ndr_value.specs.Tables.{param_form, result_form, op_form};
+ghost use Rattle.ndr_table.specs.Tables.{param_form, result_form, op_form};
 ghost use Rattle.ndr_model.specs.Stub as stub;
 ghost use Rattle.ndr_agree.specs.Ranges as spec;
 
 use crate::named::{goes, number};
 use ndr_model::Way;
-use ndr_value::{Bounds, Message, Op, Param, Value};
+use ndr_table::{Bounds, Op, Param};
+use ndr_value::{Message, Value};
 
 fn is_within(bounds: Bounds, value: &Value) -> bool
     ensures { result ≡ spec.holds (Some bounds) (val value.now) }

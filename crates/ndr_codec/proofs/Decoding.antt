@@ -6,9 +6,9 @@ use Rattle.rpc_base.specs.Fields.{IsOctets}
 use Rattle.ndr_value.specs.Forms.{Form}
 use Rattle.ndr_value.specs.Values.{Vals, Msg, msg}
 use Rattle.ndr_value.specs.declared.value.Message.{Message}
-use Rattle.ndr_value.specs.Tables.{OpForm}
-use Rattle.ndr_model.specs.Bind.{◌>>=◌}
-use Rattle.ndr_model.proofs.Steps.{ok_is}
+use Rattle.ndr_table.specs.Tables.{OpForm}
+use Rattle.ndr_arrays.specs.Bind.{◌>>=◌}
+use Rattle.ndr_arrays.proofs.Steps.{ok_is}
 use Rattle.ndr_model.specs.declared.departure.Departure.{Departure}
 use Rattle.ndr_model.specs.declared.departure.Departure.TheVariants as departures
 use Rattle.ndr_model.specs.declared.way.Way.{Way}
@@ -17,14 +17,14 @@ use Rattle.ndr_model.specs.Places.{Last}
 use Rattle.ndr_model.specs.Stub.{entries}
 use Rattle.ndr_model.specs.Build.{read_values}
 use Rattle.ndr_model.specs.Message.{IsStub, enough, message_of, unless_off, compared, read_stub}
-use Rattle.ndr_scan.specs.declared.fault.ReadError.{ReadError}
-use Rattle.ndr_scan.specs.declared.fault.ReadError.TheVariants as errors
-use Rattle.ndr_scan.specs.Gives.{Fails}
+use Rattle.ndr_pointers.specs.declared.scan_fault.ReadError.{ReadError}
+use Rattle.ndr_pointers.specs.declared.scan_fault.ReadError.TheVariants as errors
+use Rattle.ndr_pointers.specs.Gives.{Fails}
 use Rattle.ndr_read.specs.Readings.{reading, reading_of}
 use Rattle.ndr_laws.specs.Laws.{IsOp}
 use Rattle.ndr_laws.proofs.Stubs.{read_stands, stub_found}
 use Rattle.ndr_model.specs.Fits.{IsOfOp}
-use Rattle.ndr_written.proofs.Stubs.{read_of_op}
+use Rattle.ndr_laws.proofs.WrittenStubs.{read_of_op}
 use Rattle.ndr_model.specs.declared.fault.NdrFault.{NdrFault}
 use Rattle.ndr_model.specs.declared.fault.NdrFault.TheVariants.{Short, Bound, Tag, Pointer, Text, TooDeep, Trailing, Memory}
 use Rattle.ndr_model.specs.Faults.{fault_of, IsFault}

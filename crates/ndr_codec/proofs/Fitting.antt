@@ -7,17 +7,17 @@ use Rattle.rpc_base.specs.declared.fault.NoMemory.{NoMemory}
 use Rattle.rpc_base.specs.Fields.{IsOctets}
 use Rattle.ndr_value.specs.Forms.{Form}
 use Rattle.ndr_value.specs.Values.{Msg}
-use Rattle.ndr_value.specs.Tables.{OpForm}
-use Rattle.ndr_model.proofs.Steps.{ok_is}
+use Rattle.ndr_table.specs.Tables.{OpForm}
+use Rattle.ndr_arrays.proofs.Steps.{ok_is}
 use Rattle.ndr_model.specs.declared.departure.Departure.{Departure}
 use Rattle.ndr_model.specs.declared.way.Way.{Way}
 use Rattle.ndr_model.specs.Message.{IsStub, read_stub}
 use Rattle.ndr_laws.specs.Laws.{IsOp}
 use Rattle.ndr_laws.proofs.Stubs.{read_stands, stub_found}
-use Rattle.ndr_written.specs.Laws.{HasIds}
+use Rattle.ndr_laws.specs.WrittenLaws.{HasIds}
 use Rattle.ndr_model.specs.Written.{stub}
 use Rattle.ndr_model.specs.Fits.{IsOfOp}
-pub use Rattle.ndr_written.proofs.Stubs.{stub_suits, written_stub}
+pub use Rattle.ndr_laws.proofs.WrittenStubs.{stub_suits, written_stub}
 use Rattle.ndr_model.specs.declared.fault.NdrFault.{NdrFault}
 use Rattle.ndr_model.specs.declared.fault.NdrFault.TheVariants.{Memory}
 use Rattle.ndr_model.specs.Faults.{IsFault}

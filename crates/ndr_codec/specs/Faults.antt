@@ -6,8 +6,8 @@ use Rattle.ndr_model.specs.declared.departure.Departure.{Departure}
 use Rattle.ndr_model.specs.declared.fault.NdrFault.{NdrFault}
 use Rattle.ndr_model.specs.declared.fault.NdrFault.TheVariants.{Memory}
 use Rattle.ndr_model.specs.Faults.{fault_of, IsFault}
-use Rattle.ndr_scan.specs.declared.fault.ReadError.{ReadError}
-use Rattle.ndr_scan.specs.declared.fault.ReadError.TheVariants as errors
+use Rattle.ndr_pointers.specs.declared.scan_fault.ReadError.{ReadError}
+use Rattle.ndr_pointers.specs.declared.scan_fault.ReadError.TheVariants as errors
 
 abbrev pub of_error : ReadError → NdrFault
 of_error errors.Memory = Memory

@@ -1,2 +1,2 @@
-pub mod Faults
 pub mod Encoded
+pub mod Faults

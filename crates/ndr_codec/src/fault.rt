@@ -3,7 +3,7 @@ ghost use Rattle.std.specs.Prelude.{◌≡◌};
 ghost use Rattle.ndr_codec.specs.Faults.{of_error};
 
 use ndr_model::NdrFault;
-use ndr_scan::ReadError;
+use ndr_pointers::ReadError;
 
 pub(crate) fn unread(error: ReadError) -> NdrFault
     ensures { result ≡ of_error error }

@@ -1,14 +1,15 @@
 //! Numbers with ranges.
 ghost use Rattle.std.specs.Prelude.{◌≡◌, ◌<◌, ◌↔◌, IsTrue, length, slice_get, Some};
 ghost use Rattle.ndr_value.specs.Values.{msg};
-ghost use Rattle.ndr_value.specs.Shown.{shown};
-ghost use Rattle.ndr_value.specs.Tables.{OpForm};
+ghost use Rattle.ndr_table.specs.Shown.{shown};
+ghost use Rattle.ndr_table.specs.Tables.{OpForm};
 ghost use Rattle.ndr_model.specs.Stub.{entries};
 ghost use Rattle.ndr_agree.specs.Ranges.{InRange};
 
 use ndr_agree::op_in_range;
 use ndr_model::Way;
-use ndr_value::{Message, Table};
+use ndr_table::Table;
+use ndr_value::Message;
 
 /// Whether each parameter of that way with a range holds a number in it, in a message of the operation
 /// of that number. It takes no memory.

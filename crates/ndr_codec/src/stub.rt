@@ -1,8 +1,8 @@
 //! Messages that are read from stub data.
 ghost use Rattle.std.specs.Prelude.{◌≡◌, ◌<◌, length, slice_get, map, IfOk, Option, Some, None};
 ghost use Rattle.ndr_value.specs.Values.{Msg, msg};
-ghost use Rattle.ndr_value.specs.Shown.{shown};
-ghost use Rattle.ndr_value.specs.Tables.{OpForm, op_form};
+ghost use Rattle.ndr_table.specs.Shown.{shown};
+ghost use Rattle.ndr_table.specs.Tables.{OpForm, op_form};
 ghost use Rattle.ndr_model.specs.Message.{IsStub, read_stub};
 ghost use Rattle.ndr_model.specs.Stub.{start};
 ghost use Rattle.ndr_model.specs.Message as model;
@@ -15,7 +15,8 @@ use crate::fault::unread;
 use ndr_agree::{Call, first_off};
 use ndr_model::{NdrFault, Way};
 use ndr_read::{Tail, read};
-use ndr_value::{Message, Op, Table};
+use ndr_table::{Op, Table};
+use ndr_value::Message;
 use rpc_base::Order;
 use std::alloc::Global;
 

@@ -1,15 +1,16 @@
 //! Messages that are written as stub data.
 ghost use Rattle.std.specs.Prelude.{◌≡◌, ◌<◌, ◌++◌, length, slice_get, OnOk, OnErr, Some};
 ghost use Rattle.ndr_value.specs.Values.{msg};
-ghost use Rattle.ndr_value.specs.Shown.{shown};
-ghost use Rattle.ndr_value.specs.Tables.{OpForm};
+ghost use Rattle.ndr_table.specs.Shown.{shown};
+ghost use Rattle.ndr_table.specs.Tables.{OpForm};
 ghost use Rattle.ndr_agree.specs.Views.{asked_of, types_in, call_of};
 ghost use Rattle.ndr_model.specs.Written.{stub};
 ghost use Rattle.ndr_codec.specs.Encoded.{Encodes};
 
 use ndr_agree::Call;
 use ndr_model::Way;
-use ndr_value::{Message, Table};
+use ndr_table::Table;
+use ndr_value::Message;
 use ndr_write::write;
 use rpc_base::{NoMemory, Order};
 

@@ -5,9 +5,9 @@ use Rattle.std.specs.List.{list_all}
 use Rattle.std.proofs.lemmas.Bool.{ltb-true}
 use Rattle.ndr_value.specs.Forms.{Form, OfNamed, OfStruct, OfUnion, OfArray, OfRef, OfUnique, OfFull, OfHandle, Forms, no_form, then_form, Body, empty, holds, ArmForms, no_arm, then_arm}
 use Rattle.ndr_value.specs.Fits.{arm_of}
-use Rattle.ndr_value.specs.Ordered.{is_below, each_below, arms_below, body_below, is_body, ordered_from}
-use Rattle.ndr_value.specs.Sound.{is_tag, has_element, has_member, is_sound, each_sound, arms_sound, body_sound, handle_kind, range_sound, param_sound, result_sound, op_sound}
-use Rattle.ndr_value.specs.Tables.{ParamForm, OpForm, param_below, result_below, op_below}
+use Rattle.ndr_table.specs.Ordered.{is_below, each_below, arms_below, body_below, is_body, ordered_from}
+use Rattle.ndr_table.specs.Sound.{is_tag, has_element, has_member, is_sound, each_sound, arms_sound, body_sound, handle_kind, range_sound, param_sound, result_sound, op_sound}
+use Rattle.ndr_table.specs.Tables.{ParamForm, OpForm, param_below, result_below, op_below}
 use Rattle.ndr_model.specs.declared.way.Way.{Way}
 use Rattle.ndr_model.specs.declared.way.Way.TheVariants.{Request, Response}
 use Rattle.ndr_laws.proofs.Grounded.{EachArm, HasBody, arm_has}

@@ -7,10 +7,10 @@ use Rattle.ndr_value.specs.declared.shape.Count.{Count}
 use Rattle.ndr_value.specs.declared.shape.ArrayKind.{ArrayKind}
 use Rattle.ndr_value.specs.Forms.{Form, OfBool, OfByte, OfChar, OfInt, OfUint, OfEnum, OfText, OfHandle, OfNamed, OfStruct, OfUnion, OfArray, OfRef, OfUnique, OfFull, Forms, Body}
 use Rattle.ndr_value.specs.Values.{Val, VBool, VByte, VChar, VInt, VUint, VEnum, VText, VHandle, VStruct, VEmpty, VUnion, VArray, VNull, VPtr, VFull, Vals, no_val}
-use Rattle.ndr_value.specs.Aligned.{is_last}
-use Rattle.ndr_model.specs.Scalars.{up, signed}
-use Rattle.ndr_model.specs.declared.counts.Counts.{Counts}
-use Rattle.ndr_model.specs.Counted.{moved_most, a_most, HasCounts, of_fixed, of_varying, of_conformant, of_both}
+use Rattle.ndr_table.specs.Aligned.{is_last}
+use Rattle.ndr_scalars.specs.Scalars.{up, signed}
+use Rattle.ndr_arrays.specs.declared.counts.Counts.{Counts}
+use Rattle.ndr_arrays.specs.Counted.{moved_most, a_most, HasCounts, of_fixed, of_varying, of_conformant, of_both}
 use Rattle.ndr_model.specs.declared.departure.Departure.{Departure}
 use Rattle.ndr_model.specs.declared.departure.Departure.TheVariants.{Bound, Tag}
 use Rattle.ndr_model.specs.declared.mark.Mark.{Mark}
@@ -23,8 +23,8 @@ use Rattle.ndr_model.specs.Compare.{place_of, sooner, Check, judged, equals, cou
 use Rattle.ndr_model.proofs.Mets.{Ext, ext_self, ext_then}
 use Rattle.ndr_laws.proofs.Grounded.{EachForm, Shallow, Targets, EachTarget, Grounded, each_arm, arm_has, type_has}
 use Rattle.ndr_laws.proofs.Grows.{part_grows, parts_grow, items_grow}
-use Rattle.ndr_written.proofs.Marks.{Noted, noted_then, part_notes, parts_note, items_note}
-use Rattle.ndr_written.proofs.Kept.{In, Kept, ext_le, that_item, parts_leave, items_leave, kept_first, kept_second, kept_inner, kept_new}
+use Rattle.ndr_laws.proofs.Marks.{Noted, noted_then, part_notes, parts_note, items_note}
+use Rattle.ndr_laws.proofs.Kept.{In, Kept, ext_le, that_item, parts_leave, items_leave, kept_first, kept_second, kept_inner, kept_new}
 use Rattle.ndr_faults.specs.Off.{index_of, StandsAt, IsAt}
 
 same_some : {A : Type 0} (x y : A) → Some x ≡ Some y → x ≡ y

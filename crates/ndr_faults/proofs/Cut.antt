@@ -8,22 +8,22 @@ use Rattle.rpc_base.specs.Fields.{wire_of}
 use Rattle.ndr_value.specs.declared.shape.ArrayKind.{ArrayKind}
 use Rattle.ndr_value.specs.declared.shape.ArrayKind.TheVariants.{Fixed, Varying, Conformant, ConformantVarying}
 use Rattle.ndr_value.specs.Forms.{Form, OfBool, OfChar, OfInt, OfUint, OfEnum, OfStruct, Forms}
-use Rattle.ndr_value.specs.Sound.{is_tag}
-use Rattle.ndr_model.specs.Scalars.{up, octets_of, number_in, number_at}
-use Rattle.ndr_model.specs.declared.counts.Counts.{Counts}
-use Rattle.ndr_model.specs.declared.counts.CountFault.{CountFault}
-use Rattle.ndr_model.specs.declared.counts.CountFault.TheVariants as counting
-use Rattle.ndr_model.specs.declared.texts.TextFault.{TextFault}
-use Rattle.ndr_model.specs.declared.texts.TextFault.TheVariants as texts
-use Rattle.ndr_model.specs.Bind.{◌>>=◌}
-use Rattle.ndr_model.specs.Counted.{counts, or_short, word_at, most_at, within_most, actual_at, counts_at}
-use Rattle.ndr_model.specs.Texts.{in_text, before_nul, cells_at, limit_at, counted_at}
+use Rattle.ndr_table.specs.Sound.{is_tag}
+use Rattle.ndr_scalars.specs.Scalars.{up, octets_of, number_in, number_at}
+use Rattle.ndr_arrays.specs.declared.counts.Counts.{Counts}
+use Rattle.ndr_arrays.specs.declared.counts.CountFault.{CountFault}
+use Rattle.ndr_arrays.specs.declared.counts.CountFault.TheVariants as counting
+use Rattle.ndr_arrays.specs.declared.texts.TextFault.{TextFault}
+use Rattle.ndr_arrays.specs.declared.texts.TextFault.TheVariants as texts
+use Rattle.ndr_arrays.specs.Bind.{◌>>=◌}
+use Rattle.ndr_arrays.specs.Counted.{counts, or_short, word_at, most_at, within_most, actual_at, counts_at}
+use Rattle.ndr_arrays.specs.Texts.{in_text, before_nul, cells_at, limit_at, counted_at}
 use Rattle.ndr_model.specs.declared.departure.Departure.{Departure}
 use Rattle.ndr_model.specs.declared.departure.Departure.TheVariants.{Short, Bound, Tag, Pointer, Text, TooDeep, Trailing}
 use Rattle.ndr_model.specs.Part.{opens_with, in_place}
 use Rattle.ndr_model.specs.Reading.{unless_short, of_counts, of_text, number, name_at, wire_at, chars_at, array_at, tag_at, opened_at, struct_at}
-use Rattle.ndr_model.proofs.Steps.{bind_ok, unless_ok, when_ok, ok_is}
-use Rattle.ndr_model.proofs.ScalarLaws.{number_stands}
+use Rattle.ndr_arrays.proofs.Steps.{bind_ok, unless_ok, when_ok, ok_is}
+use Rattle.ndr_scalars.proofs.Laws.{number_stands}
 use Rattle.ndr_model.proofs.Pieces.{number_is}
 
 -- a departure at a number that stands before index k

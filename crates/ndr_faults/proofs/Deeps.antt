@@ -8,16 +8,16 @@ use Rattle.rpc_base.specs.Fields.{wire_of}
 use Rattle.ndr_value.specs.Forms.{Form, OfBool, OfByte, OfChar, OfInt, OfUint, OfEnum, OfNamed, OfStruct, OfUnion, OfArray, OfText, OfRef, OfUnique, OfFull, OfHandle, Forms, no_form, then_form, Body, empty, holds}
 use Rattle.ndr_value.specs.Fits.{arm_of}
 use Rattle.ndr_value.specs.Values.{Val, VBool, VByte, VChar, VInt, VUint, VEnum, VStruct, VUnion, VArray, VText, VPtr, VFull, VHandle, Vals, then_val, Msg}
-use Rattle.ndr_value.specs.Tables.{OpForm}
-use Rattle.ndr_value.specs.Sound.{is_tag}
-use Rattle.ndr_model.specs.Scalars.{up, octets_of, signed, number_at, Scalar}
-use Rattle.ndr_model.specs.declared.counts.CountFault.{CountFault}
-use Rattle.ndr_model.specs.declared.counts.CountFault.TheVariants as counting
-use Rattle.ndr_model.specs.declared.texts.TextFault.{TextFault}
-use Rattle.ndr_model.specs.declared.texts.TextFault.TheVariants as texts
-use Rattle.ndr_model.specs.Bind.{◌>>=◌}
-use Rattle.ndr_model.specs.Counted.{counts_at}
-use Rattle.ndr_model.specs.Texts.{text_at}
+use Rattle.ndr_table.specs.Tables.{OpForm}
+use Rattle.ndr_table.specs.Sound.{is_tag}
+use Rattle.ndr_scalars.specs.Scalars.{up, octets_of, signed, number_at, Scalar}
+use Rattle.ndr_arrays.specs.declared.counts.CountFault.{CountFault}
+use Rattle.ndr_arrays.specs.declared.counts.CountFault.TheVariants as counting
+use Rattle.ndr_arrays.specs.declared.texts.TextFault.{TextFault}
+use Rattle.ndr_arrays.specs.declared.texts.TextFault.TheVariants as texts
+use Rattle.ndr_arrays.specs.Bind.{◌>>=◌}
+use Rattle.ndr_arrays.specs.Counted.{counts_at}
+use Rattle.ndr_arrays.specs.Texts.{text_at}
 use Rattle.ndr_model.specs.declared.departure.Departure.{Departure}
 use Rattle.ndr_model.specs.declared.departure.Departure.TheVariants.{Short, Tag, Pointer, Text, TooDeep, Trailing}
 use Rattle.ndr_model.specs.declared.way.Way.{Way}

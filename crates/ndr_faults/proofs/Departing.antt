@@ -5,11 +5,11 @@ use Rattle.std.proofs.lemmas.List.{append-nil}
 use Rattle.rpc_base.specs.declared.identifiers.Order.{Order}
 use Rattle.ndr_value.specs.Forms.{Form}
 use Rattle.ndr_value.specs.Values.{Val, Vals, no_val, then_val, count_of, Msg}
-use Rattle.ndr_value.specs.declared.operation.Bounds.{Bounds}
-use Rattle.ndr_value.specs.Tables.{OpForm}
-use Rattle.ndr_model.specs.Scalars.{up}
-use Rattle.ndr_model.specs.Bind.{◌>>=◌}
-use Rattle.ndr_model.proofs.Steps.{through}
+use Rattle.ndr_table.specs.declared.operation.Bounds.{Bounds}
+use Rattle.ndr_table.specs.Tables.{OpForm}
+use Rattle.ndr_scalars.specs.Scalars.{up}
+use Rattle.ndr_arrays.specs.Bind.{◌>>=◌}
+use Rattle.ndr_arrays.proofs.Steps.{through}
 use Rattle.ndr_model.specs.declared.departure.Departure.{Departure}
 use Rattle.ndr_model.specs.declared.departure.Departure.TheVariants.{Bound}
 use Rattle.ndr_model.specs.declared.way.Way.{Way}
@@ -28,8 +28,8 @@ use Rattle.ndr_laws.proofs.Grounded.{Grounded, EachEntry}
 use Rattle.ndr_laws.proofs.Grows.{part_grows}
 use Rattle.ndr_laws.proofs.Levels.{plus, plus_is, tight, tight_is, types_grounded, op_entries}
 use Rattle.ndr_laws.proofs.Stubs.{stub_found}
-use Rattle.ndr_written.proofs.Marks.{Noted, noted_then, part_notes}
-use Rattle.ndr_written.proofs.Kept.{In, Out, ext_le, out_first, out_second, part_leaves, kept_inner, has_nth}
+use Rattle.ndr_laws.proofs.Marks.{Noted, noted_then, part_notes}
+use Rattle.ndr_laws.proofs.Kept.{In, Out, ext_le, out_first, out_second, part_leaves, kept_inner, has_nth}
 use Rattle.ndr_model.specs.Stub.{item}
 use Rattle.ndr_faults.specs.First.{IsOpOf, reads}
 use Rattle.ndr_faults.specs.Off.{IsAt, Disagrees, Departs, is_read, is_compared}

@@ -9,7 +9,7 @@ use Rattle.ndr_model.specs.Places.{Place, Last, noting}
 use Rattle.ndr_model.specs.Part.{Part, a_bool, a_byte, a_char, an_int, a_uint, an_enum, a_handle, a_text, a_name, a_struct, an_empty_arm, an_arm, an_array, a_ref, a_null, a_unique, a_null_full, a_new, a_repeat, Parts, no_part, then_part, Items, no_item, then_item}
 use Rattle.ndr_model.specs.Stub.{Entry, Follow, range_marks, item, HasItems}
 use Rattle.ndr_model.specs.Message.{front_of, heap_from}
-use Rattle.ndr_written.proofs.Kept.{In, that_item}
+use Rattle.ndr_laws.proofs.Kept.{In, that_item}
 
 abbrev pub Has : List (ℕ × Val) → ℕ → Type 0
 Has items n = (v : Val) × (item items n ≡ Some v)

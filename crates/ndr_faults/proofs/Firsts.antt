@@ -6,9 +6,9 @@ use Rattle.std.proofs.lemmas.List.{append-nil}
 use Rattle.rpc_base.specs.declared.identifiers.Order.{Order}
 use Rattle.ndr_value.specs.Forms.{Form}
 use Rattle.ndr_value.specs.Values.{Vals, no_val, then_val}
-use Rattle.ndr_value.specs.Tables.{OpForm}
-use Rattle.ndr_model.specs.Bind.{◌>>=◌}
-use Rattle.ndr_model.proofs.Steps.{bind_ok, ok_is}
+use Rattle.ndr_table.specs.Tables.{OpForm}
+use Rattle.ndr_arrays.specs.Bind.{◌>>=◌}
+use Rattle.ndr_arrays.proofs.Steps.{bind_ok, ok_is}
 use Rattle.ndr_model.specs.declared.departure.Departure.{Departure}
 use Rattle.ndr_model.specs.declared.departure.Departure.TheVariants.{Short, Bound, Tag, Pointer, Text, TooDeep, Trailing}
 use Rattle.ndr_model.specs.declared.way.Way.{Way}

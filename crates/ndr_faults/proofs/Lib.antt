@@ -1,8 +1,12 @@
-pub mod Cut
 pub mod Clear
-pub mod Fronts
 pub mod Compared
+pub mod Counted
+pub mod Cut
+pub mod Deeps
+pub mod Departing
 pub mod Filled
 pub mod Firsts
-pub mod Departing
-pub mod Deeps
+pub mod Fronts
+pub mod Same
+pub mod Settled
+pub mod Tops

@@ -6,10 +6,10 @@ use Rattle.ndr_value.specs.declared.shape.ArrayKind.{ArrayKind}
 use Rattle.ndr_value.specs.Forms.{Form, OfNamed, OfStruct, OfUnion, OfArray, OfRef, OfUnique, OfFull, Forms, then_form, holds, ArmForms}
 use Rattle.ndr_value.specs.Fits.{arm_of}
 use Rattle.ndr_value.specs.Values.{Val, Msg}
-use Rattle.ndr_value.specs.Tables.{OpForm}
-use Rattle.ndr_model.specs.Scalars.{up, Scalar}
-use Rattle.ndr_model.specs.declared.counts.Counts.{Counts}
-use Rattle.ndr_model.specs.Counted.{HasCounts}
+use Rattle.ndr_table.specs.Tables.{OpForm}
+use Rattle.ndr_scalars.specs.Scalars.{up, Scalar}
+use Rattle.ndr_arrays.specs.declared.counts.Counts.{Counts}
+use Rattle.ndr_arrays.specs.Counted.{HasCounts}
 use Rattle.ndr_model.specs.declared.departure.Departure.TheVariants.{TooDeep}
 use Rattle.ndr_model.specs.declared.way.Way.{Way}
 use Rattle.ndr_model.specs.declared.mark.Mark.{Mark}

@@ -3,8 +3,8 @@ use Rattle.std.specs.Prelude.{◌≡◌, ℕ, ◌+◌, ◌<◌, ◌≤◌, List,
 use Rattle.rpc_base.specs.declared.identifiers.Order.{Order}
 use Rattle.ndr_value.specs.Forms.{Form}
 use Rattle.ndr_value.specs.Values.{Vals}
-use Rattle.ndr_value.specs.Tables.{OpForm}
-use Rattle.ndr_value.specs.Sound.{IsSound}
+use Rattle.ndr_table.specs.Tables.{OpForm}
+use Rattle.ndr_table.specs.Sound.{IsSound}
 use Rattle.ndr_model.specs.declared.departure.Departure.{Departure}
 use Rattle.ndr_model.specs.declared.departure.Departure.TheVariants.{Short, Trailing}
 use Rattle.ndr_model.specs.declared.way.Way.{Way}

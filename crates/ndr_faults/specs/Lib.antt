@@ -1,3 +1,4 @@
-pub mod First
-pub mod Off
 pub mod Deep
+pub mod First
+pub mod Fuel
+pub mod Off

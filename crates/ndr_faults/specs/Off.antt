@@ -3,7 +3,7 @@ use Rattle.std.specs.Prelude.{◌≡◌, ℕ, List, ◌∷◌, ◌++◌, Option,
 use Rattle.rpc_base.specs.declared.identifiers.Order.{Order}
 use Rattle.ndr_value.specs.Forms.{Form}
 use Rattle.ndr_value.specs.Values.{Msg}
-use Rattle.ndr_value.specs.Tables.{OpForm}
+use Rattle.ndr_table.specs.Tables.{OpForm}
 use Rattle.ndr_model.specs.declared.departure.Departure.{Departure}
 use Rattle.ndr_model.specs.declared.departure.Departure.TheVariants.{Bound, Tag}
 use Rattle.ndr_model.specs.declared.way.Way.{Way}

@@ -7,14 +7,14 @@ use Rattle.rpc_base.specs.declared.identifiers.WireHandle.{WireHandle}
 use Rattle.rpc_base.specs.Fields.{wire_of}
 use Rattle.ndr_value.specs.declared.shape.ArrayKind.{ArrayKind}
 use Rattle.ndr_value.specs.Forms.{Form, OfStruct, Forms}
-use Rattle.ndr_model.specs.Scalars.{up, octets_of, signed, Scalar}
-use Rattle.ndr_model.proofs.ScalarLaws.{number_read}
-use Rattle.ndr_model.specs.declared.counts.Counts.{Counts}
-use Rattle.ndr_model.specs.Bind.{◌>>=◌}
-use Rattle.ndr_model.specs.Counted.{HasCounts}
-use Rattle.ndr_model.specs.Texts.{IsText}
-use Rattle.ndr_model.proofs.Steps.{through}
-use Rattle.ndr_model.proofs.ArrayLaws.{counts_read, text_read}
+use Rattle.ndr_scalars.specs.Scalars.{up, octets_of, signed, Scalar}
+use Rattle.ndr_scalars.proofs.Laws.{number_read}
+use Rattle.ndr_arrays.specs.declared.counts.Counts.{Counts}
+use Rattle.ndr_arrays.specs.Bind.{◌>>=◌}
+use Rattle.ndr_arrays.specs.Counted.{HasCounts}
+use Rattle.ndr_arrays.specs.Texts.{IsText}
+use Rattle.ndr_arrays.proofs.Steps.{through}
+use Rattle.ndr_arrays.proofs.Laws.{counts_read, text_read}
 use Rattle.ndr_model.specs.declared.departure.Departure.TheVariants.{Tag, Text}
 use Rattle.ndr_model.specs.Part.{IsWire, IsTag, tag_bool, tag_char, tag_int, tag_uint, tag_enum, Opens, in_a_greater, in_front, not_open, opens_with, in_place, Begins}
 use Rattle.ndr_model.specs.Reading.{unless_short, of_counts, of_text, number, name_at, wire_at, chars_at, array_at, tag_at, opened_at, begun, struct_at}

@@ -7,7 +7,7 @@ use Rattle.ndr_value.specs.declared.shape.ArrayKind.{ArrayKind}
 use Rattle.ndr_value.specs.Forms.{Form, OfBool, OfByte, OfChar, OfInt, OfUint, OfEnum, OfUnion, OfText, OfHandle, Forms, Body}
 use Rattle.ndr_value.specs.Fits.{arm_of}
 use Rattle.ndr_value.specs.Values.{Val, Vals, then_val}
-use Rattle.ndr_value.specs.declared.operation.Bounds.{Bounds}
+use Rattle.ndr_table.specs.declared.operation.Bounds.{Bounds}
 use Rattle.ndr_model.specs.declared.departure.Departure.{Departure}
 use Rattle.ndr_model.specs.declared.departure.Departure.TheVariants.{Bound, Tag}
 use Rattle.ndr_model.specs.declared.mark.Mark.{Mark}

@@ -6,9 +6,9 @@ use Rattle.rpc_base.specs.declared.identifiers.WireHandle.{WireHandle}
 use Rattle.ndr_value.specs.Forms.{Form, OfUnion, Forms, Body}
 use Rattle.ndr_value.specs.Fits.{arm_of}
 use Rattle.ndr_value.specs.Values.{Val, VBool, VByte, VChar, VInt, VUint, VEnum, VStruct, VUnion, VArray, VText, VFull, VHandle, Vals, then_val}
-use Rattle.ndr_model.specs.Scalars.{up, signed}
-use Rattle.ndr_model.specs.Bind.{◌>>=◌}
-use Rattle.ndr_model.proofs.Steps.{through}
+use Rattle.ndr_scalars.specs.Scalars.{up, signed}
+use Rattle.ndr_arrays.specs.Bind.{◌>>=◌}
+use Rattle.ndr_arrays.proofs.Steps.{through}
 use Rattle.ndr_model.specs.declared.departure.Departure.{Departure}
 use Rattle.ndr_model.specs.declared.mark.Mark.TheVariants.{Referent}
 use Rattle.ndr_model.specs.Same.{same}

@@ -6,9 +6,9 @@ use Rattle.std.proofs.lemmas.Bool.{ltb-true, leb-true, cases_lt}
 use Rattle.std.proofs.lemmas.Option.{slice_get_within}
 use Rattle.ndr_value.specs.declared.shape.Count.{Count}
 use Rattle.ndr_value.specs.Forms.{Form, OfBool, OfByte, OfChar, OfInt, OfUint, OfEnum, OfNamed, OfStruct, OfUnion, OfArray, OfText, OfRef, OfUnique, OfFull, OfHandle, Forms, no_form, then_form, Body, empty, holds, ArmForms, no_arm, then_arm}
-use Rattle.ndr_value.specs.Ordered.{is_below, each_below, arms_below, body_below, is_body, ordered_from}
-use Rattle.ndr_value.specs.Nested.{levels, members_levels, arms_levels, body_levels, depths_past, depths_of, is_few, reaches_few, param_few, result_few, op_few}
-use Rattle.ndr_value.specs.Tables.{ParamForm, OpForm, param_below, result_below, op_below}
+use Rattle.ndr_table.specs.Ordered.{is_below, each_below, arms_below, body_below, is_body, ordered_from}
+use Rattle.ndr_table.specs.Nested.{levels, members_levels, arms_levels, body_levels, depths_past, depths_of, is_few, reaches_few, param_few, result_few, op_few}
+use Rattle.ndr_table.specs.Tables.{ParamForm, OpForm, param_below, result_below, op_below}
 use Rattle.ndr_model.specs.declared.way.Way.{Way}
 use Rattle.ndr_model.specs.declared.way.Way.TheVariants.{Request, Response}
 use Rattle.ndr_model.specs.Stub.{Entry, of_param, param_entry, goes, last_entry, entries_of, entries}

@@ -3,9 +3,9 @@ use Rattle.std.specs.Prelude.{◌≡◌, ℕ, List, slice_get, Option, Some, Ok}
 use Rattle.rpc_base.specs.declared.identifiers.Order.{Order}
 use Rattle.ndr_value.specs.Forms.{Form}
 use Rattle.ndr_value.specs.Values.{Msg}
-use Rattle.ndr_value.specs.declared.operation.HandleUse.{HandleUse}
-use Rattle.ndr_value.specs.Tables.{OpForm, IsTable}
-use Rattle.ndr_value.specs.Nested.{IsShallow}
+use Rattle.ndr_table.specs.declared.operation.HandleUse.{HandleUse}
+use Rattle.ndr_table.specs.Tables.{OpForm, IsTable}
+use Rattle.ndr_table.specs.Nested.{IsShallow}
 use Rattle.ndr_model.specs.declared.way.Way.{Way}
 use Rattle.ndr_model.specs.Message.{IsStub, read_stub}
 

@@ -3,13 +3,14 @@
 //! block ends with a line `==`.
 
 use crate::case::{Case, case_of, decoded};
+use base_words::{put, put_decimal, read_octets};
 use idl_check::check;
 use idl_reader::read_idl;
 use marshal_table::build;
 use ndr_codec::Way;
-use ndr_value::{Message, Table};
+use ndr_table::Table;
+use ndr_value::Message;
 use rpc_base::{NoMemory, Order};
-use rpc_words::{put, put_decimal, read_octets};
 use std::alloc::Global;
 
 /// What was gone through so far.

@@ -3,10 +3,11 @@
 use crate::read::{has_plain_text, message_of};
 use crate::text::{put_fault, put_message};
 use crate::typed::are_typed;
+use base_words::{cut_at, put, read_octets};
 use ndr_codec::{NdrFault, Way, decode, encode, fits, in_range};
-use ndr_value::{Message, Table};
+use ndr_table::Table;
+use ndr_value::Message;
 use rpc_base::{NoMemory, Octets, Order};
-use rpc_words::{cut_at, put, read_octets};
 use std::alloc::Global;
 
 /// A line `WAY ORDER HEX = TEXT`, with `==` in place of `=` where the octets are the canonical ones.

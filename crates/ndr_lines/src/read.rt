@@ -1,8 +1,9 @@
 //! Messages, read from their texts.
 
-use call_texts::{Handles, read_row};
+use client_texts::{Handles, read_row};
 use ndr_codec::Way;
-use ndr_value::{Message, Shape, Table, Values, Wires};
+use ndr_table::Table;
+use ndr_value::{Message, Shape, Values, Wires};
 use std::alloc::Global;
 use value_text::read_value;
 

@@ -1,9 +1,9 @@
 //! Messages and faults as texts.
 
+use base_words::{put, put_decimal, put_hex_u32, put_hex_u128};
 use ndr_codec::NdrFault;
 use ndr_value::{Message, Value};
 use rpc_base::{NoMemory, WireHandle};
-use rpc_words::{put, put_decimal, put_hex_u32, put_hex_u128};
 use std::alloc::Global;
 use value_text::print_value;
 

@@ -1,7 +1,8 @@
 //! Whether values are of the shapes in their places.
 
 use ndr_codec::Way;
-use ndr_value::{Message, Param, Shape, Table, Value, well_typed};
+use ndr_table::{Param, Table};
+use ndr_value::{Message, Shape, Value, well_typed};
 
 /// Whether a parameter is of that way.
 pub fn goes(way: Way, param: &Param) -> bool {

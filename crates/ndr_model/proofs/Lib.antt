@@ -1,9 +1,5 @@
 pub mod Alike
-pub mod ArrayLaws
-pub mod Gaps
 pub mod Mets
 pub mod Pieces
-pub mod ScalarLaws
 pub mod Sound
-pub mod Steps
 pub mod Stubs

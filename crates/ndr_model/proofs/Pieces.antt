@@ -7,18 +7,18 @@ use Rattle.rpc_base.specs.declared.identifiers.WireHandle.{WireHandle}
 use Rattle.rpc_base.specs.Fields.{wire_of}
 use Rattle.ndr_value.specs.declared.shape.ArrayKind.{ArrayKind}
 use Rattle.ndr_value.specs.Forms.{Form, OfBool, OfChar, OfInt, OfUint, OfEnum, OfStruct, Forms}
-use Rattle.ndr_model.specs.Scalars.{up, octets_of, signed, number_at, Scalar}
-use Rattle.ndr_model.proofs.ScalarLaws.{number_stands}
-use Rattle.ndr_model.specs.declared.counts.Counts.{Counts}
-use Rattle.ndr_model.specs.declared.counts.CountFault.{CountFault}
-use Rattle.ndr_model.specs.declared.counts.CountFault.TheVariants as counting
-use Rattle.ndr_model.specs.declared.texts.TextFault.{TextFault}
-use Rattle.ndr_model.specs.declared.texts.TextFault.TheVariants as texts
-use Rattle.ndr_model.specs.Bind.{◌>>=◌}
-use Rattle.ndr_model.specs.Counted.{HasCounts, counts_at}
-use Rattle.ndr_model.specs.Texts.{IsText, text_at}
-use Rattle.ndr_model.proofs.Steps.{bind_ok, unless_ok, when_ok, ok_is}
-use Rattle.ndr_model.proofs.ArrayLaws.{counts_stand, text_stands}
+use Rattle.ndr_scalars.specs.Scalars.{up, octets_of, signed, number_at, Scalar}
+use Rattle.ndr_scalars.proofs.Laws.{number_stands}
+use Rattle.ndr_arrays.specs.declared.counts.Counts.{Counts}
+use Rattle.ndr_arrays.specs.declared.counts.CountFault.{CountFault}
+use Rattle.ndr_arrays.specs.declared.counts.CountFault.TheVariants as counting
+use Rattle.ndr_arrays.specs.declared.texts.TextFault.{TextFault}
+use Rattle.ndr_arrays.specs.declared.texts.TextFault.TheVariants as texts
+use Rattle.ndr_arrays.specs.Bind.{◌>>=◌}
+use Rattle.ndr_arrays.specs.Counted.{HasCounts, counts_at}
+use Rattle.ndr_arrays.specs.Texts.{IsText, text_at}
+use Rattle.ndr_arrays.proofs.Steps.{bind_ok, unless_ok, when_ok, ok_is}
+use Rattle.ndr_arrays.proofs.Laws.{counts_stand, text_stands}
 use Rattle.ndr_model.specs.declared.departure.Departure.{Departure}
 use Rattle.ndr_model.specs.declared.departure.Departure.TheVariants.{Short, Tag, Text}
 use Rattle.ndr_model.specs.Part.{IsWire, IsTag, tag_bool, tag_char, tag_int, tag_uint, tag_enum, Opens, in_a_greater, in_front, not_open, opens_with, in_place, Begins}

@@ -6,9 +6,9 @@ use Rattle.rpc_base.specs.declared.identifiers.WireHandle.{WireHandle}
 use Rattle.ndr_value.specs.Forms.{Form, OfBool, OfByte, OfChar, OfInt, OfUint, OfEnum, OfNamed, OfStruct, OfUnion, OfArray, OfText, OfRef, OfUnique, OfFull, OfHandle, Forms, no_form, then_form, Body, empty, holds, ArmForms}
 use Rattle.ndr_value.specs.Fits.{arm_of}
 use Rattle.ndr_value.specs.Values.{Val, VBool, VByte, VChar, VInt, VUint, VEnum, VStruct, VEmpty, VUnion, VArray, VText, VNull, VPtr, VFull, VHandle, Vals, no_val, then_val}
-use Rattle.ndr_model.specs.Scalars.{up, signed, Scalar}
-use Rattle.ndr_model.specs.Bind.{◌>>=◌}
-use Rattle.ndr_model.proofs.Steps.{bind_ok, through, when_ok, ok_is}
+use Rattle.ndr_scalars.specs.Scalars.{up, signed, Scalar}
+use Rattle.ndr_arrays.specs.Bind.{◌>>=◌}
+use Rattle.ndr_arrays.proofs.Steps.{bind_ok, through, when_ok, ok_is}
 use Rattle.ndr_model.specs.declared.departure.Departure.{Departure}
 use Rattle.ndr_model.specs.declared.departure.Departure.TheVariants.{Pointer}
 use Rattle.ndr_model.specs.declared.mark.Mark.TheVariants.{Referent}

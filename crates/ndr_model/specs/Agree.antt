@@ -7,8 +7,8 @@ use Rattle.ndr_value.specs.declared.shape.ArrayKind.TheVariants.{Fixed, Varying,
 use Rattle.ndr_value.specs.Forms.{Form, OfBool, OfByte, OfChar, OfInt, OfUint, OfEnum, OfNamed, OfStruct, OfUnion, OfArray, OfText, OfRef, OfUnique, OfFull, OfHandle, Forms, no_form, then_form, ArmForms, holds}
 use Rattle.ndr_value.specs.Fits.{arm_of}
 use Rattle.ndr_value.specs.Values.{Val, VStruct, VEmpty, VUnion, VArray, VNull, VPtr, VFull, Vals, no_val, then_val}
-use Rattle.ndr_value.specs.declared.operation.Bounds.{Bounds}
-use Rattle.ndr_value.specs.Aligned.{is_last}
+use Rattle.ndr_table.specs.declared.operation.Bounds.{Bounds}
+use Rattle.ndr_table.specs.Aligned.{is_last}
 use Rattle.ndr_model.specs.declared.mark.Mark.{Mark}
 use Rattle.ndr_model.specs.declared.mark.Mark.TheVariants.{Number, Referent, Ranged}
 use Rattle.ndr_model.specs.Part.{opens_with}

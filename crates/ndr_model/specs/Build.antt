@@ -5,8 +5,8 @@ use Rattle.rpc_base.specs.declared.identifiers.Order.{Order}
 use Rattle.ndr_value.specs.Forms.{Form, OfBool, OfByte, OfChar, OfInt, OfUint, OfEnum, OfNamed, OfStruct, OfUnion, OfArray, OfText, OfRef, OfUnique, OfFull, OfHandle, Forms, no_form, then_form, Body, empty, holds}
 use Rattle.ndr_value.specs.Fits.{arm_of}
 use Rattle.ndr_value.specs.Values.{Val, VBool, VByte, VChar, VInt, VUint, VEnum, VStruct, VEmpty, VUnion, VArray, VText, VNull, VPtr, VFull, VHandle, Vals, no_val, then_val}
-use Rattle.ndr_model.specs.Scalars.{up, signed}
-use Rattle.ndr_model.specs.Bind.{◌>>=◌}
+use Rattle.ndr_scalars.specs.Scalars.{up, signed}
+use Rattle.ndr_arrays.specs.Bind.{◌>>=◌}
 use Rattle.ndr_model.specs.declared.departure.Departure.{Departure}
 use Rattle.ndr_model.specs.declared.departure.Departure.TheVariants.{Tag, Pointer, TooDeep, Trailing}
 use Rattle.ndr_model.specs.declared.mark.Mark.TheVariants.{Referent}

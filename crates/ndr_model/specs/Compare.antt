@@ -7,7 +7,7 @@ use Rattle.ndr_value.specs.declared.shape.ArrayKind.TheVariants.{Fixed, Varying,
 use Rattle.ndr_value.specs.Forms.{Form, OfNamed, OfStruct, OfUnion, OfArray, OfRef, OfUnique, OfFull, Forms, no_form, then_form, Body, holds}
 use Rattle.ndr_value.specs.Fits.{arm_of}
 use Rattle.ndr_value.specs.Values.{Val, VStruct, VEmpty, VUnion, VArray, VNull, VPtr, VFull, Vals, no_val, then_val}
-use Rattle.ndr_value.specs.declared.operation.Bounds.{Bounds}
+use Rattle.ndr_table.specs.declared.operation.Bounds.{Bounds}
 use Rattle.ndr_model.specs.declared.departure.Departure.{Departure}
 use Rattle.ndr_model.specs.declared.departure.Departure.TheVariants.{Short, Bound, Tag, Pointer, Text, TooDeep, Trailing}
 use Rattle.ndr_model.specs.declared.mark.Mark.{Mark}

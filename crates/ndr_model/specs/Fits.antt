@@ -9,9 +9,9 @@ use Rattle.ndr_value.specs.declared.shape.ArrayKind.TheVariants.{Fixed, Varying,
 use Rattle.ndr_value.specs.Forms.{Form, OfBool, OfByte, OfChar, OfInt, OfUint, OfEnum, OfNamed, OfStruct, OfUnion, OfArray, OfText, OfRef, OfUnique, OfFull, OfHandle, Forms, no_form, then_form, ArmForms, empty, holds}
 use Rattle.ndr_value.specs.Fits.{within, has_nul, arm_of}
 use Rattle.ndr_value.specs.Values.{Val, VBool, VByte, VChar, VInt, VUint, VEnum, VStruct, VEmpty, VUnion, VArray, VText, VNull, VPtr, VFull, VHandle, Vals, no_val, then_val, count_of, Msg}
-use Rattle.ndr_value.specs.declared.operation.Bounds.{Bounds}
-use Rattle.ndr_value.specs.Tables.{OpForm}
-use Rattle.ndr_model.specs.Scalars.{octets_of}
+use Rattle.ndr_table.specs.declared.operation.Bounds.{Bounds}
+use Rattle.ndr_table.specs.Tables.{OpForm}
+use Rattle.ndr_scalars.specs.Scalars.{octets_of}
 use Rattle.ndr_model.specs.declared.way.Way.{Way}
 use Rattle.ndr_model.specs.Same.{IsSame}
 use Rattle.ndr_model.specs.Stub.{Entry, entries}

@@ -5,9 +5,9 @@ use Rattle.ndr_value.specs.declared.shape.ArrayKind.{ArrayKind}
 use Rattle.ndr_value.specs.declared.shape.ArrayKind.TheVariants.{ConformantVarying}
 use Rattle.ndr_value.specs.Forms.{Form, OfNamed, OfStruct, OfArray, OfText, Forms, then_form}
 use Rattle.ndr_value.specs.Values.{Val, VStruct, VArray, VText, Vals, then_val, count_of}
-use Rattle.ndr_value.specs.Aligned.{is_last}
-use Rattle.ndr_model.specs.Counted.{counts}
-use Rattle.ndr_model.specs.ArraysWritten.{counts_octets}
+use Rattle.ndr_table.specs.Aligned.{is_last}
+use Rattle.ndr_arrays.specs.Counted.{counts}
+use Rattle.ndr_arrays.specs.Written.{counts_octets}
 use Rattle.ndr_model.specs.Named.{Call, named}
 use Rattle.ndr_model.specs.Pieces.{fitting, counted}
 

@@ -1,9 +1,6 @@
 pub mod Agree
-pub mod ArraysWritten
-pub mod Bind
 pub mod Build
 pub mod Compare
-pub mod Counted
 pub mod Faults
 pub mod Fits
 pub mod Fronts
@@ -15,8 +12,6 @@ pub mod Pieces
 pub mod Places
 pub mod Reading
 pub mod Same
-pub mod Scalars
 pub mod Scan
 pub mod Stub
-pub mod Texts
 pub mod Written

@@ -4,7 +4,7 @@ use Rattle.std.specs.Prelude.{ℕ, zero, suc, ℤ, pos, ◌+ℤ◌, Bool, true, 
 use Rattle.ndr_value.specs.declared.shape.Count.{Count}
 use Rattle.ndr_value.specs.declared.shape.Count.TheVariants as counts
 use Rattle.ndr_value.specs.Values.{Val, VBool, VByte, VChar, VInt, VUint, VEnum, VNull, VPtr, VFull, Vals, no_val, then_val, Msg}
-use Rattle.ndr_value.specs.Tables.{ParamForm, OpForm}
+use Rattle.ndr_table.specs.Tables.{ParamForm, OpForm}
 use Rattle.ndr_model.specs.declared.way.Way.{Way}
 use Rattle.ndr_model.specs.declared.way.Way.TheVariants.{Request}
 use Rattle.ndr_model.specs.Stub.{goes}

@@ -10,12 +10,12 @@ use Rattle.ndr_value.specs.declared.shape.ArrayKind.TheVariants.{Varying, Confor
 use Rattle.ndr_value.specs.Forms.{Form, OfBool, OfByte, OfChar, OfInt, OfUint, OfEnum, OfNamed, OfStruct, OfUnion, OfArray, OfText, OfRef, OfUnique, OfFull, OfHandle, Forms, no_form, then_form, ArmForms, empty, holds}
 use Rattle.ndr_value.specs.Fits.{arm_of}
 use Rattle.ndr_value.specs.Values.{Val, VBool, VByte, VChar, VInt, VUint, VEnum, VStruct, VEmpty, VUnion, VArray, VText, VNull, VPtr, VFull, VHandle, Vals, no_val, then_val}
-use Rattle.ndr_value.specs.Aligned.{is_last, align_of, alignments}
-use Rattle.ndr_value.specs.Tails.{ends_open, tails_of}
-use Rattle.ndr_model.specs.Scalars.{up, octets_of, signed, Scalar}
-use Rattle.ndr_model.specs.declared.counts.Counts.{Counts}
-use Rattle.ndr_model.specs.Counted.{HasCounts}
-use Rattle.ndr_model.specs.Texts.{IsText}
+use Rattle.ndr_table.specs.Aligned.{is_last, align_of, alignments}
+use Rattle.ndr_table.specs.Tails.{ends_open, tails_of}
+use Rattle.ndr_scalars.specs.Scalars.{up, octets_of, signed, Scalar}
+use Rattle.ndr_arrays.specs.declared.counts.Counts.{Counts}
+use Rattle.ndr_arrays.specs.Counted.{HasCounts}
+use Rattle.ndr_arrays.specs.Texts.{IsText}
 use Rattle.ndr_model.specs.declared.mark.Mark.{Mark}
 use Rattle.ndr_model.specs.declared.mark.Mark.TheVariants.{Number, Referent}
 use Rattle.ndr_model.specs.Same.{IsSame}

@@ -4,7 +4,7 @@ use Rattle.rpc_base.specs.declared.identifiers.Order.{Order}
 use Rattle.ndr_value.specs.Forms.{Form}
 use Rattle.ndr_value.specs.Fits.{within}
 use Rattle.ndr_value.specs.Values.{Val, Vals}
-use Rattle.ndr_model.specs.Scalars.{up, octets_of, written, unsigned}
+use Rattle.ndr_scalars.specs.Scalars.{up, octets_of, written, unsigned}
 
 -- ---- numbers
 

@@ -5,15 +5,15 @@ use Rattle.rpc_base.specs.declared.identifiers.WireHandle.{WireHandle}
 use Rattle.rpc_base.specs.Fields.{wire_of}
 use Rattle.ndr_value.specs.declared.shape.ArrayKind.{ArrayKind}
 use Rattle.ndr_value.specs.Forms.{Form, OfBool, OfChar, OfInt, OfUint, OfEnum, OfStruct, Forms}
-use Rattle.ndr_model.specs.Scalars.{up, octets_of, signed, number_at}
-use Rattle.ndr_model.specs.declared.counts.Counts.{Counts}
-use Rattle.ndr_model.specs.declared.counts.CountFault.{CountFault}
-use Rattle.ndr_model.specs.declared.counts.CountFault.TheVariants as counting
-use Rattle.ndr_model.specs.declared.texts.TextFault.{TextFault}
-use Rattle.ndr_model.specs.declared.texts.TextFault.TheVariants as texts
-use Rattle.ndr_model.specs.Bind.{◌>>=◌}
-use Rattle.ndr_model.specs.Counted.{counts_at}
-use Rattle.ndr_model.specs.Texts.{text_at}
+use Rattle.ndr_scalars.specs.Scalars.{up, octets_of, signed, number_at}
+use Rattle.ndr_arrays.specs.declared.counts.Counts.{Counts}
+use Rattle.ndr_arrays.specs.declared.counts.CountFault.{CountFault}
+use Rattle.ndr_arrays.specs.declared.counts.CountFault.TheVariants as counting
+use Rattle.ndr_arrays.specs.declared.texts.TextFault.{TextFault}
+use Rattle.ndr_arrays.specs.declared.texts.TextFault.TheVariants as texts
+use Rattle.ndr_arrays.specs.Bind.{◌>>=◌}
+use Rattle.ndr_arrays.specs.Counted.{counts_at}
+use Rattle.ndr_arrays.specs.Texts.{text_at}
 use Rattle.ndr_model.specs.declared.departure.Departure.{Departure}
 use Rattle.ndr_model.specs.declared.departure.Departure.TheVariants.{Short, Bound, Tag, Text}
 use Rattle.ndr_model.specs.Part.{opens_with, in_place}

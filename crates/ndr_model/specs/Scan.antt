@@ -3,8 +3,8 @@ use Rattle.std.specs.Prelude.{ℕ, zero, suc, List, [], ◌∷◌, ◌++◌, sli
 use Rattle.rpc_base.specs.declared.identifiers.Order.{Order}
 use Rattle.ndr_value.specs.Forms.{Form, OfBool, OfByte, OfChar, OfInt, OfUint, OfEnum, OfNamed, OfStruct, OfUnion, OfArray, OfText, OfRef, OfUnique, OfFull, OfHandle, Forms, no_form, then_form, Body, empty, holds}
 use Rattle.ndr_value.specs.Fits.{arm_of}
-use Rattle.ndr_model.specs.Scalars.{up}
-use Rattle.ndr_model.specs.Bind.{◌>>=◌}
+use Rattle.ndr_scalars.specs.Scalars.{up}
+use Rattle.ndr_arrays.specs.Bind.{◌>>=◌}
 use Rattle.ndr_model.specs.declared.departure.Departure.{Departure}
 use Rattle.ndr_model.specs.declared.departure.Departure.TheVariants.{Tag, Pointer, TooDeep}
 use Rattle.ndr_model.specs.Places.{Place, past, look}

@@ -3,9 +3,9 @@ use Rattle.std.specs.Prelude.{◌≡◌, ℕ, suc, ◌+◌, ◌≤◌, List, [],
 use Rattle.rpc_base.specs.declared.identifiers.Order.{Order}
 use Rattle.ndr_value.specs.Forms.{Form, OfRef}
 use Rattle.ndr_value.specs.Values.{Val, Vals, no_val, then_val, count_of, Msg}
-use Rattle.ndr_value.specs.declared.operation.Bounds.{Bounds}
-use Rattle.ndr_value.specs.Tables.{ParamForm, OpForm}
-use Rattle.ndr_model.specs.Scalars.{up}
+use Rattle.ndr_table.specs.declared.operation.Bounds.{Bounds}
+use Rattle.ndr_table.specs.Tables.{ParamForm, OpForm}
+use Rattle.ndr_scalars.specs.Scalars.{up}
 use Rattle.ndr_model.specs.declared.way.Way.{Way}
 use Rattle.ndr_model.specs.declared.way.Way.TheVariants.{Request, Response}
 use Rattle.ndr_model.specs.declared.mark.Mark.{Mark}

@@ -9,9 +9,9 @@ use Rattle.ndr_value.specs.declared.shape.ArrayKind.{ArrayKind}
 use Rattle.ndr_value.specs.Forms.{Form, OfBool, OfByte, OfChar, OfInt, OfUint, OfEnum, OfNamed, OfStruct, OfUnion, OfArray, OfText, OfRef, OfUnique, OfFull, OfHandle, Forms, then_form, Body, holds}
 use Rattle.ndr_value.specs.Fits.{arm_of}
 use Rattle.ndr_value.specs.Values.{Val, VBool, VByte, VChar, VInt, VUint, VEnum, VStruct, VEmpty, VUnion, VArray, VText, VNull, VPtr, VFull, VHandle, Vals, no_val, then_val, count_of, Msg}
-use Rattle.ndr_value.specs.Aligned.{is_last, align_of, alignments}
-use Rattle.ndr_value.specs.Tables.{OpForm}
-use Rattle.ndr_model.specs.ArraysWritten.{both, text_octets}
+use Rattle.ndr_table.specs.Aligned.{is_last, align_of, alignments}
+use Rattle.ndr_table.specs.Tables.{OpForm}
+use Rattle.ndr_arrays.specs.Written.{both, text_octets}
 use Rattle.ndr_model.specs.declared.way.Way.{Way}
 use Rattle.ndr_model.specs.Part.{opens_with}
 use Rattle.ndr_model.specs.Stub.{Entry, entries}

@@ -1,2 +1,4 @@
 pub mod Alikes
 mod Indexes
+pub mod Octets
+pub mod Walks

@@ -5,9 +5,9 @@ use Rattle.std.proofs.lemmas.Bool.{ltb-true, ltb-false}
 use Rattle.rpc_base.specs.declared.identifiers.Order.{Order}
 use Rattle.ndr_value.specs.Forms.{Form, OfBool, OfByte, OfChar, OfInt, OfUint, OfEnum, OfNamed, OfStruct, OfUnion, OfArray, OfText, OfRef, OfUnique, OfFull, OfHandle}
 use Rattle.ndr_value.specs.Values.{Val, VBool, VByte, VChar, VInt, VUint, VEnum, VText, VArray, bytes}
-use Rattle.ndr_model.specs.Scalars.{signed}
-use Rattle.ndr_model.specs.Bind.{◌>>=◌}
-use Rattle.ndr_model.specs.declared.counts.Counts.{Counts}
+use Rattle.ndr_scalars.specs.Scalars.{signed}
+use Rattle.ndr_arrays.specs.Bind.{◌>>=◌}
+use Rattle.ndr_arrays.specs.declared.counts.Counts.{Counts}
 use Rattle.ndr_model.specs.declared.departure.Departure.{Departure}
 use Rattle.ndr_model.specs.declared.mark.Mark.{Mark}
 use Rattle.ndr_model.specs.Part.{count_marks}
@@ -15,7 +15,7 @@ use Rattle.ndr_model.specs.Places.{Place, Last, past, onto, noting}
 use Rattle.ndr_model.specs.Reading.{number, name_at, chars_at, array_at}
 use Rattle.ndr_model.specs.Scan.{Scanned, scan, times}
 use Rattle.ndr_model.specs.Build.{Cursor, PartEnds, cursor, ahead, ends, Built, Found, build, built_times, in_array, whole}
-use Rattle.ndr_scan.proofs.Octets.{many_past, many_short, many_deep}
+use Rattle.ndr_pointers.proofs.Octets.{many_past, many_short, many_deep}
 use Rattle.ndr_read.specs.Alone.{is_byte, alone, ended}
 use Rattle.ndr_read.proofs.Octets.{many_built, many_missing, many_too_deep}
 

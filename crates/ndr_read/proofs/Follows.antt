@@ -4,19 +4,19 @@ use Rattle.std.proofs.lemmas.List.{drop_all}
 use Rattle.rpc_base.specs.declared.identifiers.Order.{Order}
 use Rattle.ndr_value.specs.Forms.{Form}
 use Rattle.ndr_value.specs.Values.{Val, Vals, no_val, then_val}
-use Rattle.ndr_value.specs.declared.operation.Param.{Param}
-use Rattle.ndr_value.specs.Tables.{ParamForm, param_form}
-use Rattle.ndr_model.specs.Bind.{◌>>=◌}
+use Rattle.ndr_table.specs.declared.operation.Param.{Param}
+use Rattle.ndr_table.specs.Tables.{ParamForm, param_form}
+use Rattle.ndr_arrays.specs.Bind.{◌>>=◌}
 use Rattle.ndr_model.specs.declared.departure.Departure.{Departure}
 use Rattle.ndr_model.specs.declared.way.Way.{Way}
 use Rattle.ndr_model.specs.Places.{Last, noting}
 use Rattle.ndr_model.specs.Stub.{Entry, goes, param_entry, entries_of, last_entry, range_marks}
 use Rattle.ndr_model.specs.Build.{Found, whole, follows}
-use Rattle.ndr_scan.specs.declared.fault.ReadError.{ReadError}
-use Rattle.ndr_scan.specs.declared.fault.ReadError.TheVariants as errors
-use Rattle.ndr_scan.specs.Gives.{Fails}
+use Rattle.ndr_pointers.specs.declared.scan_fault.ReadError.{ReadError}
+use Rattle.ndr_pointers.specs.declared.scan_fault.ReadError.TheVariants as errors
+use Rattle.ndr_pointers.specs.Gives.{Fails}
 use Rattle.ndr_read.specs.Readings.{join, Followed, before, param_at, entry_at}
-use Rattle.ndr_scan.proofs.Walks.{drop_more}
+use Rattle.ndr_pointers.proofs.Walks.{drop_more}
 use Rattle.ndr_read.proofs.Rows.{join_none, join_one}
 
 regroup : (front : Vals) (v : Val) (row : Followed) → before front (row >>= λ y. Ok (then_val v y.0, y.1)) ≡ before (join front (then_val v no_val)) row

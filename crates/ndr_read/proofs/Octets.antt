@@ -4,12 +4,12 @@ use Rattle.std.specs.Prelude.{nat_lt, slice_index}
 use Rattle.std.proofs.lemmas.Bool.{ltb-true, ltb-false}
 use Rattle.rpc_base.specs.declared.identifiers.Order.{Order}
 use Rattle.ndr_value.specs.Forms.{Form, OfByte}
-use Rattle.ndr_model.specs.Bind.{◌>>=◌}
+use Rattle.ndr_arrays.specs.Bind.{◌>>=◌}
 use Rattle.ndr_model.specs.declared.departure.Departure.TheVariants.{Short, TooDeep}
 use Rattle.ndr_value.specs.Values.{VByte, VArray, Vals, then_val, bytes}
 use Rattle.ndr_model.specs.Places.{Last}
 use Rattle.ndr_model.specs.Build.{Cursor, ahead, ends, Built, Row, build, built_times, in_array}
-use Rattle.ndr_scan.proofs.Octets.{octet_read, octet_short}
+use Rattle.ndr_pointers.proofs.Octets.{octet_read, octet_short}
 
 module _ (types : List Form) (order : Order) (octets : List ℕ) where
   byte_built : (n room : ℕ) (a : Cursor) (q : Last) → a.at < length octets → build types order octets (suc n) room None OfByte a q ≡ Ok (VByte (slice_index octets a.at), ends (ahead a (a.at + 1)) q)

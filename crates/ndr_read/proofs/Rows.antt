@@ -6,10 +6,10 @@ use Rattle.ndr_value.specs.declared.shape.Shape.{Shape}
 use Rattle.ndr_value.specs.declared.value.Value.{Value}
 use Rattle.ndr_value.specs.Forms.{Form, Forms, OfStruct, OfUnion, ArmForms, Body, form, forms}
 use Rattle.ndr_value.specs.Values.{Val, Vals, no_val, then_val, val, vals}
-use Rattle.ndr_model.specs.Bind.{◌>>=◌}
+use Rattle.ndr_arrays.specs.Bind.{◌>>=◌}
 use Rattle.std.specs.Prelude.{ℤ}
 use Rattle.ndr_value.specs.Fits.{arm_of}
-use Rattle.ndr_model.specs.Scalars.{up}
+use Rattle.ndr_scalars.specs.Scalars.{up}
 use Rattle.ndr_model.specs.declared.departure.Departure.{Departure}
 use Rattle.ndr_model.specs.declared.mark.Mark.TheVariants.{Number}
 use Rattle.ndr_model.specs.Part.{for_last, in_place, tag_size, opened_marks, tag_marks}
@@ -19,11 +19,11 @@ use Rattle.ndr_read.specs.Views.{items_of}
 use Rattle.ndr_model.specs.Places.{Place, Last, noting}
 use Rattle.ndr_model.specs.Scan.{Scanned, scan}
 use Rattle.ndr_model.specs.Build.{Cursor, PartEnds, ahead, ends, Built, Row, build, build_at, built_each, built_times, built_arm, in_struct}
-use Rattle.ndr_scan.specs.declared.fault.ReadError.{ReadError}
-use Rattle.ndr_scan.specs.declared.fault.ReadError.TheVariants as errors
-use Rattle.ndr_scan.specs.Gives.{Fails}
+use Rattle.ndr_pointers.specs.declared.scan_fault.ReadError.{ReadError}
+use Rattle.ndr_pointers.specs.declared.scan_fault.ReadError.TheVariants as errors
+use Rattle.ndr_pointers.specs.Gives.{Fails}
 use Rattle.ndr_read.specs.Readings.{join}
-use Rattle.ndr_scan.proofs.Walks.{drop_more}
+use Rattle.ndr_pointers.proofs.Walks.{drop_more}
 
 pub join_none : (vs : Vals) → join vs no_val ≡ vs
 join_none no_val = refl

@@ -1,7 +1,7 @@
 -- Shapes whose values have no referents and no handles.
 use Rattle.std.specs.Prelude.{Bool, true, false, Ok}
 use Rattle.ndr_value.specs.Forms.{Form, OfBool, OfByte, OfChar, OfInt, OfUint, OfEnum, OfArray, OfText}
-use Rattle.ndr_model.specs.Bind.{◌>>=◌}
+use Rattle.ndr_arrays.specs.Bind.{◌>>=◌}
 use Rattle.ndr_model.specs.Places.{past, onto}
 use Rattle.ndr_model.specs.Build.{Built, Found}
 

@@ -1,6 +1,6 @@
 pub mod Alone
 pub mod Noted
-pub mod Views
 pub mod Pieces
-pub mod Slots
 pub mod Readings
+pub mod Slots
+pub mod Views

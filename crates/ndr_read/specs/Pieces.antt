@@ -2,8 +2,8 @@
 use Rattle.std.specs.Prelude.{ℕ, suc, pos, List, [], ◌∷◌, Option, Some, None, Ok}
 use Rattle.rpc_base.specs.declared.identifiers.Order.{Order}
 use Rattle.ndr_value.specs.Values.{VEnum, VText, VHandle}
-use Rattle.ndr_model.specs.Scalars.{up}
-use Rattle.ndr_model.specs.Bind.{◌>>=◌}
+use Rattle.ndr_scalars.specs.Scalars.{up}
+use Rattle.ndr_arrays.specs.Bind.{◌>>=◌}
 use Rattle.ndr_model.specs.declared.mark.Mark.{Mark}
 use Rattle.ndr_model.specs.declared.mark.Mark.TheVariants.{Number}
 use Rattle.ndr_model.specs.Places.{Last}

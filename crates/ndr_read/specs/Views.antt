@@ -3,7 +3,7 @@ use Rattle.std.specs.Prelude.{ℕ, List, [], ◌∷◌, ◌++◌}
 use Rattle.ndr_value.specs.Values.{Val, val}
 use Rattle.ndr_model.specs.Places.{Last}
 use Rattle.ndr_model.specs.Build.{Cursor}
-use Rattle.ndr_scan.specs.Views.{place}
+use Rattle.ndr_pointers.specs.Views.{place}
 use Rattle.ndr_read.specs.declared.state.Flat.{Flat}
 use Rattle.ndr_read.specs.declared.state.Kept.{Kept}
 use Rattle.ndr_read.specs.declared.state.Tail.{Tail}

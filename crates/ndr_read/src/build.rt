@@ -2,14 +2,14 @@
 ghost use Rattle.std.specs.Prelude.{◌≡◌, ◌∷◌, [], ◌++◌, ◌+◌, ◌-◌, ◌≤◌, ◌<◌, ◌==◌, ℕ, Option, None, Some, Ok, OnOk, true, not, length, slice_get};
 ghost use Rattle.ndr_value.specs.Forms.{form, forms, arms_of, body, OfByte, OfStruct, OfUnion, OfArray, OfRef, OfUnique, OfFull};
 ghost use Rattle.ndr_value.specs.Values.{val, vals, bytes, VStruct, VArray, VUnion, VEmpty, VPtr, VNull, VFull};
-ghost use Rattle.ndr_model.specs.Scalars.{up};
+ghost use Rattle.ndr_scalars.specs.Scalars.{up};
 ghost use Rattle.ndr_model.specs.declared.mark.Mark.TheVariants.{Referent};
 ghost use Rattle.ndr_model.specs.Places.{Last, noting, look};
 ghost use Rattle.ndr_model.specs.Reading.{number};
 ghost use Rattle.ndr_model.specs.Scan.{scan};
 ghost use Rattle.ndr_model.specs.Build.{cursor, ahead, ends, build, build_at, built_each, built_times, built_arm, whole, referent, behind_ref, behind_unique, behind_full, behind_known, in_struct, in_array};
-ghost use Rattle.ndr_scan.specs.Gives.{Gives};
-ghost use Rattle.ndr_scan.specs.Views.{types_in};
+ghost use Rattle.ndr_pointers.specs.Gives.{Gives};
+ghost use Rattle.ndr_pointers.specs.Views.{types_in};
 ghost use Rattle.ndr_read.specs.Alone.{ended};
 ghost use Rattle.ndr_read.specs.Views.{cursor_of, last_of};
 
@@ -20,7 +20,7 @@ use crate::leaves::{
 use crate::notes::{note, note_counts, note_front};
 use crate::state::{Flat, Kept, Tail};
 use ndr_model::{Departure, Mark};
-use ndr_scan::{ReadError, Reader, arm_for, if_last, scan_flat, tag_octets};
+use ndr_pointers::{ReadError, Reader, arm_for, if_last, scan_flat, tag_octets};
 use ndr_value::{Arm, ArrayKind, Shape, Value};
 use rpc_base::{NoMemory, Octets};
 

@@ -2,16 +2,16 @@
 //! stack.
 ghost use Rattle.std.specs.Prelude.{◌≡◌, ◌==◌, ℕ, not};
 ghost use Rattle.ndr_value.specs.Values.{val, VBool, VByte, VChar, VInt, VUint};
-ghost use Rattle.ndr_model.specs.Scalars.{signed};
+ghost use Rattle.ndr_scalars.specs.Scalars.{signed};
 ghost use Rattle.ndr_model.specs.Places.{Last};
 ghost use Rattle.ndr_model.specs.Build.{ends, built_number};
-ghost use Rattle.ndr_scan.specs.Gives.{Gives};
+ghost use Rattle.ndr_pointers.specs.Gives.{Gives};
 ghost use Rattle.ndr_read.specs.Pieces.{wire_build, name_build, chars_build};
 ghost use Rattle.ndr_read.specs.Views.{cursor_of};
-ghost use Rattle.ndr_scan.specs.Views.{types_in};
+ghost use Rattle.ndr_pointers.specs.Views.{types_in};
 
 use crate::state::Flat;
-use ndr_scan::{ReadError, Reader};
+use ndr_pointers::{ReadError, Reader};
 use ndr_value::Value;
 use rpc_base::Octets;
 

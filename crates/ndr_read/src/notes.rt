@@ -1,6 +1,6 @@
 //! Marks of what is read.
 ghost use Rattle.std.specs.Prelude.{◌≡◌, ◌∷◌, [], ◌+◌, ◌-◌, pos, Option, OnOk};
-ghost use Rattle.ndr_model.specs.Scalars.{up};
+ghost use Rattle.ndr_scalars.specs.Scalars.{up};
 ghost use Rattle.ndr_model.specs.Part.{opened_marks, count_marks};
 ghost use Rattle.ndr_model.specs.Places.{noting};
 ghost use Rattle.ndr_model.specs.declared.mark.Mark.TheVariants.{Number};
@@ -8,8 +8,9 @@ ghost use Rattle.ndr_read.specs.Pieces.{most_marks};
 ghost use Rattle.ndr_read.specs.Views.{last_of};
 
 use crate::state::Tail;
-use ndr_model::{Counts, Mark};
-use ndr_scan::Reader;
+use ndr_arrays::Counts;
+use ndr_model::Mark;
+use ndr_pointers::Reader;
 use ndr_value::ArrayKind;
 use rpc_base::NoMemory;
 

@@ -2,8 +2,7 @@
 
 use crate::marks::Marks;
 use ndr_model::Mark;
-use ndr_pointers::Referents;
-use ndr_scan::Seen;
+use ndr_pointers::{Referents, Seen};
 use ndr_value::{Value, Wires};
 use std::alloc::Global;
 

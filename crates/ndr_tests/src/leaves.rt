@@ -1,9 +1,10 @@
 //! Numbers, counts and texts that are read, in either order.
 
-use ndr_model::{read_counts, read_int, read_text, read_uint, read_word};
+use base_words::put;
+use ndr_arrays::{read_counts, read_text};
+use ndr_scalars::{read_int, read_uint, read_word};
 use ndr_value::{ArrayKind, Count};
 use rpc_base::{NoMemory, Order};
-use rpc_words::put;
 use std::alloc::Global;
 use std::test::*;
 use test_rows::{Answers, same, wrong_row};

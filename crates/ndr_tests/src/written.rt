@@ -1,6 +1,7 @@
 //! Numbers, counts and texts that are written.
 
-use ndr_model::{Counts, write_counts, write_int, write_text, write_uint};
+use ndr_arrays::{Counts, write_counts, write_text};
+use ndr_scalars::{write_int, write_uint};
 use ndr_value::{ArrayKind, Count};
 use rpc_base::{NoMemory, Order};
 use std::alloc::Global;

@@ -1,5 +1,3 @@
-pub mod Aligns
 pub mod Judges
 pub mod Mirror
 pub mod Names
-pub mod Sizes

@@ -1,12 +1,5 @@
-pub mod Aligned
 pub mod Fits
 pub mod Forms
 pub mod Judged
-pub mod Nested
-pub mod Ordered
-pub mod Shown
-pub mod Sound
-pub mod Tables
-pub mod Tails
 pub mod Typed
 pub mod Values

@@ -3,26 +3,15 @@
 //! nothing is looked up by name while a call is marshalled.
 #![tactic(auto)]
 
-mod align;
-mod copies;
 mod copy;
-mod nesting;
-mod operation;
 mod parts;
 mod reach;
 mod shape;
-mod sound;
-mod table;
-mod tails;
 mod value;
 mod well;
 
-pub use align::octets;
 pub use copy::{copy_shape, copy_shapes};
-pub use nesting::{MOST_LEVELS, has_few_levels};
-pub use operation::{Bounds, HandleUse, HandleUses, Op, Ops, Param, Params, Uses};
 pub use parts::{selected_arm, tag_fits};
 pub use shape::{Arm, Arms, ArrayKind, Cases, Count, Shape, Shapes};
-pub use table::Table;
 pub use value::{Message, Value, Values, Wires};
 pub use well::well_typed;

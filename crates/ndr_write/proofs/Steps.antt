@@ -7,12 +7,12 @@ use Rattle.rpc_base.specs.declared.identifiers.Order.{Order}
 use Rattle.rpc_base.specs.Fields.{IsOctets}
 use Rattle.ndr_value.specs.declared.shape.ArrayKind.{ArrayKind}
 use Rattle.ndr_value.specs.declared.shape.Count.{Count}
-use Rattle.ndr_model.specs.Scalars.{up, written}
+use Rattle.ndr_scalars.specs.Scalars.{up, written}
 use Rattle.ndr_value.specs.declared.shape.Shape.{Shape}
 use Rattle.ndr_value.specs.declared.value.Value.{Value}
 use Rattle.ndr_value.specs.Forms.{Form, Forms, OfByte, OfNamed, form, forms, then_form}
 use Rattle.ndr_value.specs.Values.{Val, VByte, VStruct, VArray, count_of, Vals, no_val, then_val, val, vals, bytes}
-use Rattle.ndr_value.specs.Aligned.{is_last}
+use Rattle.ndr_table.specs.Aligned.{is_last}
 use Rattle.ndr_model.specs.Part.{opens_with}
 use Rattle.ndr_model.specs.Named.{Call}
 use Rattle.ndr_model.specs.Pieces.{Given, Behind, Piece, only, joined, then_piece, number}

@@ -6,7 +6,7 @@ ghost use Rattle.ndr_model.specs.Fronts as spec;
 
 use crate::numbers::{count_of, counted};
 use crate::state::Writer;
-use ndr_model::{Counts, write_counts};
+use ndr_arrays::{Counts, write_counts};
 use ndr_value::{ArrayKind, Value};
 use rpc_base::NoMemory;
 

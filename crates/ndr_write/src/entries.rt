@@ -2,7 +2,7 @@
 ghost use Rattle.std.specs.Prelude.{◌≡◌, ◌++◌, [], map, OnOk, OnErr, IfOk};
 ghost use Rattle.ndr_value.specs.Forms.{form};
 ghost use Rattle.ndr_value.specs.Values.{val, vals, no_val, msg};
-ghost use Rattle.ndr_value.specs.Tables.{param_form, result_form};
+ghost use Rattle.ndr_table.specs.Tables.{param_form, result_form};
 ghost use Rattle.ndr_model.specs.Stub as stub;
 ghost use Rattle.ndr_agree.specs.Views.{types_in, call_of};
 ghost use Rattle.ndr_model.specs.Written as spec;
@@ -12,7 +12,8 @@ use crate::state::{Out, Pending, Pointed, Writer};
 use crate::whole::put_whole;
 use ndr_agree::Call;
 use ndr_model::Way;
-use ndr_value::{Param, Shape, Value};
+use ndr_table::Param;
+use ndr_value::{Shape, Value};
 use rpc_base::{NoMemory, Order};
 use std::alloc::Global;
 use std::mem;

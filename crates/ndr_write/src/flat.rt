@@ -3,8 +3,8 @@ ghost use Rattle.std.specs.Prelude.{◌≡◌, ◌&&◌, ◌||◌, true, Some, N
 ghost use Rattle.ndr_value.specs.Forms.{form, forms, arms_of, body, OfStruct, OfUnion};
 ghost use Rattle.ndr_value.specs.Fits.{arm_of};
 ghost use Rattle.ndr_value.specs.Values.{val, vals};
-ghost use Rattle.ndr_value.specs.Aligned.{is_last, align_of, alignments};
-ghost use Rattle.ndr_value.specs.Ordered.{is_size};
+ghost use Rattle.ndr_table.specs.Aligned.{is_last, align_of, alignments};
+ghost use Rattle.ndr_table.specs.Ordered.{is_size};
 ghost use Rattle.ndr_model.specs.Part.{opens_with};
 ghost use Rattle.ndr_agree.specs.Views.{types_in, call_of};
 ghost use Rattle.ndr_model.specs.Fronts.{front};
@@ -149,7 +149,7 @@ fn flat_struct<'a>(
 }
 
 // The max_count of the last member alone stands in front.
-#[tactic(auto, using(ndr_value::proofs::Aligns::last_is))]
+#[tactic(auto, using(ndr_table::proofs::Aligns::last_is))]
 fn for_last(moved: bool, others: &[Shape]) -> bool
     ensures { result ≡ (moved && is_last (forms others.now)) }
 {

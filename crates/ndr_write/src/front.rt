@@ -2,8 +2,8 @@
 ghost use Rattle.std.specs.Prelude.{◌≡◌, ◌++◌, true, length, OnOk};
 ghost use Rattle.ndr_value.specs.Forms.{form, forms, OfStruct};
 ghost use Rattle.ndr_value.specs.Values.{val, vals};
-ghost use Rattle.ndr_value.specs.Aligned.{align_of, alignments};
-ghost use Rattle.ndr_value.specs.Ordered.{is_size};
+ghost use Rattle.ndr_table.specs.Aligned.{align_of, alignments};
+ghost use Rattle.ndr_table.specs.Ordered.{is_size};
 ghost use Rattle.ndr_model.specs.Part.{opens_with};
 ghost use Rattle.ndr_agree.specs.Views.{types_in, call_of};
 ghost use Rattle.ndr_model.specs.Fronts as spec;

@@ -3,14 +3,14 @@ ghost use Rattle.std.specs.Prelude.{◌≡◌, ◌++◌, ◌<◌, ◌^◌, true,
 ghost use Rattle.ndr_value.specs.Forms.{form};
 ghost use Rattle.ndr_value.specs.Values.{val};
 ghost use Rattle.ndr_agree.specs.Views.{types_in, call_of};
-ghost use Rattle.ndr_value.specs.Ordered.{is_size};
-ghost use Rattle.ndr_model.specs.ArraysWritten.{both};
+ghost use Rattle.ndr_table.specs.Ordered.{is_size};
+ghost use Rattle.ndr_arrays.specs.Written.{both};
 ghost use Rattle.ndr_model.specs.Pieces as pieces;
 ghost use Rattle.ndr_model.specs.Written as spec;
 
 use crate::numbers::{gap, natural, number, signed};
 use crate::state::Writer;
-use ndr_model::write_text;
+use ndr_arrays::write_text;
 use ndr_value::{Shape, Value};
 use rpc_base::{NoMemory, WireHandle, put_handle};
 

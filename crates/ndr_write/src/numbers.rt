@@ -1,11 +1,11 @@
 //! Numbers and gaps.
 ghost use Rattle.std.specs.Prelude.{◌≡◌, ◌<◌, ◌≤◌, ◌-◌, ◌^◌, ◌++◌, true, length, OnOk};
-ghost use Rattle.ndr_value.specs.Ordered.{is_size};
-ghost use Rattle.ndr_model.specs.Scalars.{up, holds_number, holds_signed};
+ghost use Rattle.ndr_table.specs.Ordered.{is_size};
+ghost use Rattle.ndr_scalars.specs.Scalars.{up, holds_number, holds_signed};
 ghost use Rattle.ndr_value.specs.Fits.{within};
 ghost use Rattle.ndr_model.specs.Pieces as spec;
 
-use ndr_model::{write_int, write_uint};
+use ndr_scalars::{write_int, write_uint};
 use rpc_base::{NoMemory, Order};
 
 // The number, where so many octets hold it; else 0.
@@ -73,7 +73,7 @@ fn gap_len(align: u8, len: usize) -> usize
 }
 
 /// Adds zeros up to the next multiple of an alignment.
-#[tactic(auto, using(ndr_model::proofs::Gaps::gap_is))]
+#[tactic(auto, using(ndr_scalars::proofs::Gaps::gap_is))]
 pub(crate) fn gap(align: u8, into: &mut Vec<u8>) -> Result<(), NoMemory>
     requires { is_size align ≡ true }
     ensures { OnOk result (into.new.items ≡ into.old.items ++ spec.gap align (length into.old.items)) }

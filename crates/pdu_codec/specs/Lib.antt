@@ -1,6 +1,6 @@
 pub mod Constants
-pub mod Pdus
 pub mod Faults
-pub mod Reading
 pub mod Fragments
+pub mod Pdus
+pub mod Reading
 pub mod Writing

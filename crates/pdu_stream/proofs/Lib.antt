@@ -1,10 +1,10 @@
-pub mod Heads
-pub mod CutLaws
-pub mod HasCut
-pub mod Fronts
-pub mod Joins
-pub mod Takes
 pub mod Covers
+pub mod CutLaws
+pub mod Fronts
+pub mod Given
+pub mod HasCut
+pub mod Heads
+pub mod Joins
 pub mod OpenRuns
 pub mod RunLaws
-pub mod Given
+pub mod Takes

@@ -1,4 +1,4 @@
 pub mod Cuts
 pub mod Fragments
-pub mod Runs
 pub mod Pieces
+pub mod Runs

@@ -1,2 +1,2 @@
-pub mod Offered
 pub mod Backed
+pub mod Offered

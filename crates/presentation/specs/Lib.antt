@@ -1,3 +1,3 @@
-pub mod Serving
-pub mod Offers
 pub mod Laws
+pub mod Offers
+pub mod Serving

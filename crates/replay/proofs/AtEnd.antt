@@ -2,15 +2,15 @@
 use Rattle.std.proofs.Common.{◌≡◌, ℕ, suc, ◌+◌, ◌<◌, ◌≤◌, Bool, true, false, Option, Some, List, [], ◌∷◌, ◌++◌, drop, get_or, length, map, refl, sym, ap, subst, ◌∙◌, arith}
 use Rattle.std.proofs.Math.Seq.{drop-cons}
 use Rattle.std.proofs.lemmas.List.{drop_all}
-use Rattle.ndr_value.specs.Tables.{TableForm}
-use Rattle.service_desks.specs.State.{Services}
+use Rattle.ndr_table.specs.Tables.{TableForm}
+use Rattle.desk_service.specs.State.{Services}
 use Rattle.replay_world.specs.Services.{Service}
 use Rattle.replay_world.specs.Worlds.{Peer, World}
 use Rattle.replay_world.specs.Plays.{OfPeer, Finishes}
 use Rattle.replay_world.specs.Replays.{name_of, names_of, LosesIfOpen, LosesAll, FinishesAll, log_text}
-use Rattle.replay_realm.specs.Service.{service_of}
-use Rattle.replay_peers.specs.declared.played.Played.{Played}
-use Rattle.replay_peers.specs.Tables.{ShowAll}
+use Rattle.replay_groups.specs.Service.{service_of}
+use Rattle.replay_events.specs.declared.played.Played.{Played}
+use Rattle.replay_events.specs.Tables.{ShowAll}
 use Rattle.replay_events.specs.declared.player.Player.{Player}
 use Rattle.replay_events.specs.Standing.{Stands, Holds}
 use Rattle.replay_events.specs.Hands.{Plays, Leads, Picks, PutsBack}

@@ -1,12 +1,12 @@
 -- What each line does to the connection in hand.
 use Rattle.std.specs.Prelude.{⊤}
 use Rattle.std.proofs.Common.{◌≡◌, ◌≢◌, ℕ, Bool, true, false, Option, Some, None, List, [], ◌∷◌, refl, sym, ap, subst, ◌∙◌}
-use Rattle.ndr_value.specs.Tables.{TableForm}
+use Rattle.ndr_table.specs.Tables.{TableForm}
 use Rattle.handle_model.specs.Journal as journals
 use Rattle.group_core.specs.declared.answer.Taking.{Taking}
 use Rattle.group_core.specs.declared.answer.Taking.TheVariants as taking
 use Rattle.conn_histories.specs.Histories.Event.{Came}
-use Rattle.service_desks.specs.State.{Services}
+use Rattle.desk_service.specs.State.{Services}
 use Rattle.replay_script.specs.declared.line.Line.{Line}
 use Rattle.replay_script.specs.declared.line.Line.TheVariants as lines
 use Rattle.replay_world.specs.declared.peer.Member.{Member}
@@ -21,8 +21,8 @@ use Rattle.replay_world.specs.Events.{HappensOn, GoesOnAt}
 use Rattle.replay_world.specs.Plays as worlds
 use Rattle.replay_world.specs.Plays.{idles, SendsAt, Tries, TriedAs, Ends, EndsAt, IfRuns, Finishes, GoesOnIfOpen, Loses, LosesAt}
 use Rattle.replay_world.specs.Replays.{LosesIfOpen}
-use Rattle.replay_realm.specs.Service.{service_of}
-use Rattle.replay_peers.specs.declared.played.Played.{Played}
+use Rattle.replay_groups.specs.Service.{service_of}
+use Rattle.replay_events.specs.declared.played.Played.{Played}
 use Rattle.replay_events.specs.declared.player.Player.{Player}
 use Rattle.replay_events.specs.Standing.{Handles}
 use Rattle.replay_events.specs.Hands.{IsInHand, Leads, Picks, PutsBack, OpensAs, HappensIn, GoesOnIn, TakesIn, EndsIn, EndsAs, LosesIn}

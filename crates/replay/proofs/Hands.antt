@@ -1,13 +1,13 @@
 -- A connection in hand.
 use Rattle.std.proofs.Common.{◌≡◌, ◌≢◌, ℕ, Option, Some, None, List, refl, sym, ap, subst, ◌∙◌}
-use Rattle.ndr_value.specs.Tables.{TableForm}
-use Rattle.service_desks.specs.State.{Services}
+use Rattle.ndr_table.specs.Tables.{TableForm}
+use Rattle.desk_service.specs.State.{Services}
 use Rattle.replay_world.specs.declared.peer.Standing.{Standing}
 use Rattle.replay_world.specs.Worlds.{Peer, World, peer_at}
 use Rattle.replay_world.specs.Plays.{OfPeer}
-use Rattle.replay_realm.specs.Service.{service_of}
-use Rattle.replay_laws.proofs.Basics.{some_is}
-use Rattle.replay_peers.specs.declared.played.Played.{Played}
+use Rattle.replay_groups.specs.Service.{service_of}
+use Rattle.replay_moments.proofs.Basics.{some_is}
+use Rattle.replay_events.specs.declared.played.Played.{Played}
 use Rattle.replay_events.specs.declared.player.Player.{Player}
 use Rattle.replay_events.specs.Standing.{Stands, Handles}
 use Rattle.replay_events.specs.Hands.{IsInHand, Leads, Picks, PutsBack, Plays}

@@ -1,10 +1,10 @@
-pub mod Once
-pub mod Read
-pub mod Whole
-pub mod Hands
-pub mod Each
-pub mod Prints
-pub mod Sound
 pub mod AtEnd
+pub mod Each
 pub mod Growing
+pub mod Hands
+pub mod Once
+pub mod Prints
+pub mod Read
+pub mod Sound
 pub mod Stepping
+pub mod Whole

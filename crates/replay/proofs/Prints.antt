@@ -2,15 +2,15 @@
 use Rattle.std.proofs.Common.{◌≡◌, ℕ, Option, List, [], ◌∷◌, ◌++◌, refl, sym, ap, subst, ◌∙◌, append-nil}
 use Rattle.std.specs.List.{flat_map, AllByRecursion}
 use Rattle.std.proofs.lemmas.Grind.{flat_map-append}
-use Rattle.ndr_value.specs.Tables.{TableForm}
-use Rattle.service_desks.specs.State.{Services}
+use Rattle.ndr_table.specs.Tables.{TableForm}
+use Rattle.desk_service.specs.State.{Services}
 use Rattle.replay_world.specs.declared.peer.Member.{Member}
 use Rattle.replay_moments.specs.Moments.{IsAs, Coheres}
 use Rattle.replay_world.specs.Worlds.{Peer, Printed, World, printing}
 use Rattle.replay_world.specs.Printing.{printed_text, out_text}
 use Rattle.replay_world.specs.Answered.{FitsPrinted}
-use Rattle.replay_peers.specs.declared.played.Played.{Played}
-use Rattle.replay_peers.specs.declared.played.Kept.{Kept}
+use Rattle.replay_events.specs.declared.played.Played.{Played}
+use Rattle.replay_events.specs.declared.played.Kept.{Kept}
 use Rattle.replay_events.specs.declared.player.Player.{Player}
 use Rattle.replay_events.specs.Standing.{Minds, Handles}
 use Rattle.replay_events.specs.Hands.{Leads}

@@ -1,23 +1,23 @@
 -- What was read and played of a text, and where it departs.
 use Rattle.std.proofs.Common.{◌≡◌, ◌≢◌, ◌==◌, true, false, ℕ, suc, ◌+◌, ◌^◌, ◌<◌, inl, inr, Option, List, [], ◌∷◌, ◌++◌, length, refl, ap, sym, ◌∙◌, subst, arith, append_assoc, length-append, append-nil}
 use Rattle.std.proofs.lemmas.Bool.{false≢true}
-use Rattle.ndr_value.specs.Tables.{TableForm}
-use Rattle.service_desks.specs.State.{Services}
+use Rattle.ndr_table.specs.Tables.{TableForm}
+use Rattle.desk_service.specs.State.{Services}
 use Rattle.replay_script.specs.declared.line.Line.{Line}
 use Rattle.replay_script.specs.declared.line.Line.TheVariants as lines
 use Rattle.replay_script.specs.Lines.{FitLines, FitsLine, line_text, text_of_lines, BeginsWith, BeginsWithNoLine}
 use Rattle.replay_script.specs.Scripts.{DepartsAt, IsFront}
 use Rattle.replay_script.proofs.Fronts.{first_line_unique, not_empty}
 use Rattle.replay_script.proofs.Departures.{text-more, shorter, fit-push, departs}
-use Rattle.replay_laws.proofs.Coming.{only_these}
+use Rattle.replay_moments.proofs.Coming.{only_these}
 use Rattle.replay_world.specs.declared.fault.ReplayFault.{ReplayFault}
 use Rattle.replay_world.specs.declared.fault.ReplayFault.TheVariants as faults
 use Rattle.replay_world.specs.Services.{Service}
 use Rattle.replay_world.specs.Worlds.{World, booted}
 use Rattle.replay_world.specs.Plays.{MayCome}
 use Rattle.replay_world.specs.Replays.{Leads, PlaysTo, IsReplay, IsCause}
-use Rattle.replay_realm.specs.Service.{service_of, IsEcho}
-use Rattle.replay_realm.proofs.Determined.{determined}
+use Rattle.replay_groups.specs.Service.{service_of, IsEcho}
+use Rattle.replay_groups.proofs.Determined.{determined}
 use Rattle.replay_events.specs.declared.player.Player.{Player}
 use Rattle.replay_events.specs.Standing.{Stands}
 use Rattle.replay.specs.Lines.{HasWorld, PlaysLine}

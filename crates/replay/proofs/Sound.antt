@@ -6,7 +6,7 @@ use Rattle.handle_model.specs.declared.entry.Entry.{Entry}
 use Rattle.handle_model.specs.Bases.{empty_base}
 use Rattle.handle_model.specs.History.{IsSound, since}
 use Rattle.journal_tables.specs.Folding.{BaseBegun}
-use Rattle.fold_laws.proofs.Alike.{folds_stand}
+use Rattle.journal_tables.proofs.Alike.{folds_stand}
 use Rattle.hub_story.specs.Folded.{kept_since}
 use Rattle.hub_story.proofs.FoldLemmas.{kept_folds}
 use Rattle.replay_world.specs.Worlds.{World}

@@ -3,29 +3,29 @@ use Rattle.std.proofs.Common.{◌≡◌, ℕ, ◌+◌, ◌<◌, ◌≤◌, Optio
 use Rattle.std.specs.List.{AllByRecursion}
 use Rattle.std.proofs.Math.Seq.{drop-append_seam}
 use Rattle.std.proofs.lemmas.List.{length-append}
-use Rattle.ndr_value.specs.Tables.{TableForm}
-use Rattle.service_desks.specs.State.{Services}
-use Rattle.service_desks.specs.Start.{at_start}
+use Rattle.ndr_table.specs.Tables.{TableForm}
+use Rattle.desk_service.specs.State.{Services}
+use Rattle.desk_service.specs.Start.{at_start}
 use Rattle.replay_script.specs.declared.line.Line.{Line}
 use Rattle.replay_world.specs.Worlds.{World, Printed, booted}
 use Rattle.replay_world.specs.Printing.{out_text}
-use Rattle.replay_realm.specs.Service.{service_of}
+use Rattle.replay_groups.specs.Service.{service_of}
 use Rattle.replay_events.specs.declared.player.Player.{Player}
 use Rattle.replay_events.specs.Standing.{Stands}
 use Rattle.replay_events.specs.Hands.{Plays}
 use Rattle.replay_events.proofs.Happening.{text_more}
 use Rattle.replay.specs.Lines.{HasWorld, PlaysLine}
 use Rattle.replay.specs.Closing.{AllEnded}
-use Rattle.load_counts.specs.declared.counts.Counts.{Counts}
-use Rattle.load_counts.specs.Counting.{Tells, counts_of}
-use Rattle.load_counts.specs.Summary.{Told, summary_text}
-use Rattle.load_script.specs.declared.deed.Step.{Step}
-use Rattle.load_script.specs.declared.load.Load.{Load}
-use Rattle.load_script.specs.Rounds.{Round, step_after}
-use Rattle.load_script.specs.Scripts.{lines_of}
-use Rattle.load_script.specs.Knowing.{Knows}
+use Rattle.replay_script.specs.declared.counts.Counts.{Counts}
+use Rattle.replay_script.specs.Counting.{Tells, counts_of}
+use Rattle.replay_script.specs.Summary.{Told, summary_text}
+use Rattle.replay_script.specs.declared.deed.Step.{Step}
+use Rattle.replay_script.specs.declared.load.Load.{Load}
+use Rattle.replay_script.specs.Rounds.{Round, step_after}
+use Rattle.replay_script.specs.LoadScripts.{lines_of}
+use Rattle.replay_script.specs.Knowing.{Knows}
 use Rattle.replay_world.specs.Answered.{FitsPrinted, AddsText}
-use Rattle.replay_laws.specs.Loads.{PlaysRound, IsSummary}
+use Rattle.replay_moments.specs.Loads.{PlaysRound, IsSummary}
 use Rattle.replay.specs.Playing.{LinesLead, IsBehind, HasPlayed}
 use Rattle.replay.proofs.Growing.{leads_grew, leads_last}
 

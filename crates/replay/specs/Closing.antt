@@ -2,13 +2,13 @@
 use Rattle.std.specs.Prelude.{◌≡◌, ℕ, Option, List}
 use Rattle.std.specs.List.{AllByRecursion}
 use Rattle.handle_model.specs.History.{IsSound}
-use Rattle.ndr_value.specs.Tables.{TableForm}
-use Rattle.service_desks.specs.State.{Services}
+use Rattle.ndr_table.specs.Tables.{TableForm}
+use Rattle.desk_service.specs.State.{Services}
 use Rattle.replay_world.specs.Worlds.{World}
 use Rattle.replay_world.specs.Printing.{out_text}
 use Rattle.replay_world.specs.Replays.{LosesAll, FinishesAll, Closes, names_of, journals_of, log_text}
 use Rattle.replay_moments.specs.Moments.{AreSound}
-use Rattle.replay_realm.specs.Service.{service_of}
+use Rattle.replay_groups.specs.Service.{service_of}
 use Rattle.replay_events.specs.declared.player.Player.{Player}
 use Rattle.replay_events.specs.Standing.{Stands}
 

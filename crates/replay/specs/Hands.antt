@@ -1,8 +1,8 @@
 -- What a line does to a player while its connection is in hand.
 use Rattle.std.specs.Prelude.{◌≡◌, ℕ, Bool, true, false, Option, Some, List}
-use Rattle.ndr_value.specs.Tables.{TableForm}
+use Rattle.ndr_table.specs.Tables.{TableForm}
 use Rattle.group_core.specs.declared.answer.Taking.{Taking}
-use Rattle.service_desks.specs.State.{Services}
+use Rattle.desk_service.specs.State.{Services}
 use Rattle.replay_script.specs.declared.line.Line.{Line}
 use Rattle.replay_world.specs.declared.peer.Member.{Member}
 use Rattle.replay_world.specs.declared.peer.Unanswered.TheVariants.{Call}
@@ -12,8 +12,8 @@ use Rattle.replay_world.specs.Worlds.{Peer, Printed, World, printing}
 use Rattle.replay_world.specs.Plays as worlds
 use Rattle.replay_world.specs.Plays.{OfPeer, TriedAs, GoesOnIfOpen, Finishes}
 use Rattle.replay_world.specs.Replays.{LosesIfOpen}
-use Rattle.replay_realm.specs.Service.{service_of}
-use Rattle.replay_peers.specs.declared.played.Played.{Played}
+use Rattle.replay_groups.specs.Service.{service_of}
+use Rattle.replay_events.specs.declared.played.Played.{Played}
 use Rattle.replay_events.specs.declared.player.Player.{Player}
 use Rattle.replay_events.specs.Hands.{Leads}
 

@@ -1,6 +1,6 @@
-pub mod Reading
-pub mod Departures
-pub mod Lines
-pub mod Hands
 pub mod Closing
+pub mod Departures
+pub mod Hands
+pub mod Lines
 pub mod Playing
+pub mod Reading

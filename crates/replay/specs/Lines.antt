@@ -1,11 +1,11 @@
 -- What a line of a script does to a player.
 use Rattle.std.specs.Prelude.{Bool, true, false, Option}
-use Rattle.ndr_value.specs.Tables.{TableForm}
-use Rattle.service_desks.specs.State.{Services}
+use Rattle.ndr_table.specs.Tables.{TableForm}
+use Rattle.desk_service.specs.State.{Services}
 use Rattle.replay_script.specs.declared.line.Line.{Line}
 use Rattle.replay_world.specs.Worlds.{World}
 use Rattle.replay_world.specs.Plays.{Plays, MayCome}
-use Rattle.replay_realm.specs.Service.{service_of}
+use Rattle.replay_groups.specs.Service.{service_of}
 use Rattle.replay_events.specs.declared.player.Player.{Player}
 use Rattle.replay_events.specs.Standing.{Stands}
 

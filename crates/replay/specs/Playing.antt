@@ -1,17 +1,17 @@
 -- A player behind rounds of a load.
 use Rattle.std.specs.Prelude.{◌≡◌, ℕ, Option, None, List, length}
-use Rattle.ndr_value.specs.Tables.{TableForm}
-use Rattle.service_desks.specs.State.{Services}
+use Rattle.ndr_table.specs.Tables.{TableForm}
+use Rattle.desk_service.specs.State.{Services}
 use Rattle.replay_script.specs.declared.line.Line.{Line}
 use Rattle.replay_world.specs.Worlds.{World}
 use Rattle.replay_world.specs.Replays.{Leads}
-use Rattle.replay_realm.specs.Service.{service_of}
+use Rattle.replay_groups.specs.Service.{service_of}
 use Rattle.replay_events.specs.declared.player.Player.{Player}
 use Rattle.replay_events.specs.Standing.{Stands}
-use Rattle.load_script.specs.declared.load.Load.{Load}
-use Rattle.load_script.specs.Rounds.{Round, AreMade}
-use Rattle.load_script.specs.Knowing.{Knows}
-use Rattle.replay_laws.specs.Loads.{PlaysRounds}
+use Rattle.replay_script.specs.declared.load.Load.{Load}
+use Rattle.replay_script.specs.Rounds.{Round, AreMade}
+use Rattle.replay_script.specs.Knowing.{Knows}
+use Rattle.replay_moments.specs.Loads.{PlaysRounds}
 
 -- lines are played, one after the other
 abbrev pub LinesLead : List Line → Option TableForm → World Services → World Services → Type 0

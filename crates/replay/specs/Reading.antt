@@ -1,7 +1,7 @@
 -- What was read and played of a text behind its first line.
 use Rattle.std.specs.Prelude.{◌≡◌, ◌≢◌, ℕ, ◌+◌, Option, List, [], ◌++◌, length, ◌⊎◌, ⊤}
-use Rattle.ndr_value.specs.Tables.{TableForm}
-use Rattle.service_desks.specs.State.{Services}
+use Rattle.ndr_table.specs.Tables.{TableForm}
+use Rattle.desk_service.specs.State.{Services}
 use Rattle.replay_script.specs.declared.line.Line.{Line}
 use Rattle.replay_script.specs.declared.line.Line.TheVariants.{Boot}
 use Rattle.replay_script.specs.Lines.{FitLines, text_of_lines, BeginsWith, BeginsWithNoLine}
@@ -9,7 +9,7 @@ use Rattle.replay_world.specs.declared.fault.ReplayFault.{ReplayFault}
 use Rattle.replay_world.specs.declared.fault.ReplayFault.TheVariants as faults
 use Rattle.replay_world.specs.Worlds.{World}
 use Rattle.replay_world.specs.Replays.{Leads}
-use Rattle.replay_realm.specs.Service.{service_of}
+use Rattle.replay_groups.specs.Service.{service_of}
 use Rattle.replay_events.specs.declared.player.Player.{Player}
 use Rattle.replay_events.specs.Standing.{Stands}
 use Rattle.replay.specs.Lines.{PlaysLine, BarsLine}

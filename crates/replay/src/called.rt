@@ -3,7 +3,7 @@ ghost use Rattle.std.specs.Prelude.{◌≡◌, Some, MatchOption};
 ghost use Rattle.replay_world.specs.declared.peer.Unanswered.TheVariants.{Call};
 ghost use Rattle.replay.specs.Hands.{HasNoCall};
 
-use replay_peers::Played;
+use replay_events::Played;
 use replay_world::{Member, Unanswered};
 
 /// The accepted call of a connection, by its group's member and its number there.

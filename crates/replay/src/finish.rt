@@ -8,8 +8,7 @@ ghost use Rattle.replay.specs.Hands.{Does, FollowsIn, MayEnd};
 
 use crate::called::call_of;
 use crate::say::say_idle;
-use replay_events::Player;
-use replay_peers::Played;
+use replay_events::{Played, Player};
 use replay_world::{Member, Standing};
 use rpc_base::NoMemory;
 

@@ -1,18 +1,16 @@
 //! A load is played.
 ghost use Rattle.std.specs.Prelude.{ℕ, ◌<◌, ◌≤◌, ◌∷◌, List, IfOk, OnOk, None};
-ghost use Rattle.load_script.specs.Rounds.{Round};
-ghost use Rattle.replay_laws.specs.Loads.{IsSummary};
-ghost use Rattle.replay_realm.specs.Service.{service_of};
+ghost use Rattle.replay_script.specs.Rounds.{Round};
+ghost use Rattle.replay_moments.specs.Loads.{IsSummary};
+ghost use Rattle.replay_groups.specs.Service.{service_of};
 ghost use Rattle.replay_events.specs.Hands.{Plays};
 ghost use Rattle.replay.specs.Lines.{HasWorld};
 ghost use Rattle.replay.specs.Playing.{LinesLead, IsBehind, HasPlayed};
 
 use crate::closing::end_all;
 use crate::lines::play_line;
-use load_counts::summary;
-use load_script::{Load, lines};
 use replay_events::Player;
-use replay_script::Line;
+use replay_script::{Line, Load, lines, summary};
 use replay_world::answered_in;
 use rpc_base::NoMemory;
 use std::alloc::Global;

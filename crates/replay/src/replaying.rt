@@ -1,12 +1,12 @@
 //! Scripts are replayed.
 ghost use Rattle.std.specs.Prelude.{◌≡◌, Option, IfOk, IfErr};
-ghost use Rattle.ndr_value.specs.Tables.{TableForm};
-ghost use Rattle.service_desks.specs.Shows.{shown_by};
-ghost use Rattle.service_desks.specs.Start.{at_start};
+ghost use Rattle.ndr_table.specs.Tables.{TableForm};
+ghost use Rattle.desk_service.specs.Shows.{shown_by};
+ghost use Rattle.desk_service.specs.Start.{at_start};
 ghost use Rattle.replay_world.specs.declared.fault.ReplayFault.TheVariants as faults;
 ghost use Rattle.replay_world.specs.Worlds.{booted};
 ghost use Rattle.replay_world.specs.Replays.{Replays, IsCause};
-ghost use Rattle.replay_realm.specs.Service.{service_of, IsEcho};
+ghost use Rattle.replay_groups.specs.Service.{service_of, IsEcho};
 ghost use Rattle.replay_promises.specs.Laws.{ServesAll};
 ghost use Rattle.replay_events.specs.Standing.{Stands};
 ghost use Rattle.replay.specs.Lines.{HasWorld};
@@ -15,10 +15,10 @@ ghost use Rattle.replay.specs.Departures.{StopsAt};
 
 use crate::closing::close;
 use crate::reading::{first_boot, play_rest};
-use ndr_value::Table;
+use ndr_table::Table;
 use replay_events::Player;
+use replay_groups::BuiltIn;
 use replay_promises::replays_serve_all;
-use replay_realm::BuiltIn;
 use replay_world::ReplayFault;
 use rpc_base::{NoMemory, Octets};
 use std::alloc::Global;

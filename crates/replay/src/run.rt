@@ -9,8 +9,7 @@ ghost use Rattle.replay.specs.Hands.{Does, TriesIn};
 use crate::called::call_of;
 use crate::say::{say_idle, say_waits};
 use group_core::Taking;
-use replay_events::Player;
-use replay_peers::Played;
+use replay_events::{Played, Player};
 use replay_world::Member;
 use rpc_base::NoMemory;
 

@@ -6,10 +6,9 @@ ghost use Rattle.replay_world.specs.Answered.{FitsPrinted};
 ghost use Rattle.replay_events.specs.Hands.{IsInHand, Leads};
 ghost use Rattle.replay.specs.Hands.{PrintsIn};
 
-use replay_events::Player;
-use replay_peers::Played;
+use base_words::{put, put_decimal};
+use replay_events::{Played, Player};
 use rpc_base::NoMemory;
-use rpc_words::{put, put_decimal};
 use std::alloc::Global;
 
 #[tactic(auto, unfolding(replay_world::specs::Printing::printed_text))]

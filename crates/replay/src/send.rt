@@ -6,8 +6,7 @@ ghost use Rattle.replay_events.specs.Hands.{IsInHand, Leads};
 ghost use Rattle.replay.specs.Lines.{HasWorld, Comes};
 ghost use Rattle.replay.specs.Hands.{Does, MayDo};
 
-use replay_events::Player;
-use replay_peers::Played;
+use replay_events::{Played, Player};
 use replay_world::Standing;
 use rpc_base::NoMemory;
 

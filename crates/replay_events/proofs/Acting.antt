@@ -6,7 +6,7 @@ use Rattle.handle_model.specs.declared.entry.Asked.{Asked}
 use Rattle.handle_model.specs.declared.reply.Reply.{Reply}
 use Rattle.handle_model.specs.Journal.{is_open, is_orphaned}
 use Rattle.handle_model.specs.Replies.{replies}
-use Rattle.ndr_value.specs.Tables.{TableForm}
+use Rattle.ndr_table.specs.Tables.{TableForm}
 use Rattle.pdu_stream.specs.declared.joined.Joined.{Joined}
 use Rattle.conn_asks.specs.declared.events.Act.{Act}
 use Rattle.conn_asks.specs.declared.events.Act.TheVariants as acts
@@ -14,7 +14,7 @@ use Rattle.conn_asks.specs.declared.events.ConnFault.{ConnFault}
 use Rattle.conn_histories.specs.Histories.{Event}
 use Rattle.conn_histories.specs.Histories.Event.{Did}
 use Rattle.conn_histories.specs.Entries.{asked_as}
-use Rattle.service_desks.specs.State.{Services}
+use Rattle.desk_service.specs.State.{Services}
 use Rattle.replay_world.specs.declared.peer.Member.{Member}
 use Rattle.replay_world.specs.declared.peer.Unanswered.{Unanswered}
 use Rattle.replay_world.specs.declared.peer.Unanswered.TheVariants.{Nothing, Bind, Refused, Call}
@@ -22,18 +22,18 @@ use Rattle.replay_world.specs.declared.peer.Standing.TheVariants.{Open, Closed}
 use Rattle.replay_world.specs.Worlds.{Peer, World, peer_at, past_of, home_of, journal}
 use Rattle.replay_world.specs.Groups.{CancelsIn, OrphansIn}
 use Rattle.replay_world.specs.Events.{is_word_due, awaiting, closed, OfMember, OfCall, LeavesIts, request, Requests, ActMeans, Means, HappensOn}
-use Rattle.replay_realm.specs.Service.{service_of}
+use Rattle.replay_groups.specs.Service.{service_of}
 use Rattle.replay_moments.specs.Moments.{IsAs}
 use Rattle.replay_moments.proofs.Pasts.{asked_grows}
 use Rattle.replay_moments.proofs.Keep.{some_is}
-use Rattle.replay_peers.specs.declared.played.Kept.{Kept}
-use Rattle.replay_peers.specs.declared.played.Played.{Played}
-use Rattle.replay_peers.specs.Showing.{Shows}
-use Rattle.replay_peers.specs.Living.{LivesOn, living}
-use Rattle.replay_realm.specs.declared.realm.Realm.{Realm}
-use Rattle.replay_realm.specs.declared.request.Requested.TheVariants as requested
-use Rattle.replay_realm.specs.Holding.{Holds, Frames, Moves, Known}
-use Rattle.replay_realm.specs.Requests.{RequestsIn}
+use Rattle.replay_events.specs.declared.played.Kept.{Kept}
+use Rattle.replay_events.specs.declared.played.Played.{Played}
+use Rattle.replay_events.specs.Showing.{Shows}
+use Rattle.replay_events.specs.Living.{LivesOn, living}
+use Rattle.replay_groups.specs.declared.realm.Realm.{Realm}
+use Rattle.replay_groups.specs.declared.request.Requested.TheVariants as requested
+use Rattle.replay_groups.specs.Holding.{Holds, Frames, Moves, Known}
+use Rattle.replay_groups.specs.Requests.{RequestsIn}
 use Rattle.replay_events.specs.declared.player.Player.{Player}
 use Rattle.replay_events.specs.Standing.{KeepsCall, Minds, IsTold, Handles}
 use Rattle.replay_events.specs.Marked.{Tells, CancelsAs, MarksAs, OrphansAs, IsHere, with_orphan}

@@ -3,8 +3,8 @@ use Rattle.std.proofs.Common.{◌≡◌, ◌≢◌, ℕ, ◌-◌, ◌≤◌, ◌
 use Rattle.std.specs.List.{find, list_any, AllByRecursion}
 use Rattle.std.proofs.lemmas.Bool.{eq-eqb}
 use Rattle.std.proofs.lemmas.List.{set-get_or}
-use Rattle.ndr_value.specs.Tables.{TableForm}
-use Rattle.call_stats.specs.Numbers.{Numbers}
+use Rattle.ndr_table.specs.Tables.{TableForm}
+use Rattle.desk_counts.specs.Numbers.{Numbers}
 use Rattle.handle_model.specs.declared.entry.Home.{Home}
 use Rattle.handle_model.specs.declared.entry.Slot.{Slot}
 use Rattle.handle_model.specs.declared.entry.Asked.{Asked}
@@ -20,15 +20,15 @@ use Rattle.handle_model.specs.Journal.{Legal, asked, slots, cookies_for, waits, 
 use Rattle.handle_model.specs.Replies.{replies, is_lost, context_mismatch}
 use Rattle.handle_model.proofs.ReplyStays.{denied_reply, ended_reply}
 use Rattle.conn_histories.specs.Tales.{whole}
-use Rattle.replay_realm.specs.Rows.{AreIn, HasCookies}
-use Rattle.replay_realm.specs.Rows as rows
-use Rattle.replay_realm.proofs.Taken.{taken_suit}
+use Rattle.replay_groups.specs.Rows.{AreIn, HasCookies}
+use Rattle.replay_groups.specs.Rows as rows
+use Rattle.replay_groups.proofs.Taken.{taken_suit}
 use Rattle.manager_api.specs.Answers.{Ans}
 use Rattle.manager_api.specs.Calls.{Call as Given}
 use Rattle.conn_histories.specs.Ends.{Meets}
-use Rattle.served_tables.specs.Served.{tables_in}
-use Rattle.service_desks.specs.State.{Services, tables_with, tables_of}
-use Rattle.service_desks.specs.Views.{services}
+use Rattle.manager_api.specs.Served.{tables_in}
+use Rattle.desk_service.specs.State.{Services, tables_with, tables_of}
+use Rattle.desk_service.specs.Views.{services}
 use Rattle.group_core.specs.declared.answer.Taking.{Taking}
 use Rattle.group_core.specs.declared.answer.Taking.TheVariants.{Run, Denied, Wait}
 use Rattle.group_core.specs.declared.answer.Taking.TheVariants as taking
@@ -46,17 +46,17 @@ use Rattle.replay_world.specs.Plays.{MayAnswer, Ends}
 use Rattle.replay_world.specs.Printing.{out_text}
 use Rattle.replay_world.specs.Counting.{CountAll}
 use Rattle.replay_world.specs.Answered.{FitsPrinted}
-use Rattle.replay_realm.specs.Service.{service_of}
+use Rattle.replay_groups.specs.Service.{service_of}
 use Rattle.replay_moments.specs.Moments.{IsAs, Coheres}
 use Rattle.replay_moments.proofs.Pasts.{asked_grows}
 use Rattle.replay_moments.proofs.Keep.{some_is}
 use Rattle.replay_moments.proofs.Lines.{takes_keep, ends_keep}
-use Rattle.replay_peers.specs.declared.played.Kept.{Kept}
-use Rattle.replay_peers.specs.declared.played.Played.{Played}
-use Rattle.replay_peers.specs.Tables.{has_name, ShowOthers}
-use Rattle.replay_realm.specs.declared.realm.Realm.{Realm}
-use Rattle.replay_realm.specs.Holding.{Holds, Frames, Moves, Going, Known}
-use Rattle.replay_realm.specs.Ends.{EndsIn}
+use Rattle.replay_events.specs.declared.played.Kept.{Kept}
+use Rattle.replay_events.specs.declared.played.Played.{Played}
+use Rattle.replay_events.specs.Tables.{has_name, ShowOthers}
+use Rattle.replay_groups.specs.declared.realm.Realm.{Realm}
+use Rattle.replay_groups.specs.Holding.{Holds, Frames, Moves, Going, Known}
+use Rattle.replay_groups.specs.Ends.{EndsIn}
 use Rattle.replay_events.specs.declared.player.Player.{Player}
 use Rattle.replay_events.specs.Standing.{KeepsRow, KeepsCall, Minds, IsTold, Handles}
 use Rattle.replay_events.specs.Hands.{IsInHand, Leads, TakesIn}

@@ -1,8 +1,8 @@
 -- The call of the connection in hand ends.
 use Rattle.std.proofs.Common.{◌≡◌, ◌≢◌, ℕ, ◌≤◌, Bool, true, false, ◌||◌, if◌then◌else◌, Option, Some, None, List, [], ◌∷◌, length, refl, sym, ap, subst, ◌∙◌}
 use Rattle.std.specs.List.{list_any}
-use Rattle.ndr_value.specs.Tables.{TableForm}
-use Rattle.call_stats.specs.Numbers.{Numbers}
+use Rattle.ndr_table.specs.Tables.{TableForm}
+use Rattle.desk_counts.specs.Numbers.{Numbers}
 use Rattle.handle_model.specs.declared.entry.Slot.{Slot}
 use Rattle.handle_model.specs.declared.entry.Asked.{Asked}
 use Rattle.handle_model.specs.declared.entry.Outcome.{Outcome}
@@ -23,15 +23,15 @@ use Rattle.group_core.specs.declared.answer.Stage.{Stage}
 use Rattle.group_core.specs.declared.answer.Stage.TheVariants as stage
 use Rattle.group_core.specs.Stages.{is_asked, stage_of}
 use Rattle.group_core.specs.Conns.{Settles}
-use Rattle.replay_realm.specs.Rows.{AreIn, HasCookies}
-use Rattle.replay_realm.specs.Rows as rows
+use Rattle.replay_groups.specs.Rows.{AreIn, HasCookies}
+use Rattle.replay_groups.specs.Rows as rows
 use Rattle.manager_api.specs.Answers.{Ans}
 use Rattle.manager_api.specs.Calls.{Call as Given}
 use Rattle.conn_histories.specs.Requests.{HasSlots}
 use Rattle.conn_histories.specs.Ends.{Meets}
-use Rattle.served_tables.specs.Served.{tables_in}
-use Rattle.service_desks.specs.State.{Services, tables_with, tables_of}
-use Rattle.service_desks.specs.Views.{services}
+use Rattle.manager_api.specs.Served.{tables_in}
+use Rattle.desk_service.specs.State.{Services, tables_with, tables_of}
+use Rattle.desk_service.specs.Views.{services}
 use Rattle.replay_world.specs.declared.peer.Member.{Member}
 use Rattle.replay_world.specs.declared.peer.Unanswered.TheVariants.{Call}
 use Rattle.replay_world.specs.declared.peer.Standing.{Standing}
@@ -40,16 +40,16 @@ use Rattle.replay_world.specs.Worlds.{Peer, World, home_of, past_of, journal}
 use Rattle.replay_world.specs.Plays.{MayAnswer, Ends}
 use Rattle.replay_world.specs.Groups.{SettlesIn, taken_with}
 use Rattle.replay_world.specs.Counting.{CountAll}
-use Rattle.replay_realm.specs.Service.{service_of}
+use Rattle.replay_groups.specs.Service.{service_of}
 use Rattle.replay_moments.proofs.Pasts.{open_unleft}
 use Rattle.replay_moments.proofs.Keep.{some_is}
 use Rattle.replay_moments.proofs.Lines.{ends_keep}
-use Rattle.replay_peers.specs.declared.played.Kept.{Kept}
-use Rattle.replay_peers.specs.declared.played.Played.{Played}
+use Rattle.replay_events.specs.declared.played.Kept.{Kept}
+use Rattle.replay_events.specs.declared.played.Played.{Played}
 use Rattle.replay_groups.specs.Keeps as groups
-use Rattle.replay_realm.specs.declared.realm.Realm.{Realm}
-use Rattle.replay_realm.specs.Holding.{Holds, Moves, Known}
-use Rattle.replay_realm.specs.Ends.{EndsIn}
+use Rattle.replay_groups.specs.declared.realm.Realm.{Realm}
+use Rattle.replay_groups.specs.Holding.{Holds, Moves, Known}
+use Rattle.replay_groups.specs.Ends.{EndsIn}
 use Rattle.replay_events.specs.declared.player.Player.{Player}
 use Rattle.replay_events.specs.Standing.{KeepsRow, KeepsCall, Minds, IsTold, Handles}
 use Rattle.replay_events.specs.Hands.{IsInHand, Leads, Runs, EndsAs}

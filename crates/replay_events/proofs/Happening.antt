@@ -2,27 +2,27 @@
 use Rattle.std.proofs.Common.{◌≡◌, ◌≢◌, ℕ, ◌+◌, Option, Some, None, List, [], ◌∷◌, ◌++◌, refl, sym, ap, subst, ◌∙◌}
 use Rattle.std.specs.List.{find, AllByRecursion}
 use Rattle.std.proofs.lemmas.List.Concat.{flat_map-append}
-use Rattle.ndr_value.specs.Tables.{TableForm}
-use Rattle.call_stats.specs.Numbers.{Numbers}
+use Rattle.ndr_table.specs.Tables.{TableForm}
+use Rattle.desk_counts.specs.Numbers.{Numbers}
 use Rattle.conn_asks.specs.States.{ConnState}
 use Rattle.conn_histories.specs.Histories.{Event, put}
-use Rattle.service_desks.specs.State.{Services}
+use Rattle.desk_service.specs.State.{Services}
 use Rattle.replay_world.specs.declared.peer.Standing.TheVariants.{Open}
 use Rattle.replay_world.specs.Worlds.{Peer, Printed, World, is_named, put_peer, peer_at, with_peer, printing}
 use Rattle.replay_world.specs.Printing.{ArePrinted, printed_text, out_text}
 use Rattle.replay_world.specs.Counting.{CountAll}
 use Rattle.replay_world.specs.Events.{Means, lived, HappensOn}
 use Rattle.replay_world.specs.Answered.{FitsPrinted}
-use Rattle.replay_realm.specs.Service.{service_of}
+use Rattle.replay_groups.specs.Service.{service_of}
 use Rattle.replay_moments.specs.Moments.{AreSound, Coheres}
 use Rattle.replay_moments.proofs.Peers.{found_name, put_found, put_others}
 use Rattle.replay_moments.proofs.Events.{events_keep}
-use Rattle.replay_peers.specs.declared.played.Played.{Played}
-use Rattle.replay_peers.specs.Showing.{Shows}
-use Rattle.replay_peers.specs.Tables.{has_name, ShowOthers}
-use Rattle.replay_peers.specs.Living.{Moment, Grows, LivesOn}
-use Rattle.replay_peers.proofs.Totals.{totals_grow}
-use Rattle.replay_realm.specs.Holding.{Holds, Frames}
+use Rattle.replay_events.specs.declared.played.Played.{Played}
+use Rattle.replay_events.specs.Showing.{Shows}
+use Rattle.replay_events.specs.Tables.{has_name, ShowOthers}
+use Rattle.replay_events.specs.Living.{Moment, Grows, LivesOn}
+use Rattle.replay_events.proofs.Totals.{totals_grow}
+use Rattle.replay_groups.specs.Holding.{Holds, Frames}
 use Rattle.replay_events.specs.declared.player.Player.{Player}
 use Rattle.replay_events.specs.Standing.{Minds, IsTold, Handles}
 use Rattle.replay_events.specs.Lived.{moment_of}

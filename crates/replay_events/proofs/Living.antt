@@ -4,13 +4,13 @@ use Rattle.conn_histories.specs.Histories.{Decision, Event}
 use Rattle.conn_histories.specs.Histories.Event.{Decided}
 use Rattle.conn_asks.specs.States.{ConnState}
 use Rattle.conn_core.specs.Fields.{IsAt}
-use Rattle.packet_counts.specs.Packets.{Stands}
+use Rattle.server_counts.specs.Packets.{Stands}
 use Rattle.conn_histories.specs.Histories.{stream}
 use Rattle.replay_world.specs.Worlds.{Peer}
-use Rattle.replay_peers.specs.declared.played.Kept.{Kept}
-use Rattle.replay_peers.specs.declared.played.Played.{Played}
-use Rattle.replay_peers.specs.Showing.{Shows}
-use Rattle.replay_peers.specs.Living.{Moment, living, LivesOn, Lives, Decides, IsPlayed}
+use Rattle.replay_events.specs.declared.played.Kept.{Kept}
+use Rattle.replay_events.specs.declared.played.Played.{Played}
+use Rattle.replay_events.specs.Showing.{Shows}
+use Rattle.replay_events.specs.Living.{Moment, living, LivesOn, Lives, Decides, IsPlayed}
 use Rattle.replay_events.specs.declared.player.Player.{Player}
 use Rattle.replay_events.specs.Lived.{moment_of, Lived, LivedWord}
 

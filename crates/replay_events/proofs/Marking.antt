@@ -2,7 +2,7 @@
 use Rattle.std.proofs.Common.{◌≡◌, ◌≢◌, ℕ, zero, suc, ◌-◌, ◌+◌, ◌≤◌, Bool, true, false, ◌||◌, Option, Some, None, Ok, List, [], ◌∷◌, ◌++◌, get_or, slice_set, not, refl, sym, ap, subst, ◌∙◌}
 use Rattle.std.proofs.lemmas.Bool.{eq-eqb, false_from_ne_true}
 use Rattle.std.proofs.lemmas.List.{set-get_or}
-use Rattle.ndr_value.specs.Tables.{TableForm}
+use Rattle.ndr_table.specs.Tables.{TableForm}
 use Rattle.handle_model.specs.declared.entry.Home.{Home}
 use Rattle.handle_model.specs.declared.entry.Entry.{Entry}
 use Rattle.handle_model.specs.declared.entry.Entry.TheVariants.{Cancel, Deny, Orphan}
@@ -16,15 +16,15 @@ use Rattle.handle_model.proofs.Accepted.{fresh_unasked}
 use Rattle.handle_model.proofs.Stages.{undecided, decided_some}
 use Rattle.handle_model.proofs.ReplyStays.{cancelled_reply, orphaned_reply, denied_reply}
 use Rattle.conn_histories.specs.Tales.{whole}
-use Rattle.service_desks.specs.State.{Services}
+use Rattle.desk_service.specs.State.{Services}
 use Rattle.group_core.specs.Calls.{Cancels, Orphans}
 use Rattle.group_core.specs.declared.answer.Cancelled.TheVariants as cancels
 use Rattle.group_core.specs.declared.answer.Orphaned.TheVariants as orphans
 use Rattle.replay_world.specs.declared.peer.Member.{Member}
 use Rattle.replay_world.specs.Worlds.{World, home_of, past_of, journal}
 use Rattle.replay_world.specs.Groups.{GoesOn}
-use Rattle.replay_realm.specs.declared.realm.Realm.{Realm}
-use Rattle.replay_realm.specs.Holding.{Holds, Moves, Going}
+use Rattle.replay_groups.specs.declared.realm.Realm.{Realm}
+use Rattle.replay_groups.specs.Holding.{Holds, Moves, Going}
 use Rattle.replay_events.specs.Marked.{Tells, CancelsAs, OrphansAs}
 use Rattle.replay_events.proofs.Minding.{sound_of}
 

@@ -6,8 +6,8 @@ use Rattle.handle_model.specs.declared.entry.Entry.{Entry}
 use Rattle.handle_model.specs.History.{IsSound}
 use Rattle.handle_model.specs.Journal as journals
 use Rattle.handle_model.proofs.Steps.{empty_sound}
-use Rattle.ndr_value.specs.Tables.{TableForm}
-use Rattle.service_desks.specs.State.{Services}
+use Rattle.ndr_table.specs.Tables.{TableForm}
+use Rattle.desk_service.specs.State.{Services}
 use Rattle.replay_groups.specs.Keeps.{AllSound, whole_of, home_in}
 use Rattle.replay_world.specs.declared.peer.Member.{Member}
 use Rattle.replay_world.specs.declared.peer.Unanswered.TheVariants.{Call}
@@ -16,9 +16,9 @@ use Rattle.replay_world.specs.Groups.{taken_with}
 use Rattle.replay_moments.specs.Moments.{AreSound, IsAs, IsCallOf, Coheres}
 use Rattle.replay_moments.proofs.Pasts.{asked_grows}
 use Rattle.replay_moments.proofs.Keep.{some_is}
-use Rattle.replay_peers.specs.declared.played.Kept.{Kept}
-use Rattle.replay_realm.specs.declared.realm.Realm.{Realm}
-use Rattle.replay_realm.specs.Holding.{Holds}
+use Rattle.replay_events.specs.declared.played.Kept.{Kept}
+use Rattle.replay_groups.specs.declared.realm.Realm.{Realm}
+use Rattle.replay_groups.specs.Holding.{Holds}
 use Rattle.replay_events.specs.Standing.{KeepsRow, KeepsCall, Minds}
 use Rattle.replay_events.proofs.Sparing.{Spares, grown, same_taken, same_orphaned}
 use Rattle.replay_events.proofs.Spared.{SparesAll, one_call, no_call}

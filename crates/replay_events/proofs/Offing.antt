@@ -1,7 +1,7 @@
 -- The connection in hand calls its call off, or is closed.
 use Rattle.std.proofs.Common.{◌≡◌, ℕ, ◌≤◌, Bool, true, false, ◌||◌, Option, Some, None, List, refl, sym, ap, subst, ◌∙◌}
 use Rattle.std.specs.Prelude.{⊤}
-use Rattle.ndr_value.specs.Tables.{TableForm}
+use Rattle.ndr_table.specs.Tables.{TableForm}
 use Rattle.handle_model.specs.declared.reply.Reply.{Reply}
 use Rattle.handle_model.specs.Journal.{Legal, is_open}
 use Rattle.handle_model.specs.Replies.{replies}
@@ -9,20 +9,20 @@ use Rattle.conn_asks.specs.declared.events.Act.{Act}
 use Rattle.conn_asks.specs.declared.events.Act.TheVariants as acts
 use Rattle.conn_asks.specs.declared.events.ConnFault.{ConnFault}
 use Rattle.conn_histories.specs.Histories.Event.{Did}
-use Rattle.service_desks.specs.State.{Services}
+use Rattle.desk_service.specs.State.{Services}
 use Rattle.replay_world.specs.declared.peer.Member.{Member}
 use Rattle.replay_world.specs.declared.peer.Unanswered.TheVariants.{Nothing, Call}
 use Rattle.replay_world.specs.declared.peer.Standing.TheVariants.{Closed}
 use Rattle.replay_world.specs.Worlds.{Peer, World, past_of, home_of, journal}
 use Rattle.replay_world.specs.Groups.{CancelsIn, OrphansIn, taken_with}
 use Rattle.replay_world.specs.Events.{awaiting, closed, LeavesIts}
-use Rattle.replay_realm.specs.Service.{service_of}
+use Rattle.replay_groups.specs.Service.{service_of}
 use Rattle.replay_moments.proofs.Pasts.{asked_grows}
 use Rattle.replay_moments.proofs.Keep.{some_is}
-use Rattle.replay_peers.specs.declared.played.Kept.{Kept}
-use Rattle.replay_peers.specs.declared.played.Played.{Played}
-use Rattle.replay_realm.specs.declared.realm.Realm.{Realm}
-use Rattle.replay_realm.specs.Holding.{Moves, Known}
+use Rattle.replay_events.specs.declared.played.Kept.{Kept}
+use Rattle.replay_events.specs.declared.played.Played.{Played}
+use Rattle.replay_groups.specs.declared.realm.Realm.{Realm}
+use Rattle.replay_groups.specs.Holding.{Moves, Known}
 use Rattle.replay_events.specs.declared.player.Player.{Player}
 use Rattle.replay_events.specs.Standing.{KeepsRow, KeepsCall, Minds, IsTold}
 use Rattle.replay_events.specs.Marked.{Tells, CancelsAs, OrphansAs, IsHere, with_orphan}

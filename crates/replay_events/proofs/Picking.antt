@@ -2,30 +2,30 @@
 use Rattle.std.proofs.Common.{◌≡◌, ◌≢◌, ℕ, true, false, Option, Some, None, List, [], ◌∷◌, filter, refl, sym, ap, subst, ◌∙◌, inl, inr}
 use Rattle.std.specs.List.{find}
 use Rattle.std.proofs.lemmas.Bool.Decides.{eqb_tells}
-use Rattle.ndr_value.specs.Tables.{TableForm}
+use Rattle.ndr_table.specs.Tables.{TableForm}
 use Rattle.rpc_base.specs.declared.identifiers.SyntaxId.{SyntaxId}
 use Rattle.handle_model.specs.declared.reply.Reply.{Reply}
-use Rattle.call_stats.specs.Numbers.{none_yet}
+use Rattle.desk_counts.specs.Numbers.{none_yet}
 use Rattle.conn_histories.specs.Requests.{ids_of}
-use Rattle.served_tables.specs.Served.{tables_in}
-use Rattle.service_desks.specs.Start.{at_start}
-use Rattle.service_desks.specs.State.{Services, tables_with}
+use Rattle.manager_api.specs.Served.{tables_in}
+use Rattle.desk_service.specs.Start.{at_start}
+use Rattle.desk_service.specs.State.{Services, tables_with}
 use Rattle.replay_world.specs.Worlds.{Peer, World, booted, is_named, put_peer, peer_at, with_peer, opened_peer}
 use Rattle.replay_world.specs.Plays.{Opens}
 use Rattle.replay_world.specs.Printing.{out_text}
 use Rattle.replay_world.specs.Counting.{CountAll}
-use Rattle.replay_realm.specs.Service.{service_of}
+use Rattle.replay_groups.specs.Service.{service_of}
 use Rattle.replay_moments.specs.Moments.{AreSound, Coheres}
 use Rattle.replay_moments.proofs.Keep.{some_is}
 use Rattle.replay_moments.proofs.Peers.{found_name, put_found, put_others}
 use Rattle.replay_moments.proofs.Lines.{starts, opens_keep}
-use Rattle.replay_peers.specs.declared.played.Kept.{Kept}
-use Rattle.replay_peers.specs.declared.played.Played.{Played}
-use Rattle.replay_peers.specs.Showing.{Shows}
-use Rattle.replay_peers.specs.Tables.{has_name, has_other_name, placed, ShowAll, ShowOthers, TakesOut, Takes, Finds}
-use Rattle.replay_peers.proofs.Totals.{totals_open}
-use Rattle.replay_realm.specs.declared.realm.Realm.{Realm}
-use Rattle.replay_realm.specs.Holding.{Holds}
+use Rattle.replay_events.specs.declared.played.Kept.{Kept}
+use Rattle.replay_events.specs.declared.played.Played.{Played}
+use Rattle.replay_events.specs.Showing.{Shows}
+use Rattle.replay_events.specs.Tables.{has_name, has_other_name, placed, ShowAll, ShowOthers, TakesOut, Takes, Finds}
+use Rattle.replay_events.proofs.Totals.{totals_open}
+use Rattle.replay_groups.specs.declared.realm.Realm.{Realm}
+use Rattle.replay_groups.specs.Holding.{Holds}
 use Rattle.replay_events.specs.declared.player.Player.{Player}
 use Rattle.replay_events.specs.Standing.{Minds, Stands, Handles}
 use Rattle.replay_events.specs.Hands.{Picks, PutsBack, HasName, OpensIn, OpensAs, Plays}

@@ -1,19 +1,19 @@
 -- Where a call is, by what its group says of its stage.
 use Rattle.std.proofs.Common.{◌≡◌, ◌≢◌, ℕ, Bool, true, false, not, ◌&&◌, ◌||◌, if◌then◌else◌, Option, Some, None, refl, sym, ap, subst, ◌∙◌}
-use Rattle.ndr_value.specs.Tables.{TableForm}
+use Rattle.ndr_table.specs.Tables.{TableForm}
 use Rattle.handle_model.specs.History.{History}
 use Rattle.handle_model.specs.Journal.{Legal, waits, runs, is_taken}
 use Rattle.handle_model.proofs.Stages.{waits_fresh}
 use Rattle.group_core.specs.declared.answer.Stage.{Stage}
 use Rattle.group_core.specs.declared.answer.Stage.TheVariants.{Waiting, Running, Over}
 use Rattle.group_core.specs.Stages.{stage_of}
-use Rattle.service_desks.specs.State.{Services}
+use Rattle.desk_service.specs.State.{Services}
 use Rattle.replay_world.specs.declared.peer.Member.{Member}
 use Rattle.replay_world.specs.Worlds.{World, journal}
 use Rattle.replay_world.specs.Events.{is_call_over}
 use Rattle.replay_groups.specs.Keeps.{Told, whole_of, past_at}
-use Rattle.replay_realm.specs.declared.realm.Realm.{Realm}
-use Rattle.replay_realm.specs.Holding.{Holds}
+use Rattle.replay_groups.specs.declared.realm.Realm.{Realm}
+use Rattle.replay_groups.specs.Holding.{Holds}
 use Rattle.replay_events.specs.Lived.{is_end}
 
 abbrev at_of : Bool → Bool → Stage

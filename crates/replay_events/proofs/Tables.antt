@@ -4,10 +4,10 @@ use Rattle.std.specs.List.{find}
 use Rattle.std.proofs.lemmas.Bool.{cases_order, cases_Bool}
 use Rattle.std.proofs.lemmas.Bool.Decides.{nat_tests, eqb_tells}
 use Rattle.replay_world.specs.Worlds.{Peer, is_named, put_peer}
-use Rattle.replay_peers.specs.declared.played.Played.{Played}
-use Rattle.replay_peers.specs.Showing.{Shows}
-use Rattle.replay_peers.specs.Tables.{has_name, has_other_name, has_less_name, has_more_name, placed, RiseFrom, EachShows, ShowAll, ShowOthers}
-use Rattle.replay_peers.proofs.Tables.{found_above, puts_back}
+use Rattle.replay_events.specs.declared.played.Played.{Played}
+use Rattle.replay_events.specs.Showing.{Shows}
+use Rattle.replay_events.specs.Tables.{has_name, has_other_name, has_less_name, has_more_name, placed, RiseFrom, EachShows, ShowAll, ShowOthers}
+use Rattle.replay_events.proofs.PeerTables.{found_above, puts_back}
 
 -- ---- by names
 

@@ -1,16 +1,16 @@
 -- Acts and words, one after the other.
 use Rattle.std.proofs.Common.{◌≡◌, ℕ, true, false, Option, Some, List, [], ◌∷◌, refl, sym, subst, ◌∙◌}
-use Rattle.ndr_value.specs.Tables.{TableForm}
+use Rattle.ndr_table.specs.Tables.{TableForm}
 use Rattle.conn_histories.specs.Histories.{Decision, Event}
 use Rattle.conn_histories.specs.Histories.Event.{Came, Paused, Did, Decided}
 use Rattle.conn_asks.specs.declared.events.Act.{Act}
-use Rattle.service_desks.specs.State.{Services}
+use Rattle.desk_service.specs.State.{Services}
 use Rattle.replay_world.specs.declared.peer.Standing.{Standing}
 use Rattle.replay_world.specs.declared.peer.Standing.TheVariants.{Open, Closed, Lost}
 use Rattle.replay_world.specs.Worlds.{Peer, World, peer_at}
 use Rattle.replay_world.specs.Events.{is_word_due, HappensOn, RestsAt, Rests, HappenOn, GoesOnAt}
-use Rattle.replay_realm.specs.Service.{service_of}
-use Rattle.replay_peers.specs.declared.played.Played.{Played}
+use Rattle.replay_groups.specs.Service.{service_of}
+use Rattle.replay_events.specs.declared.played.Played.{Played}
 use Rattle.replay_events.specs.declared.player.Player.{Player}
 use Rattle.replay_events.specs.Standing.{Handles}
 use Rattle.replay_events.specs.Hands.{IsInHand, Leads, GoesOnIn}

@@ -1,6 +1,6 @@
 -- What a word of the server is to the connection in hand.
 use Rattle.std.proofs.Common.{◌≡◌, ℕ, Bool, true, false, Option, Some, None, List, refl, sym, ap, subst, ◌∙◌}
-use Rattle.ndr_value.specs.Tables.{TableForm}
+use Rattle.ndr_table.specs.Tables.{TableForm}
 use Rattle.rpc_base.specs.declared.identifiers.Status.{Status}
 use Rattle.handle_model.specs.declared.reply.Reply.{Reply}
 use Rattle.handle_model.specs.declared.reply.Reply.TheVariants.{Never}
@@ -9,7 +9,7 @@ use Rattle.conn_histories.specs.Histories.{Decision, Event}
 use Rattle.conn_histories.specs.Histories.Event.{Decided}
 use Rattle.conn_histories.specs.Histories.Decision.{ToGroup, RefuseGroup, Reply as Answer}
 use Rattle.conn_histories.specs.Events.{word_of, has_run}
-use Rattle.service_desks.specs.State.{Services}
+use Rattle.desk_service.specs.State.{Services}
 use Rattle.replay_world.specs.declared.peer.Member.{Member}
 use Rattle.replay_world.specs.declared.peer.Unanswered.{Unanswered}
 use Rattle.replay_world.specs.declared.peer.Unanswered.TheVariants.{Nothing, Bind, Refused, Call}
@@ -17,12 +17,12 @@ use Rattle.replay_world.specs.declared.peer.Standing.TheVariants.{Open, Closed}
 use Rattle.replay_world.specs.Worlds.{Peer, World, journal}
 use Rattle.replay_world.specs.Groups.{member_for, joined}
 use Rattle.replay_world.specs.Events.{is_word_due, is_call_over, awaiting, closed, bound, Says, Decides, HappensOn}
-use Rattle.replay_realm.specs.Service.{service_of}
+use Rattle.replay_groups.specs.Service.{service_of}
 use Rattle.replay_groups.specs.declared.binding.BindRefusal.TheVariants as binding
-use Rattle.replay_peers.specs.declared.played.Played.{Played}
-use Rattle.replay_peers.specs.Living.{IsPlayed}
-use Rattle.replay_realm.specs.declared.realm.Realm.{Realm}
-use Rattle.replay_realm.specs.Holding.{Holds, Frames, Moves, BindsIn, Known}
+use Rattle.replay_events.specs.declared.played.Played.{Played}
+use Rattle.replay_events.specs.Living.{IsPlayed}
+use Rattle.replay_groups.specs.declared.realm.Realm.{Realm}
+use Rattle.replay_groups.specs.Holding.{Holds, Frames, Moves, BindsIn, Known}
 use Rattle.replay_events.specs.declared.player.Player.{Player}
 use Rattle.replay_events.specs.Standing.{Minds, IsTold, Handles}
 use Rattle.replay_events.specs.Hands.{IsInHand, Leads}

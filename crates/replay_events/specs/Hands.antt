@@ -1,20 +1,20 @@
 -- What calls do to a player: from each world that it stands for to the next one.
 use Rattle.std.specs.Prelude.{◌≡◌, ℕ, Bool, true, false, Option, Some, None, List}
 use Rattle.std.specs.List.{find}
-use Rattle.ndr_value.specs.Tables.{TableForm}
+use Rattle.ndr_table.specs.Tables.{TableForm}
 use Rattle.handle_model.specs.Journal as journals
 use Rattle.group_core.specs.declared.answer.Taking.{Taking}
 use Rattle.group_core.specs.Calls.{Takes}
 use Rattle.conn_histories.specs.Histories.{Event}
-use Rattle.service_desks.specs.State.{Services}
+use Rattle.desk_service.specs.State.{Services}
 use Rattle.replay_world.specs.declared.peer.Member.{Member}
 use Rattle.replay_world.specs.Worlds.{Peer, World, is_named, peer_at, journal}
 use Rattle.replay_world.specs.Groups.{GoesOn}
 use Rattle.replay_world.specs.Events.{HappensOn, GoesOnAt}
 use Rattle.replay_world.specs.Plays.{Opens, Ends, Loses}
-use Rattle.replay_realm.specs.Service.{service_of}
-use Rattle.replay_peers.specs.declared.played.Played.{Played}
-use Rattle.replay_peers.specs.Tables.{ShowAll}
+use Rattle.replay_groups.specs.Service.{service_of}
+use Rattle.replay_events.specs.declared.played.Played.{Played}
+use Rattle.replay_events.specs.Tables.{ShowAll}
 use Rattle.replay_events.specs.declared.player.Player.{Player}
 use Rattle.replay_events.specs.Standing.{Stands, Handles}
 

@@ -1,4 +1,10 @@
-pub mod Standing
+pub mod Answers
 pub mod Hands
-pub mod Marked
+pub mod Laws
 pub mod Lived
+pub mod Living
+pub mod Marked
+pub mod Numbered
+pub mod Showing
+pub mod Standing
+pub mod Tables

@@ -1,21 +1,21 @@
 -- An event has happened to a connection in hand, before its group knows of it.
 use Rattle.std.specs.Prelude.{◌≡◌, ℕ, Bool, true, false, Option, Some, None, List, ⊤}
-use Rattle.ndr_value.specs.Tables.{TableForm}
+use Rattle.ndr_table.specs.Tables.{TableForm}
 use Rattle.conn_asks.specs.declared.events.Act.{Act}
 use Rattle.conn_histories.specs.Histories.{Decision, Event}
 use Rattle.conn_histories.specs.Histories.Event.{Did, Decided}
 use Rattle.conn_histories.specs.Histories.Decision.{RefuseGroup}
 use Rattle.group_core.specs.declared.answer.Stage.{Stage}
 use Rattle.group_core.specs.declared.answer.Stage.TheVariants.{Over}
-use Rattle.service_desks.specs.State.{Services}
+use Rattle.desk_service.specs.State.{Services}
 use Rattle.replay_world.specs.declared.peer.Standing.TheVariants.{Open}
 use Rattle.replay_world.specs.Worlds.{World}
 use Rattle.replay_world.specs.Events.{is_word_due, HappensOn, Rests}
 use Rattle.replay_groups.specs.declared.binding.BindRefusal.{BindRefusal}
 use Rattle.replay_groups.specs.declared.binding.BindRefusal.TheVariants.{Refused}
-use Rattle.replay_realm.specs.Service.{service_of}
-use Rattle.replay_peers.specs.declared.played.Played.{Played}
-use Rattle.replay_peers.specs.Living.{Moment, Lives, Decides}
+use Rattle.replay_groups.specs.Service.{service_of}
+use Rattle.replay_events.specs.declared.played.Played.{Played}
+use Rattle.replay_events.specs.Living.{Moment, Lives, Decides}
 use Rattle.replay_events.specs.declared.player.Player.{Player}
 use Rattle.replay_events.specs.Standing.{Handles}
 

@@ -1,6 +1,6 @@
 -- What comes to a call that was accepted, and what its client is then told.
 use Rattle.std.specs.Prelude.{◌≡◌, ℕ, Bool, true, ◌||◌, Option, Some, None, if◌then◌else◌, ⊤}
-use Rattle.ndr_value.specs.Tables.{TableForm}
+use Rattle.ndr_table.specs.Tables.{TableForm}
 use Rattle.handle_model.specs.declared.entry.Said.{Said}
 use Rattle.handle_model.specs.declared.reply.Reply.{Reply}
 use Rattle.handle_model.specs.declared.reply.Reply.TheVariants.{Never, Ran, Dropped}
@@ -8,15 +8,15 @@ use Rattle.handle_model.specs.Journal as journals
 use Rattle.handle_model.specs.Replies.{replies, context_mismatch}
 use Rattle.group_core.specs.declared.answer.Taking.{Taking}
 use Rattle.group_core.specs.declared.answer.Taking.TheVariants.{Run, Denied}
-use Rattle.service_desks.specs.State.{Services}
+use Rattle.desk_service.specs.State.{Services}
 use Rattle.replay_world.specs.declared.peer.Member.{Member}
 use Rattle.replay_world.specs.declared.peer.Standing.{Standing}
 use Rattle.replay_world.specs.declared.peer.Standing.TheVariants.{Open}
 use Rattle.replay_world.specs.Worlds.{World, journal}
 use Rattle.replay_world.specs.Groups.{CancelsIn, CancelsMarked, OrphansIn}
-use Rattle.replay_peers.specs.declared.played.Kept.{Kept}
-use Rattle.replay_realm.specs.declared.realm.Realm.{Realm}
-use Rattle.replay_realm.specs.Holding.{Known}
+use Rattle.replay_events.specs.declared.played.Kept.{Kept}
+use Rattle.replay_groups.specs.declared.realm.Realm.{Realm}
+use Rattle.replay_groups.specs.Holding.{Known}
 
 -- the reply to the call, where it is known
 abbrev pub Tells : World Services → Member → ℕ → Option Reply → Type 0

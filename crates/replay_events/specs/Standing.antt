@@ -2,14 +2,14 @@
 -- read again.
 use Rattle.std.specs.Prelude.{◌≡◌, ◌≢◌, ℕ, Option, Some, None, List, ⊤}
 use Rattle.std.specs.List.{find, AllByRecursion}
-use Rattle.ndr_value.specs.Tables.{TableForm}
+use Rattle.ndr_table.specs.Tables.{TableForm}
 use Rattle.handle_model.specs.declared.entry.Slot.{Slot}
 use Rattle.handle_model.specs.declared.reply.Reply.{Reply}
 use Rattle.handle_model.specs.History.{History}
 use Rattle.handle_model.specs.Journal as journals
 use Rattle.handle_model.specs.Replies.{replies}
-use Rattle.service_desks.specs.State.{Services}
-use Rattle.replay_realm.specs.Rows.{AreIn}
+use Rattle.desk_service.specs.State.{Services}
+use Rattle.replay_groups.specs.Rows.{AreIn}
 use Rattle.replay_world.specs.declared.peer.Member.{Member}
 use Rattle.replay_world.specs.declared.peer.Unanswered.TheVariants.{Call}
 use Rattle.replay_world.specs.Worlds.{Peer, World, peer_at, journal}
@@ -18,12 +18,12 @@ use Rattle.replay_world.specs.Printing.{out_text}
 use Rattle.replay_world.specs.Counting.{CountAll}
 use Rattle.replay_world.specs.Answered.{FitsPrinted}
 use Rattle.replay_moments.specs.Moments.{Coheres}
-use Rattle.replay_peers.specs.declared.played.Kept.{Kept}
-use Rattle.replay_peers.specs.declared.played.Played.{Played}
-use Rattle.replay_peers.specs.Showing.{Shows}
-use Rattle.replay_peers.specs.Tables.{has_name, ShowAll, ShowOthers}
-pub use Rattle.replay_realm.specs.Holding.{Holds}
-use Rattle.replay_realm.specs.Requests.{IsRequest}
+use Rattle.replay_events.specs.declared.played.Kept.{Kept}
+use Rattle.replay_events.specs.declared.played.Played.{Played}
+use Rattle.replay_events.specs.Showing.{Shows}
+use Rattle.replay_events.specs.Tables.{has_name, ShowAll, ShowOthers}
+pub use Rattle.replay_groups.specs.Holding.{Holds}
+use Rattle.replay_groups.specs.Requests.{IsRequest}
 use Rattle.replay_events.specs.declared.player.Player.{Player}
 
 -- WHAT IS KEPT OF A CALL

@@ -4,12 +4,11 @@ ghost use Rattle.conn_asks.specs.declared.events.ConnFault.{ConnFault as ConnFau
 ghost use Rattle.conn_asks.specs.declared.events.Act.TheVariants as acts;
 ghost use Rattle.conn_histories.specs.Histories.Event.{Did};
 
-use crate::Player;
 use crate::marked::{cancelled, leave, marked, orphaned, with_orphan};
+use crate::{Kept, Played, Player};
 use conn_core::Act;
 use pdu_stream::Joined;
-use replay_peers::{Kept, Played};
-use replay_realm::Requested;
+use replay_groups::Requested;
 use replay_world::{Standing, Unanswered};
 use rpc_base::NoMemory;
 

@@ -3,10 +3,9 @@ ghost use Rattle.std.specs.Prelude.{◌≡◌, Some, IfOk};
 ghost use Rattle.replay_world.specs.declared.peer.Unanswered.TheVariants.{Call};
 ghost use Rattle.replay_events.specs.Marked as spec;
 
-use crate::Player;
+use crate::{Kept, Played, Player};
 use group_core::{Stage, Taking};
 use handle_model::{Reply, Said};
-use replay_peers::{Kept, Played};
 use replay_world::{Member, Standing};
 use rpc_base::{NoMemory, Status};
 

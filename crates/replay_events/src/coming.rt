@@ -2,11 +2,10 @@
 ghost use Rattle.std.specs.Prelude.{◌≡◌, IfOk, OnOk};
 ghost use Rattle.conn_histories.specs.Histories.Event.{Came};
 ghost use Rattle.replay_world.specs.declared.peer.Standing.TheVariants.{Open};
-ghost use Rattle.replay_peers.specs.Living.{IsPlayed, event_of};
+ghost use Rattle.replay_events.specs.Living.{IsPlayed, event_of};
 
-use crate::Player;
+use crate::{Played, Player};
 use conn_core::Act;
-use replay_peers::Played;
 use rpc_base::NoMemory;
 
 impl Player {

@@ -2,8 +2,7 @@
 ghost use Rattle.std.specs.Prelude.{◌≡◌, IfOk, OnOk};
 ghost use Rattle.replay_world.specs.declared.peer.Standing.TheVariants.{Open};
 
-use crate::Player;
-use replay_peers::Played;
+use crate::{Played, Player};
 use replay_world::Standing;
 use rpc_base::NoMemory;
 

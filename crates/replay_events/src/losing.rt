@@ -2,9 +2,8 @@
 ghost use Rattle.std.specs.Prelude.{◌≡◌, OnOk};
 ghost use Rattle.replay_world.specs.declared.peer.Standing.TheVariants.{Open};
 
-use crate::Player;
 use crate::marked::leave;
-use replay_peers::Played;
+use crate::{Played, Player};
 use replay_world::Standing;
 use rpc_base::NoMemory;
 

@@ -1,16 +1,16 @@
 //! A call is cancelled or orphaned.
 ghost use Rattle.std.specs.Prelude.{◌≡◌, ◌≤◌, IfOk, OnOk, ⊤};
 ghost use Rattle.replay_world.specs.Events.{LeavesIts};
-ghost use Rattle.replay_realm.specs.Service.{service_of};
-ghost use Rattle.replay_realm.specs.Holding.{Known, Moves};
+ghost use Rattle.replay_groups.specs.Service.{service_of};
+ghost use Rattle.replay_groups.specs.Holding.{Known, Moves};
 ghost use Rattle.replay_events.specs.Marked as spec;
-ghost use Rattle.replay_realm.specs.Holding.{Known, Moves};
+ghost use Rattle.replay_groups.specs.Holding.{Known, Moves};
 ghost use Rattle.replay_events.specs.Marked as spec;
 
+use crate::Kept;
 use group_core::{Cancelled, Orphaned};
 use handle_model::Reply;
-use replay_peers::Kept;
-use replay_realm::Realm;
+use replay_groups::Realm;
 use replay_world::Member;
 use rpc_base::{NoMemory, Status};
 

@@ -1,15 +1,15 @@
 //! The player of a replay.
 ghost use Rattle.std.specs.Prelude.{IfOk, OnOk, Option};
-ghost use Rattle.ndr_value.specs.Tables.{TableForm};
-ghost use Rattle.service_desks.specs.Shows.{shown_by};
-ghost use Rattle.service_desks.specs.Start.{at_start};
+ghost use Rattle.ndr_table.specs.Tables.{TableForm};
+ghost use Rattle.desk_service.specs.Shows.{shown_by};
+ghost use Rattle.desk_service.specs.Start.{at_start};
 ghost use Rattle.replay_world.specs.Worlds.{booted};
 
-use call_stats::Counted;
+use crate::{Peers, Played};
+use desk_counts::Counted;
 use handle_model::Reply;
-use ndr_value::Table;
-use replay_peers::{Peers, Played};
-use replay_realm::Realm;
+use ndr_table::Table;
+use replay_groups::Realm;
 use rpc_base::NoMemory;
 use std::alloc::Global;
 

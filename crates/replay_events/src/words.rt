@@ -2,25 +2,24 @@
 ghost use Rattle.std.specs.Bool.{OnTrue};
 ghost use Rattle.std.specs.Prelude.{◌≡◌, ℕ, true, Option, IfOk, OnOk};
 ghost use Rattle.std.specs.Option.{option_copied};
-ghost use Rattle.ndr_value.specs.Tables.{TableForm};
+ghost use Rattle.ndr_table.specs.Tables.{TableForm};
 ghost use Rattle.conn_asks.specs.Answers.{FitsStub};
 ghost use Rattle.conn_histories.specs.Histories.Decision.{ToGroup, RefuseGroup, Reply as Answer};
 ghost use Rattle.conn_histories.specs.Events.{word_of, has_run};
-ghost use Rattle.service_desks.specs.State.{Services};
+ghost use Rattle.desk_service.specs.State.{Services};
 ghost use Rattle.replay_world.specs.declared.peer.Standing.TheVariants.{Open};
 ghost use Rattle.replay_world.specs.declared.peer.Unanswered.TheVariants as unanswered;
 ghost use Rattle.replay_world.specs.Events.{is_call_over};
 ghost use Rattle.replay_world.specs.Worlds.{World};
-ghost use Rattle.replay_peers.specs.Living.{IsPlayed};
-ghost use Rattle.replay_realm.specs.Holding.{Holds};
+ghost use Rattle.replay_events.specs.Living.{IsPlayed};
+ghost use Rattle.replay_groups.specs.Holding.{Holds};
 ghost use Rattle.replay_events.specs.Lived as lived;
 
-use crate::Player;
+use crate::{Played, Player};
 use group_core::Stage;
 use handle_model::{Reply, Said};
 use pdu_stream::MOST_STUB;
 use replay_groups::BindRefusal;
-use replay_peers::Played;
 use replay_world::{Member, Standing, Unanswered};
 use rpc_base::{NoMemory, Status};
 

@@ -10,10 +10,10 @@ use Rattle.handle_model.specs.declared.entry.Entry.TheVariants.{Join, Accept, Ta
 use Rattle.handle_model.specs.Bases.{empty_base}
 use Rattle.handle_model.specs.Journal.{cookies_for, slots}
 use Rattle.handle_model.specs.History.{History, since}
-use Rattle.load_counts.specs.declared.counts.Counts.{Counts}
-use Rattle.load_counts.specs.Counting as tally
-use Rattle.load_counts.specs.Counting.{AddsGroup, Tells, shown, with_entry}
-use Rattle.load_counts.proofs.Counting.{quiet_count, tells_more}
+use Rattle.replay_script.specs.declared.counts.Counts.{Counts}
+use Rattle.replay_script.specs.Counting as tally
+use Rattle.replay_script.specs.Counting.{AddsGroup, Tells, shown, with_entry}
+use Rattle.replay_script.proofs.Counting.{quiet_count, tells_more}
 use Rattle.group_core.specs.declared.answer.Taking.{Taking}
 use Rattle.group_core.specs.declared.answer.Taking.TheVariants as taking
 use Rattle.group_core.specs.declared.answer.Cancelled.{Cancelled}

@@ -10,8 +10,8 @@ use Rattle.handle_model.specs.History.{History, IsSound, since}
 use Rattle.group_core.specs.declared.answer.Rest.{Rest}
 use Rattle.group_core.specs.declared.answer.Rest.TheVariants as rest
 use Rattle.group_core.specs.Conns.{Joins}
-use Rattle.load_counts.specs.declared.counts.Counts.{Counts}
-use Rattle.load_counts.specs.Counting.{Tells, Adds, AddsGroup}
+use Rattle.replay_script.specs.declared.counts.Counts.{Counts}
+use Rattle.replay_script.specs.Counting.{Tells, Adds, AddsGroup}
 use Rattle.replay_world.specs.Groups.{most_groups}
 use Rattle.replay_world.specs.Worlds.{goes_on}
 use Rattle.replay_world.specs.Replays.{journals_from}

@@ -1,4 +1,10 @@
-pub mod Keeps
-pub mod Said
 pub mod Binds
+pub mod Ends
+pub mod Holding
+pub mod Keeps
 pub mod Laws
+pub mod RealmLaws
+pub mod Requests
+pub mod Rows
+pub mod Said
+pub mod Service

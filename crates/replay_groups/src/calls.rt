@@ -13,7 +13,7 @@ use crate::counting::{count_accept, count_cancel, count_rest, count_taking};
 use crate::groups::Groups;
 use group_core::{AcceptRefusal, Cancelled, Group, JoinRefusal, Orphaned, Rest, Taking};
 use handle_model::{Asked, Outcomes, Said};
-use load_counts::Counts;
+use replay_script::Counts;
 
 fn accept_of(
     group: &mut Group,

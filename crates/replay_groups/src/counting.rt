@@ -9,7 +9,7 @@ ghost use Rattle.replay_groups.specs.Keeps.{AddsRest, Counted, newest_due};
 
 use group_core::{AcceptRefusal, Cancelled, Group, Rest, Taking};
 use handle_model::{Asked, Entry};
-use load_counts::Counts;
+use replay_script::Counts;
 
 /// A call was accepted, or it was refused.
 #[tactic(auto, using(crate::proofs::Tallies::refusal_counted))]

@@ -1,11 +1,11 @@
 //! The groups.
 ghost use Rattle.std.specs.Prelude.{◌≡◌, List, [], IfOk};
 ghost use Rattle.handle_model.specs.declared.entry.Entry.{Entry};
-ghost use Rattle.load_counts.specs.Counting.{Tells};
+ghost use Rattle.replay_script.specs.Counting.{Tells};
 ghost use Rattle.replay_groups.specs.Keeps.{Keeps};
 
 use group_core::Group;
-use load_counts::Counts;
+use replay_script::Counts;
 use std::alloc::Global;
 use std::marker::Model;
 

@@ -1,6 +1,6 @@
 //! A group is opened.
 ghost use Rattle.std.specs.Prelude.{◌≡◌, ◌+◌, ◌<◌, ◌++◌, ◌∷◌, [], IfOk, OnOk, OnErr};
-ghost use Rattle.load_counts.specs.Counting.{AddsGroup};
+ghost use Rattle.replay_script.specs.Counting.{AddsGroup};
 ghost use Rattle.replay_groups.specs.Keeps.{IsFirst, OpensAt, Opens, home_in};
 
 use crate::groups::Groups;

@@ -6,7 +6,7 @@ ghost use Rattle.replay_groups.specs.Keeps.{Keeps};
 
 use crate::Groups;
 use group_core::Group;
-use handle_text::journal_text;
+use journal_text::journal_text;
 use rpc_base::NoMemory;
 use std::alloc::Global;
 

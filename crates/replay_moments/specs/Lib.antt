@@ -1,2 +1,3 @@
-pub mod Moments
 pub mod Laws
+pub mod Loads
+pub mod Moments

@@ -1,9 +1,9 @@
 //! Laws of the moments of a replay.
 ghost use Rattle.std.specs.Prelude.{Option};
-ghost use Rattle.ndr_value.specs.Tables.{TableForm};
+ghost use Rattle.ndr_table.specs.Tables.{TableForm};
 ghost use Rattle.replay_moments.specs.Laws.{HoldsAtStart, EventsKeep, LinesKeep};
 
-use replay_laws::Serves;
+use crate::Serves;
 
 /// It holds of a server that was booted.
 pub fn holds_at_start<D: Serves>()

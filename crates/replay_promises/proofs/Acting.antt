@@ -32,7 +32,7 @@ use Rattle.replay_world.specs.Worlds.{Peer, World, home_of, past_of, journal}
 use Rattle.rpc_base.specs.declared.identifiers.SyntaxId.{SyntaxId}
 use Rattle.rpc_base.specs.declared.identifiers.Status.{Status}
 use Rattle.rpc_base.specs.declared.identifiers.Order.{Order}
-use Rattle.ndr_value.specs.Tables.{TableForm}
+use Rattle.ndr_table.specs.Tables.{TableForm}
 use Rattle.handle_model.specs.declared.reply.Reply.TheVariants as said
 use Rattle.handle_model.specs.Journal.{waits, runs}
 use Rattle.handle_model.specs.Replies.{replies}
@@ -45,16 +45,16 @@ use Rattle.conn_histories.specs.Requests.IsRefused.{no_operation, no_stub, no_ro
 use Rattle.conn_histories.specs.Entries.{is_orphan, asked_as, has_left, is_open, is_running, turn_left}
 use Rattle.conn_histories.specs.Events.{fate_reply, all_events}
 use Rattle.conn_histories.specs.Stories.{IsDue, Made}
-use Rattle.turn_laws.proofs.TaleFacts.{any_first}
-use Rattle.turn_laws.proofs.Replying.{turns_are_replied}
+use Rattle.conn_turns.proofs.TaleFacts.{any_first}
+use Rattle.conn_turns.proofs.Replying.{turns_are_replied}
 use Rattle.replay_world.specs.Events.{is_over, lived}
 use Rattle.replay_world.specs.Promised.{as_server}
-use Rattle.turn_steps.proofs.Staged.{is_waiting, Stage}
-use Rattle.turn_steps.proofs.Making.{called, IsPlain, made_plain}
-use Rattle.turn_steps.proofs.Stepping.{staged}
-use Rattle.turn_steps.specs.Quiet.{IsQuiet}
-use Rattle.turn_steps.proofs.Hearing.{grouping_still}
-use Rattle.turn_steps.specs.Done.{IsDone}
+use Rattle.conn_turns.proofs.Staged.{is_waiting, Stage}
+use Rattle.conn_turns.proofs.Making.{called, IsPlain, made_plain}
+use Rattle.conn_turns.proofs.Stepping.{staged}
+use Rattle.conn_turns.specs.Quiet.{IsQuiet}
+use Rattle.conn_turns.proofs.Hearing.{grouping_still}
+use Rattle.conn_turns.specs.Done.{IsDone}
 use Rattle.replay_promises.proofs.Telling.{Front, Behind, BoundBy, is_gone, IsTold, Tells}
 
 -- ---- parts

@@ -23,12 +23,12 @@ use Rattle.replay_world.specs.Replays.{name_of, names_of, Leads, LosesIfOpen, Lo
 use Rattle.replay_world.specs.Promised.{sent_in, sent_to}
 use Rattle.replay_moments.proofs.Peers.{found_name, put_found, put_others}
 use Rattle.replay_moments.proofs.Lines.{ends_keep}
-use Rattle.turn_steps.specs.Quiet.{IsQuiet}
+use Rattle.conn_turns.specs.Quiet.{IsQuiet}
 use Rattle.replay_promises.proofs.Reaching.{Reaches, reaches_none, reaches_twice, below}
 use Rattle.replay_promises.proofs.Still.{still_left}
 use Rattle.replay_promises.proofs.Telling.{Behind, RestsAs, IsTold, Tells, is_gone, retold}
 use Rattle.replay_promises.proofs.Happening.{Inv, some_peer}
-use Rattle.turn_steps.proofs.Done.{done_runs}
+use Rattle.conn_turns.proofs.Done.{done_runs}
 use Rattle.replay_promises.proofs.Running.{ended_tells, ended_others, ended_none, over_none}
 use Rattle.replay_promises.proofs.Lining.{loses_reach, loses_inv, ends_reach, finishes_reach, line_reach, line_inv, starts_inv}
 use Rattle.replay_promises.proofs.Heard.{Heard, heard_is, none_more, line_heard, loses_heard, finishes_heard, starts_heard}

@@ -10,9 +10,9 @@ use Rattle.conn_histories.specs.declared.turn.Fate.TheVariants.{Running, LeftRun
 use Rattle.conn_histories.specs.Entries.{is_cancel, is_orphan, marks, fate_entries}
 use Rattle.conn_histories.specs.Tales.{is_about, tale}
 use Rattle.replay_world.specs.Groups.{taken_with}
-use Rattle.turn_laws.proofs.TaleFacts.{same_number}
-use Rattle.turn_laws.proofs.MarkFacts.{ran, ran_is}
-use Rattle.turn_steps.proofs.Staged.{kept_skip}
+use Rattle.conn_turns.proofs.TaleFacts.{same_number}
+use Rattle.conn_turns.proofs.MarkFacts.{ran, ran_is}
+use Rattle.conn_turns.proofs.Staged.{kept_skip}
 
 taken_tale : (c k : ℕ) (past : List Entry) → taken_with (tale c k past) k ≡ taken_with past k
 taken_tale c k [] = refl

@@ -39,17 +39,17 @@ use Rattle.handle_model.specs.Replies.{replies}
 use Rattle.handle_model.proofs.Held.{joined_within}
 use Rattle.conn_histories.specs.Events.{fate_reply, word_of, has_run, acts_off, all_events}
 use Rattle.conn_histories.specs.Stories.{IsItsGroup, Made}
-use Rattle.turn_laws.proofs.TaleFacts.{same_number}
+use Rattle.conn_turns.proofs.TaleFacts.{same_number}
 use Rattle.replay_world.specs.Worlds.{goes_on, is_open_group, open_groups}
 use Rattle.replay_world.specs.Promised.{WasFull, WasCrowded, MayRefuse}
 use Rattle.replay_moments.proofs.Events.{HasGroup, group_of}
-use Rattle.turn_steps.proofs.Making.{called, made_answered}
-use Rattle.turn_steps.proofs.Ending.{joined_so}
-use Rattle.turn_steps.proofs.Hearing.{bound_stays, bound_waits, refused_waits, reply_waits}
+use Rattle.conn_turns.proofs.Making.{called, made_answered}
+use Rattle.conn_turns.proofs.StepEnding.{joined_so}
+use Rattle.conn_turns.proofs.Hearing.{bound_stays, bound_waits, refused_waits, reply_waits}
 use Rattle.replay_promises.proofs.Reaching.{Reaches, below, crowded}
 use Rattle.replay_promises.proofs.Telling.{Front, BoundBy, IsTold, Tells, others_told, none_apart, set_elsewhere}
 use Rattle.replay_promises.proofs.Acting.{bound_by, bound_in, built, over_is, reply_here, not_left, fate_replied}
-use Rattle.turn_steps.proofs.Plain.{one_answer_more}
+use Rattle.conn_turns.proofs.Plain.{one_answer_more}
 use Rattle.replay_promises.proofs.Doing.{Acted, others_same}
 
 -- ---- why a bind is refused

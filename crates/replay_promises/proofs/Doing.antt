@@ -48,20 +48,20 @@ use Rattle.conn_laws.proofs.Called.{calls_stay, others_free}
 use Rattle.conn_histories.specs.Entries.{asked_as, is_open, has_left, deed_open}
 use Rattle.conn_histories.specs.Events.{act_off, acts_off, all_events}
 use Rattle.conn_histories.specs.Stories.{WasFull, Made}
-use Rattle.turn_laws.specs.Steps.{left_turns, left_fate, left_deed, OnlyNewestOpen}
-use Rattle.turn_laws.proofs.TaleFacts.{asked_in}
+use Rattle.conn_turns.specs.Steps.{left_turns, left_fate, left_deed, OnlyNewestOpen}
+use Rattle.conn_turns.proofs.TaleFacts.{asked_in}
 use Rattle.replay_moments.proofs.Pasts.{joined_grows}
-use Rattle.turn_steps.proofs.Making.{called, MayLeave, made_plain}
-use Rattle.turn_steps.proofs.Whose.{AskedOf, fresh_none}
-use Rattle.turn_steps.proofs.Stepping.{Onward, off_fate, cancelled_so, orphaned_so}
-use Rattle.turn_steps.proofs.Ending.{Accepting, accepted_plain, accepted_marked, Leaving, left_so}
-use Rattle.turn_steps.proofs.Hearing.{calls_wait, bound_stays, bind_once, bind_binds}
+use Rattle.conn_turns.proofs.Making.{called, MayLeave, made_plain}
+use Rattle.conn_turns.proofs.Whose.{AskedOf, fresh_none}
+use Rattle.conn_turns.proofs.Stepping.{Onward, off_fate, cancelled_so, orphaned_so}
+use Rattle.conn_turns.proofs.StepEnding.{Accepting, accepted_plain, accepted_marked, Leaving, left_so}
+use Rattle.conn_turns.proofs.Hearing.{calls_wait, bound_stays, bind_once, bind_binds}
 use Rattle.replay_promises.proofs.Reaching.{Reaches, reaches_twice, accepts_reach, marked_reach, Below, below}
-use Rattle.turn_steps.specs.Done.{IsDone}
-use Rattle.turn_steps.proofs.Done.{done_may, done_closed, done_stay}
+use Rattle.conn_turns.specs.Done.{IsDone}
+use Rattle.conn_turns.proofs.Done.{done_may, done_closed, done_stay}
 use Rattle.replay_promises.proofs.Telling.{Asking, Front, BoundBy, IsTold, Tells, Enters, others_told, none_apart, call_apart, new_apart, set_there, set_elsewhere}
 use Rattle.replay_promises.proofs.Acting.{bound_by, bound_in, built, free_at, plain_told, stage_here, not_left, open_is}
-use Rattle.turn_steps.proofs.Plain.{refused_so, plain_refused, plain_closed, plain_answer, one_more_off}
+use Rattle.conn_turns.proofs.Plain.{refused_so, plain_refused, plain_closed, plain_answer, one_more_off}
 
 -- ---- what an event comes to
 

@@ -26,7 +26,7 @@ use Rattle.conn_histories.specs.Events.{all_events}
 use Rattle.conn_histories.specs.Stories.{Made}
 use Rattle.replay_moments.proofs.Peers.{found_name, put_found, put_others}
 use Rattle.replay_moments.proofs.Events.{events_keep}
-use Rattle.turn_steps.proofs.Hearing.{bound_stays, paused_waits}
+use Rattle.conn_turns.proofs.Hearing.{bound_stays, paused_waits}
 use Rattle.replay_promises.proofs.Reaching.{Reaches, reaches_none, reaches_twice, reaches_same, means_reach, below, of_member}
 use Rattle.replay_promises.proofs.Still.{means_still}
 use Rattle.replay_promises.proofs.Telling.{Front, Behind, RestsBy, RestsAs, is_gone, IsTold, Tells, busy, retold, same_told}

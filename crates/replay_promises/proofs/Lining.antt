@@ -27,7 +27,7 @@ use Rattle.conn_histories.specs.declared.turn.Turn.{Turn}
 use Rattle.conn_histories.specs.Entries.{is_open, has_left}
 use Rattle.conn_histories.specs.Events.{all_events}
 use Rattle.conn_histories.specs.Stories.{Made}
-use Rattle.turn_laws.specs.Steps.{left_fate, OnlyNewestOpen}
+use Rattle.conn_turns.specs.Steps.{left_fate, OnlyNewestOpen}
 use Rattle.replay_script.specs.declared.line.Line.{Line}
 use Rattle.replay_script.specs.declared.line.Line.TheVariants as lines
 use Rattle.replay_world.specs.Groups.{GoesOn, SettlesIn}
@@ -36,12 +36,12 @@ use Rattle.replay_world.specs.Plays.{idles, Opens, SendsAt, TriedAs, Tries, Ends
 use Rattle.replay_world.specs.Promised.{as_server}
 use Rattle.replay_moments.proofs.Peers.{put_found, put_others}
 use Rattle.replay_moments.proofs.Lines.{opens_keep, takes_keep, ends_keep, loses_keep, starts}
-use Rattle.turn_steps.proofs.Making.{called, MayLeave}
-use Rattle.turn_steps.proofs.Ending.{Leaving}
+use Rattle.conn_turns.proofs.Making.{called, MayLeave}
+use Rattle.conn_turns.proofs.StepEnding.{Leaving}
 use Rattle.replay_promises.proofs.Reaching.{Reaches, reaches_none, reaches_twice, reaches_same, leaves_reach, takes_reach, settles_reach, below}
 use Rattle.replay_promises.proofs.Still.{still_on, still_left}
 use Rattle.replay_promises.proofs.Telling.{Front, Left, Behind, RestsBy, RestsAs, newest_open, is_gone, IsTold, Tells, busy, retold, same_told}
-use Rattle.turn_steps.proofs.Done.{only_done, done_may, done_stay, done_closed}
+use Rattle.conn_turns.proofs.Done.{only_done, done_may, done_stay, done_closed}
 use Rattle.replay_promises.proofs.Acting.{quiet_called}
 use Rattle.replay_promises.proofs.Doing.{others_same, own_before, leaving, left_others}
 use Rattle.replay_promises.proofs.Happening.{Inv, Busy, begin_busy, some_peer, inv_put, idle_inv, happens_busy, event_reach, goes_reach, goes_inv}

@@ -37,19 +37,19 @@ use Rattle.conn_histories.specs.Entries.{is_cancel, has_left, is_open, is_runnin
 use Rattle.conn_histories.specs.Events.{all_events}
 use Rattle.conn_histories.specs.Stories.{Made}
 use Rattle.conn_histories.specs.Tales.{Stands}
-use Rattle.turn_laws.proofs.TaleFacts.{any_first}
+use Rattle.conn_turns.proofs.TaleFacts.{any_first}
 use Rattle.replay_world.specs.Groups.{GoesOn}
 use Rattle.replay_world.specs.Plays.{Ends}
 use Rattle.replay_world.specs.Promised.{as_server}
-use Rattle.turn_steps.proofs.Staged.{Stage, marked_running, marked_left}
+use Rattle.conn_turns.proofs.Staged.{Stage, marked_running, marked_left}
 use Rattle.replay_promises.proofs.Cookies.{taken_running, taken_left}
-use Rattle.turn_steps.proofs.Making.{called}
-use Rattle.turn_steps.proofs.Whose.{AskedOf}
-use Rattle.turn_steps.proofs.Stepping.{no_behind, Onward, staged, taken, OpensBy, TakenSo, given, EndSo, EndsWell, ended_fate}
-use Rattle.turn_steps.proofs.Ending.{ended_so}
+use Rattle.conn_turns.proofs.Making.{called}
+use Rattle.conn_turns.proofs.Whose.{AskedOf}
+use Rattle.conn_turns.proofs.Stepping.{no_behind, Onward, staged, taken, OpensBy, TakenSo, given, EndSo, EndsWell, ended_fate}
+use Rattle.conn_turns.proofs.StepEnding.{ended_so}
 use Rattle.replay_promises.proofs.Reaching.{Reaches, Below, below}
-use Rattle.turn_steps.specs.Done.{IsDone}
-use Rattle.turn_steps.proofs.Done.{done_runs}
+use Rattle.conn_turns.specs.Done.{IsDone}
+use Rattle.conn_turns.proofs.Done.{done_runs}
 use Rattle.replay_promises.proofs.Telling.{Asking, Behind, RestsAs, newest_open, is_gone, not_free, IsTold, Tells, call_apart, set_there}
 use Rattle.replay_promises.proofs.Doing.{others_by, on_set, off_set}
 

@@ -23,8 +23,8 @@ use Rattle.conn_histories.specs.declared.turn.Turn.TheVariants.{Binding, Bound, 
 use Rattle.conn_histories.specs.Entries.{turn_runs}
 use Rattle.conn_histories.specs.Tales.{StandAll}
 use Rattle.conn_histories.specs.Answers.{Answers}
-use Rattle.turn_answers.specs.Laws.{IsOver, IsAllAsked}
-use Rattle.turn_answers.proofs.Answering.{stories_answer}
+use Rattle.conn_turns.specs.AnswerLaws.{IsOver, IsAllAsked}
+use Rattle.conn_turns.proofs.Answering.{stories_answer}
 use Rattle.replay_script.specs.declared.line.Line.{Line}
 use Rattle.replay_script.specs.declared.line.Line.TheVariants as lines
 use Rattle.replay_script.specs.Lines.{FitLines}
@@ -32,8 +32,8 @@ use Rattle.replay_world.specs.Printing.{answered_on}
 use Rattle.replay_world.specs.Promised.{sent_to, IsAnsweredIn}
 use Rattle.replay_moments.proofs.Peers.{found_name}
 use Rattle.replay_promises.specs.Laws.{EachIsServedWhereSound, ReplaysServeAll}
-use Rattle.turn_steps.proofs.Ending.{quiet_all}
-use Rattle.turn_steps.proofs.Done.{done_over}
+use Rattle.conn_turns.proofs.StepEnding.{quiet_all}
+use Rattle.conn_turns.proofs.Done.{done_over}
 use Rattle.replay_promises.proofs.Telling.{Behind, IsTold, Tells, is_gone}
 use Rattle.replay_promises.proofs.Heard.{CameTo, puts}
 use Rattle.replay_promises.proofs.Closing.{ends_over, ends_heard}

@@ -32,13 +32,13 @@ use Rattle.conn_histories.specs.Entries.{has_left, is_open, deed_open, deed_runs
 use Rattle.conn_histories.specs.Events.{all_events}
 use Rattle.conn_histories.specs.Stories.{AllDue, Made}
 use Rattle.conn_histories.specs.Tales.{Stands}
-use Rattle.turn_steps.specs.Done.{IsDone}
+use Rattle.conn_turns.specs.Done.{IsDone}
 use Rattle.replay_world.specs.Promised.{as_server}
-use Rattle.turn_steps.proofs.Making.{called, made_stays}
-use Rattle.turn_steps.proofs.Whose.{AreBy, ApartFrom, AskedOf, all_asked, apart_asked, apart_unasked, are_others}
-use Rattle.turn_steps.specs.Quiet.{IsQuiet}
+use Rattle.conn_turns.proofs.Making.{called, made_stays}
+use Rattle.conn_turns.proofs.Whose.{AreBy, ApartFrom, AskedOf, all_asked, apart_asked, apart_unasked, are_others}
+use Rattle.conn_turns.specs.Quiet.{IsQuiet}
 use Rattle.replay_promises.proofs.Reaching.{Below}
-use Rattle.turn_laws.proofs.TaleFacts.{asked_in}
+use Rattle.conn_turns.proofs.TaleFacts.{asked_in}
 
 -- ---- the newest turn, by what waits for the server's word
 

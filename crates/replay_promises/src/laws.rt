@@ -1,9 +1,9 @@
 //! The law of replays in the words of the promise.
 ghost use Rattle.std.specs.Prelude.{Option};
-ghost use Rattle.ndr_value.specs.Tables.{TableForm};
+ghost use Rattle.ndr_table.specs.Tables.{TableForm};
 ghost use Rattle.replay_promises.specs.Laws.{EachIsServedWhereSound, ReplaysServeAll};
 
-use replay_laws::Serves;
+use replay_moments::Serves;
 
 /// For every script and each of its connections: what was printed for it are the answers to what its octets ask, by the
 /// final journal of its group, and its entries there are made, each End by its manager's relation. The journals that the

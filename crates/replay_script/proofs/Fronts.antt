@@ -3,12 +3,12 @@ use Rattle.std.proofs.Common.{◌≡◌, ℕ, ◌≤◌, List, [], ◌∷◌, �
 use Rattle.std.specs.List.{AllByRecursion, flat_map}
 use Rattle.std.proofs.lemmas.Fmt.{decimal_injective}
 use Rattle.hex.specs.Hex.{IsBytes}
-use Rattle.rpc_words.specs.Reads.{HasNo}
-use Rattle.rpc_words.specs.Words.{octets_text}
-use Rattle.rpc_words.proofs.Cuts.{same_cut, no_cut}
-use Rattle.rpc_words.proofs.Ink.{IsInk, HasNo-ink, HasNo-join, ink_name, ink_decimal, ink_octets, ink_hex_u64}
-use Rattle.rpc_words.proofs.Numbers.{hex_u64_injective}
-use Rattle.rpc_words.proofs.Octets.{octets_text_injective}
+use Rattle.base_words.specs.Reads.{HasNo}
+use Rattle.base_words.specs.Words.{octets_text}
+use Rattle.base_words.proofs.Cuts.{same_cut, no_cut}
+use Rattle.base_words.proofs.Ink.{IsInk, HasNo-ink, HasNo-join, ink_name, ink_decimal, ink_octets, ink_hex_u64}
+use Rattle.base_words.proofs.Numbers.{hex_u64_injective}
+use Rattle.base_words.proofs.Octets.{octets_text_injective}
 use Rattle.replay_script.specs.declared.line.Line.{Line}
 use Rattle.replay_script.specs.declared.line.Line.TheVariants.{Boot, Open, Send, Run, Finish, Lose}
 use Rattle.replay_script.specs.Lines.{words_of, line_body, line_text, text_of_lines, FitsLine, FitLines, IsConnection}

@@ -2,9 +2,9 @@
 use Rattle.std.proofs.Common.{◌≡◌, ℕ, List, [], ◌∷◌, ◌++◌, refl, ap, sym, ◌∙◌, arith, codes, Option, Some, None, Result, Ok, Err}
 use Rattle.std.specs.Prelude.{IfOk}
 use Rattle.std.specs.List.{join_with_byte}
-use Rattle.rpc_words.specs.Reads.{HasNo, Reads}
-use Rattle.rpc_words.proofs.Cuts.{same_cut, no_cut}
-use Rattle.rpc_words.proofs.Ink.{HasNo-ink, ink_name}
+use Rattle.base_words.specs.Reads.{HasNo, Reads}
+use Rattle.base_words.proofs.Cuts.{same_cut, no_cut}
+use Rattle.base_words.proofs.Ink.{HasNo-ink, ink_name}
 use Rattle.replay_script.specs.declared.line.Line.{Line}
 use Rattle.replay_script.specs.declared.line.Line.TheVariants.{Boot, Open, Send, Run, Finish, Lose}
 use Rattle.replay_script.specs.Lines.{FitsLine, line_body}

@@ -1,3 +1,11 @@
-pub mod Lines
-pub mod Scripts
+pub mod Counting
+pub mod Drawing
 pub mod Heads
+pub mod Knowing
+pub mod Laws
+pub mod Lines
+pub mod LoadScripts
+pub mod Rounds
+pub mod Scripts
+pub mod Sending
+pub mod Summary

@@ -2,7 +2,7 @@
 use Rattle.std.specs.Prelude.{◌≡◌, ℕ, ◌^◌, ◌<◌, List, [], ◌∷◌, ◌++◌, codes, decimal}
 use Rattle.std.specs.List.{join_with_byte, AllByRecursion, flat_map}
 use Rattle.hex.specs.Hex.{IsBytes}
-use Rattle.rpc_words.specs.Words.{octets_text, hex_u64, IsBetween}
+use Rattle.base_words.specs.Words.{octets_text, hex_u64, IsBetween}
 use Rattle.replay_script.specs.declared.line.Line.{Line}
 use Rattle.replay_script.specs.declared.line.Line.TheVariants.{Boot, Open, Send, Run, Finish, Lose}
 

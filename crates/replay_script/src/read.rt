@@ -1,14 +1,14 @@
 //! Reads one line.
 ghost use Rattle.std.specs.Prelude.{◌≡◌, ℕ, List, [], ◌∷◌, ◌++◌, IfOk, MatchOption, decimal};
 ghost use Rattle.hex.specs.Hex.{IsBytes};
-ghost use Rattle.rpc_words.specs.Reads.{Reads};
-ghost use Rattle.rpc_words.specs.Words.{octets_text};
+ghost use Rattle.base_words.specs.Reads.{Reads};
+ghost use Rattle.base_words.specs.Words.{octets_text};
 ghost use Rattle.replay_script.specs.Heads.{head_and_rest};
 ghost use Rattle.replay_script.specs.Lines.{IsConnection, FitsLine, line_body, BeginsWith, BeginsWithNoLine};
 
 use crate::{Line, MOST_CONNECTIONS};
+use base_words::{cut_at, cut_line, read_between, read_hex_u64, read_octets};
 use rpc_base::{NoMemory, Octets};
-use rpc_words::{cut_at, cut_line, read_between, read_hex_u64, read_octets};
 use std::alloc::Global;
 
 /// The number of a connection.

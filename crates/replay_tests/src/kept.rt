@@ -1,13 +1,13 @@
 //! Groups whose calls are made where their conditions hold.
 ghost use Rattle.std.specs.Prelude.{◌≡◌, true};
 ghost use Rattle.handle_model.specs.Journal as journals;
-ghost use Rattle.handle_rules.specs.Told.{told};
+ghost use Rattle.journal_rules.specs.Told.{told};
 ghost use Rattle.replay_groups.specs.Keeps.{Has, Known, GoesOn, group_at};
 ghost use Rattle.replay_groups.specs.Binds.{AreKept};
 
 use group_core::{AcceptRefusal, Cancelled, Group, JoinRefusal, Orphaned, Rest, Taking};
 use handle_model::{Asked, Outcome, Outcomes, Said};
-use handle_rules::{Record, is_open, runs, slots, suit};
+use journal_rules::{Record, is_open, runs, slots, suit};
 use replay_groups::{Groups, OpenRefusal, goes_on};
 
 /// The journal that a group keeps.

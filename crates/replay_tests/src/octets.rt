@@ -1,7 +1,7 @@
 //! Octets, as the tables write them.
 
+use base_words::read_hex;
 use rpc_base::{NoMemory, Octets};
-use rpc_words::read_hex;
 use std::alloc::Global;
 
 /// The octets of hexadecimal digits.

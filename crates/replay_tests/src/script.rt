@@ -1,11 +1,10 @@
 //! The script of a load, which grows step by step by what is answered to it.
 
-use load_script::{Deed, Load, MOST_STEPS, first_line, lines};
+use base_words::{put, put_decimal, put_hex_u64, put_octets};
 use replay::replay;
-use replay_script::Line;
+use replay_script::{Deed, Line, Load, MOST_STEPS, first_line, lines};
 use replay_world::answered_in;
 use rpc_base::NoMemory;
-use rpc_words::{put, put_decimal, put_hex_u64, put_octets};
 use std::alloc::Global;
 
 /// A connection that no load opens, and what tells that it is idle.

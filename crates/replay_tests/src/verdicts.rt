@@ -1,8 +1,8 @@
 //! The verdicts on the journals of a load.
 
 use crate::script::script_of;
-use handle_rules::Verdict;
 use journal_audit::audit;
+use journal_rules::Verdict;
 use replay::replay;
 use std::test::Fail;
 

@@ -3,11 +3,11 @@ use Rattle.std.proofs.Common.{◌≡◌, ℕ, ◌^◌, ◌<◌, Bool, true, Resu
 use Rattle.std.specs.List.{AllByRecursion, join_with_byte, list_all}
 use Rattle.std.proofs.lemmas.List.{append-nil}
 use Rattle.hex.specs.Hex.{IsBytes, encode_lower}
-use Rattle.rpc_words.specs.Reads.{Reads, HasNo}
-use Rattle.rpc_words.specs.Words.{is_hex_mark}
-use Rattle.rpc_words.proofs.Cuts.{same_cut, no_cut}
-use Rattle.rpc_words.proofs.Ink.{IsInk, HasNo-ink, HasNo-join, ink_name, ink_decimal, ink_hex}
-use Rattle.rpc_words.proofs.Hexadecimal.{decodes_marks, hex_injective}
+use Rattle.base_words.specs.Reads.{Reads, HasNo}
+use Rattle.base_words.specs.Words.{is_hex_mark}
+use Rattle.base_words.proofs.Cuts.{same_cut, no_cut}
+use Rattle.base_words.proofs.Ink.{IsInk, HasNo-ink, HasNo-join, ink_name, ink_decimal, ink_hex}
+use Rattle.base_words.proofs.Hexadecimal.{decodes_marks, hex_injective}
 use Rattle.replay_world.specs.Worlds.{Printed}
 use Rattle.replay_world.specs.Worlds.Printed.{Answered, Waits, Idle}
 use Rattle.replay_world.specs.Printing.{printed_body, printed_text, out_text}

@@ -5,7 +5,7 @@ use Rattle.pdu_codec.specs.Constants.{request_type, last_frag}
 use Rattle.pdu_stream.specs.Fragments.{has_flag}
 use Rattle.pdu_codec.specs.Faults.{kind_at, flags_at, frag_length}
 use Rattle.pdu_stream.specs.Cuts.{HasHead}
-use Rattle.call_stats.specs.Numbers.{Numbers, none_yet, with_more}
+use Rattle.desk_counts.specs.Numbers.{Numbers, none_yet, with_more}
 use Rattle.conn_histories.specs.Histories.{stream, put}
 use Rattle.replay_world.specs.Worlds.{Peer}
 

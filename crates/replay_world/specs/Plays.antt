@@ -8,7 +8,7 @@ use Rattle.handle_model.specs.declared.entry.Entry.TheVariants.{End}
 use Rattle.handle_model.specs.Journal as journals
 use Rattle.manager_api.specs.Answers.{Ans}
 use Rattle.manager_api.specs.Calls as calls
-use Rattle.call_stats.specs.Numbers.{Numbers}
+use Rattle.desk_counts.specs.Numbers.{Numbers}
 use Rattle.conn_histories.specs.Histories.Event.{Came}
 use Rattle.group_core.specs.declared.answer.Taking.{Taking}
 use Rattle.group_core.specs.declared.answer.Taking.TheVariants as taking

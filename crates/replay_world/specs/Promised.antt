@@ -3,7 +3,7 @@ use Rattle.std.specs.Prelude.{◌≡◌, ◌≢◌, ℕ, ◌≤◌, ◌==◌, Op
 use Rattle.handle_model.specs.declared.entry.Entry.{Entry}
 use Rattle.handle_model.specs.History.{IsSound}
 use Rattle.handle_model.specs.Limits.{join_limit}
-use Rattle.call_stats.specs.Numbers.{Numbers}
+use Rattle.desk_counts.specs.Numbers.{Numbers}
 use Rattle.conn_asks.specs.declared.events.Ask.{Ask}
 use Rattle.conn_asks.specs.Asks.{AreAsksOf}
 use Rattle.conn_histories.specs.Histories.{stream, put}

@@ -3,7 +3,7 @@ use Rattle.std.specs.Prelude.{◌≡◌, ℕ, suc, List, [], ◌∷◌, ◌++◌
 use Rattle.std.specs.List.{AllByRecursion}
 use Rattle.handle_model.specs.declared.entry.Entry.{Entry}
 use Rattle.handle_model.specs.History.{History, IsSound}
-use Rattle.handle_text.specs.Texts.{journal_text}
+use Rattle.journal_text.specs.Texts.{journal_text}
 use Rattle.hub_story.specs.Folded.{kept_since}
 use Rattle.replay_script.specs.declared.line.Line.{Line}
 use Rattle.replay_script.specs.declared.line.Line.TheVariants.{Boot}

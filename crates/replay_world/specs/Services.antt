@@ -2,11 +2,11 @@
 use Rattle.std.specs.Prelude.{◌≡◌, ◌≢◌, Bool, Some, List, [], ◌∷◌}
 use Rattle.std.specs.List.{AllByRecursion}
 use Rattle.handle_model.specs.declared.entry.DueItem.{DueItem}
-use Rattle.ndr_value.specs.Tables.{OpForm, TableForm, IsTable}
-use Rattle.ndr_value.specs.Nested.{IsShallow}
+use Rattle.ndr_table.specs.Tables.{OpForm, TableForm, IsTable}
+use Rattle.ndr_table.specs.Nested.{IsShallow}
 use Rattle.manager_api.specs.Answers.{Ans, AFault}
 use Rattle.manager_api.specs.Calls.{Call}
-use Rattle.call_stats.specs.Numbers.{Numbers}
+use Rattle.desk_counts.specs.Numbers.{Numbers}
 use Rattle.group_core.specs.declared.answer.Rest.{Rest}
 use Rattle.group_core.specs.declared.answer.Rest.TheVariants as rest
 use Rattle.conn_histories.specs.Requests.{op_of, no_memory}

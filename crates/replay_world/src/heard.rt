@@ -2,8 +2,8 @@
 ghost use Rattle.std.specs.Prelude.{IfOk, OnOk, []};
 ghost use Rattle.replay_world.specs.Answered as spec;
 
+use base_words::{cut_at, cut_line, read_hex};
 use rpc_base::{NoMemory, Octets};
-use rpc_words::{cut_at, cut_line, read_hex};
 use std::alloc::Global;
 
 /// The PDU that a printed line tells, without its line feed, where it tells one.

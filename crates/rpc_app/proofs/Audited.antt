@@ -2,14 +2,14 @@
 use Rattle.std.proofs.Common.{◌≡◌, ℕ, true, false, List, [], ◌∷◌, refl, ap, subst, inl, inr}
 use Rattle.std.specs.List.{list_all, AllByRecursion}
 use Rattle.handle_model.proofs.Held.{and_left, and_right}
-use Rattle.handle_rules.specs.declared.audit.Verdict.{Verdict}
-use Rattle.handle_rules.specs.declared.audit.Verdict.TheVariants as verdicts
-use Rattle.handle_rules.specs.Verdicts.{Tells}
+use Rattle.journal_rules.specs.declared.audit.Verdict.{Verdict}
+use Rattle.journal_rules.specs.declared.audit.Verdict.TheVariants as verdicts
+use Rattle.journal_rules.specs.Verdicts.{Tells}
 use Rattle.journal_audit.specs.declared.verdict.GroupVerdict.{GroupVerdict}
 use Rattle.journal_audit.specs.Files.{Journal, DepartsAt}
 use Rattle.journal_audit.specs.Told.{Audited, TellsAll}
-use Rattle.audit_laws.proofs.Journals.{one_reading, neither_both}
-use Rattle.audit_laws.proofs.Verdicts.{good_is_legal}
+use Rattle.journal_audit.proofs.Journals.{one_reading, neither_both}
+use Rattle.journal_audit.proofs.Verdicts.{good_is_legal}
 use Rattle.rpc_app.specs.Audits.{is_legal, is_good, IsGood, AreGood, IsAudited, HasBreach, DepartsAtJournalLine, verdict_lines, journal_refusal}
 use Rattle.rpc_app.specs.Commands.{RefusesJournals}
 

@@ -4,10 +4,10 @@ use Rattle.rpc_base.specs.Causes.{Rose}
 use Rattle.rpc_base.specs.Shelves.{Files, Tells}
 use Rattle.rpc_outside.specs.Links.{Shown}
 use Rattle.rpc_outside.specs.Dials.{DialShown}
-use Rattle.ndr_value.specs.Tables.{TableForm}
-use Rattle.call_play.specs.declared.calling.CallEnd.{CallEnd}
-use Rattle.call_play.specs.declared.calling.CallEnd.TheVariants as ends
-use Rattle.call_play.specs.Scripts.{Ends}
+use Rattle.ndr_table.specs.Tables.{TableForm}
+use Rattle.client_script.specs.declared.calling.CallEnd.{CallEnd}
+use Rattle.client_script.specs.declared.calling.CallEnd.TheVariants as ends
+use Rattle.client_script.specs.Scripts.{Ends}
 use Rattle.rpc_app.specs.declared.command.Command.TheVariants.{Idl}
 use Rattle.rpc_app.specs.Asks.{CallTask}
 use Rattle.rpc_app.specs.Commands.{call_limit}

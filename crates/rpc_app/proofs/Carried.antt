@@ -2,15 +2,15 @@
 use Rattle.std.proofs.Common.{◌≡◌, ◌∙◌, ◌==◌, ◌<◌, ◌≤◌, ◌^◌, ℕ, Bool, List, [], ◌∷◌, refl, sym, subst, ap, ap₂, arith, Option, Some, None, option_map, codes, decimal, if◌then◌else◌}
 use Rattle.std.specs.Str.{bytes_eq}
 use Rattle.std.proofs.lemmas.Fmt.{decimal_injective}
-use Rattle.command_line.specs.declared.command.Asked.{Asked}
-use Rattle.command_line.specs.declared.command.Asked.TheVariants as asks
-use Rattle.command_line.specs.Asks.{Line, line_of}
-use Rattle.command_line.specs.Asks as line
+use Rattle.app_words.specs.declared.command.Asked.{Asked}
+use Rattle.app_words.specs.declared.command.Asked.TheVariants as asks
+use Rattle.app_words.specs.Asks.{Line, line_of}
+use Rattle.app_words.specs.Asks as line
 use Rattle.rpc_app.specs.declared.command.Command.{Command}
 use Rattle.rpc_app.specs.declared.command.Command.TheVariants.{Replay, Idl, Audit}
 use Rattle.rpc_outside.specs.declared.address.Address.{Address}
-use Rattle.address_text.specs.Texts.{Host, FitsHost, host_text}
-use Rattle.address_text.proofs.Parts.{one_host}
+use Rattle.app_words.specs.Texts.{Host, FitsHost, host_text}
+use Rattle.app_words.proofs.Parts.{one_host}
 use Rattle.rpc_app.specs.Asks.{FileTask, Task, OfFile, OfLoad, ServeTask, Wanted, ToDo, ToServe, ToCall, IsInRange, IsWithin, Asks, AsksFor, AsksToServe, AsksForNothing, wanted_of}
 use Rattle.rpc_app.specs.declared.words.Wanted.{Wanted as WantedHere}
 use Rattle.rpc_app.specs.Words.{told_wanted}

@@ -1,9 +1,9 @@
-pub mod Carried
-pub mod Served
-pub mod Called
-pub mod Ran
-pub mod Loads
 pub mod Audited
+pub mod Called
+pub mod Carried
+pub mod Loads
 pub mod Made
-pub mod Told
 pub mod Obeying
+pub mod Ran
+pub mod Served
+pub mod Told

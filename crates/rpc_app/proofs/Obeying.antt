@@ -2,7 +2,7 @@
 use Rattle.std.proofs.Common.{◌≡◌, ◌≢◌, ◌⊎◌, ℕ, ◌<◌, Option, List, inl, inr, refl, sym, subst, arith}
 use Rattle.rpc_base.specs.Causes.{Rose}
 use Rattle.rpc_base.specs.Shelves.{Tells}
-use Rattle.ndr_value.specs.Tables.{TableForm}
+use Rattle.ndr_table.specs.Tables.{TableForm}
 use Rattle.rpc_app.specs.Asks.{FileTask, Task, OfFile, OfLoad, ServeTask, CallTask, Wanted, ToDo, ToServe, ToCall, Asks, AsksFor, AsksToServe, AsksToCall, AsksForNothing}
 use Rattle.rpc_app.specs.Obeys.{Obeys, Shelf, Output, IsKept, Put, HasDone, HasRefused, WasCutShort, IsTaken, TellsText, NoneFailed}
 use Rattle.rpc_app.specs.Runs.{Gains, GainsFront, words_refusal}

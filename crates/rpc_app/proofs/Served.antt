@@ -4,16 +4,16 @@ use Rattle.rpc_base.specs.Causes.{Rose}
 use Rattle.rpc_base.specs.Shelves.{Files, Tells}
 use Rattle.rpc_outside.specs.Links.{Shown}
 use Rattle.rpc_outside.specs.Doors.{DoorShown}
-use Rattle.ndr_value.specs.Tables.{TableForm}
+use Rattle.ndr_table.specs.Tables.{TableForm}
 use Rattle.rpc_app.specs.declared.command.Command.TheVariants.{Idl}
 use Rattle.rpc_app.specs.Asks.{ServeTask}
 use Rattle.rpc_app.specs.Runs.{Gains, GainsFront, Serves, RefusesText}
 use Rattle.rpc_app.specs.Obeys.{Shelf, Output, IsKept, Put, TellsText, IsTaken, NoneFailed}
 use Rattle.rpc_app.specs.Serving.{Doorway, IsUnused, IsSilent, PutBoth, PutInPart, IsPut, RefusesInterface, NoDoorFailed, HasServedWith, HasServed, ServesWith, ServesFor}
-use Rattle.service_desks.specs.State.{tables_with}
-use Rattle.serve_command.specs.Serves.{May}
+use Rattle.desk_service.specs.State.{tables_with}
+use Rattle.server_command.specs.Serves.{May}
 use Rattle.rpc_app.proofs.Told.{text_refused, text_served}
-use Rattle.serve_command.proofs.Statuses.{IsServed, rose, served}
+use Rattle.server_command.proofs.Statuses.{IsServed, rose, served}
 
 neither : (s a b : ℕ) → s ≢ a → s ≢ b → (s ≡ a) ⊎ (s ≡ b) → ⊥
 neither s a b first second (inl e) = first e

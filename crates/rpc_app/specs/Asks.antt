@@ -1,9 +1,9 @@
 -- What the words ask to be done.
 use Rattle.std.specs.Prelude.{◌≡◌, ◌≤◌, ℕ, List, Option, None, option_map, ⊤}
 use Rattle.rpc_outside.specs.declared.address.Address.{Address}
-use Rattle.command_line.specs.declared.command.Asked.{Asked}
-use Rattle.command_line.specs.declared.command.Asked.TheVariants as asks
-use Rattle.command_line.specs.Asks as line
+use Rattle.app_words.specs.declared.command.Asked.{Asked}
+use Rattle.app_words.specs.declared.command.Asked.TheVariants as asks
+use Rattle.app_words.specs.Asks as line
 use Rattle.rpc_app.specs.declared.command.Command.{Command}
 use Rattle.rpc_app.specs.declared.command.Command.TheVariants.{Replay, Idl, Audit}
 

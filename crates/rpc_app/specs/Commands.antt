@@ -8,15 +8,15 @@ use Rattle.idl_reader.specs.declared.fault.IdlFault.TheVariants as faults
 use Rattle.idl_reader.specs.Causes.{IsCause}
 use Rattle.idl_rules.specs.Broken.{NoneBroken, IsLeastBreach}
 use Rattle.idl_print.specs.Canonical.{canonical_text}
-use Rattle.ndr_value.specs.Tables.{TableForm}
-use Rattle.table_laws.specs.Interfaces.{tabled}
+use Rattle.ndr_table.specs.Tables.{TableForm}
+use Rattle.idl_tables.specs.Interfaces.{tabled}
 use Rattle.rpc_app.specs.declared.command.Command.{Command}
 use Rattle.rpc_app.specs.declared.command.Command.TheVariants.{Replay, Idl, Audit}
 use Rattle.rpc_app.specs.Audits.{AreGood, IsAudited, HasBreach, DepartsAtJournalLine}
 use Rattle.replay_world.specs.Replays.{IsReplay}
 use Rattle.replay_world.specs.declared.fault.ReplayFault.TheVariants as script_faults
 use Rattle.replay.specs.Departures.{StopsAt, ServesAll}
-use Rattle.replay_realm.specs.Service.{service_of}
+use Rattle.replay_groups.specs.Service.{service_of}
 
 -- the longest file that it takes: 64 MiB of a script or of journals, 1 MiB of an interface text
 abbrev pub limit : Command → ℕ

@@ -1,10 +1,10 @@
 pub mod Asks
-pub mod Words
 pub mod Audits
+pub mod Calling
 pub mod Commands
-pub mod Runs
 pub mod Making
 pub mod Obeys
-pub mod Serving
-pub mod Calling
 pub mod Running
+pub mod Runs
+pub mod Serving
+pub mod Words

@@ -2,11 +2,11 @@
 use Rattle.std.specs.Prelude.{◌≡◌, ℕ, ◌<◌, ◌≤◌, ◌⊎◌, List, ◌∷◌, ◌++◌, [], length, take, Option, Some, None, codes}
 use Rattle.std.specs.Io.KnownBytes.{append_known}
 use Rattle.rpc_base.specs.Shelves.{Files, HasFile}
-use Rattle.ndr_value.specs.Tables.{TableForm}
+use Rattle.ndr_table.specs.Tables.{TableForm}
 use Rattle.rpc_app.specs.declared.command.Command.{Command}
 use Rattle.rpc_app.specs.declared.command.Command.TheVariants.{Idl}
-use Rattle.replay_realm.specs.Service.{service_of}
-use Rattle.replay_laws.specs.Loads.{IsSummary}
+use Rattle.replay_groups.specs.Service.{service_of}
+use Rattle.replay_moments.specs.Loads.{IsSummary}
 use Rattle.rpc_app.specs.Asks.{FileTask, Task, OfFile, OfLoad}
 use Rattle.rpc_app.specs.Commands.{limit, IsInterface, Makes, Refuses}
 

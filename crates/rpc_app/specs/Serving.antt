@@ -4,14 +4,14 @@ use Rattle.rpc_base.specs.Causes.{Rose}
 use Rattle.rpc_base.specs.Shelves.{Files, Tells}
 use Rattle.rpc_outside.specs.Links.{Shown}
 use Rattle.rpc_outside.specs.Doors.{DoorShown}
-use Rattle.ndr_value.specs.Tables.{TableForm}
+use Rattle.ndr_table.specs.Tables.{TableForm}
 use Rattle.rpc_app.specs.declared.command.Command.TheVariants.{Idl}
 use Rattle.rpc_app.specs.Asks.{ServeTask}
 use Rattle.rpc_app.specs.Runs.{Gains, GainsFront, EndsEarly, Growth, Serves, RefusesText}
 use Rattle.rpc_app.specs.Obeys.{Shelf, Output, IsKept, Put, TellsText, IsTaken, NoneFailed}
-use Rattle.service_desks.specs.State.{tables_with}
-use Rattle.serve_command.specs.Serves.{May}
-use Rattle.serve_command.specs.Serves as command
+use Rattle.desk_service.specs.State.{tables_with}
+use Rattle.server_command.specs.Serves.{May}
+use Rattle.server_command.specs.Serves as command
 
 -- what a door counted and told before, and counts and tells now
 pub record Doorway (K : Type 0) : Type 0 where

@@ -1,7 +1,7 @@
 //! Calls are made.
 ghost use Rattle.std.specs.Prelude.{◌≡◌, ◌≢◌, ◌≤◌, IfOk, IfErr};
-ghost use Rattle.ndr_value.specs.Shown.{shown};
-ghost use Rattle.call_play.specs.declared.calling.CallEnd.TheVariants as ends;
+ghost use Rattle.ndr_table.specs.Shown.{shown};
+ghost use Rattle.client_script.specs.declared.calling.CallEnd.TheVariants as ends;
 ghost use Rattle.rpc_app.specs.Calling as spec;
 ghost use Rattle.rpc_app.specs.Calling.{HasInterface, RefusesCall, IsSaid, IsTold, CallsWith, CallsFor, printed_of};
 ghost use Rattle.rpc_app.specs.Commands.{call_limit};
@@ -15,8 +15,8 @@ use crate::say::end_with;
 use crate::serving::refuse_text;
 use crate::task::{TaskFault, load, text_table};
 use crate::words::CallTask;
-use call_play::{CallEnd, Called, call};
-use ndr_value::Table;
+use client_script::{CallEnd, Called, call};
+use ndr_table::Table;
 use rpc_base::{NoMemory, Octets, Shelf, Sink};
 use rpc_outside::{Address, Dial, Link};
 use std::alloc::Global;

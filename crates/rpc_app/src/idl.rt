@@ -4,20 +4,20 @@ ghost use Rattle.idl_tree.specs.Idl.{IsIdl};
 ghost use Rattle.idl_forms.specs.Forms.{Same};
 ghost use Rattle.idl_rules.specs.Broken.{NoneBroken};
 ghost use Rattle.idl_print.specs.Canonical.{canonical_text};
-ghost use Rattle.ndr_value.specs.Shown.{shown};
+ghost use Rattle.ndr_table.specs.Shown.{shown};
 ghost use Rattle.rpc_app.specs.Commands.{IsInterface, IsPrinted, RefusesInterface, Says, place_refusal, rule_refusal};
 ghost use Rattle.rpc_app.specs.Making.{Says as Why};
 
 use crate::make::MakeFault;
+use base_words::{put, put_decimal};
 use idl_check::{CheckFault, Checked, check};
 use idl_print::print_idl;
 use idl_reader::{IdlFault, read_idl};
 use idl_tree::Ast;
 use marshal_table::build;
-use ndr_value::Table;
+use ndr_table::Table;
 use replay::Replayed;
 use rpc_base::{NoMemory, Octets};
-use rpc_words::{put, put_decimal};
 use std::alloc::Global;
 
 #[tactic(auto, unfolding(crate::specs::Commands::place_refusal))]

@@ -1,16 +1,16 @@
 //! What a command makes of a file.
 ghost use Rattle.std.specs.Prelude.{◌≡◌, IfOk, IfErr};
-ghost use Rattle.service_desks.specs.Shows.{shown_by};
+ghost use Rattle.desk_service.specs.Shows.{shown_by};
 ghost use Rattle.rpc_app.specs.Commands.{Makes, line_refusal};
 ghost use Rattle.rpc_app.specs.Making.{IsWhy};
 
 use crate::command::Command;
 use crate::idl::reprint;
 use crate::verdicts::judge;
-use ndr_value::Table;
+use base_words::{put, put_decimal};
+use ndr_table::Table;
 use replay::{ReplayFault, Replayed, replay};
 use rpc_base::NoMemory;
-use rpc_words::{put, put_decimal};
 use std::alloc::Global;
 
 /// Why a command makes nothing of a file.

@@ -2,17 +2,17 @@
 ghost use Rattle.std.specs.Prelude.{◌≡◌, ◌⊎◌, ◌≤◌};
 ghost use Rattle.rpc_base.specs.Causes.{Rose};
 ghost use Rattle.rpc_app.specs.Runs.{Gains, GainsFront};
-ghost use Rattle.service_desks.specs.Shows.{shown_by};
+ghost use Rattle.desk_service.specs.Shows.{shown_by};
 ghost use Rattle.rpc_app.specs.Serving.{IsPut, ServesWith, ServesFor};
 ghost use Rattle.rpc_app.specs.Words.{told_server};
 
 use crate::say::{print, refuse};
 use crate::task::{TaskFault, echo_of};
 use crate::words::ServeTask;
-use ndr_value::Table;
+use ndr_table::Table;
 use rpc_base::{OutFault, Shelf, Sink};
 use rpc_outside::{Door, Link};
-use serve_command::{Printed, serve};
+use server_command::{Printed, serve};
 use std::alloc::Global;
 use std::sync::Wait;
 use std::thread::Threads;

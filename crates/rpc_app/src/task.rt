@@ -1,9 +1,9 @@
 //! A task is done, but for the outputs.
 ghost use Rattle.std.specs.Prelude.{◌≡◌, ◌+◌, ◌<◌, ◌≤◌, ◌^◌, [], Some, None, option_map, IfOk, IfErr};
-ghost use Rattle.ndr_value.specs.Shown.{shown};
-ghost use Rattle.service_desks.specs.Shows.{shown_by};
-ghost use Rattle.replay_realm.specs.Service.{service_of};
-ghost use Rattle.replay_laws.specs.Loads.{IsSummary};
+ghost use Rattle.ndr_table.specs.Shown.{shown};
+ghost use Rattle.desk_service.specs.Shows.{shown_by};
+ghost use Rattle.replay_groups.specs.Service.{service_of};
+ghost use Rattle.replay_moments.specs.Loads.{IsSummary};
 ghost use Rattle.rpc_app.specs.Asks.{IsInRange};
 ghost use Rattle.rpc_app.specs.Making.{WhyNot, WhyNotFile, WhyNotFiles, WhyNotTask};
 ghost use Rattle.rpc_app.specs.Runs.{IsLoaded, IsTooLong, MakesOf, ServesText, Serves, RefusesText, DoesFiles, DoesTask};
@@ -16,10 +16,10 @@ use crate::limits::limit;
 use crate::load::{LoadFault, load_file};
 use crate::make::{MakeFault, make};
 use crate::words::{FileTask, Task};
-use ndr_value::Table;
+use base_words::put;
+use ndr_table::Table;
 use replay::Replayed;
 use rpc_base::{NoMemory, Octets, Shelf};
-use rpc_words::put;
 use std::alloc::Global;
 
 /// Why a task isn't done.

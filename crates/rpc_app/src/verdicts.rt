@@ -7,11 +7,11 @@ ghost use Rattle.rpc_app.specs.Commands.{RefusesJournals};
 ghost use Rattle.rpc_app.specs.Making.{Says};
 
 use crate::make::MakeFault;
-use handle_rules::Verdict;
+use base_words::{put, put_decimal};
 use journal_audit::{AuditFault, GroupVerdict, audit};
+use journal_rules::Verdict;
 use replay::Replayed;
 use rpc_base::{NoMemory, Octets};
-use rpc_words::{put, put_decimal};
 use std::alloc::Global;
 
 /// Whether a journal is legal and settled.

@@ -4,7 +4,7 @@ ghost use Rattle.rpc_app.specs.Asks.{Wanted as AWanted, ToDo, OfFile, Asks, Asks
 ghost use Rattle.rpc_app.specs.Words.{told_wanted};
 
 use crate::command::Command;
-use command_line::Asked;
+use app_words::Asked;
 use rpc_base::NoMemory;
 use rpc_outside::Address;
 use std::alloc::Global;
@@ -100,7 +100,7 @@ pub fn asked(alloc: Global, words: &[String]) -> Result<Option<Wanted<'_>>, NoMe
     ensures alone { IfOk result (λ o. IfSome o (λ w. (other : AWanted) → Asks (map string_bytes words.now) other → other ≡ told_wanted w)) }
     ensures nothing { IfOk result (λ o. IfNone o (AsksForNothing (map string_bytes words.now))) }
 {
-    match command_line::asked(alloc, words)? {
+    match app_words::asked(alloc, words)? {
         Some(asked) => Ok(Some(wanted_in(asked))),
         None => Ok(None),
     }

@@ -6,6 +6,7 @@ mod fault;
 mod fields;
 mod identifiers;
 mod items;
+mod names;
 mod shelf;
 mod sink;
 
@@ -16,5 +17,6 @@ pub use fields::{
 };
 pub use identifiers::{Order, Status, SyntaxId, WireHandle};
 pub use items::{Exact, Items, Numbers, Octets, same_items};
+pub use names::{Names, named, put};
 pub use shelf::{MapShelf, Shelf, ShelfFile, ShelfFiles};
 pub use sink::{Sink, VecSink, put_all};

@@ -1,4 +1,4 @@
-pub mod LinkLemmas
-pub mod ScriptLemmas
-pub mod PlayLemmas
 pub mod DoorLemmas
+pub mod LinkLemmas
+pub mod PlayLemmas
+pub mod ScriptLemmas

@@ -1,8 +1,8 @@
-pub mod Links
-pub mod Doors
 pub mod Dials
-pub mod Scripts
-pub mod ScriptLinks
+pub mod Doors
 pub mod LinkLists
-pub mod ScriptDoors
+pub mod Links
 pub mod ScriptDials
+pub mod ScriptDoors
+pub mod ScriptLinks
+pub mod Scripts

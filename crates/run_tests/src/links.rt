@@ -2,9 +2,9 @@
 ghost use Rattle.std.specs.Prelude.{◌≡◌, ◌≤◌, true, IfOk};
 ghost use Rattle.rpc_outside.specs.LinkLists.{is_new, are_new};
 
+use base_words::{read_hex, split_words};
 use rpc_base::{Items, NoMemory, Numbers, Octets};
 use rpc_outside::{LinkStep, LinkSteps, Links, ScriptLink};
-use rpc_words::{read_hex, split_words};
 use std::alloc::Global;
 
 /// The octets of words in hexadecimal; a word that is none adds nothing.

@@ -2,6 +2,7 @@
 use crate::called::PROBE;
 use crate::calls::{shelf_of, told, words_of};
 use crate::outcome::ran;
+use base_system::{SocketDial, SocketDoor};
 use rpc_base::{NoMemory, Numbers, VecSink};
 use std::alloc::Global;
 use std::net::{Ipv4Addr, Net, TcpListener};
@@ -11,7 +12,6 @@ use std::test::*;
 use std::thread;
 use std::thread::Threads;
 use std::time::Duration;
-use system_outside::{SocketDial, SocketDoor};
 use test_rows::same;
 
 const SCRIPT: &[u8] = b"bind 1 new

@@ -3,14 +3,14 @@ ghost use Rattle.std.specs.Prelude.{◌≡◌, false};
 
 use crate::links::{link, octets, steps};
 use crate::served::{ACK, BIND, OPEN, OPENED, serve_at};
+use desk_locks::Locked;
+use echo_manager::ProbeDesk;
 use handle_model::{CookieRow, Due};
-use locked_desks::Locked;
 use manager_api::{Answer, Probe};
-use manager_calls::Manager;
 use ndr_value::Message;
-use probe_desk::ProbeDesk;
 use rpc_base::Status;
 use rpc_outside::LinkStep;
+use server_calls::Manager;
 use server_ends::{Ending, Finished};
 use std::sync::Wait;
 use std::test::*;
@@ -40,7 +40,7 @@ struct Patient {
 
 impl Manager for Patient {
     ghost use Rattle.std.specs.Prelude.{[], ◌∷◌, ⊤};
-    ghost use Rattle.probe_desk.specs.Table.{probe_table};
+    ghost use Rattle.echo_manager.specs.Table.{probe_table};
 
     ghost tables = { λ m. probe_table ∷ [] };
 

@@ -1,14 +1,14 @@
 //! A link and a manager of the tests' own, tied by flags.
 ghost use Rattle.std.specs.Prelude.{◌≡◌, false};
 
+use desk_locks::Locked;
+use echo_manager::ProbeDesk;
 use handle_model::{CookieRow, Due};
-use locked_desks::Locked;
 use manager_api::{Answer, Probe};
-use manager_calls::Manager;
 use ndr_value::Message;
-use probe_desk::ProbeDesk;
 use rpc_base::{Failed, Octets};
 use rpc_outside::{Link, ScriptLink, Taken};
+use server_calls::Manager;
 use std::alloc::Global;
 use std::sync::Wait;
 use std::sync::atomic::{AtomicBool, Ordering};
@@ -161,7 +161,7 @@ impl<'a> Held<'a> {
 
 impl<'a> Manager for Held<'a> {
     ghost use Rattle.std.specs.Prelude.{[], ◌∷◌, ⊤};
-    ghost use Rattle.probe_desk.specs.Table.{probe_table};
+    ghost use Rattle.echo_manager.specs.Table.{probe_table};
 
     ghost tables = { λ m. probe_table ∷ [] };
 

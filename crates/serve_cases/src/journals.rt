@@ -2,8 +2,8 @@
 ghost use Rattle.group_hub.specs.Passes.{IsPassOf};
 
 use group_hub::{Hub, Pass};
-use hub_journals::put_journals;
 use rpc_base::NoMemory;
+use server_command::put_journals;
 use std::alloc::Global;
 use std::sync::Wait;
 

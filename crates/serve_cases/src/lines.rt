@@ -1,7 +1,7 @@
 //! Lines and statuses of connections.
 use conn_asks::ConnFault;
 use rpc_base::NoMemory;
-use serve_lines::{connection_line, stats_line, status_of};
+use server_command::{connection_line, stats_line, status_of};
 use server_ends::Ending;
 use std::alloc::Global;
 use std::test::*;

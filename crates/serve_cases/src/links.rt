@@ -1,9 +1,9 @@
 //! Links in memory, and the octets on them.
 ghost use Rattle.std.specs.Prelude.{◌≡◌, false};
 
+use base_words::{read_hex, split_words};
 use rpc_base::{Items, NoMemory, Octets};
 use rpc_outside::{LinkStep, LinkSteps, ScriptLink};
-use rpc_words::{read_hex, split_words};
 use std::alloc::Global;
 
 /// The octets of words in hexadecimal; a word that is none adds nothing.

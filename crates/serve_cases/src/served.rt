@@ -1,18 +1,18 @@
 //! One connection at a server of the probe.
 ghost use Rattle.std.specs.Prelude.{◌≡◌, IfOk, [], ◌∷◌, false};
 ghost use Rattle.group_hub.specs.Passes.{IsPassOf};
-ghost use Rattle.probe_desk.specs.Table as probe;
-ghost use Rattle.served_tables.specs.Served.{tables_in};
+ghost use Rattle.echo_manager.specs.Table as probe;
+ghost use Rattle.manager_api.specs.Served.{tables_in};
 
 use crate::journals::journals;
 use crate::links::{link, octets, steps};
+use desk_locks::Locked;
+use echo_manager::{ProbeDesk, probe_table};
 use group_hub::{Hub, Pass, Retired};
-use locked_desks::Locked;
-use manager_calls::Manager;
-use probe_desk::{ProbeDesk, probe_table};
+use manager_api::{Served, Tables};
 use rpc_base::{Items, NoMemory};
 use rpc_outside::{Link, LinkStep, ScriptLink};
-use served_tables::{Served, Tables};
+use server_calls::Manager;
 use server_ends::{Ending, Finished};
 use server_run::serve_connection;
 use std::alloc::Global;

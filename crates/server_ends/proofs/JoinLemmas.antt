@@ -21,13 +21,13 @@ use Rattle.hub_story.specs.Histories.{mark_of, entry_of, marks_in, past_in, jour
 use Rattle.hub_story.specs.Passes.{Seen, Serves}
 use Rattle.hub_story.specs.Calls.{IsNewConn, Enters}
 use Rattle.hub_story.proofs.ItemLemmas.{past-append, past_items, past_others}
-use Rattle.shard.specs.declared.answer.Absence.{Absence}
-use Rattle.shard.specs.declared.answer.Absence.TheVariants.{Directory, Shut}
-use Rattle.shard.specs.declared.answer.OpenRefusal.{OpenRefusal}
-use Rattle.shard.specs.declared.answer.OpenRefusal.TheVariants as opening
-use Rattle.shard.specs.declared.answer.FindRefusal.{FindRefusal}
-use Rattle.shard.specs.declared.answer.FindRefusal.TheVariants as finding
-use Rattle.shard.specs.Finds.{gives_find}
+use Rattle.hub_shard.specs.declared.answer.Absence.{Absence}
+use Rattle.hub_shard.specs.declared.answer.Absence.TheVariants.{Directory, Shut}
+use Rattle.hub_shard.specs.declared.answer.OpenRefusal.{OpenRefusal}
+use Rattle.hub_shard.specs.declared.answer.OpenRefusal.TheVariants as opening
+use Rattle.hub_shard.specs.declared.answer.FindRefusal.{FindRefusal}
+use Rattle.hub_shard.specs.declared.answer.FindRefusal.TheVariants as finding
+use Rattle.hub_shard.specs.Finds.{gives_find}
 use Rattle.group_hub.specs.declared.pass.Pass.{Pass}
 use Rattle.group_hub.specs.Shards.{shard_of}
 use Rattle.group_hub.specs.Passes.{at_shard, EntersAt}

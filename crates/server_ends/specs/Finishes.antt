@@ -4,7 +4,7 @@ use Rattle.std.specs.List.{list_any}
 use Rattle.handle_model.specs.declared.entry.Entry.{Entry}
 use Rattle.handle_model.specs.Entries.{is_shut}
 use Rattle.rpc_outside.specs.Links.{Shown}
-use Rattle.ndr_value.specs.Tables.{TableForm}
+use Rattle.ndr_table.specs.Tables.{TableForm}
 use Rattle.manager_api.specs.Answers.{Ans}
 use Rattle.manager_api.specs.Calls.{Call}
 use Rattle.conn_histories.specs.Requests.{ids_of}
@@ -13,7 +13,7 @@ use Rattle.hub_story.specs.Histories.{home_of, past_in}
 use Rattle.group_hub.specs.declared.pass.Pass.{Pass}
 use Rattle.group_hub.specs.Shards.{shard_of}
 use Rattle.group_hub.specs.Passes.{at_shard}
-use Rattle.shard.specs.declared.answer.Retired.{Retired}
+use Rattle.hub_shard.specs.declared.answer.Retired.{Retired}
 use Rattle.server_ends.specs.Owning.{Grown}
 use Rattle.server_ends.specs.Joins.{IsRefusedFor}
 use Rattle.conn_histories.specs.declared.turn.Turn.{Turn}

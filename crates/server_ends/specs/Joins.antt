@@ -13,11 +13,11 @@ use Rattle.hub_story.specs.Directories.{is_open_id, is_full, is_used_up}
 use Rattle.hub_story.specs.Histories.{marks_in, past_in, journal_in, IsStory}
 use Rattle.hub_story.specs.Passes.{Seen, Serves}
 use Rattle.hub_story.specs.Calls.{of_conn}
-use Rattle.shard.specs.declared.answer.OpenRefusal.{OpenRefusal}
-use Rattle.shard.specs.declared.answer.OpenRefusal.TheVariants.{GroupsFull, Ids}
-use Rattle.shard.specs.declared.answer.OpenRefusal.TheVariants as opening
-use Rattle.shard.specs.declared.answer.FindRefusal.{FindRefusal}
-use Rattle.shard.specs.declared.answer.FindRefusal.TheVariants.{NoGroup, TooMany, Numbers, Memory}
+use Rattle.hub_shard.specs.declared.answer.OpenRefusal.{OpenRefusal}
+use Rattle.hub_shard.specs.declared.answer.OpenRefusal.TheVariants.{GroupsFull, Ids}
+use Rattle.hub_shard.specs.declared.answer.OpenRefusal.TheVariants as opening
+use Rattle.hub_shard.specs.declared.answer.FindRefusal.{FindRefusal}
+use Rattle.hub_shard.specs.declared.answer.FindRefusal.TheVariants.{NoGroup, TooMany, Numbers, Memory}
 use Rattle.group_hub.specs.declared.pass.Pass.{Pass}
 use Rattle.group_hub.specs.Shards.{shard_of}
 use Rattle.group_hub.specs.Passes.{at_shard}

@@ -1,5 +1,5 @@
-pub mod Links
 pub mod Endings
 pub mod Finishes
-pub mod Owning
 pub mod Joins
+pub mod Links
+pub mod Owning

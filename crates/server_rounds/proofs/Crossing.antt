@@ -7,12 +7,12 @@ use Rattle.ndr_value.proofs.shape.Shape.TheLaws.TheKnot.{crosses as shapes}
 use Rattle.ndr_value.specs.contracts.operation.Param as Param
 use Rattle.ndr_value.specs.contracts.operation.Op as Op
 use Rattle.ndr_value.specs.contracts.table.Table as Table
-use Rattle.served_tables.specs.contracts.served.Served as Served
-use Rattle.probe_desk.specs.contracts.desk.ProbeDesk as Probe
-use Rattle.store_desk.specs.contracts.desk.StoreDesk as Store
-use Rattle.epm_desk.specs.contracts.desk.EpmDesk as Map
-use Rattle.call_stats.specs.contracts.tally.Tally as Tally
-use Rattle.locked_desks.specs.contracts.shared.SharedDesks as Desks
+use Rattle.manager_api.specs.contracts.served.Served as Served
+use Rattle.echo_manager.specs.contracts.desk.ProbeDesk as Probe
+use Rattle.store_manager.specs.contracts.desk.StoreDesk as Store
+use Rattle.epm_manager.specs.contracts.desk.EpmDesk as Map
+use Rattle.desk_counts.specs.contracts.tally.Tally as Tally
+use Rattle.desk_locks.specs.contracts.shared.SharedDesks as Desks
 use Rattle.server_rounds.specs.contracts.desk_service.DeskService as Service
 
 -- ---- tables

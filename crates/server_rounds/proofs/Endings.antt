@@ -21,9 +21,9 @@ use Rattle.conn_histories.specs.declared.turn.Deed.{Deed}
 use Rattle.conn_histories.specs.declared.turn.Deed.TheVariants.{Pending, Refused, Accepted}
 use Rattle.conn_histories.specs.Entries.{turn_runs, deed_number, numbers_of}
 use Rattle.conn_histories.specs.Tales.{whole, calls_of, StandAll}
-use Rattle.turn_laws.specs.Laws.{IsEnded, DeedEnded}
-use Rattle.turn_laws.proofs.TaleFacts.{same_number}
-use Rattle.turn_laws.proofs.Ending.{turns_have_ended}
+use Rattle.conn_turns.specs.Laws.{IsEnded, DeedEnded}
+use Rattle.conn_turns.proofs.TaleFacts.{same_number}
+use Rattle.conn_turns.proofs.Ending.{turns_have_ended}
 use Rattle.server_rounds.specs.Endings.{IsThere}
 
 -- the connection has left, and no call of it runs

@@ -8,7 +8,7 @@ use Rattle.turn_lock.specs.Histories.{StartsWith}
 use Rattle.handle_model.specs.declared.entry.Entry.{Entry}
 use Rattle.handle_model.specs.declared.entry.Entry.TheVariants.{Join, Leave}
 use Rattle.handle_model.specs.Journal.{joins, leaves, is_shut}
-use Rattle.ndr_value.specs.Tables.{TableForm}
+use Rattle.ndr_table.specs.Tables.{TableForm}
 use Rattle.manager_api.specs.Answers.{Ans}
 use Rattle.manager_api.specs.Calls.{Call}
 use Rattle.hub_story.specs.declared.item.Item.{Item}

@@ -1,7 +1,7 @@
-pub mod Lists
-pub mod Takes
-pub mod Servings
-pub mod Doors
 pub mod Crossing
+pub mod Doors
 pub mod Endings
 pub mod Groups
+pub mod Lists
+pub mod Servings
+pub mod Takes

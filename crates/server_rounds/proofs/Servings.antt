@@ -5,11 +5,11 @@ use Rattle.std.specs.VecDeque.{deque_len, deque_capacity}
 use Rattle.std.proofs.lemmas.Bool.{eqb-true}
 use Rattle.std.proofs.lemmas.List.{map-append, append-nil, length-map}
 use Rattle.rpc_outside.specs.Links.{Shown, IsNew}
-use Rattle.ndr_value.specs.Tables.{TableForm}
+use Rattle.ndr_table.specs.Tables.{TableForm}
 use Rattle.manager_api.specs.Answers.{Ans}
 use Rattle.manager_api.specs.Calls.{Call}
 use Rattle.hub_story.specs.Passes.{halved}
-use Rattle.shard_lock.specs.Passes.{Merges}
+use Rattle.group_hub.specs.ShardPasses.{Merges}
 use Rattle.group_hub.specs.declared.hub.Hub.{Hub}
 use Rattle.group_hub.specs.declared.pass.Pass.{Pass}
 use Rattle.group_hub.specs.Passes.{IsPassOf, at_shard}

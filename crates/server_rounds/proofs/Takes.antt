@@ -5,7 +5,7 @@ use Rattle.std.proofs.lemmas.List.{flat_map_more}
 use Rattle.turn_lock.specs.Histories.{StartsWith}
 use Rattle.turn_lock.proofs.HistoryLemmas.{starts_self, starts_trans}
 use Rattle.hub_story.specs.Passes.{Seen, halved}
-use Rattle.shard_lock.specs.Passes.{Merges}
+use Rattle.group_hub.specs.ShardPasses.{Merges}
 use Rattle.group_hub.specs.declared.pass.Pass.{Pass}
 use Rattle.group_hub.specs.Passes.{at_shard}
 use Rattle.server_rounds.specs.Passes.{StartsFrom, TakesIn}

@@ -1,2 +1,2 @@
 -- By what the desks behind a server's interfaces may answer.
-pub use Rattle.locked_desks.specs.Calls.{echo_of, May}
+pub use Rattle.desk_locks.specs.Calls.{echo_of, May}

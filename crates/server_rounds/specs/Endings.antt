@@ -7,7 +7,7 @@ use Rattle.rpc_outside.specs.Doors.{DoorShown}
 use Rattle.handle_model.specs.declared.entry.Asked.{Asked}
 use Rattle.handle_model.specs.History.{History}
 use Rattle.handle_model.specs.Journal.{joins, is_shut, is_open, runs, asked}
-use Rattle.ndr_value.specs.Tables.{TableForm}
+use Rattle.ndr_table.specs.Tables.{TableForm}
 use Rattle.manager_api.specs.Answers.{Ans}
 use Rattle.manager_api.specs.Calls.{Call}
 use Rattle.hub_story.specs.declared.item.Item.{Item}

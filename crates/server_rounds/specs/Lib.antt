@@ -1,7 +1,7 @@
 pub mod Desks
-pub mod Passes
-pub mod Served
-pub mod Running
-pub mod Serving
-pub mod Rounds
 pub mod Endings
+pub mod Passes
+pub mod Rounds
+pub mod Running
+pub mod Served
+pub mod Serving

@@ -1,7 +1,7 @@
 -- What a connection that was served came to.
 use Rattle.std.specs.Prelude.{ℕ, Bool, List}
 use Rattle.rpc_outside.specs.Links.{Shown, IsNew}
-use Rattle.ndr_value.specs.Tables.{TableForm}
+use Rattle.ndr_table.specs.Tables.{TableForm}
 use Rattle.manager_api.specs.Answers.{Ans}
 use Rattle.manager_api.specs.Calls.{Call}
 use Rattle.group_hub.specs.declared.hub.Hub.{Hub}

@@ -5,7 +5,7 @@ use Rattle.std.specs.VecDeque.{deque_len, deque_capacity}
 use Rattle.rpc_base.specs.Causes.{Rose}
 use Rattle.rpc_outside.specs.Links.{Shown, IsNew, IsNothing}
 use Rattle.rpc_outside.specs.Doors.{DoorShown, DoorSame, HandsOut}
-use Rattle.ndr_value.specs.Tables.{TableForm}
+use Rattle.ndr_table.specs.Tables.{TableForm}
 use Rattle.manager_api.specs.Answers.{Ans}
 use Rattle.manager_api.specs.Calls.{Call}
 use Rattle.group_hub.specs.declared.hub.Hub.{Hub}

@@ -7,7 +7,7 @@
 //! managers). What holds of a server's groups at the end of a round is the law `groups_end`.
 #![tactic(auto)]
 
-mod desk_service;
+mod desks;
 mod laws;
 mod round;
 mod running;
@@ -15,7 +15,7 @@ mod service;
 mod serving;
 mod settled;
 
-pub use desk_service::DeskService;
+pub use desks::DeskService;
 pub use laws::groups_end;
 pub use round::{Round, Stop, serve};
 pub use service::Service;

@@ -1,9 +1,9 @@
 //! What serves connections.
 ghost use Rattle.std.specs.Prelude.{◌≡◌};
-ghost use Rattle.served_tables.specs.Served.{tables_in};
+ghost use Rattle.manager_api.specs.Served.{tables_in};
 
-use manager_calls::Manager;
-use served_tables::Served;
+use manager_api::Served;
+use server_calls::Manager;
 use std::alloc::Global;
 
 /// A manager with the tables of its interfaces, as connections are served with them.

@@ -22,11 +22,11 @@ use Rattle.ndr_value.proofs.shape.Shape.TheLaws.TheKnot.{crosses as shapes}
 use Rattle.ndr_value.specs.contracts.operation.Param as Param
 use Rattle.ndr_value.specs.contracts.operation.Op as Op
 use Rattle.ndr_value.specs.contracts.table.Table as Table
-use Rattle.served_tables.specs.contracts.served.Served as Served
+use Rattle.manager_api.specs.contracts.served.Served as Served
 use Rattle.handle_model.specs.contracts.entry.Asked as Asked
 use Rattle.ndr_value.specs.contracts.value.Message as Message
 use Rattle.ndr_value.proofs.value.Value.TheLaws.TheKnot.{crosses as values}
-use Rattle.served_call.specs.contracts.outcomes.Room as Room
+use Rattle.server_calls.specs.contracts.outcomes.Room as Room
 use Rattle.group_hub.proofs.hub.Hub.TheSendSync.{the_sync as hub_sync}
 use Rattle.group_hub.proofs.pass.Pass.TheSendSync.{the_send as pass_send}
 

@@ -7,29 +7,29 @@ use Rattle.group_hub.specs.declared.hub.Hub.{Hub}
 use Rattle.group_hub.specs.declared.pass.Pass.{Pass}
 use Rattle.group_hub.specs.Passes.{at_shard}
 use Rattle.server_ends.specs.Owning.{Grown}
-use Rattle.ndr_value.specs.Tables.{TableForm}
+use Rattle.ndr_table.specs.Tables.{TableForm}
 use Rattle.manager_api.specs.Answers.{Ans}
 use Rattle.manager_api.specs.Calls.{Call}
 use Rattle.conn_asks.specs.declared.events.ConnFault.{ConnFault}
 use Rattle.conn_laws.proofs.Asking.{each_asks}
-use Rattle.conn_link.specs.declared.wire.Wire.{Wire}
+use Rattle.server_steps.specs.declared.wire.Wire.{Wire}
 use Rattle.conn_histories.specs.Requests.{ids_of}
 use Rattle.conn_histories.specs.declared.turn.Turn.TheVariants.{Closed}
-use Rattle.turn_steps.proofs.Ending.{quiet_all}
-use Rattle.call_worker.specs.declared.working.RunningCall.{RunningCall}
-use Rattle.call_worker.specs.declared.working.Server.{Server}
+use Rattle.conn_turns.proofs.StepEnding.{quiet_all}
+use Rattle.server_steps.specs.declared.working.RunningCall.{RunningCall}
+use Rattle.server_steps.specs.declared.working.Server.{Server}
 use Rattle.server_ends.specs.declared.ended.Ending.{Ending}
 use Rattle.server_ends.specs.declared.ended.Ending.TheVariants as ending
 use Rattle.server_ends.specs.declared.ended.Finished.{Finished}
 use Rattle.server_ends.specs.Endings.{EndsAs}
 use Rattle.server_ends.specs.Finishes.{EntersNone, AsMember, Alone, Finishes}
-use Rattle.server_line.specs.declared.line.Line.{Line}
-use Rattle.server_line.specs.declared.stop.Stop.{Stop}
-use Rattle.server_line.specs.Held.{past_at}
-use Rattle.server_line.specs.Told.{Halted}
-use Rattle.server_line.specs.declared.gone.Gone.{Gone}
-use Rattle.server_line.specs.Early.{IsAlone}
-use Rattle.server_line.specs.Endings.{IsLeft, HasEnded}
+use Rattle.server_steps.specs.declared.line.Line.{Line}
+use Rattle.server_steps.specs.declared.stop.Stop.{Stop}
+use Rattle.server_steps.specs.Held.{past_at}
+use Rattle.server_steps.specs.Told.{Halted}
+use Rattle.server_steps.specs.declared.gone.Gone.{Gone}
+use Rattle.server_steps.specs.Early.{IsAlone}
+use Rattle.server_steps.specs.Endings.{IsLeft, HasEnded}
 use Rattle.server_run.specs.declared.beside.Departed.{Departed}
 use Rattle.server_run.specs.Running.{Closing, HasDeparted}
 

@@ -6,30 +6,30 @@ use Rattle.handle_model.specs.declared.entry.Asked.{Asked}
 use Rattle.handle_model.specs.Rules.{filled, next_serial}
 use Rattle.group_hub.specs.declared.hub.Hub.{Hub}
 use Rattle.pdu_stream.specs.declared.joined.Joined.{Joined}
-use Rattle.ndr_value.specs.Tables.{TableForm}
+use Rattle.ndr_table.specs.Tables.{TableForm}
 use Rattle.manager_api.specs.Answers.{Ans}
 use Rattle.manager_api.specs.Calls.{Call}
-use Rattle.served_call.specs.Suited.{Opened}
-use Rattle.manager_calls.specs.declared.ready.Ready.{Ready}
-use Rattle.manager_calls.specs.Ready.{IsReady as IsMadeReady}
-use Rattle.manager_calls.specs.Ready.{request_of}
+use Rattle.server_calls.specs.Suited.{Opened}
+use Rattle.server_calls.specs.declared.ready.Ready.{Ready}
+use Rattle.server_calls.specs.Ready.{IsReady as IsMadeReady}
+use Rattle.server_calls.specs.Ready.{request_of}
 use Rattle.conn_histories.specs.Entries.{asked_as}
-use Rattle.server_line.specs.declared.line.Line.{Line}
+use Rattle.server_steps.specs.declared.line.Line.{Line}
 use Rattle.ndr_value.specs.declared.value.Message.{Message}
 use Rattle.ndr_value.specs.Values.{msg}
 use Rattle.conn_histories.specs.Requests.{HasSlots, IsAsked}
 use Rattle.conn_histories.specs.Ends.{row_of}
-use Rattle.conn_link.specs.declared.wire.Wire.{Wire}
-use Rattle.call_worker.specs.declared.working.Promised.{Promised}
-use Rattle.call_worker.specs.declared.working.RunningCall.{RunningCall}
-use Rattle.call_worker.specs.declared.working.Server.{Server}
-use Rattle.call_worker.specs.declared.working.Worked.{Worked}
-use Rattle.call_worker.specs.Works.{IsGiven, Works, WorksBy, Keeps}
-use Rattle.call_worker.proofs.Cookies.{suit_length}
+use Rattle.server_steps.specs.declared.wire.Wire.{Wire}
+use Rattle.server_steps.specs.declared.working.Promised.{Promised}
+use Rattle.server_steps.specs.declared.working.RunningCall.{RunningCall}
+use Rattle.server_steps.specs.declared.working.Server.{Server}
+use Rattle.server_steps.specs.declared.working.Worked.{Worked}
+use Rattle.server_steps.specs.Works.{IsGiven, Works, WorksBy, Keeps}
+use Rattle.server_steps.proofs.Cookies.{suit_length}
 use Rattle.server_ends.specs.declared.ended.Finished.{Finished}
-use Rattle.server_line.specs.Lines.{IsSame}
-use Rattle.server_line.specs.Calls.{IsAsking, IsPrepared, IsTaken, IsRunning}
-use Rattle.server_line.specs.Endings.{IsGone}
+use Rattle.server_steps.specs.Lines.{IsSame}
+use Rattle.server_steps.specs.Calls.{IsAsking, IsPrepared, IsTaken, IsRunning}
+use Rattle.server_steps.specs.Endings.{IsGone}
 use Rattle.server_run.specs.declared.calling.Went.{Went}
 use Rattle.server_run.specs.declared.calling.Went.TheVariants as went
 use Rattle.server_run.specs.declared.beside.Departed.{Departed}

@@ -5,17 +5,17 @@ use Rattle.handle_model.specs.declared.entry.Asked.{Asked}
 use Rattle.group_hub.specs.declared.hub.Hub.{Hub}
 use Rattle.group_hub.specs.declared.pass.Pass.{Pass}
 use Rattle.group_hub.specs.Passes.{IsPassOf}
-use Rattle.ndr_value.specs.Tables.{TableForm}
+use Rattle.ndr_table.specs.Tables.{TableForm}
 use Rattle.manager_api.specs.Answers.{Ans}
 use Rattle.manager_api.specs.Calls.{Call}
 use Rattle.conn_asks.specs.Answers.{FitsStub}
 use Rattle.conn_histories.specs.Events.{word_of}
-use Rattle.call_worker.specs.declared.working.Server.{Server}
-use Rattle.server_line.specs.declared.line.Line.{Line}
-use Rattle.server_line.specs.Early.{IsAlone}
-use Rattle.server_line.specs.Lines.{IsReady}
-use Rattle.server_line.specs.Calls.{IsSettled, IsTaken}
-use Rattle.server_line.specs.Endings.{IsStopping}
+use Rattle.server_steps.specs.declared.working.Server.{Server}
+use Rattle.server_steps.specs.declared.line.Line.{Line}
+use Rattle.server_steps.specs.Early.{IsAlone}
+use Rattle.server_steps.specs.Lines.{IsReady}
+use Rattle.server_steps.specs.Calls.{IsSettled, IsTaken}
+use Rattle.server_steps.specs.Endings.{IsStopping}
 use Rattle.server_run.specs.declared.binding.Entered.{Entered as EnteredAs}
 use Rattle.server_run.specs.declared.binding.Entered.TheVariants.{Joined, Stopped, Alone}
 use Rattle.server_run.specs.declared.calling.Awaited.{Awaited}

@@ -7,34 +7,34 @@ use Rattle.handle_model.specs.declared.entry.Asked.{Asked}
 use Rattle.handle_model.specs.declared.entry.Entry.{Entry}
 use Rattle.group_hub.specs.declared.hub.Hub.{Hub}
 use Rattle.group_hub.specs.Passes.{IsPassOf}
-use Rattle.ndr_value.specs.Tables.{TableForm}
+use Rattle.ndr_table.specs.Tables.{TableForm}
 use Rattle.manager_api.specs.Answers.{Ans}
 use Rattle.manager_api.specs.Calls.{Call}
 use Rattle.conn_asks.specs.Answers.{FitsStub}
-use Rattle.conn_link.specs.declared.wire.Wire.{Wire}
+use Rattle.server_steps.specs.declared.wire.Wire.{Wire}
 use Rattle.conn_histories.specs.Requests.{IsAsked, ids_of}
 use Rattle.conn_histories.specs.Ends.{row_of}
-use Rattle.served_tables.specs.Served.{tables_in}
+use Rattle.manager_api.specs.Served.{tables_in}
 use Rattle.ndr_value.specs.Values.{msg}
 use Rattle.conn_histories.specs.declared.turn.Turn.{Turn}
 use Rattle.conn_histories.specs.Events.{word_of}
 use Rattle.conn_histories.specs.Tales.{StandAll}
-use Rattle.turn_answers.specs.Laws.{IsOver as IsTurnOver}
-use Rattle.call_worker.specs.declared.working.RunningCall.{RunningCall}
-use Rattle.call_worker.specs.declared.working.Server.{Server}
-use Rattle.call_worker.specs.declared.working.Task.{Task}
-use Rattle.call_worker.specs.declared.working.Worked.{Worked}
-use Rattle.call_worker.specs.Works.{Serves, IsReadyToRun, Works, WorksBy, Keeps}
+use Rattle.conn_turns.specs.AnswerLaws.{IsOver as IsTurnOver}
+use Rattle.server_steps.specs.declared.working.RunningCall.{RunningCall}
+use Rattle.server_steps.specs.declared.working.Server.{Server}
+use Rattle.server_steps.specs.declared.working.Task.{Task}
+use Rattle.server_steps.specs.declared.working.Worked.{Worked}
+use Rattle.server_steps.specs.Works.{Serves, IsReadyToRun, Works, WorksBy, Keeps}
 use Rattle.server_ends.specs.declared.ended.Ending.{Ending}
 use Rattle.server_ends.specs.declared.ended.Finished.{Finished}
 use Rattle.server_ends.specs.Endings.{EndsAs}
 use Rattle.server_ends.specs.Finishes.{Finishes}
-use Rattle.server_line.specs.declared.line.Line.{Line}
-use Rattle.server_line.specs.declared.stop.Stop.{Stop}
-use Rattle.server_line.specs.Told.{Halted}
-use Rattle.server_line.specs.Lines.{IsSame, IsReady}
-use Rattle.server_line.specs.Calls.{IsRunning, IsTaken, IsSettled}
-use Rattle.server_line.specs.Endings.{IsCutRunning, IsGone, IsStopping}
+use Rattle.server_steps.specs.declared.line.Line.{Line}
+use Rattle.server_steps.specs.declared.stop.Stop.{Stop}
+use Rattle.server_steps.specs.Told.{Halted}
+use Rattle.server_steps.specs.Lines.{IsSame, IsReady}
+use Rattle.server_steps.specs.Calls.{IsRunning, IsTaken, IsSettled}
+use Rattle.server_steps.specs.Endings.{IsCutRunning, IsGone, IsStopping}
 use Rattle.server_run.specs.declared.watching.Watched.{Watched}
 use Rattle.server_run.specs.declared.watching.Watched.TheVariants as watched
 use Rattle.server_run.specs.declared.beside.Departed.{Departed}

@@ -2,18 +2,17 @@
 ghost use Rattle.std.specs.Prelude.{◌≡◌, ℕ, Option, List, length, false};
 ghost use Rattle.std.specs.Thread.{IsSync};
 ghost use Rattle.conn_histories.specs.Ends.{row_of};
-ghost use Rattle.served_tables.specs.Served.{tables_in};
-ghost use Rattle.call_worker.specs.Passes.{MayAsk};
-ghost use Rattle.call_worker.specs.Works.{IsGiven, IsReadyToRun, Works};
-ghost use Rattle.server_line.specs.Calls.{IsRunning};
+ghost use Rattle.manager_api.specs.Served.{tables_in};
+ghost use Rattle.server_steps.specs.Passes.{MayAsk};
+ghost use Rattle.server_steps.specs.Works.{IsGiven, IsReadyToRun, Works};
+ghost use Rattle.server_steps.specs.Calls.{IsRunning};
 ghost use Rattle.server_run.specs.Running.{IsRow, IsToRun, StartsSo, RunsBeside};
 
 use crate::watching::{Watched, watch};
-use call_worker::{Promised, RunningCall, Server, Task, Worked, work};
-use manager_calls::Manager;
 use rpc_outside::Link;
+use server_calls::Manager;
 use server_ends::Ending;
-use server_line::{Gone, Line, Stop, close};
+use server_steps::{Gone, Line, Promised, RunningCall, Server, Stop, Task, Worked, close, work};
 use std::snapshot::Snapshot;
 use std::sync::Wait;
 use std::thread;

@@ -1,15 +1,14 @@
 //! A connection until it is in a group.
 ghost use Rattle.std.specs.Prelude.{◌≡◌, []};
 ghost use Rattle.group_hub.specs.Passes.{IsPassOf};
-ghost use Rattle.server_line.specs.Early.{IsEarly, AsksGroup, IsClosing, IsAlone};
+ghost use Rattle.server_steps.specs.Early.{IsEarly, AsksGroup, IsClosing, IsAlone};
 ghost use Rattle.server_run.specs.Entering.{Enters};
 
 use conn_asks::{Act, ConnFault};
-use conn_link::{Fault, Heard, Wire};
 use group_hub::{Hub, Pass};
-use manager_calls::Manager;
 use rpc_outside::Link;
-use server_line::{Line, Stop, hear_early, join, nak, put_close};
+use server_calls::Manager;
+use server_steps::{Fault, Heard, Line, Stop, Wire, hear_early, join, nak, put_close};
 use std::sync::Wait;
 
 /// What became of a new connection.

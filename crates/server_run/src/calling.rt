@@ -1,26 +1,24 @@
 //! The calls of a connection, one after another.
 ghost use Rattle.conn_asks.specs.Answers.{FitsStub};
 ghost use Rattle.conn_histories.specs.Events.{word_of};
-ghost use Rattle.served_tables.specs.Served.{tables_in};
-ghost use Rattle.call_worker.specs.Works.{Serves};
-ghost use Rattle.manager_calls.specs.Ready.{IsReady as IsMadeReady};
-ghost use Rattle.server_line.specs.Lines.{IsSame, IsReady};
-ghost use Rattle.server_line.specs.Calls.{IsAsking, IsPrepared, IsWaiting, IsSettled};
+ghost use Rattle.manager_api.specs.Served.{tables_in};
+ghost use Rattle.server_steps.specs.Works.{Serves};
+ghost use Rattle.server_calls.specs.Ready.{IsReady as IsMadeReady};
+ghost use Rattle.server_steps.specs.Lines.{IsSame, IsReady};
+ghost use Rattle.server_steps.specs.Calls.{IsAsking, IsPrepared, IsWaiting, IsSettled};
 ghost use Rattle.server_run.specs.Entering.{Awaits};
 ghost use Rattle.server_run.specs.Running.{Goes};
 
 use crate::running::{Ran, TakenCall, run_call};
-use call_worker::Server;
 use conn_asks::Act;
-use conn_link::{Fault, Heard};
 use group_core::Taking;
 use handle_model::{Asked, CookieRow, Reply};
-use manager_calls::{Manager, Ready, prepared};
 use pdu_stream::Joined;
 use rpc_base::Status;
 use rpc_outside::Link;
+use server_calls::{Manager, Ready, prepared};
 use server_ends::Finished;
-use server_line::{Line, Stop};
+use server_steps::{Fault, Heard, Line, Server, Stop};
 use std::sync::Wait;
 use std::sync::atomic::AtomicU64;
 use std::thread;

@@ -1,25 +1,23 @@
 //! A connection from its first octet to its end.
 ghost use Rattle.std.specs.Prelude.{◌≡◌, false};
 ghost use Rattle.group_hub.specs.Passes.{IsPassOf};
-ghost use Rattle.served_tables.specs.Served.{tables_in};
+ghost use Rattle.manager_api.specs.Served.{tables_in};
 ghost use Rattle.server_ends.specs.Finishes.{Finishes};
 ghost use Rattle.group_hub.specs.declared.pass.Pass.{Pass as PassSpec};
-ghost use Rattle.call_worker.specs.Works.{Serves};
-ghost use Rattle.server_line.specs.Early.{IsAlone};
-ghost use Rattle.server_line.specs.Lines.{IsReady};
-ghost use Rattle.server_line.specs.Endings.{IsStopping};
+ghost use Rattle.server_steps.specs.Works.{Serves};
+ghost use Rattle.server_steps.specs.Early.{IsAlone};
+ghost use Rattle.server_steps.specs.Lines.{IsReady};
+ghost use Rattle.server_steps.specs.Endings.{IsStopping};
 ghost use Rattle.server_run.specs.Running.{IsOverFrom};
 
 use crate::binding::{Entered, enter};
 use crate::calling::{Went, serve_next};
-use call_worker::Server;
-use conn_link::Wire;
 use group_hub::{Hub, Pass};
-use manager_calls::Manager;
+use manager_api::Served;
 use rpc_outside::Link;
-use served_tables::Served;
+use server_calls::Manager;
 use server_ends::{Ending, Finished};
-use server_line::{Line, Stop, close};
+use server_steps::{Line, Server, Stop, Wire, close};
 use std::alloc::Global;
 use std::sync::Wait;
 use std::thread::Threads;

@@ -1,19 +1,17 @@
 //! A call that was taken runs and ends.
 ghost use Rattle.std.specs.Prelude.{◌≡◌};
-ghost use Rattle.call_worker.specs.Works.{Works};
-ghost use Rattle.server_line.specs.declared.line.Line.{Line as LineSpec};
+ghost use Rattle.server_steps.specs.Works.{Works};
+ghost use Rattle.server_steps.specs.declared.line.Line.{Line as LineSpec};
 ghost use Rattle.server_run.specs.Running.{IsTakenWith, HasDeparted, IsOverFrom, RunsTo};
 
 use crate::beside::{Beside, Departed, run_beside};
-use call_worker::{RunningCall, Server, Task, Worked};
 use handle_model::{Asked, CookieRow, Reply};
-use handle_rules::number_slots;
-use manager_calls::Manager;
+use journal_rules::number_slots;
 use ndr_value::Message;
 use rpc_outside::Link;
-use served_call::{Room, first_cookies};
+use server_calls::{Manager, Room, first_cookies};
 use server_ends::Finished;
-use server_line::{Gone, Line};
+use server_steps::{Gone, Line, RunningCall, Server, Task, Worked};
 use std::sync::Wait;
 use std::sync::atomic::AtomicBool;
 use std::thread::Threads;

@@ -1,15 +1,13 @@
 //! A call is watched while it runs.
 ghost use Rattle.std.specs.Prelude.{◌≡◌, false};
-ghost use Rattle.server_line.specs.Lines.{IsSame};
-ghost use Rattle.server_line.specs.Calls.{IsRunning};
+ghost use Rattle.server_steps.specs.Lines.{IsSame};
+ghost use Rattle.server_steps.specs.Calls.{IsRunning};
 ghost use Rattle.server_run.specs.Running.{Watches};
 
-use call_worker::{RunningCall, Server};
 use conn_asks::Act;
-use conn_link::{Fault, Heard};
-use manager_calls::Manager;
 use rpc_outside::Link;
-use server_line::{Line, Stop};
+use server_calls::Manager;
+use server_steps::{Fault, Heard, Line, RunningCall, Server, Stop};
 use std::sync::Wait;
 use std::sync::atomic::{AtomicBool, Ordering};
 use std::thread;

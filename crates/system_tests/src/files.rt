@@ -1,8 +1,8 @@
 //! Files by their names, and what is written, over the system.
+use base_system::{FileShelf, Output};
 use rpc_base::{Failed, OutFault, Shelf, Sink, put_all};
 use std::fs;
 use std::test::Fail;
-use system_outside::{FileShelf, Output};
 
 #[test]
 fn files_are_loaded_by_name(rt: HostRuntime) -> Result<(), Fail> {

@@ -1,7 +1,8 @@
 //! A door and a dial over sockets, and links over their connections. Each port is one that the system gave.
 ghost use Rattle.std.specs.Prelude.{◌≡◌, ◌<◌, false, length};
-ghost use Rattle.system_outside.specs.Sockets.{shown};
+ghost use Rattle.base_system.specs.Sockets.{shown};
 
+use base_system::{SocketDial, SocketDoor, SocketLink};
 use rpc_base::{Failed, OutFault};
 use rpc_outside::{Address, Dial, Door, Link, Taken, put_all};
 use std::alloc::Global;
@@ -9,7 +10,6 @@ use std::io::{Read, Write};
 use std::net::{Ipv4Addr, Shutdown, TcpListener, TcpStream};
 use std::test::*;
 use std::{io, thread};
-use system_outside::{SocketDial, SocketDoor, SocketLink};
 
 fn at(port: u16) -> Address {
     Address {

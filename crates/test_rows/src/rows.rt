@@ -1,7 +1,7 @@
 //! Rows of tables: what is given, and what is wanted of it.
 
+use base_words::{cut_at, read_hex};
 use rpc_base::NoMemory;
-use rpc_words::{cut_at, read_hex};
 use std::alloc::Global;
 
 /// What answers the rows of a table.

@@ -1,3 +1,3 @@
-pub mod Towers
 pub mod Departures
+pub mod Towers
 pub mod Writing

@@ -1,6 +1,6 @@
-pub mod HistoryLemmas
-pub mod ViewLemmas
-pub mod TurnLemmas
-pub mod PassLemmas
 pub mod AddingLemmas
+pub mod HistoryLemmas
 pub mod ListedLemmas
+pub mod PassLemmas
+pub mod TurnLemmas
+pub mod ViewLemmas

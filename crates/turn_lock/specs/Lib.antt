@@ -1,5 +1,5 @@
 pub mod Histories
+pub mod Lent
+pub mod Passes
 pub mod Rule
 pub mod Steps
-pub mod Passes
-pub mod Lent

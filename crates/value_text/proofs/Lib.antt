@@ -1,9 +1,9 @@
-pub mod Rows
-pub mod Steps
-pub mod Numerals
-pub mod Quotes
-pub mod Sound
 pub mod Complete
-pub mod Tells
-pub mod Printed
+pub mod Numerals
 pub mod Parts
+pub mod Printed
+pub mod Quotes
+pub mod Rows
+pub mod Sound
+pub mod Steps
+pub mod Tells

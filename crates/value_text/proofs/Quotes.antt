@@ -5,7 +5,7 @@ use Rattle.std.specs.List.{flat_map}
 use Rattle.std.proofs.lemmas.Bool.{and_parts, ltb-true}
 use Rattle.std.proofs.lemmas.Bool.Decides.{nat_tests}
 use Rattle.hex.specs.Hex.{encode_with, lower_digits, IsBytes}
-use Rattle.rpc_words.proofs.Hexadecimal.{IsBytes-cons}
+use Rattle.base_words.proofs.Hexadecimal.{IsBytes-cons}
 use Rattle.ndr_value.specs.Fits.{fits_text, has_nul}
 use Rattle.value_text.specs.declared.departure.Departure.{Departure}
 use Rattle.value_text.specs.declared.departure.Departure.TheVariants.{Syntax, Kind, Range}

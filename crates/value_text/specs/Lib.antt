@@ -1,11 +1,11 @@
-pub mod Texts
 pub mod Bind
+pub mod Gives
+pub mod Laws
 pub mod Marks
 pub mod Numbers
 pub mod Quoted
 pub mod Reading
-pub mod Gives
-pub mod Stands
 pub mod Rows
+pub mod Stands
+pub mod Texts
 pub mod Told
-pub mod Laws

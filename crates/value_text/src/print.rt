@@ -7,10 +7,10 @@ ghost use Rattle.value_text.specs.Texts.{char_text, value_text, list_text, more_
 ghost use Rattle.value_text.specs.Rows.{item_text};
 
 use crate::quoted::stands_plain;
+use base_words::{put, put_hex};
 use itoa::Buffer;
 use ndr_value::Value;
 use rpc_base::NoMemory;
-use rpc_words::{put, put_hex};
 use std::alloc::Global;
 
 fn put_number(number: u64, into: &mut Vec<u8>) -> Result<(), NoMemory>

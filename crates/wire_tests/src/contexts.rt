@@ -1,9 +1,9 @@
 //! Offers as clients make them, and what they are answered.
 
+use base_words::{cut_at, put, put_decimal, read_u16, split_words};
 use pdu_codec::{ContextResult, Element, Elements, Syntaxes};
 use presentation::{Contexts, ndr};
 use rpc_base::{NoMemory, SyntaxId};
-use rpc_words::{cut_at, put, put_decimal, read_u16, split_words};
 use std::alloc::Global;
 use std::test::*;
 use test_rows::{Answers, same, wrong_row};

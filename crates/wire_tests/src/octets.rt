@@ -1,8 +1,8 @@
 //! Octets, as rows write them: words with a space between them, each of which puts some or changes those that
 //! stand there.
 
+use base_words::{cut_at, read_hex, read_u16, read_u32, split_words};
 use rpc_base::NoMemory;
-use rpc_words::{cut_at, read_hex, read_u16, read_u32, split_words};
 use std::alloc::Global;
 
 /// PDUs by their names.

@@ -1,11 +1,11 @@
 //! PDUs, read and written.
 
 use crate::octets::octets_of;
+use base_words::{put, put_hex};
 use pdu_codec::{
     FragmentHead, PduFault, raw_head, read_head, read_pdu, spelled_is_writable, write_pdu,
 };
 use rpc_base::{NoMemory, Order};
-use rpc_words::{put, put_hex};
 use std::alloc::Global;
 use std::test::*;
 use test_rows::{Answers, same, wrong_row};

@@ -1,11 +1,11 @@
 //! Streams in pieces, and the requests that their fragments join to.
 
 use crate::octets::octets_of;
+use base_words::{put, put_decimal, put_hex, read_u16, read_u64, split_words};
 use pdu_codec::flags::{FIRST_FRAG, LAST_FRAG};
 use pdu_codec::{Body, Pdu, PduFault, RequestBody};
 use pdu_stream::{Feed, JoinFault, Joined, Joiner, MOST_STUB, cut_stream, piece};
 use rpc_base::{Items, NoMemory, Octets, Order};
-use rpc_words::{put, put_decimal, put_hex, read_u16, read_u64, split_words};
 use std::alloc::Global;
 use std::test::*;
 use test_rows::{Answers, same, wrong_row};

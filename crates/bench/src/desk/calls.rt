@@ -1,14 +1,15 @@
 //! Calls on the store from their stubs.
 ghost use Rattle.std.specs.Prelude.{◌≡◌};
-ghost use Rattle.ndr_value.specs.Shown.{shown};
-ghost use Rattle.store_model.specs.Table.{store_table as store_table_spec};
+ghost use Rattle.ndr_table.specs.Shown.{shown};
+ghost use Rattle.store_manager.specs.Table.{store_table as store_table_spec};
 
 use crate::stubs::answer_to;
 use anyhow::{Error, Result};
 use manager_api::{Answer, Kept};
-use ndr_value::{Table, Value};
+use ndr_table::Table;
+use ndr_value::Value;
 use std::alloc::Global;
-use store_desk::StoreDesk;
+use store_manager::StoreDesk;
 
 /// The first file at its begin.
 const FIRST: u64 = 1 << 32;

@@ -1,13 +1,14 @@
 //! Lookups from their stubs.
 ghost use Rattle.std.specs.Prelude.{◌≡◌};
-ghost use Rattle.ndr_value.specs.Shown.{shown};
-ghost use Rattle.epm_model.specs.Table.{epm_table as epm_table_spec};
+ghost use Rattle.ndr_table.specs.Shown.{shown};
+ghost use Rattle.epm_manager.specs.Table.{epm_table as epm_table_spec};
 
 use crate::stubs::answer_to;
 use anyhow::{Error, Result};
-use epm_desk::EpmDesk;
+use epm_manager::EpmDesk;
 use manager_api::{Answer, Kept};
-use ndr_value::{Table, Value};
+use ndr_table::Table;
+use ndr_value::Value;
 use std::alloc::Global;
 
 /// The number of ept_lookup.

@@ -5,7 +5,7 @@ ghost use Rattle.handle_model.specs.Journal.{is_open};
 use group_core::{Group, Rest};
 use group_rounds::Halt;
 use handle_model::{DueItem, DueList, Rundown};
-use handle_rules::Record;
+use journal_rules::Record;
 
 /// Runs nothing down: what is kept behind a handle is a number.
 #[derive(Drop)]
@@ -31,7 +31,7 @@ fn is_there(group: &Group, conn: u32) -> bool
     ensures { result ≡ is_open group.now conn }
 {
     let journal = group.journal();
-    handle_rules::is_open(
+    journal_rules::is_open(
         Record {
             home: group.home(),
             base: journal.base(),

@@ -2,7 +2,8 @@
 
 use anyhow::{Error, Result};
 use ndr_codec::{EncodeFault, NdrFault, Way, decode, encode};
-use ndr_value::{Message, Table, Value};
+use ndr_table::Table;
+use ndr_value::{Message, Value};
 use rpc_base::Order;
 use std::alloc::Global;
 

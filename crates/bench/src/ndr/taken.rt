@@ -2,7 +2,7 @@
 
 use crate::ndr::coding::{message_of, octets_of};
 use anyhow::{Context, Error, Result};
-use ndr_value::Table;
+use ndr_table::Table;
 use std::alloc::Global;
 use std::fs;
 use std::io::Print;

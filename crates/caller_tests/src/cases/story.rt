@@ -5,13 +5,13 @@
 //! fragment, how many octets of the stub it has, and its hint. What may not be done then is `may not`. Octets are words of hexadecimal digits.
 
 use crate::cases::words::{many, number_of, octets_of, put_fragments, put_told, put_words};
+use base_words::{put, read_u16, split_words};
 use client_core::Client;
 use ndr_codec::{EncodeFault, Way, decode};
 use ndr_lines::table_of;
 use ndr_value::Message;
 use pdu_codec::read_pdu;
 use rpc_base::{NoMemory, Octets, Order};
-use rpc_words::{put, read_u16, split_words};
 use std::alloc::Global;
 use test_rows::{Answers, wrong_row};
 

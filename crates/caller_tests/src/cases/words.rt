@@ -1,12 +1,12 @@
 //! What is given and told, as words.
 
+use base_words::{put, put_decimal, put_hex, put_hex_u32, read_hex, read_u32};
 use client_core::Told;
 use ndr_lines::put_message;
 use ndr_value::{Message, Value, Wires};
 use pdu_codec::{Body, Pdu};
 use pdu_stream::Feed;
 use rpc_base::{NoMemory, Octets};
-use rpc_words::{put, put_decimal, put_hex, put_hex_u32, read_hex, read_u32};
 use std::alloc::Global;
 
 pub fn octets_of(alloc: Global, words: &[&[u8]]) -> Result<Octets, NoMemory> {

@@ -1,21 +1,22 @@
 //! Calls on the desks from their stubs.
 ghost use Rattle.std.specs.Prelude.{◌≡◌, ◌<◌, ◌||◌, true, Some, length, slice_get};
 ghost use Rattle.ndr_value.specs.Values.{msg};
-ghost use Rattle.ndr_value.specs.Shown.{shown};
+ghost use Rattle.ndr_table.specs.Shown.{shown};
 ghost use Rattle.manager_api.specs.Calls.{has_cookies as has_cookies_spec, uses_at};
 ghost use Rattle.manager_api.specs.Messages.{IsRequest};
-ghost use Rattle.served_tables.specs.Calls.{IsCall};
-ghost use Rattle.service_desks.specs.State.{tables_of};
-ghost use Rattle.service_desks.specs.Views.{services};
+ghost use Rattle.manager_api.specs.ServedCalls.{IsCall};
+ghost use Rattle.desk_service.specs.State.{tables_of};
+ghost use Rattle.desk_service.specs.Views.{services};
 
-use call_stats::Counted;
+use base_words::{put, put_decimal, put_hex, put_hex_u32};
+use desk_counts::Counted;
+use desk_service::ServiceDesks;
 use handle_model::CookieRow;
 use manager_api::{Answer, Kept, Kepts, Probe, has_cookies};
 use ndr_codec::{Way, decode, encode};
-use ndr_value::{Message, Table};
+use ndr_table::Table;
+use ndr_value::Message;
 use rpc_base::{NoMemory, Order, Status};
-use rpc_words::{put, put_decimal, put_hex, put_hex_u32};
-use service_desks::ServiceDesks;
 use std::alloc::Global;
 
 /// Whether a call was cancelled, and who knows.

@@ -1,9 +1,9 @@
 //! What an interface keeps, as far as it tells.
 
 use crate::desks::calls::{Answered, Cancel, Request, answer_to};
+use base_words::{put, put_decimal};
+use desk_service::ServiceDesks;
 use rpc_base::NoMemory;
-use rpc_words::{put, put_decimal};
-use service_desks::ServiceDesks;
 use std::alloc::Global;
 
 const STORE: u16 = 1;

@@ -1,7 +1,7 @@
 //! Octets as texts: words of hexadecimal digits, where `WORD*N` stands for so many of the word.
 
+use base_words::read_hex;
 use rpc_base::NoMemory;
-use rpc_words::read_hex;
 use std::alloc::Global;
 
 fn add_times(octets: &[u8], times: u32, into: &mut Vec<u8>) -> Result<(), NoMemory> {

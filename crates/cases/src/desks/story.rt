@@ -4,11 +4,11 @@ use crate::desks::calls::{Cancel, Request, answer_to, put_answered};
 use crate::desks::keeping::put_kept;
 use crate::desks::octets::octets_of;
 use crate::desks::rows::{Row, row_of};
+use base_words::{put, put_hex};
+use desk_service::ServiceDesks;
 use handle_model::{DueItem, Rundown};
-use ndr_value::Table;
+use ndr_table::Table;
 use rpc_base::NoMemory;
-use rpc_words::{put, put_hex};
-use service_desks::ServiceDesks;
 use std::alloc::Global;
 
 /// What was played so far.

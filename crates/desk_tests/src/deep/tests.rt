@@ -2,13 +2,14 @@
 //! 256 levels of pointers. And messages that aren't of an operation.
 ghost use Rattle.std.specs.Prelude.{◌≡◌};
 
-use echo_desk::EchoDesk;
+use base_words::put;
+use echo_manager::EchoDesk;
 use manager_api::{Answer, Desk, Probe, has_cookies};
 use ndr_codec::{Way, decode, encode, in_range};
 use ndr_lines::{are_typed, decoded, is_fit, put_message, table_of};
-use ndr_value::{MOST_LEVELS, Message, Table, Value, Wires};
+use ndr_table::{MOST_LEVELS, Table};
+use ndr_value::{Message, Value, Wires};
 use rpc_base::{NoMemory, Octets, Order, WireHandle};
-use rpc_words::put;
 use std::alloc::Global;
 use std::process::Abort;
 use std::test::Fail;

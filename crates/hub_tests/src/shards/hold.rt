@@ -1,11 +1,11 @@
 //! One thread has the turn of a shard while another calls at the next one, and is done first.
 ghost use Rattle.std.specs.Prelude.{◌≡◌, [], IfOk};
-ghost use Rattle.shard_lock.specs.Locks.{IsPassOf};
+ghost use Rattle.group_hub.specs.Locks.{IsPassOf};
 
+use group_hub::{ShardLock, ShardPass};
 use handle_model::Asked;
+use hub_shard::{Act, Shard};
 use rpc_base::{Items, Octets, Order};
-use shard::{Act, Shard};
-use shard_lock::{ShardLock, ShardPass};
 use std::alloc::Global;
 use std::sync::Wait;
 use std::sync::atomic::{AtomicBool, Ordering};

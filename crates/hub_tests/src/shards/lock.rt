@@ -1,8 +1,8 @@
 //! One shard: groups are opened, joined and looked for.
-ghost use Rattle.shard_lock.specs.Locks.{IsPassOf};
+ghost use Rattle.group_hub.specs.Locks.{IsPassOf};
 
-use shard::{Absence, FindRefusal, OpenRefusal};
-use shard_lock::{ShardLock, ShardPass};
+use group_hub::{ShardLock, ShardPass};
+use hub_shard::{Absence, FindRefusal, OpenRefusal};
 use std::sync::Wait;
 use std::test::Fail;
 

@@ -1,8 +1,8 @@
 //! One shard on passes of two threads.
-ghost use Rattle.shard_lock.specs.Locks.{IsPassOf};
+ghost use Rattle.group_hub.specs.Locks.{IsPassOf};
 
-use shard::{Absence, FindRefusal};
-use shard_lock::{ShardLock, ShardPass};
+use group_hub::{ShardLock, ShardPass};
+use hub_shard::{Absence, FindRefusal};
 use std::sync::Wait;
 use std::test::Fail;
 use std::thread;

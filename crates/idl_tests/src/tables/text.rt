@@ -1,7 +1,8 @@
 //! A table as a text.
-use ndr_value::{Arm, ArrayKind, Bounds, Count, HandleUse, Op, Param, Shape, Table};
+use base_words::{put, put_decimal};
+use ndr_table::{Bounds, HandleUse, Op, Param, Table};
+use ndr_value::{Arm, ArrayKind, Count, Shape};
 use rpc_base::NoMemory;
-use rpc_words::{put, put_decimal};
 use std::alloc::Global;
 
 fn put_number(mark: &[u8], number: u64, alloc: Global, into: &mut Vec<u8>) -> Result<(), NoMemory> {

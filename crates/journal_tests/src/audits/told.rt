@@ -1,7 +1,7 @@
-use handle_rules::Verdict;
+use base_words::{put, put_decimal};
 use journal_audit::{AuditFault, GroupVerdict, audit};
+use journal_rules::Verdict;
 use rpc_base::NoMemory;
-use rpc_words::{put, put_decimal};
 use std::alloc::Global;
 use std::process::Abort;
 use std::test::Fail;

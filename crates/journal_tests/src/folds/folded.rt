@@ -5,14 +5,13 @@ ghost use Rattle.handle_model.specs.History.{history_of};
 ghost use Rattle.journal_tables.specs.Folding.{BaseBegun};
 
 use crate::folds::read::{base_of, entries_of};
-use base_rules::is_sound_base;
+use base_words::{put, put_decimal};
 use handle_model::{Base, Entry, Home};
-use handle_rules::{Verdict, audited};
-use handle_text::journal_text;
 use journal_reader::next_group;
+use journal_rules::{Verdict, audited, is_sound_base};
 use journal_tables::{folded_base, tables_after};
+use journal_text::journal_text;
 use rpc_base::NoMemory;
-use rpc_words::{put, put_decimal};
 use std::alloc::Global;
 
 fn put_floor(alloc: Global, floor: Option<u128>, into: &mut Vec<u8>) -> Result<(), NoMemory> {
@@ -47,7 +46,7 @@ fn any_shut(entries: &[Entry]) -> bool
     entries.iter().any(|entry| entry.is_shut())
 }
 
-#[tactic(auto, using(handle_rules::proofs::Sets::reversed))]
+#[tactic(auto, using(journal_rules::proofs::Sets::reversed))]
 fn goes_on(entries: &[Entry]) -> bool
     ensures { result ≡ not (list_any is_shut (reverse entries.now)) }
 {

@@ -1,9 +1,9 @@
 use crate::folds::read::base_of;
-use base_rules::is_sound_base;
 use handle_model::{Base, Home};
-use handle_text::journal_text;
 use journal_audit::audit;
 use journal_reader::next_group;
+use journal_rules::is_sound_base;
+use journal_text::journal_text;
 use rpc_base::NoMemory;
 use std::alloc::Global;
 use std::process::Abort;

@@ -1,8 +1,8 @@
+use base_words::put;
 use handle_model::{Base, BaseCalls, Entry};
-use handle_text::journal_text;
 use journal_reader::{next_base, next_call, next_entry, next_group};
+use journal_text::journal_text;
 use rpc_base::Items;
-use rpc_words::put;
 use std::alloc::Global;
 use std::process::Abort;
 use std::test::Fail;

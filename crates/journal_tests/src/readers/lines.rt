@@ -1,6 +1,6 @@
-use handle_text::entry_text;
+use base_words::put;
 use journal_reader::next_entry;
-use rpc_words::put;
+use journal_text::entry_text;
 use std::alloc::Global;
 use std::process::Abort;
 use std::test::Fail;

@@ -1,9 +1,9 @@
 //! Pointers under pointers, arrays of bytes in either form, and places behind a text.
 
 use crate::value_texts::shapes::{shape_of, types};
+use base_words::put;
 use ndr_value::Value;
 use rpc_base::{NoMemory, Octets};
-use rpc_words::put;
 use std::alloc::Global;
 use std::test::*;
 use test_rows::same;

@@ -2,9 +2,9 @@
 
 use crate::value_texts::rows::{ARRAYS, NUMBERS, PARTS, POINTERS, WORDS};
 use crate::value_texts::shapes::{shape_of, types};
+use base_words::put;
 use ndr_value::{Shapes, Value};
 use rpc_base::NoMemory;
-use rpc_words::put;
 use std::alloc::Global;
 use std::test::*;
 use test_rows::{Answers, same, wrong_row};

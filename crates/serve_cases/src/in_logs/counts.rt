@@ -1,11 +1,11 @@
 //! What is counted on a link.
 ghost use Rattle.std.specs.Prelude.{◌≡◌, false};
 
-use call_stats::Tally;
-use counted_links::CountLink;
+use base_words::{read_hex, split_words};
+use desk_counts::Tally;
 use rpc_base::{Items, NoMemory, Octets};
 use rpc_outside::{Link, LinkStep, ScriptLink, Taken};
-use rpc_words::{read_hex, split_words};
+use server_counts::CountLink;
 use std::alloc::Global;
 use std::sync::Arc;
 use std::test::*;

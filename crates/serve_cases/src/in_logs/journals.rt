@@ -1,7 +1,7 @@
 //! The journals of groups that were opened and have ended.
 use group_hub::Hub;
-use hub_journals::put_journals;
 use hub_play::{leave, open, retire};
+use server_command::put_journals;
 use std::test::*;
 use test_rows::same;
 

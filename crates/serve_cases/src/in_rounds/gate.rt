@@ -1,10 +1,9 @@
 //! A manager of the tests' own, whose calls wait for one another.
 use handle_model::{CookieRow, Due};
-use manager_api::{Answer, Probe};
-use manager_calls::Manager;
+use manager_api::{Answer, Probe, Served};
 use ndr_value::Message;
 use rpc_base::Status;
-use served_tables::Served;
+use server_calls::Manager;
 use server_rounds::{DeskService, Service};
 use std::alloc::Global;
 use std::sync::Wait;
@@ -46,7 +45,7 @@ impl Gate {
 
 impl Manager for Gate {
     ghost use Rattle.std.specs.Prelude.{⊤};
-    ghost use Rattle.locked_desks.specs.Calls.{tables_of};
+    ghost use Rattle.desk_locks.specs.Calls.{tables_of};
 
     ghost tables = { λ g. tables_of g.desks };
 

@@ -2,9 +2,9 @@
 ghost use Rattle.std.specs.Prelude.{◌≡◌, true, IfOk};
 ghost use Rattle.rpc_outside.specs.LinkLists.{is_new};
 
+use base_words::{read_hex, split_words};
 use rpc_base::{Items, NoMemory, Octets};
 use rpc_outside::{LinkStep, LinkSteps, Links, ScriptDoor, ScriptLink};
-use rpc_words::{read_hex, split_words};
 use std::alloc::Global;
 
 /// A bind of call 1: a new group, context 0 of the probe, over NDR.

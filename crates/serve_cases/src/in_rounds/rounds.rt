@@ -1,10 +1,10 @@
 //! Two connections at one server.
-use call_stats::Tally;
-use counted_links::CountLink;
+use desk_counts::Tally;
 use group_hub::Hub;
-use hub_journals::put_journals;
 use rpc_base::NoMemory;
 use rpc_outside::Door;
+use server_command::put_journals;
+use server_counts::CountLink;
 use server_rounds::{Round, Service, Settled, serve};
 use std::alloc::Global;
 use std::sync::{Arc, Wait};

@@ -2,10 +2,10 @@
 use crate::in_rounds::gate::Gate;
 use crate::in_rounds::links::{door, octets};
 use crate::in_rounds::rounds::serve_both;
-use call_stats::Tally;
-use counted_links::CountLink;
+use desk_counts::Tally;
 use rpc_base::{NoMemory, Octets};
 use rpc_outside::{Address, ScriptLink};
+use server_counts::CountLink;
 use server_ends::Ending;
 use server_rounds::{DeskService, Settled};
 use std::alloc::Global;

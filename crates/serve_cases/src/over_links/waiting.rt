@@ -2,7 +2,7 @@
 //! is gone. It is never taken.
 ghost use Rattle.std.specs.Prelude.{◌≡◌, [], ◌∷◌, false, IfOk};
 ghost use Rattle.group_hub.specs.Passes.{IsPassOf};
-ghost use Rattle.probe_desk.specs.Table as probe;
+ghost use Rattle.echo_manager.specs.Table as probe;
 
 use crate::held::{HeldLink, Place};
 use crate::journals::journals;
@@ -13,9 +13,9 @@ use crate::over_links::pdus::{
 };
 use crate::served::{BOOT, serve_on};
 use group_hub::{Hub, Pass, Retired};
-use manager_calls::Manager;
 use rpc_base::{NoMemory, Octets};
 use rpc_outside::{Link, ScriptLink};
+use server_calls::Manager;
 use server_ends::{Ending, Finished};
 use std::alloc::Global;
 use std::sync::Wait;

@@ -1,7 +1,7 @@
 //! Octets, as cases write them: words with a space between them, each of which puts some.
 
+use base_words::{cut_at, read_hex, read_u16, read_u32, split_words};
 use rpc_base::NoMemory;
-use rpc_words::{cut_at, read_hex, read_u16, read_u32, split_words};
 use std::alloc::Global;
 
 /// PDUs and syntaxes by their names. `BIG` ones are big-endian.

@@ -3,9 +3,9 @@ ghost use Rattle.std.specs.Prelude.{◌<◌};
 
 use crate::conns::octets::octets_of;
 use crate::conns::wanted::{answer, answers, is_wanted};
+use base_words::{read_u32, split_words};
 use conn_core::Conn;
 use rpc_base::{NoMemory, SyntaxId};
-use rpc_words::{read_u32, split_words};
 use std::alloc::Global;
 use uuid::Uuid;
 

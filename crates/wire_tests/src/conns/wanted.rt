@@ -1,12 +1,12 @@
 //! Acts and answers, as cases write them.
 
 use crate::conns::octets::octets_of;
+use base_words::{read_hex_u32, read_u16, read_u32};
 use conn_core::{Act, Conn, ConnFault};
 use handle_model::Said;
 use pdu_codec::PduFault;
 use pdu_stream::{JoinFault, Joined, MOST_STUB};
 use rpc_base::{NoMemory, Octets, Order, Status};
-use rpc_words::{read_hex_u32, read_u16, read_u32};
 use std::alloc::Global;
 
 /// Causes by their names.

@@ -1,5 +1,5 @@
 use Rattle.ndr_value.specs.Values.{msg}
-use Rattle.ndr_value.specs.Shown.{shown}
+use Rattle.ndr_table.specs.Shown.{shown}
 use Rattle.client_core.proofs.Asked.{is_message}
 use Rattle.client_core.proofs.calls.is_message.Goals as goal
 

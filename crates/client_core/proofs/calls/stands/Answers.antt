@@ -1,5 +1,5 @@
 use Rattle.ndr_value.specs.Values.{msg}
-use Rattle.ndr_value.specs.Shown.{shown}
+use Rattle.ndr_table.specs.Shown.{shown}
 use Rattle.client_core.proofs.Asked.{stands, stands_short}
 use Rattle.client_core.proofs.calls.stands.Goals as goal
 

@@ -1,6 +1,6 @@
 use Rattle.std.proofs.Common.{rules}
 use Rattle.std.proofs.lemmas.Fn.{filter_same}
-use Rattle.client_asks.specs.States.{is_other}
+use Rattle.client_core.specs.States.{is_other}
 use Rattle.client_core.proofs.hearing.drop_id.Goals as goal
 
 pub returns : goal.returns

@@ -1,5 +1,5 @@
-use Rattle.ndr_value.specs.Shown.{shown}
-use Rattle.client_asks.specs.States.{calling}
+use Rattle.ndr_table.specs.Shown.{shown}
+use Rattle.client_core.specs.States.{calling}
 use Rattle.client_core.proofs.Heard.{reads}
 use Rattle.client_core.proofs.Answering.{of_op}
 use Rattle.client_core.proofs.responses.read_response.Goals as goal

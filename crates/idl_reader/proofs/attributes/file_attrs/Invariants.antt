@@ -1,5 +1,5 @@
 use Rattle.std.proofs.Common.{◌≡◌, ◌≤◌, ◌<◌, ◌++◌, ◌∷◌, [], length}
-use Rattle.ebnf.specs.Machine.{token, ◌>>=◌}
+use Rattle.idl_tokens.specs.Machine.{token, ◌>>=◌}
 use Rattle.idl_tokens.specs.declared.marks.Bracket.TheVariants as brackets
 use Rattle.idl_tokens.specs.Terminals.{terminals}
 use Rattle.idl_tree.specs.Grammar.{file_attr}

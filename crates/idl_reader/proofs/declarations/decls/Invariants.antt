@@ -1,6 +1,6 @@
 use Rattle.std.proofs.Common.{◌≡◌, ◌<◌, ◌++◌, ◌∷◌, [], length}
 use Rattle.std.specs.List.{flat_map}
-use Rattle.ebnf.specs.Machine.{token, ◌>>=◌}
+use Rattle.idl_tokens.specs.Machine.{token, ◌>>=◌}
 use Rattle.idl_tokens.specs.declared.marks.Bracket.TheVariants as brackets
 use Rattle.idl_tokens.specs.Terminals.{terminals}
 use Rattle.idl_tree.specs.Pieces.{Written, open_pieces}

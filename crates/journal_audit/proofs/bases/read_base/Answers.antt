@@ -1,6 +1,6 @@
 use Rattle.std.proofs.Common.{refl, sym, subst, arith}
 use Rattle.handle_model.specs.declared.entry.Home.{Home}
-use Rattle.journal_bases.specs.SoFar.{with_call, IsSoundSoFar}
+use Rattle.journal_audit.specs.SoFar.{with_call, IsSoundSoFar}
 use Rattle.journal_audit.proofs.Read.{base_shorter, call_shorter, based_start, based_more, call_departs}
 use Rattle.journal_audit.proofs.bases.read_base.Goals as goal
 

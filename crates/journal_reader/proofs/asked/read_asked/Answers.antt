@@ -1,5 +1,5 @@
 use Rattle.std.proofs.Common.{[], ◌∷◌}
-use Rattle.handle_text.specs.Texts.{asked_text}
+use Rattle.journal_text.specs.Texts.{asked_text}
 use Rattle.journal_reader.specs.Fits.{FitsAsked}
 use Rattle.journal_reader.specs.Parts.{asked_parts}
 use Rattle.journal_reader.proofs.Cutting.{reads_parts_ok, reads_no_parts}

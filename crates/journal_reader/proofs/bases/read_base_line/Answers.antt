@@ -1,7 +1,7 @@
 use Rattle.std.proofs.Common.{[], ◌∷◌}
 use Rattle.journal_reader.specs.Fits.{FitsBase}
 use Rattle.journal_reader.specs.Parts.{headed_base}
-use Rattle.handle_text.specs.Texts.{base_line}
+use Rattle.journal_text.specs.Texts.{base_line}
 use Rattle.journal_reader.proofs.Cutting.{reads_parts_ok, reads_no_parts}
 use Rattle.journal_reader.proofs.Heads.{base_head_own}
 use Rattle.journal_reader.proofs.BaseWords.{base_joined}

@@ -1,7 +1,7 @@
 use Rattle.std.proofs.Common.{[], ◌∷◌}
 use Rattle.journal_reader.specs.Fits.{FitsCall}
 use Rattle.journal_reader.specs.Parts.{headed_call}
-use Rattle.handle_text.specs.Texts.{call_line}
+use Rattle.journal_text.specs.Texts.{call_line}
 use Rattle.journal_reader.proofs.Cutting.{reads_parts_ok, reads_no_parts}
 use Rattle.journal_reader.proofs.Heads.{call_head_own}
 use Rattle.journal_reader.proofs.BaseWords.{call_joined}

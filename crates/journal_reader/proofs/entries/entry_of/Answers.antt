@@ -1,5 +1,5 @@
 use Rattle.std.proofs.Common.{◌∙◌}
-use Rattle.rpc_words.proofs.Compares.{agree}
+use Rattle.base_words.proofs.Compares.{agree}
 use Rattle.journal_reader.proofs.Words.{accept_alone, take_alone, deny_alone, end_alone}
 use Rattle.journal_reader.proofs.entries.entry_of.Goals as goal
 

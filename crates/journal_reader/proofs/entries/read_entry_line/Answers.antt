@@ -1,5 +1,5 @@
 use Rattle.std.proofs.Common.{[], ◌∷◌}
-use Rattle.handle_text.specs.Texts.{line}
+use Rattle.journal_text.specs.Texts.{line}
 use Rattle.journal_reader.specs.Fits.{FitsEntry}
 use Rattle.journal_reader.specs.Parts.{entry_parts}
 use Rattle.journal_reader.proofs.Cutting.{reads_parts_ok, reads_no_parts}

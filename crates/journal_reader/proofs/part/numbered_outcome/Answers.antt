@@ -1,5 +1,5 @@
 use Rattle.std.proofs.Common.{◌∙◌}
-use Rattle.rpc_words.proofs.Compares.{agree}
+use Rattle.base_words.proofs.Compares.{agree}
 use Rattle.journal_reader.proofs.Marks.{issue_alone}
 use Rattle.journal_reader.proofs.part.numbered_outcome.Goals as goal
 

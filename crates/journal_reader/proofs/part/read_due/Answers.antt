@@ -1,5 +1,5 @@
 use Rattle.std.proofs.Common.{[], ◌∷◌}
-use Rattle.handle_text.specs.Texts.{due_text}
+use Rattle.journal_text.specs.Texts.{due_text}
 use Rattle.journal_reader.specs.Fits.{FitsDue}
 use Rattle.journal_reader.specs.Parts.{due_parts}
 use Rattle.journal_reader.proofs.Cutting.{reads_parts, reads_no_parts}

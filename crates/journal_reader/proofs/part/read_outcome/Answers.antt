@@ -1,5 +1,5 @@
 use Rattle.std.proofs.Common.{[], ◌∷◌, refl, sym}
-use Rattle.handle_text.specs.Texts.{outcome_text}
+use Rattle.journal_text.specs.Texts.{outcome_text}
 use Rattle.journal_reader.specs.Fits.{FitsOutcome}
 use Rattle.journal_reader.specs.Parts.{outcome_parts}
 use Rattle.journal_reader.proofs.Cutting.{reads_one_or_two}

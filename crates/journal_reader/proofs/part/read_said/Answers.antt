@@ -1,5 +1,5 @@
 use Rattle.std.proofs.Common.{[], ◌∷◌}
-use Rattle.handle_text.specs.Texts.{said_text}
+use Rattle.journal_text.specs.Texts.{said_text}
 use Rattle.journal_reader.specs.Fits.{FitsSaid}
 use Rattle.journal_reader.specs.Parts.{said_parts}
 use Rattle.journal_reader.proofs.Cutting.{reads_parts_ok, reads_no_parts}

@@ -1,5 +1,5 @@
 use Rattle.std.proofs.Common.{[], ◌∷◌}
-use Rattle.handle_text.specs.Texts.{slot_text}
+use Rattle.journal_text.specs.Texts.{slot_text}
 use Rattle.journal_reader.specs.Fits.{FitsSlot}
 use Rattle.journal_reader.specs.Parts.{slot_parts}
 use Rattle.journal_reader.proofs.Cutting.{reads_parts, reads_no_parts}

@@ -1,9 +1,9 @@
 use Rattle.std.proofs.Common.{ap, ◌∙◌}
-use Rattle.ndr_value.specs.Shown.{shown}
-use Rattle.table_laws.specs.Interfaces.{tabled}
-use Rattle.table_laws.proofs.Listed.{has_each}
-use Rattle.table_laws.proofs.Handles.{has_handles}
-use Rattle.table_laws.proofs.Declarations.{each_name_stands}
+use Rattle.ndr_table.specs.Shown.{shown}
+use Rattle.idl_tables.specs.Interfaces.{tabled}
+use Rattle.idl_tables.proofs.Listed.{has_each}
+use Rattle.idl_tables.proofs.Handles.{has_handles}
+use Rattle.idl_tables.proofs.Declarations.{each_name_stands}
 use Rattle.marshal_table.proofs.checked.build.Goals as goal
 
 pub returns-clause-operations : goal.returns-clause-operations

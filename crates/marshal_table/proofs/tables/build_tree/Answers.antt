@@ -3,11 +3,11 @@ use Rattle.idl_tree.specs.declared.declaration.Decl.{Decl}
 use Rattle.idl_tree.specs.declared.file.FileAttr.{FileAttr}
 use Rattle.idl_forms.specs.Forms.{file_form, decl_form, tree_form}
 use Rattle.idl_names.specs.Attributes.{pointer_default}
-use Rattle.ndr_value.specs.declared.operation.HandleUse.{HandleUse}
-use Rattle.ndr_value.specs.declared.operation.Op.{Op}
-use Rattle.ndr_value.specs.Tables.{op_form}
-use Rattle.table_scope.specs.Scopes.{Scope, scope, nothing_known}
-use Rattle.table_laws.specs.Interfaces.{Draft, decls_at, nothing_declared}
+use Rattle.ndr_table.specs.declared.operation.HandleUse.{HandleUse}
+use Rattle.ndr_table.specs.declared.operation.Op.{Op}
+use Rattle.ndr_table.specs.Tables.{op_form}
+use Rattle.idl_scopes.specs.Scopes.{Scope, scope, nothing_known}
+use Rattle.idl_tables.specs.Interfaces.{Draft, decls_at, nothing_declared}
 use Rattle.marshal_table.specs.Lists.{draft}
 use Rattle.marshal_table.proofs.Drafts.{made_is}
 use Rattle.marshal_table.proofs.tables.build_tree.Goals as goal

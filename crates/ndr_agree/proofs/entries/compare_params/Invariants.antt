@@ -1,6 +1,6 @@
 use Rattle.std.proofs.Common.{◌≡◌, map, drop}
 use Rattle.ndr_value.specs.Values.{vals}
-use Rattle.ndr_value.specs.Tables.{param_form, result_form}
+use Rattle.ndr_table.specs.Tables.{param_form, result_form}
 use Rattle.ndr_model.specs.Stub as stub
 use Rattle.ndr_model.specs.Compare as spec
 use Rattle.ndr_model.specs.Message.{enough}

@@ -1,6 +1,6 @@
 use Rattle.std.proofs.Common.{rules}
 use Rattle.ndr_value.specs.Values.{msg}
-use Rattle.ndr_value.specs.Tables.{op_form}
+use Rattle.ndr_table.specs.Tables.{op_form}
 use Rattle.ndr_model.specs.Stub as stub
 use Rattle.ndr_agree.proofs.Bounded.{tested}
 use Rattle.ndr_agree.proofs.range.op_in_range.Goals as goal

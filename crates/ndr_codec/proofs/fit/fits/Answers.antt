@@ -1,7 +1,7 @@
 use Rattle.std.proofs.Common.{Option, Bor}
 use Rattle.ndr_value.specs.Values.{Msg, msg}
 use Rattle.ndr_value.specs.declared.value.Message.{Message}
-use Rattle.ndr_value.specs.Shown.{shown}
+use Rattle.ndr_table.specs.Shown.{shown}
 use Rattle.ndr_model.specs.Fits.{IsOfOp}
 use Rattle.ndr_agree.specs.Views.{asked_of}
 use Rattle.ndr_codec.proofs.Fitting.{with_op, any_stub}

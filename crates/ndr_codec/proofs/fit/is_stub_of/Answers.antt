@@ -1,7 +1,7 @@
 use Rattle.std.proofs.Common.{arith}
 use Rattle.rpc_base.specs.declared.identifiers.Order.TheVariants.{Little}
 use Rattle.ndr_value.specs.Values.{msg}
-use Rattle.ndr_written.proofs.Stubs.{stub_suits}
+use Rattle.ndr_laws.proofs.WrittenStubs.{stub_suits}
 use Rattle.ndr_agree.specs.Views.{types_in, call_of}
 use Rattle.ndr_codec.proofs.Fitting.{same_told, unread_told}
 use Rattle.ndr_codec.proofs.fit.is_stub_of.Goals as goal

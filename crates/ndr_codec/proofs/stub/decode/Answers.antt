@@ -1,7 +1,7 @@
 use Rattle.std.proofs.Common.{Option, Bor, arith}
 use Rattle.ndr_value.specs.Values.{Msg}
 use Rattle.ndr_value.specs.declared.value.Message.{Message}
-use Rattle.ndr_value.specs.Shown.{shown}
+use Rattle.ndr_table.specs.Shown.{shown}
 use Rattle.ndr_agree.specs.Views.{asked_of}
 use Rattle.ndr_codec.proofs.Decoding.{found_all, of_op_all, stub_decoded}
 use Rattle.ndr_codec.proofs.stub.decode.Goals as goal

@@ -1,8 +1,8 @@
 use Rattle.std.proofs.Common.{Option, Bor, sym, subst}
 use Rattle.ndr_value.specs.Values.{Msg, msg}
 use Rattle.ndr_value.specs.declared.value.Message.{Message}
-use Rattle.ndr_value.specs.Shown.{shown}
-use Rattle.ndr_value.specs.Tables.{op_form}
+use Rattle.ndr_table.specs.Shown.{shown}
+use Rattle.ndr_table.specs.Tables.{op_form}
 use Rattle.ndr_model.specs.Message.{read_stub}
 use Rattle.ndr_agree.specs.Views.{asked_of}
 use Rattle.ndr_model.specs.declared.fault.NdrFault.{NdrFault}

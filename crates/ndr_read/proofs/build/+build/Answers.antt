@@ -2,7 +2,7 @@ use Rattle.std.proofs.Common.{◌≡◌, ℕ, suc, ℤ, sym, subst, ◌∙◌, �
 use mir.Val.{SFits}
 use Rattle.std.proofs.lemmas.Int.{to_z-of_z}
 use Rattle.ndr_value.specs.Fits.{arm_of}
-use Rattle.ndr_model.specs.Bind.{◌>>=◌}
+use Rattle.ndr_arrays.specs.Bind.{◌>>=◌}
 use Rattle.ndr_model.specs.declared.departure.Departure.TheVariants.{Tag}
 use Rattle.ndr_model.specs.declared.mark.Mark.TheVariants.{Number, Referent}
 use Rattle.ndr_model.specs.Places.{Last, noting, keeping}
@@ -12,10 +12,10 @@ use Rattle.std.proofs.lemmas.Result.{err_from_is_err_and}
 use Rattle.ndr_value.specs.Forms.{form, forms, body, arms_of, OfUnion}
 use Rattle.ndr_value.specs.Values.{Val, val, vals, no_val, then_val, VFull}
 use Rattle.ndr_model.specs.Build.{Built, Found, build, build_at, built_each, built_arm, in_struct, referent, ahead, ends}
-use Rattle.ndr_scan.specs.Gives.{Gives}
-use Rattle.ndr_scan.specs.Views.{types_in, place}
+use Rattle.ndr_pointers.specs.Gives.{Gives}
+use Rattle.ndr_pointers.specs.Views.{types_in, place}
 use Rattle.ndr_read.specs.Views.{cursor_of, items_of, last_of}
-use Rattle.ndr_scan.proofs.Walks.{moved_is}
+use Rattle.ndr_pointers.proofs.Walks.{moved_is}
 use Rattle.ndr_read.specs.Readings.{join}
 use Rattle.ndr_read.proofs.Flats.{alone_whole}
 use Rattle.ndr_read.proofs.Rows.{vals_push, one_more, one_fails, all_done, each_more, each_fails, each_done, build_step, struct_build, union_build, items_push}

@@ -2,7 +2,7 @@ use Rattle.std.proofs.Common.{◌≡◌, ◌+◌, ◌*◌, ◌-◌, None, length
 use Rattle.ndr_value.specs.Forms.{form, forms}
 use Rattle.ndr_value.specs.Values.{vals}
 use Rattle.ndr_model.specs.Build.{build, built_each, built_times}
-use Rattle.ndr_scan.specs.Views.{types_in}
+use Rattle.ndr_pointers.specs.Views.{types_in}
 use Rattle.ndr_read.specs.Views.{cursor_of, last_of}
 use Rattle.ndr_read.proofs.Rows.{with_front}
 use Rattle.ndr_read.proofs.build.+build.Given as goal

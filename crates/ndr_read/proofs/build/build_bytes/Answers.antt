@@ -1,5 +1,5 @@
 use Rattle.std.proofs.Common.{◌≡◌, ℕ, ◌+◌, ◌-◌, take, drop, ap, ◌∙◌, arith}
-use Rattle.ndr_scan.specs.Views.{types_in}
+use Rattle.ndr_pointers.specs.Views.{types_in}
 use Rattle.ndr_read.specs.Views.{cursor_of}
 use Rattle.ndr_read.proofs.Octets.{many_built, many_missing, many_too_deep}
 use Rattle.ndr_read.proofs.build.build_bytes.Goals as goal

@@ -2,14 +2,14 @@ use Rattle.std.proofs.Common.{◌≡◌, ◌∙◌, Bool, true, Ok, sym, ap, sub
 use Rattle.std.proofs.lemmas.Grind.{common_steps}
 use Rattle.ndr_value.specs.Forms.{Form}
 use Rattle.ndr_value.specs.Values.{Vals, val, vals, no_val, then_val}
-use Rattle.ndr_value.specs.Tables.{param_form}
-use Rattle.ndr_model.specs.Bind.{◌>>=◌}
+use Rattle.ndr_table.specs.Tables.{param_form}
+use Rattle.ndr_arrays.specs.Bind.{◌>>=◌}
 use Rattle.ndr_model.specs.Stub.{goes, param_entry}
 use Rattle.ndr_model.specs.Build.{Found}
 use Rattle.ndr_model.specs.Places.{Last}
 use Rattle.ndr_model.specs.Message.{enough}
 use Rattle.ndr_read.specs.Readings.{join, Followed, entry_at, param_at}
-use Rattle.ndr_scan.specs.Views.{types_in}
+use Rattle.ndr_pointers.specs.Views.{types_in}
 use Rattle.ndr_read.specs.Views.{last_of}
 use Rattle.ndr_read.proofs.Rows.{vals_push}
 use Rattle.ndr_read.proofs.whole.read_param.Goals as goal

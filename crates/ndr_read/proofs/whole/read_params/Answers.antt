@@ -1,11 +1,11 @@
 use Rattle.std.proofs.Common.{subst}
 use Rattle.std.proofs.lemmas.Result.{err_from_is_err_and}
 use Rattle.ndr_value.specs.Values.{vals}
-use Rattle.ndr_value.specs.Tables.{result_form}
+use Rattle.ndr_table.specs.Tables.{result_form}
 use Rattle.ndr_model.specs.Message.{enough}
-use Rattle.ndr_scan.specs.Gives.{Gives}
+use Rattle.ndr_pointers.specs.Gives.{Gives}
 use Rattle.ndr_read.specs.Readings.{Followed}
-use Rattle.ndr_scan.specs.Views.{types_in}
+use Rattle.ndr_pointers.specs.Views.{types_in}
 use Rattle.ndr_read.specs.Views.{last_of}
 use Rattle.ndr_read.proofs.Follows.{param_next, param_fails, last_is}
 use Rattle.ndr_read.proofs.whole.read_params.Goals as goal

@@ -1,10 +1,10 @@
 use Rattle.std.proofs.Common.{◌≡◌, map, drop}
 use Rattle.ndr_value.specs.Values.{vals}
-use Rattle.ndr_value.specs.Tables.{param_form, result_form}
+use Rattle.ndr_table.specs.Tables.{param_form, result_form}
 use Rattle.ndr_model.specs.Stub.{entries_of}
 use Rattle.ndr_model.specs.Build.{follows}
 use Rattle.ndr_model.specs.Message.{enough}
-use Rattle.ndr_scan.specs.Views.{types_in}
+use Rattle.ndr_pointers.specs.Views.{types_in}
 use Rattle.ndr_read.specs.Views.{last_of}
 use Rattle.ndr_read.specs.Readings.{before}
 use Rattle.ndr_read.proofs.whole.read_params.Given as goal

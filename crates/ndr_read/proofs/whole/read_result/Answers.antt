@@ -1,12 +1,12 @@
 use Rattle.std.proofs.Common.{◌≡◌, ◌∙◌, None, Ok, sym, ap}
 use Rattle.ndr_value.specs.Forms.{form}
 use Rattle.ndr_value.specs.Values.{Vals, val, vals, no_val, then_val}
-use Rattle.ndr_value.specs.Tables.{result_form}
+use Rattle.ndr_table.specs.Tables.{result_form}
 use Rattle.ndr_model.specs.Places.{Last}
 use Rattle.ndr_model.specs.Stub.{last_entry}
 use Rattle.ndr_model.specs.Message.{enough}
 use Rattle.ndr_read.specs.Readings.{join, Followed}
-use Rattle.ndr_scan.specs.Views.{types_in}
+use Rattle.ndr_pointers.specs.Views.{types_in}
 use Rattle.ndr_read.specs.Views.{last_of}
 use Rattle.ndr_read.proofs.Rows.{vals_push}
 use Rattle.ndr_read.proofs.Follows.{no_result, a_result}

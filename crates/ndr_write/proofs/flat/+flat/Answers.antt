@@ -3,8 +3,8 @@ use Rattle.std.specs.Prelude.{OnOk, ◌||◌}
 use Rattle.ndr_value.specs.Forms.{Form, OfStruct, form, forms}
 use Rattle.ndr_value.specs.Values.{val, vals, bytes}
 use Rattle.ndr_value.proofs.Mirror.{count-vals}
-use Rattle.ndr_value.specs.Aligned.{align_of, alignments}
-use Rattle.ndr_value.specs.Tails.{ends_open, tails_of}
+use Rattle.ndr_table.specs.Aligned.{align_of, alignments}
+use Rattle.ndr_table.specs.Tails.{ends_open, tails_of}
 use Rattle.ndr_model.specs.Part.{opens_with}
 use Rattle.ndr_agree.specs.Views.{types_in, call_of}
 use Rattle.ndr_agree.proofs.Items.{struct_is, union_is, value_struct, value_array}

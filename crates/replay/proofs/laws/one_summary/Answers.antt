@@ -1,6 +1,6 @@
 use Rattle.std.proofs.Common.{ap, sym, ◌∙◌, None}
-use Rattle.load_counts.specs.Counting.{counts_of}
-use Rattle.load_counts.specs.Summary.{summary_text}
+use Rattle.replay_script.specs.Counting.{counts_of}
+use Rattle.replay_script.specs.Summary.{summary_text}
 use Rattle.replay.proofs.laws.one_summary.Goals as goal
 
 pub returns : goal.returns

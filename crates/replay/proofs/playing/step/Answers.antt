@@ -1,5 +1,5 @@
 use Rattle.std.proofs.Common.{◌∙◌, ◌≡◌, ◌∷◌, ℕ, List, ap, drop, length, subst, arith}
-use Rattle.load_script.specs.Knowing.{Knows}
+use Rattle.replay_script.specs.Knowing.{Knows}
 use Rattle.replay.proofs.Stepping.{grown, stepped}
 use Rattle.replay.proofs.playing.step.Goals as goal
 

@@ -1,9 +1,9 @@
 use Rattle.std.proofs.Common.{rules, Option}
-use Rattle.ndr_value.specs.Tables.{TableForm}
-use Rattle.service_desks.specs.Shows.{shown_by}
-use Rattle.service_desks.specs.Start.{at_start}
+use Rattle.ndr_table.specs.Tables.{TableForm}
+use Rattle.desk_service.specs.Shows.{shown_by}
+use Rattle.desk_service.specs.Start.{at_start}
 use Rattle.replay_world.specs.Worlds.{booted}
-use Rattle.replay_realm.specs.Service.{service_of}
+use Rattle.replay_groups.specs.Service.{service_of}
 use Rattle.replay.proofs.Read.{departs_first, departs_there, stops_first, stops_there, still_played}
 use Rattle.replay.proofs.Whole.{replayed, served}
 use Rattle.replay.proofs.replaying.replay.Goals as goal

@@ -1,6 +1,6 @@
 use Rattle.std.proofs.Common.{subst, sym}
 use Rattle.group_core.specs.Calls.{Cancels}
-use Rattle.replay_realm.specs.Holding.{Moves, Going}
+use Rattle.replay_groups.specs.Holding.{Moves, Going}
 use Rattle.replay_events.proofs.Marking.{cancel_ends, cancel_flags, cancel_late}
 use Rattle.replay_events.proofs.marked.cancelled.Goals as goal
 

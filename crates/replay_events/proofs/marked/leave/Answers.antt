@@ -1,8 +1,8 @@
 use Rattle.std.proofs.Common.{subst, sym, Option}
 use Rattle.replay_world.specs.declared.peer.Member.{Member}
 use Rattle.replay_world.specs.Events.{LeavesIts}
-use Rattle.replay_realm.specs.Service.{service_of}
-use Rattle.replay_realm.specs.Holding.{Moves}
+use Rattle.replay_groups.specs.Service.{service_of}
+use Rattle.replay_groups.specs.Holding.{Moves}
 use Rattle.replay_events.proofs.marked.leave.Goals as goal
 
 pub returns-in_ok-leave-in-Some : goal.returns-in_ok-leave-in-Some

@@ -1,5 +1,5 @@
 use Rattle.std.proofs.Common.{subst, sym, Bool}
-use Rattle.replay_realm.specs.Holding.{Moves}
+use Rattle.replay_groups.specs.Holding.{Moves}
 use Rattle.replay_events.specs.Marked.{MarksAs}
 use Rattle.replay_events.proofs.marked.marked.Goals as goal
 

@@ -1,6 +1,6 @@
 use Rattle.std.proofs.Common.{subst, sym}
 use Rattle.group_core.specs.Calls.{Orphans}
-use Rattle.replay_realm.specs.Holding.{Moves, Going}
+use Rattle.replay_groups.specs.Holding.{Moves, Going}
 use Rattle.replay_events.proofs.Marking.{orphan_drops, orphan_runs, orphan_late}
 use Rattle.replay_events.proofs.marked.orphaned.Goals as goal
 

@@ -1,7 +1,7 @@
 use Rattle.std.proofs.Common.{rules, subst, List}
 use Rattle.handle_model.specs.declared.entry.Outcome.{Outcome}
 use Rattle.handle_model.specs.declared.entry.Entry.TheVariants.{End}
-use Rattle.load_counts.specs.Counting.{Adds}
+use Rattle.replay_script.specs.Counting.{Adds}
 use Rattle.group_core.specs.Conns.{Settles}
 use Rattle.replay_groups.proofs.calls.end_of.Goals as goal
 

@@ -1,6 +1,6 @@
 use Rattle.std.proofs.Common.{sym, ◌∙◌, decimal}
-use Rattle.rpc_words.specs.Words.{octets_text}
-use Rattle.rpc_words.proofs.Cuts.{no_cut}
+use Rattle.base_words.specs.Words.{octets_text}
+use Rattle.base_words.proofs.Cuts.{no_cut}
 use Rattle.replay_script.proofs.Fronts.{arrival_of_cut}
 use Rattle.replay_script.proofs.read.read_arrival.Goals as goal
 

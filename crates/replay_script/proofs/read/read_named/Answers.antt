@@ -1,5 +1,5 @@
 use Rattle.std.proofs.Common.{◌∙◌}
-use Rattle.rpc_words.proofs.Compares.{agree}
+use Rattle.base_words.proofs.Compares.{agree}
 use Rattle.replay_script.proofs.Fronts.{send_alone}
 use Rattle.replay_script.proofs.read.read_named.Goals as goal
 

@@ -1,5 +1,5 @@
 use Rattle.std.proofs.Common.{◌≡◌, true, ◌∙◌}
-use Rattle.handle_rules.specs.Told.{told}
+use Rattle.journal_rules.specs.Told.{told}
 use Rattle.replay_tests.proofs.Keeping.{yes_of, end_known}
 use Rattle.replay_tests.proofs.kept.can_end.Goals as goal
 

@@ -1,5 +1,5 @@
 use Rattle.std.proofs.Common.{◌∙◌}
-use Rattle.handle_rules.specs.Told.{told}
+use Rattle.journal_rules.specs.Told.{told}
 use Rattle.replay_tests.proofs.Keeping.{open_known}
 use Rattle.replay_tests.proofs.kept.is_open_in.Goals as goal
 

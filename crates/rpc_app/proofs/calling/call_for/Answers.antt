@@ -1,5 +1,5 @@
 use Rattle.std.proofs.Common.{rules, ◌≡◌, refl}
-use Rattle.ndr_value.specs.Shown.{shown}
+use Rattle.ndr_table.specs.Shown.{shown}
 use Rattle.rpc_app.specs.Calling.{HasInterface, RefusesCall}
 use Rattle.rpc_app.specs.Commands.{call_limit}
 use Rattle.rpc_app.specs.Runs.{Gains, GainsFront, IsLoaded}

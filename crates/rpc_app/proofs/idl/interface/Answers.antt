@@ -1,4 +1,4 @@
-use Rattle.ndr_value.specs.Shown.{shown}
+use Rattle.ndr_table.specs.Shown.{shown}
 use Rattle.rpc_app.proofs.Made.{tables}
 use Rattle.rpc_app.proofs.idl.interface.Goals as goal
 

@@ -1,5 +1,5 @@
 use Rattle.std.proofs.Common.{◌∙◌}
-use Rattle.server_line.specs.declared.stop.Stop.TheVariants as stop
+use Rattle.server_steps.specs.declared.stop.Stop.TheVariants as stop
 use Rattle.server_run.proofs.Ends.{alone_early}
 use Rattle.server_run.proofs.binding.enter.Goals as goal
 

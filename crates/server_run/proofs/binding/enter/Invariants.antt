@@ -1,5 +1,5 @@
 use Rattle.std.proofs.Common.{◌≡◌}
-use Rattle.server_line.specs.Early.{IsEarly}
+use Rattle.server_steps.specs.Early.{IsEarly}
 use Rattle.server_run.proofs.binding.enter.Given as goal
 
 abbrev pub invariant-loop : goal.invariant-loop

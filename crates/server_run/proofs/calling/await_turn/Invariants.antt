@@ -1,5 +1,5 @@
-use Rattle.server_line.specs.Lines.{IsSame}
-use Rattle.server_line.specs.Calls.{IsWaiting}
+use Rattle.server_steps.specs.Lines.{IsSame}
+use Rattle.server_steps.specs.Calls.{IsWaiting}
 use Rattle.server_run.proofs.calling.await_turn.Given as goal
 
 abbrev pub invariant-loop : goal.invariant-loop

@@ -1,7 +1,7 @@
 use Rattle.std.proofs.Common.{sym, subst}
 use Rattle.conn_histories.specs.Requests.{IsRefused}
-use Rattle.served_call.specs.Suited.{never_full}
-use Rattle.server_line.proofs.Calling.{settled_early}
+use Rattle.server_calls.specs.Suited.{never_full}
+use Rattle.server_steps.proofs.Calling.{settled_early}
 use Rattle.server_run.proofs.calling.serve_call.Goals as goal
 
 pub answer-requires-clause-settled : goal.answer-requires-clause-settled

@@ -1,4 +1,4 @@
-use Rattle.server_line.specs.Lines.{IsSame, IsReady}
+use Rattle.server_steps.specs.Lines.{IsSame, IsReady}
 use Rattle.server_run.proofs.connection.serve_calls.Given as goal
 
 abbrev pub invariant-loop : goal.invariant-loop

@@ -5,8 +5,8 @@ use Rattle.handle_model.specs.Rules.{filled}
 use Rattle.hub_story.specs.Passes.{Knows}
 use Rattle.group_hub.specs.Passes.{at_shard}
 use Rattle.group_hub.specs.Shards.{shard_of}
-use Rattle.served_tables.specs.Served.{tables_in}
-use Rattle.call_worker.proofs.Cookies.{suit_length}
+use Rattle.manager_api.specs.Served.{tables_in}
+use Rattle.server_steps.proofs.Cookies.{suit_length}
 use Rattle.server_run.proofs.Serving.{filled_length, given_so, running_so, row_so}
 use Rattle.server_run.proofs.running.run_call.Goals as goal
 

@@ -1,6 +1,6 @@
 use Rattle.std.proofs.Common.{◌≡◌}
-use Rattle.server_line.specs.Lines.{IsSame}
-use Rattle.server_line.specs.Calls.{IsRunning}
+use Rattle.server_steps.specs.Lines.{IsSame}
+use Rattle.server_steps.specs.Calls.{IsRunning}
 use Rattle.server_run.proofs.watching.watch.Given as goal
 
 abbrev pub invariant-loop : goal.invariant-loop

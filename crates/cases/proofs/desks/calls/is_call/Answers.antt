@@ -1,4 +1,4 @@
-use Rattle.ndr_value.specs.Shown.{shown}
+use Rattle.ndr_table.specs.Shown.{shown}
 use Rattle.cases.proofs.desks.calls.is_call.Goals as goal
 
 pub returns : goal.returns

@@ -1,5 +1,5 @@
 use Rattle.std.proofs.Common.{◌≡◌, Some, rules, sym, ◌∙◌}
-use Rattle.client_asks.specs.declared.begun.Out.TheVariants.{Call}
+use Rattle.client_core.specs.declared.begun.Out.TheVariants.{Call}
 use Rattle.client_core.specs.State.{state}
 use Rattle.client_core.proofs.Outs.{call_is_out}
 use Rattle.client_core.proofs.Heard.{of_the_call}

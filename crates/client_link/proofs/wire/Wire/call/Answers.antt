@@ -2,7 +2,7 @@ use Rattle.std.proofs.Common.{sym, refl, ◌∙◌}
 use Rattle.std.proofs.lemmas.List.{append-nil}
 use Rattle.std.proofs.lemmas.Result.{err_from_is_err_and}
 use Rattle.ndr_value.specs.Values.{msg}
-use Rattle.client_asks.specs.Histories.ClientEvent.{DidCall}
+use Rattle.client_core.specs.Histories.ClientEvent.{DidCall}
 use Rattle.client_link.specs.Wires.{IsTooLong}
 use Rattle.client_link.proofs.WireLemmas.{begins_ok, begins_failed}
 use Rattle.client_link.proofs.wire.Wire.call.Goals as goal

@@ -1,7 +1,7 @@
 use Rattle.std.proofs.Common.{sym, refl, ◌∙◌}
 use Rattle.std.proofs.lemmas.List.{append-nil}
 use Rattle.std.proofs.lemmas.Result.{err_from_is_err_and}
-use Rattle.client_asks.specs.Histories.ClientEvent.{DidCancel}
+use Rattle.client_core.specs.Histories.ClientEvent.{DidCancel}
 use Rattle.client_link.proofs.WireLemmas.{begins_ok, begins_failed}
 use Rattle.client_link.proofs.wire.Wire.cancel.Goals as goal
 

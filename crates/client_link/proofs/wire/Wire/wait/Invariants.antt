@@ -1,8 +1,8 @@
 use Rattle.std.proofs.Common.{◌<◌, List, []}
 use Rattle.rpc_outside.specs.Links.{Counts}
-use Rattle.ndr_value.specs.Tables.{TableForm}
-use Rattle.client_asks.specs.States.{ClientState}
-use Rattle.client_asks.specs.Histories.{ClientEvent}
+use Rattle.ndr_table.specs.Tables.{TableForm}
+use Rattle.client_core.specs.States.{ClientState}
+use Rattle.client_core.specs.Histories.{ClientEvent}
 use Rattle.client_link.specs.Wires.{IsOpen, Stays, Lived, RoseBy, most_quiets}
 use Rattle.client_link.proofs.WireLemmas.{Waited}
 use Rattle.client_link.proofs.wire.Wire.wait.Given as goal

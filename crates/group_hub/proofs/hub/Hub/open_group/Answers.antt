@@ -1,5 +1,5 @@
 use Rattle.std.proofs.Common.{Ok, Err}
-use Rattle.shard.specs.declared.answer.OpenRefusal.TheVariants.{GroupsFull, Ids, Memory}
+use Rattle.hub_shard.specs.declared.answer.OpenRefusal.TheVariants.{GroupsFull, Ids, Memory}
 use Rattle.group_hub.proofs.OpenLemmas.{opened_first, opened_second, quiet_second, full_first, full_second, none_left, open_serves, open_still, mod_low}
 use Rattle.group_hub.proofs.hub.Hub.open_group.Goals as goal
 

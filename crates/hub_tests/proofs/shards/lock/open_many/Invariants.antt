@@ -1,4 +1,4 @@
-use Rattle.shard_lock.specs.Locks.{IsPassOf}
+use Rattle.group_hub.specs.Locks.{IsPassOf}
 use Rattle.hub_tests.proofs.shards.lock.open_many.Given as goal
 
 abbrev pub invariant-loop : goal.invariant-loop

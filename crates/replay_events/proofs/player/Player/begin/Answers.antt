@@ -1,5 +1,5 @@
 use Rattle.std.proofs.Common.{rules}
-use Rattle.service_desks.specs.Shows.{shown_by}
+use Rattle.desk_service.specs.Shows.{shown_by}
 use Rattle.replay_events.proofs.Picking.{begins}
 use Rattle.replay_events.proofs.player.Player.begin.Goals as goal
 

@@ -1,6 +1,6 @@
 use Rattle.std.proofs.Common.{Err, subst}
 use Rattle.replay_groups.specs.declared.binding.BindRefusal.{BindRefusal}
-use Rattle.replay_realm.specs.Holding.{Moves, BindsIn}
+use Rattle.replay_groups.specs.Holding.{Moves, BindsIn}
 use Rattle.replay_events.proofs.Wording.{is_played, known_hand, bound_to, nak_said}
 use Rattle.replay_events.proofs.player.Player.bind.Goals as goal
 

@@ -1,5 +1,5 @@
 use Rattle.std.proofs.Common.{true, Option, sym, subst, ◌∙◌}
-use Rattle.replay_peers.specs.declared.played.Kept.{Kept}
+use Rattle.replay_events.specs.declared.played.Kept.{Kept}
 use Rattle.replay_events.specs.Hands.{EndsAs}
 use Rattle.replay_events.proofs.Ending.{known_runs, served_is, slots_are, slots_few, cookies_are, known_at, ends}
 use Rattle.replay_events.proofs.player.Player.end_call.Goals as goal

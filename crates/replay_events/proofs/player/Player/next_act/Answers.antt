@@ -1,5 +1,5 @@
 use Rattle.std.proofs.Common.{refl}
-use Rattle.replay_peers.specs.Living.{event_of}
+use Rattle.replay_events.specs.Living.{event_of}
 use Rattle.replay_events.proofs.Living.{lived}
 use Rattle.replay_events.proofs.player.Player.next_act.Goals as goal
 

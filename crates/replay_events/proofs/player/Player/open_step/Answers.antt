@@ -1,5 +1,5 @@
 use Rattle.std.proofs.Common.{true, false, subst}
-use Rattle.replay_peers.specs.Living.{event_of}
+use Rattle.replay_events.specs.Living.{event_of}
 use Rattle.replay_events.specs.Lived.{Lived}
 use Rattle.replay_events.proofs.Wording.{is_played, due_as}
 use Rattle.replay_events.proofs.Walking.{says, pauses, is_midway, does}

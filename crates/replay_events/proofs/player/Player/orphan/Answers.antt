@@ -1,6 +1,6 @@
 use Rattle.std.proofs.Common.{subst, sym, ap, ◌∙◌, Option}
 use Rattle.conn_asks.specs.declared.events.Act.TheVariants as acts
-use Rattle.replay_peers.specs.declared.played.Kept.{Kept}
+use Rattle.replay_events.specs.declared.played.Kept.{Kept}
 use Rattle.replay_events.specs.Marked.{with_orphan}
 use Rattle.replay_events.specs.Lived.{Means}
 use Rattle.replay_events.proofs.Offing.{low_orphan, orphans}

@@ -1,6 +1,6 @@
 use Rattle.std.proofs.Common.{subst, sym}
-use Rattle.replay_realm.specs.Holding.{Moves}
-use Rattle.replay_realm.specs.Requests.{RequestsIn}
+use Rattle.replay_groups.specs.Holding.{Moves}
+use Rattle.replay_groups.specs.Requests.{RequestsIn}
 use Rattle.replay_events.proofs.Acting.{known_here, low_here, refused, known_between, accepted}
 use Rattle.replay_events.proofs.player.Player.request.Goals as goal
 

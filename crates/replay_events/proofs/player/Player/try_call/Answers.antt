@@ -1,6 +1,6 @@
 use Rattle.std.proofs.Common.{refl, sym, subst, ap, ◌∙◌, Option}
 use Rattle.handle_model.specs.declared.reply.Reply.{Reply}
-use Rattle.replay_peers.specs.declared.played.Kept.{Kept}
+use Rattle.replay_events.specs.declared.played.Kept.{Kept}
 use Rattle.replay_events.specs.Marked.{with_cookies, told_of}
 use Rattle.replay_events.specs.Hands.{Leads, TakesIn}
 use Rattle.replay_events.proofs.Calling.{takes}

@@ -1,5 +1,5 @@
 use Rattle.std.proofs.Common.{ℕ, ◌<◌, refl, subst}
-use Rattle.shard_lock.specs.Passes.{Merges}
+use Rattle.group_hub.specs.ShardPasses.{Merges}
 use Rattle.group_hub.specs.declared.pass.Pass.{Pass}
 use Rattle.group_hub.specs.Passes.{at_shard}
 use Rattle.server_rounds.proofs.Servings.{serving_settled}

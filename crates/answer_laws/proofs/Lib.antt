@@ -1,4 +1,0 @@
-pub mod Slots
-pub mod Comes
-pub mod Texts
-pub mod Lines

@@ -1,0 +1,18 @@
+use Rattle.std.proofs.Common.{◌∙◌, arith, inr, decimal}
+use Rattle.app_words.proofs.Parts.{parts, no_parts}
+use Rattle.app_words.proofs.read.read_last.Goals as goal
+
+pub returns-in_err-number : goal.returns-in_err-number
+returns-in_err-number c = rw c.from_residual.ensures (λ x fits e. no_parts 58 x.0 (decimal x.1) c.args.text.now c.in_err-number.ensures e)
+
+pub returns-in_err-number-2 : goal.returns-in_err-number-2
+returns-in_err-number-2 c = rw c.from_residual-in_err-number-2.ensures (λ x fits e.
+    let cut = c.in_ok-number.ensures in
+    let two = parts 58 x.0 (decimal x.1) c.in_ok-number.number.now c.in_ok-number.rest.now (inr (omega arith)) fits.0 cut.1 (e ∙ cut.0) in
+    c.in_err-number-2.ensures x.0 fits.0 two.0)
+
+pub returns-in_err-port : goal.returns-in_err-port
+returns-in_err-port c = rw c.from_residual-in_err-port.ensures (λ x fits e.
+    let cut = c.in_ok-number.ensures in
+    let two = parts 58 x.0 (decimal x.1) c.in_ok-number.number.now c.in_ok-number.rest.now (inr (omega arith)) fits.0 cut.1 (e ∙ cut.0) in
+    c.in_err-port.ensures x.1 fits.1 two.1)

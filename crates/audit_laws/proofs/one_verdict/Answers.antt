@@ -1,5 +1,0 @@
-use Rattle.audit_laws.proofs.Verdicts.{one_verdict}
-use Rattle.audit_laws.proofs.one_verdict.Goals as goal
-
-pub returns : goal.returns
-returns c = one_verdict

@@ -1,0 +1,171 @@
+//! Connected sockets.
+ghost use Rattle.std.specs.Prelude.{◌<◌, length, IfOk, IfSome};
+ghost use Rattle.base_system.specs.Sockets.{Gives, IsSome};
+
+use crate::waiter::{TURN, Waiter};
+use mio::Interest;
+use mio::net::TcpStream;
+use rpc_base::{Failed, OutFault};
+use rpc_outside::Taken;
+use std::io::{ErrorKind, Read, Write};
+use std::net::Shutdown;
+
+/// How long a take waits at most behind octets, in milliseconds. Each further one waits twice as long, up to a turn.
+const SHORT: u64 = 1;
+
+/// How many turns a put waits at most.
+const MOST_TURNS: u32 = 6_000;
+
+/// How many whole turns a peer is waited for at most, once the connection is to end.
+const LAST_TURNS: u32 = 200;
+
+/// How often a peer that goes on sending is looked at at most, once the connection is to end: each of its
+/// pieces takes a read, and another that finds nothing more.
+const LAST_READS: u32 = 32_768;
+
+/// A connected socket, and what waits for it. It waits until octets come, but for a put that doesn't
+/// find room.
+#[derive(Drop)]
+pub(crate) struct Connection {
+    stream: TcpStream,
+    waiter: Waiter,
+    // How long the next take waits at most, in milliseconds.
+    pause: u64,
+}
+
+impl Connection {
+    /// A socket that is connected, or about to be. What is put on it goes out at once, however little it is.
+    pub(crate) fn new(mut stream: TcpStream, waiter: Waiter) -> Result<Connection, OutFault> {
+        if stream.set_nodelay(true).is_err() {
+            return Err(OutFault::Failed);
+        }
+        match waiter.watch(&mut stream, Interest::READABLE) {
+            Ok(()) => Ok(Connection {
+                stream,
+                waiter,
+                pause: SHORT,
+            }),
+            Err(Failed) => Err(OutFault::Failed),
+        }
+    }
+
+    /// Waits until the peer has answered.
+    pub(crate) fn wait_connected(&mut self) -> Result<(), Failed> {
+        self.waiter
+            .watch_again(&mut self.stream, Interest::WRITABLE)?;
+        for _ in 0..MOST_TURNS {
+            self.waiter.wait(TURN)?;
+            if !matches!(self.stream.take_error(), Ok(None)) {
+                return Err(Failed);
+            }
+            if self.stream.peer_addr().is_ok() {
+                return self
+                    .waiter
+                    .watch_again(&mut self.stream, Interest::READABLE);
+            }
+        }
+        Err(Failed)
+    }
+
+    /// Takes what came, and waits where nothing did.
+    pub(crate) fn take(&mut self, into: &mut [u8]) -> Result<Taken, Failed>
+        requires { 0 < length into.old }
+        ensures { Gives (length into.new) result }
+    {
+        match self.read(into)? {
+            Taken::Quiet => {
+                self.waiter.wait(self.pause)?;
+                self.pause = self.pause.saturating_mul(2).min(TURN);
+                self.read(into)
+            }
+            taken => Ok(taken),
+        }
+    }
+
+    fn read(&mut self, into: &mut [u8]) -> Result<Taken, Failed>
+        requires { 0 < length into.old }
+        ensures { Gives (length into.new) result }
+    {
+        match self.stream.read(into) {
+            Ok(0) => Ok(Taken::End),
+            Ok(count) => {
+                self.pause = SHORT;
+                Ok(Taken::Bytes(count))
+            }
+            Err(error) if is_passing(error.kind()) => Ok(Taken::Quiet),
+            Err(_) => Err(Failed),
+        }
+    }
+
+    /// Puts a front of the piece, and waits for room where there is none.
+    pub(crate) fn put(&mut self, piece: &[u8]) -> Result<usize, Failed>
+        ensures { IfOk result (λ count. IsSome (length piece.now) count) }
+    {
+        match self.write(piece)? {
+            Some(count) => Ok(count),
+            None => {
+                let put = self.put_waiting(piece);
+                // A take that isn't told of octets finds them a turn later.
+                let _ = self
+                    .waiter
+                    .watch_again(&mut self.stream, Interest::READABLE);
+                put
+            }
+        }
+    }
+
+    fn put_waiting(&mut self, piece: &[u8]) -> Result<usize, Failed>
+        ensures { IfOk result (λ count. IsSome (length piece.now) count) }
+    {
+        self.waiter
+            .watch_again(&mut self.stream, Interest::WRITABLE)?;
+        for _ in 0..MOST_TURNS {
+            self.waiter.wait(TURN)?;
+            if let Some(count) = self.write(piece)? {
+                return Ok(count);
+            }
+        }
+        Err(Failed)
+    }
+
+    // None where there is no room for an octet.
+    fn write(&mut self, piece: &[u8]) -> Result<Option<usize>, Failed>
+        ensures { IfOk result (λ put. IfSome put (λ count. IsSome (length piece.now) count)) }
+    {
+        match self.stream.write(piece) {
+            Ok(0) => Err(Failed),
+            Ok(count) => Ok(Some(count)),
+            Err(error) if is_passing(error.kind()) => Ok(None),
+            Err(_) => Err(Failed),
+        }
+    }
+
+    /// Ends the connection. What was put reaches the peer: the peer is told that no more comes, and
+    /// what it still sends is read and dropped for some turns, since a socket that is closed with octets
+    /// unread takes back what the peer hasn't read yet. A turn that the peer cuts short by sending isn't
+    /// counted among these.
+    pub(crate) fn part(mut self) {
+        let _ = self.stream.shutdown(Shutdown::Write);
+        let mut dropped = [0u8; 4096];
+        let mut turns = 0;
+        for _ in 0..LAST_READS {
+            match self.read(&mut dropped) {
+                Ok(Taken::Bytes(_)) => {}
+                Ok(Taken::Quiet) if turns < LAST_TURNS => {
+                    if self.waiter.wait(TURN).is_err() {
+                        return;
+                    }
+                    if !self.waiter.was_woken() {
+                        turns += 1;
+                    }
+                }
+                Ok(Taken::Quiet | Taken::End) | Err(Failed) => return,
+            }
+        }
+    }
+}
+
+// Whether the call is to be made again later.
+pub(crate) fn is_passing(kind: ErrorKind) -> bool {
+    kind == ErrorKind::WouldBlock || kind == ErrorKind::Interrupted
+}

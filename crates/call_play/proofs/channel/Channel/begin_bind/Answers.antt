@@ -1,8 +1,0 @@
-use Rattle.call_play.proofs.Channels.{halted}
-use Rattle.client_asks.specs.Histories.ClientEvent.{DidBind}
-use Rattle.call_play.proofs.channel.Channel.begin_bind.Goals as goal
-
-pub returns-in-Err-clause-begins : goal.returns-in-Err-clause-begins
-returns-in-Err-clause-begins g c = λ interface a h o.
-    halted g.K.Link.shows interface c.args.self.now a c.bind.new.self h o c.bind.ensures.stays (DidBind c.args.group) ⊥ ⊥ (λ x. x) c.in-Err.fault c.halt.result c.halt.new.self (c.in-Err.ensures.begins interface a.events a.state (h.lived o).0)
-    c.halt.ensures

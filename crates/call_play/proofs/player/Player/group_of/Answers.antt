@@ -1,5 +1,0 @@
-use Rattle.call_play.proofs.Finding.{asks_of}
-use Rattle.call_play.proofs.player.Player.group_of.Goals as goal
-
-pub returns : goal.returns
-returns g c = asks_of c.args.self.now c.args.name c.in_ok-at.at c.index.result.now c.in_ok-at.ensures c.index.ensures

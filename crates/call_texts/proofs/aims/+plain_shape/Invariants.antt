@@ -1,4 +1,0 @@
-use Rattle.call_texts.proofs.aims.+plain_shape.Given as goal
-
-abbrev pub decreases-plain_shape : goal.decreases-plain_shape
-decreases-plain_shape l = l.names

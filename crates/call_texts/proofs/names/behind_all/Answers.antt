@@ -1,5 +1,0 @@
-use Rattle.call_texts.proofs.Renamed.{stripped}
-use Rattle.call_texts.proofs.names.behind_all.Goals as goal
-
-pub returns : goal.returns
-returns c = stripped (λ x. x.now) c.strip_prefix.result c.args.word.now c.args.text.now c.strip_prefix.ensures.cases

@@ -1,0 +1,79 @@
+-- What comes of one thing that is done on a connection.
+use Rattle.std.specs.Prelude.{◌≡◌, ◌≢◌, ℕ, true, false, Result, Ok, Err, List, ⊤, ◌⊎◌}
+use Rattle.rpc_outside.specs.Links.{Shown}
+use Rattle.ndr_table.specs.Tables.{TableForm}
+use Rattle.client_core.specs.declared.told.Told.{Told}
+use Rattle.client_core.specs.States.{Outcome, ClientState, told}
+use Rattle.client_core.specs.States.Outcome.{TBroken}
+use Rattle.client_core.specs.Histories.{ClientEvent, Happens}
+use Rattle.client_core.specs.Histories.ClientEvent.{DidBind}
+use Rattle.client_link.specs.declared.wire.BeginFault.{BeginFault}
+use Rattle.client_link.specs.declared.wire.BeginFault.TheVariants as begin
+use Rattle.client_link.specs.declared.wait.Stop.{Stop as Deaf}
+use Rattle.client_link.specs.declared.wait.Stop.TheVariants as deaf
+use Rattle.client_link.specs.Wires.{MayBeTold}
+use Rattle.client_script.specs.declared.channel.Channel.{Channel}
+use Rattle.client_script.specs.declared.channel.Halt.{Halt}
+use Rattle.client_script.specs.declared.channel.Halt.TheVariants as halts
+use Rattle.client_script.specs.Worlds.{Association, with_event}
+use Rattle.client_script.specs.Steps.{Hears, bound_as}
+use Rattle.client_script.specs.Losses.{GoesUnheard, IsCutOff}
+use Rattle.client_script.specs.Shows.{Holds, HoldsLost}
+
+-- a connection asks for the group, and hears the answer; or is lost before
+pub record BindsFrom (interface : TableForm) (a : Association) (group : ℕ) (outcome : Outcome) (b : Association) : Type 0 where
+  pub octets : List ℕ
+  pub state : ClientState
+  pub begins : Happens a.state (DidBind group octets) state
+  pub answered : Association
+  pub hears : Hears interface (with_event a (DidBind group octets) state) outcome answered
+  pub bound : b ≡ bound_as answered outcome
+
+abbrev pub LosesFrom : TableForm → Association → ℕ → Association → Type 0
+LosesFrom interface a group b =
+    IsCutOff a (DidBind group) b ⊎ ((octets : List ℕ) × (n : ClientState) × Happens a.state (DidBind group octets) n × GoesUnheard interface (with_event a (DidBind group octets) n) b)
+
+-- an outcome that has a line: no breach of the protocol
+abbrev pub IsTellable : Outcome → Type 0
+IsTellable (TBroken fault) = ⊥
+IsTellable outcome = MayBeTold outcome
+
+-- what a wait comes to: an outcome that has a line, or the connection is lost, or memory ran out
+abbrev pub IsWaited : Result Told Halt → Type 0
+IsWaited (Ok t) = IsTellable (told t)
+IsWaited (Err halt) = halt ≢ halts.TooLong
+
+-- what follows on a fault of what is begun
+abbrev pub Halts : {K : Type 0} → Channel K → BeginFault → Halt → Channel K → Type 0
+Halts old begin.Failed halt new = (halt ≡ halts.Lost) × (new ≡ record old { is_open = false })
+Halts old begin.TooLong halt new = (halt ≡ halts.TooLong) × (new ≡ old)
+Halts old begin.Memory halt new = (halt ≡ halts.Memory) × (new ≡ old)
+
+-- and where nothing more is heard
+abbrev pub Silences : {K : Type 0} → Channel K → Deaf → Halt → Channel K → Type 0
+Silences old deaf.Memory halt new = (halt ≡ halts.Memory) × (new ≡ old)
+Silences old why halt new = (halt ≡ halts.Lost) × (new ≡ record old { is_open = false })
+
+module _ {K : Type 0} (shows : K → Shown) where
+  -- something is begun on the channel's connection, or it is lost meanwhile, or nothing is begun
+  abbrev pub BeginsOn : TableForm → Association → (List ℕ → ClientEvent) → Type 0 → Result Unit Halt → Channel K → Type 0
+  BeginsOn interface a event Long (Ok _) c = (octets : List ℕ) × (n : ClientState) × Happens a.state (event octets) n × Holds shows interface c (with_event a (event octets) n)
+  BeginsOn interface a event Long (Err halts.Lost) c = (b : Association) × IsCutOff a event b × HoldsLost shows interface c b
+  BeginsOn interface a event Long (Err halts.TooLong) c = Long × Holds shows interface c a
+  BeginsOn interface a event Long (Err halts.Memory) c = ⊤
+
+  -- an outcome is heard, or the connection is lost
+  abbrev pub HearsOn : TableForm → Association → Result Told Halt → Channel K → Type 0
+  HearsOn interface a (Ok t) c = (b : Association) × Hears interface a (told t) b × Holds shows interface c b
+  HearsOn interface a (Err halts.Lost) c = (b : Association) × GoesUnheard interface a b × HoldsLost shows interface c b
+  HearsOn interface a (Err _) c = ⊤
+
+  -- A new connection is bound to the group or not, as the outcome says; or it is lost.
+  abbrev pub BindsOn : TableForm → Association → ℕ → Result Told Halt → Channel K → Type 0
+  BindsOn interface a group (Ok t) c = (b : Association) × BindsFrom interface a group (told t) b × Holds shows interface c b
+  BindsOn interface a group (Err halts.Lost) c = (b : Association) × LosesFrom interface a group b × HoldsLost shows interface c b
+  BindsOn interface a group (Err _) c = ⊤
+
+  -- from each connection that the channel is and that is open
+  abbrev pub FromEach : Channel K → (TableForm → Association → Type 0) → Type 0
+  FromEach c P = (interface : TableForm) (a : Association) → Holds shows interface c a → a.is_open ≡ true → P interface a

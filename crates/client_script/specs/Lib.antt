@@ -1,0 +1,9 @@
+pub mod Channels
+pub mod Lines
+pub mod Losses
+pub mod Players
+pub mod Plays
+pub mod Scripts
+pub mod Shows
+pub mod Steps
+pub mod Worlds

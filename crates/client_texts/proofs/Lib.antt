@@ -1,0 +1,15 @@
+pub mod AnswerLines
+pub mod Apart
+pub mod Comes
+pub mod Index
+pub mod Lacks
+pub mod Lines
+pub mod Listed
+pub mod Lists
+pub mod Messages
+pub mod Once
+pub mod Pointers
+pub mod Renamed
+pub mod Requests
+pub mod Slots
+pub mod Texts

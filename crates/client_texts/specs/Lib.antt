@@ -1,0 +1,9 @@
+pub mod AnswerLaws
+pub mod Answers
+pub mod Handles
+pub mod Heaps
+pub mod Index
+pub mod Laws
+pub mod Pointers
+pub mod Renaming
+pub mod Texts

@@ -1,5 +1,0 @@
-use Rattle.counted_links.proofs.Sums.{puts}
-use Rattle.counted_links.proofs.counting.Counting.put.Goals as goal
-
-pub returns : goal.returns
-returns c = puts c.args.self.now c.args.octets.now c.push-new.new.self c.push-new.result c.shown-packets.result c.add.new.self c.push-new.ensures c.shown-packets.ensures c.add.ensures

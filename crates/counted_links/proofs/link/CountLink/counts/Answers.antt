@@ -1,7 +1,0 @@
-use Rattle.std.proofs.Common.{subst}
-use Rattle.counted_links.specs.Counting.{Counts}
-use Rattle.counted_links.proofs.Links.{tells}
-use Rattle.counted_links.proofs.link.CountLink.counts.Goals as goal
-
-pub returns : goal.returns
-returns g c = tells (g.K.Link.shows c.args.self.now) c.self.inside.counting c.read.result (subst (λ k. Counts (g.K.Link.shows k) c.self.inside.counting) c.self.view_is c.self.invariant) c.read.ensures

@@ -1,7 +1,0 @@
-use Rattle.std.proofs.Common.{sym, subst}
-use Rattle.counted_links.specs.Counting.{Counts}
-use Rattle.counted_links.proofs.Links.{counts_new}
-use Rattle.counted_links.proofs.link.CountLink.new.Goals as goal
-
-pub invariant_of-result : goal.invariant_of-result
-invariant_of-result g c = subst (Counts (g.K.Link.shows c.args.link)) (sym c.new.ensures) (counts_new (g.K.Link.shows c.args.link) c.requires)

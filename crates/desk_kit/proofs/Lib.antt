@@ -1,0 +1,5 @@
+pub mod Counted
+pub mod Owed
+pub mod Parts
+pub mod Rows
+pub mod Suits

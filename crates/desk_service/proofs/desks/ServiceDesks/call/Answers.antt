@@ -1,0 +1,72 @@
+use Rattle.std.proofs.Common.{◌≡◌, ◌≢◌, Some, refl, ap, arith}
+use Rattle.ndr_table.specs.declared.table.Table.{Table}
+use Rattle.ndr_table.specs.Shown.{shown}
+use Rattle.ndr_value.specs.Values.{msg}
+use Rattle.manager_api.specs.Calls.{Call}
+use Rattle.echo_manager.specs.Table.{probe_table}
+use Rattle.store_manager.specs.Table.{store_table}
+use Rattle.epm_manager.specs.Table.{epm_table}
+use Rattle.mgmt_manager.specs.Table.{mgmt_table}
+use Rattle.desk_service.specs.State.{tables_of}
+use Rattle.desk_service.specs.Shows.{shown_by}
+use Rattle.desk_service.specs.Views.{services}
+use Rattle.desk_service.specs.Calls.{by_probe, by_store, by_endpoints, by_echo}
+use Rattle.desk_service.proofs.Serving.{on_table, at_number, on_echo}
+use Rattle.desk_service.proofs.desks.ServiceDesks.call.Goals as goal
+
+pub call-requires-clause-request : goal.call-requires-clause-request
+call-requires-clause-request g c =
+    let k : Call = record { iface = c.args.iface; op = c.args.op; message = msg c.args.message; cookies = c.args.cookies } in
+    let tables = tables_of (services c.args.self.now) in
+    (on_table tables k probe_table c.requires.call (at_number tables c.args.iface 0 probe_table c.in-0.is refl)).request
+
+pub call-requires-in-1-clause-request : goal.call-requires-in-1-clause-request
+call-requires-in-1-clause-request g c =
+    let k : Call = record { iface = c.args.iface; op = c.args.op; message = msg c.args.message; cookies = c.args.cookies } in
+    let tables = tables_of (services c.args.self.now) in
+    (on_table tables k store_table c.requires.call (at_number tables c.args.iface 1 store_table c.in-1.is refl)).request
+
+pub call-requires-in-2-clause-request : goal.call-requires-in-2-clause-request
+call-requires-in-2-clause-request g c =
+    let k : Call = record { iface = c.args.iface; op = c.args.op; message = msg c.args.message; cookies = c.args.cookies } in
+    let tables = tables_of (services c.args.self.now) in
+    (on_table tables k epm_table c.requires.call (at_number tables c.args.iface 2 epm_table c.in-2.is refl)).request
+
+pub manage-requires-clause-request : goal.manage-requires-clause-request
+manage-requires-clause-request g c =
+    let k : Call = record { iface = c.args.iface; op = c.args.op; message = msg c.args.message; cookies = c.args.cookies } in
+    let tables = tables_of (services c.args.self.now) in
+    (on_table tables k mgmt_table c.requires.call (at_number tables c.args.iface 3 mgmt_table c.in-3.is refl)).request
+
+pub echo-requires-clause-request : goal.echo-requires-clause-request
+echo-requires-clause-request g c =
+    let k : Call = record { iface = c.args.iface; op = c.args.op; message = msg c.args.message; cookies = c.args.cookies } in
+    let h = c.in_default in
+    let p : c.args.iface ≢ 0 = omega (arith, h) in
+    let q : c.args.iface ≢ 1 = omega (arith, h) in
+    let r : c.args.iface ≢ 2 = omega (arith, h) in
+    let v : c.args.iface ≢ 3 = omega (arith, h) in
+    let is : (services c.args.self.now).echo ≡ Some (shown c.in-Some.table) = ap (shown_by (λ (t : Table). t)) c.in-Some.is in
+    let on = on_echo (services c.args.self.now) k (shown c.in-Some.table) p q r v c.requires.call is in
+    on.1.request
+
+pub returns-in-0-clause-may : goal.returns-in-0-clause-may
+returns-in-0-clause-may g c = by_probe c.call.new.self c.in-0.is c.call.ensures.may refl
+
+pub returns-in-1-clause-may : goal.returns-in-1-clause-may
+returns-in-1-clause-may g c = by_store c.call-in-1.new.self c.in-1.is c.call-in-1.ensures.may refl
+
+pub returns-in-2-clause-may : goal.returns-in-2-clause-may
+returns-in-2-clause-may g c = by_endpoints c.call-in-2.new.self c.in-2.is c.call-in-2.ensures.may refl
+
+pub returns-in-Some-clause-may : goal.returns-in-Some-clause-may
+returns-in-Some-clause-may g c =
+    let k : Call = record { iface = c.args.iface; op = c.args.op; message = msg c.args.message; cookies = c.args.cookies } in
+    let h = c.in_default in
+    let p : c.args.iface ≢ 0 = omega (arith, h) in
+    let q : c.args.iface ≢ 1 = omega (arith, h) in
+    let r : c.args.iface ≢ 2 = omega (arith, h) in
+    let v : c.args.iface ≢ 3 = omega (arith, h) in
+    let is : (services c.args.self.now).echo ≡ Some (shown c.in-Some.table) = ap (shown_by (λ (t : Table). t)) c.in-Some.is in
+    let on = on_echo (services c.args.self.now) k (shown c.in-Some.table) p q r v c.requires.call is in
+    by_echo (shown c.in-Some.table) on.0 is c.echo.ensures.may refl

@@ -1,0 +1,7 @@
+pub mod Calls
+pub mod Laws
+pub mod Rundowns
+pub mod Shows
+pub mod Start
+pub mod State
+pub mod Views

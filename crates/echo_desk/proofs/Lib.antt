@@ -1,4 +1,0 @@
-pub mod Walks
-pub mod Anew
-pub mod Placed
-pub mod Said

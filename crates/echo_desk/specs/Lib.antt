@@ -1,4 +1,0 @@
-pub mod Met
-pub mod Numbered
-pub mod Steps
-pub mod Views

@@ -1,0 +1,5 @@
+pub mod Anew
+pub mod Owed
+pub mod Placed
+pub mod Said
+pub mod Walks

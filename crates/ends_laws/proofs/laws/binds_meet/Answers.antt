@@ -1,5 +1,0 @@
-use Rattle.ends_laws.proofs.Binding.{binds_meet}
-use Rattle.ends_laws.proofs.laws.binds_meet.Goals as goal
-
-pub returns : goal.returns
-returns c = binds_meet

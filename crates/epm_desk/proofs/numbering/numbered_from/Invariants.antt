@@ -1,7 +1,0 @@
-use Rattle.std.proofs.Common.{◌≡◌}
-use Rattle.epm_model.specs.Entries.{numbered_from, last_of}
-use Rattle.epm_laws.specs.Wholes.{AllTyped}
-use Rattle.epm_desk.proofs.numbering.numbered_from.Given as goal
-
-abbrev pub invariant-loop-entry : goal.invariant-loop-entry
-invariant-loop-entry l = record { typed : AllTyped l.numbered.items; entries : l.numbered.items ≡ numbered_from l.last l.yielded; last : l.number ≡ last_of l.last l.yielded }

@@ -1,5 +1,0 @@
-use Rattle.epm_laws.proofs.Owed.{steps_owe}
-use Rattle.epm_laws.proofs.laws.steps_owe.Goals as goal
-
-pub returns : goal.returns
-returns c = λ s call whole lt request. steps_owe s call whole lt request

@@ -1,0 +1,10 @@
+pub mod Answered
+pub mod Asked
+pub mod Entries
+pub mod Found
+pub mod Laws
+pub mod RequestLaws
+pub mod Steps
+pub mod Table
+pub mod Wanted
+pub mod Wholes

@@ -1,6 +1,0 @@
-use Rattle.std.proofs.Common.{◌≡◌, take}
-use Rattle.epm_model.specs.Found.{last_number}
-use Rattle.epm_model.proofs.finding.last_number.Given as goal
-
-abbrev pub invariant-loop-numbered : goal.invariant-loop-numbered
-invariant-loop-numbered l = l.last ≡ last_number l.before (take l.numbered-index l.entries)

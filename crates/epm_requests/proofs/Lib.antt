@@ -1,2 +1,0 @@
-pub mod TowerLemmas
-pub mod EntryLemmas

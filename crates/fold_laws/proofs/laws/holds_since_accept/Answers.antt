@@ -1,5 +1,0 @@
-use Rattle.fold_laws.proofs.Numbers.{holds_since_accept}
-use Rattle.fold_laws.proofs.laws.holds_since_accept.Goals as goal
-
-pub returns : goal.returns
-returns c = holds_since_accept

@@ -1,2 +1,0 @@
-pub mod FoldOf
-pub mod Kept

@@ -1,3 +1,0 @@
-mod PrefixLemmas
-mod OpenLemmas
-mod OwnLemmas

@@ -1,0 +1,21 @@
+use Rattle.handle_model.specs.declared.entry.Entry.TheVariants as entry
+use Rattle.hub_shard.specs.Answers.{SettlesWith}
+use Rattle.hub_story.proofs.OwnLemmas.{own_opened, serves_open}
+use Rattle.group_hub.proofs.CallLemmas.{leave_may, ran_calls, settled_shut}
+use Rattle.group_hub.proofs.StillLemmas.{settle_still}
+use Rattle.group_hub.proofs.lock.ShardLock.leave.Goals as goal
+
+pub run-requires-clause-asks : goal.run-requires-clause-asks
+run-requires-clause-asks g c = λ log met. (own_opened c.args.self.now.boot c.args.self.now.number c.args.pass.now log met c.args.group (entry.Join c.args.conn) c.requires.serves.joined, serves_open c.args.self.now.boot c.args.self.now.number c.args.pass.now log met c.args.group c.args.conn c.requires.serves)
+
+pub run-requires-clause-ties : goal.run-requires-clause-ties
+run-requires-clause-ties g c = λ log r more met d. leave_may c.args.self.now.boot c.args.self.now.number c.args.pass.now log met c.args.group c.args.conn r more c.requires.serves d
+
+pub returns-clause-call : goal.returns-clause-call
+returns-clause-call g c = ran_calls c.args.self.now.boot c.args.self.now.number c.args.group c.args.pass.now c.run.new.pass (SettlesWith c.args.group (entry.Leave c.args.conn) c.run.result) c.run.ensures.call
+
+pub returns-clause-shut : goal.returns-clause-shut
+returns-clause-shut g c = settled_shut c.args.self.now.boot c.args.self.now.number c.args.group c.args.pass.now c.run.new.pass (entry.Leave c.args.conn) c.run.result (returns-clause-call g c)
+
+pub returns-clause-still : goal.returns-clause-still
+returns-clause-still g c = settle_still c.args.self.now.boot c.args.self.now.number c.args.group c.args.pass.now c.run.new.pass c.requires.pass.within (entry.Leave c.args.conn) c.run.result (returns-clause-call g c)

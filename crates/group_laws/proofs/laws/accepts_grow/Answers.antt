@@ -1,5 +1,0 @@
-use Rattle.group_laws.proofs.Growing.{accepts_grow}
-use Rattle.group_laws.proofs.laws.accepts_grow.Goals as goal
-
-pub returns : goal.returns
-returns c = accepts_grow

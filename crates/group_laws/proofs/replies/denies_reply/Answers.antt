@@ -1,5 +1,0 @@
-use Rattle.group_laws.proofs.Told.{denies_reply}
-use Rattle.group_laws.proofs.replies.denies_reply.Goals as goal
-
-pub returns : goal.returns
-returns c = denies_reply

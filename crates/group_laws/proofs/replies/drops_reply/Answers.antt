@@ -1,5 +1,0 @@
-use Rattle.group_laws.proofs.Told.{drops_reply}
-use Rattle.group_laws.proofs.replies.drops_reply.Goals as goal
-
-pub returns : goal.returns
-returns c = drops_reply

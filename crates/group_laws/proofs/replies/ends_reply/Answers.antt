@@ -1,5 +1,0 @@
-use Rattle.group_laws.proofs.Told.{ends_reply}
-use Rattle.group_laws.proofs.replies.ends_reply.Goals as goal
-
-pub returns : goal.returns
-returns c = ends_reply

@@ -1,0 +1,7 @@
+pub mod Answers
+pub mod Copies
+pub mod Counts
+pub mod Finds
+pub mod Openings
+pub mod Retirings
+pub mod Shards

@@ -1,8 +1,0 @@
-use Rattle.std.proofs.Common.{◌≡◌, drop}
-use Rattle.std.specs.List.{flat_map}
-use Rattle.idl_rules.specs.Least.{least, lesser}
-use Rattle.idl_rules.specs.UnionTag.{field_places}
-use Rattle.idl_counts.proofs.unions.each_untagged.Given as goal
-
-abbrev pub invariant-loop-field : goal.invariant-loop-field
-invariant-loop-field l = lesser l.found (least (flat_map field_places (drop l.field-index l.fields))) ≡ least (flat_map field_places l.fields)

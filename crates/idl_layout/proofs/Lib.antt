@@ -1,3 +1,0 @@
-pub mod Again
-pub mod Joins
-pub mod Printed

@@ -1,0 +1,5 @@
+use Rattle.journal_audit.proofs.Journals.{neither_both}
+use Rattle.journal_audit.proofs.text_laws.neither_both.Goals as goal
+
+pub returns : goal.returns
+returns c = neither_both

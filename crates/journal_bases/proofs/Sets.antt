@@ -1,5 +1,0 @@
-use Rattle.std.proofs.lemmas.Grind.{common_steps}
-use Rattle.journal_bases.proofs.Orders.{at_number}
-
--- one number more
-pub ruleset adding = (at_number, common_steps)

@@ -1,5 +1,0 @@
-use Rattle.std.proofs.Common.{length}
-use Rattle.journal_bases.proofs.calls.+opens_serial.Given as goal
-
-abbrev pub decreases-opens_serial : goal.decreases-opens_serial
-decreases-opens_serial l = length l.slots.now

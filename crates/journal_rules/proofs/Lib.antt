@@ -1,0 +1,7 @@
+pub mod Based
+pub mod Few
+pub mod Halves
+pub mod Numbered
+pub mod Sets
+pub mod Since
+mod SoundTests

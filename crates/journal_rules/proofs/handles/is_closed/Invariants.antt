@@ -1,0 +1,12 @@
+use Rattle.std.proofs.Common.{◌≡◌, length, reverse}
+use Rattle.handle_model.specs.History.{since}
+use Rattle.handle_model.specs.Journal.{is_closed}
+use Rattle.journal_rules.specs.Told.{told}
+use Rattle.journal_rules.proofs.handles.is_closed.Given as goal
+
+-- what is left of the entries has the answer
+abbrev pub invariant-loop-entry : goal.invariant-loop-entry
+invariant-loop-entry l = is_closed (since l.journal.home l.journal.base.now (reverse l.rest)) l.serial ≡ is_closed (told l.journal) l.serial
+
+abbrev pub decreases-loop-entry : goal.decreases-loop-entry
+decreases-loop-entry l = length l.rest

@@ -1,0 +1,3 @@
+pub mod Sounds
+pub mod Told
+pub mod Verdicts

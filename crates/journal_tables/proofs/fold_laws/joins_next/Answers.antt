@@ -1,0 +1,7 @@
+use Rattle.handle_model.specs.History.{with_entry}
+use Rattle.handle_model.specs.declared.entry.Entry.TheVariants.{Join}
+use Rattle.handle_model.proofs.Older.{older_legal}
+use Rattle.journal_tables.proofs.fold_laws.joins_next.Goals as goal
+
+pub returns : goal.returns
+returns g = λ j newer c l. (older_legal (with_entry j (Join c)) newer l).0.fits.0

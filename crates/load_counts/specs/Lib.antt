@@ -1,3 +1,0 @@
-pub mod Counting
-pub mod Summary
-pub mod Laws

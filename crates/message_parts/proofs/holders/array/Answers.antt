@@ -1,5 +1,0 @@
-use Rattle.ndr_value.proofs.Mirror.{val_array}
-use Rattle.message_parts.proofs.holders.array.Goals as goal
-
-pub returns : goal.returns
-returns c = val_array c.args.items

@@ -1,5 +1,0 @@
-use Rattle.ndr_value.proofs.Mirror.{val_struct}
-use Rattle.message_parts.proofs.holders.structure.Goals as goal
-
-pub returns : goal.returns
-returns c = val_struct c.args.members

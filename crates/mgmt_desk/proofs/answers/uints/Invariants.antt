@@ -1,7 +1,0 @@
-use Rattle.std.proofs.Common.{◌≡◌, drop}
-use Rattle.message_parts.specs.Rows.{vals_then}
-use Rattle.mgmt_desk.specs.Steps as spec
-use Rattle.mgmt_desk.proofs.answers.uints.Given as goal
-
-abbrev pub invariant-loop-number : goal.invariant-loop-number
-invariant-loop-number l = vals_then l.values.items (spec.uints (drop l.number-index l.numbers)) ≡ spec.uints l.numbers

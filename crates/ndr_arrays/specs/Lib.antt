@@ -1,0 +1,4 @@
+pub mod Bind
+pub mod Counted
+pub mod Texts
+pub mod Written

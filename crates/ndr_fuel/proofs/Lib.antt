@@ -1,4 +1,0 @@
-pub mod Same
-pub mod Settled
-pub mod Counted
-pub mod Tops

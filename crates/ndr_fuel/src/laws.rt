@@ -1,7 +1,0 @@
-//! What holds of reading with other numbers of levels.
-ghost use Rattle.ndr_fuel.specs.Fuel.{FuelSuffices};
-
-/// Whatever the octets, more levels read the same message of an operation of a table, or depart alike.
-pub fn fuel_suffices()
-    ensures { FuelSuffices }
-{}

@@ -1,2 +1,0 @@
-pub mod Sames
-pub mod Parts

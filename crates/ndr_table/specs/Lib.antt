@@ -1,0 +1,7 @@
+pub mod Aligned
+pub mod Nested
+pub mod Ordered
+pub mod Shown
+pub mod Sound
+pub mod Tables
+pub mod Tails

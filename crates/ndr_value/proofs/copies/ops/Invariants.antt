@@ -1,6 +1,0 @@
-use Rattle.std.proofs.Common.{◌≡◌, map, take}
-use Rattle.ndr_value.specs.Tables.{op_form}
-use Rattle.ndr_value.proofs.copies.ops.Given as goal
-
-abbrev pub invariant-loop-item : goal.invariant-loop-item
-invariant-loop-item l = map op_form l.copies.items ≡ map op_form (take l.item-index l.list)

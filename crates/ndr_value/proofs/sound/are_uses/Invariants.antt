@@ -1,7 +1,0 @@
-use Rattle.std.proofs.Common.{◌≡◌, drop, map}
-use Rattle.ndr_value.specs.Sound.{are_uses}
-use Rattle.ndr_value.specs.Tables.{param_form}
-use Rattle.ndr_value.proofs.sound.are_uses.Given as goal
-
-abbrev pub invariant-loop-param : goal.invariant-loop-param
-invariant-loop-param l = are_uses (map param_form (drop l.param-index l.params)) l.rest ≡ are_uses (map param_form l.params) l.uses

@@ -1,7 +1,0 @@
-use Rattle.std.proofs.Common.{◌≡◌, drop, map}
-use Rattle.ndr_value.specs.Sound.{each_uses}
-use Rattle.ndr_value.specs.Tables.{op_form}
-use Rattle.ndr_value.proofs.sound.each_uses.Given as goal
-
-abbrev pub invariant-loop-op : goal.invariant-loop-op
-invariant-loop-op l = each_uses (map op_form (drop l.op-index l.ops)) l.rest ≡ each_uses (map op_form l.ops) l.uses

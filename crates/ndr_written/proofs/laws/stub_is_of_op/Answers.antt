@@ -1,5 +1,0 @@
-use Rattle.ndr_written.proofs.Stubs.{stub_suits}
-use Rattle.ndr_written.proofs.laws.stub_is_of_op.Goals as goal
-
-pub returns : goal.returns
-returns c = λ types op way order asked octets m are s. stub_suits types op way order asked octets m are s

@@ -1,5 +1,0 @@
-use Rattle.packet_counts.proofs.Pieces.{pdus_are_packets}
-use Rattle.packet_counts.proofs.laws.pdus_are_packets.Goals as goal
-
-pub returns : goal.returns
-returns c = pdus_are_packets

@@ -1,5 +1,0 @@
-use Rattle.packet_counts.proofs.Pieces.{pdus_go_on}
-use Rattle.packet_counts.proofs.laws.pdus_go_on.Goals as goal
-
-pub returns : goal.returns
-returns c = pdus_go_on

@@ -1,5 +1,0 @@
-use Rattle.printed_laws.proofs.Staying.{answers_stay}
-use Rattle.printed_laws.proofs.laws.answers_stay.Goals as goal
-
-pub returns : goal.returns
-returns c = answers_stay

@@ -1,5 +1,0 @@
-use Rattle.printed_laws.proofs.Lasting.{members_last}
-use Rattle.printed_laws.proofs.laws.members_last.Goals as goal
-
-pub returns : goal.returns
-returns g c = λ m. members_last g.K.Link.shows (g.M.Manager.may m) (g.M.Manager.tables m)

@@ -1,5 +1,0 @@
-use Rattle.replay_peers.proofs.Totals.{totals_grow}
-use Rattle.replay_peers.proofs.laws.totals_grow.Goals as goal
-
-pub returns : goal.returns
-returns c = totals_grow

@@ -1,5 +1,0 @@
-use Rattle.replay_peers.proofs.Totals.{totals_open}
-use Rattle.replay_peers.proofs.laws.totals_open.Goals as goal
-
-pub returns : goal.returns
-returns c = totals_open

@@ -1,5 +1,0 @@
-use Rattle.replay_peers.proofs.Totals.{totals_stay}
-use Rattle.replay_peers.proofs.laws.totals_stay.Goals as goal
-
-pub returns : goal.returns
-returns c = totals_stay

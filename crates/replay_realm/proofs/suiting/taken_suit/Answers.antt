@@ -1,5 +1,0 @@
-use Rattle.replay_realm.proofs.Taken.{taken_suit}
-use Rattle.replay_realm.proofs.suiting.taken_suit.Goals as goal
-
-pub returns : goal.returns
-returns c = taken_suit

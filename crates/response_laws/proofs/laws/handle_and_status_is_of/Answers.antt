@@ -1,5 +1,0 @@
-use Rattle.response_laws.proofs.Suits.{handle_and_status_is}
-use Rattle.response_laws.proofs.laws.handle_and_status_is_of.Goals as goal
-
-pub returns : goal.returns
-returns c = λ types op asked kind status e lt. handle_and_status_is types op asked kind status e lt

@@ -1,5 +1,0 @@
-use Rattle.response_laws.proofs.Parts.{pointers_suit}
-use Rattle.response_laws.proofs.laws.pointers_suit.Goals as goal
-
-pub returns : goal.returns
-returns c = λ types call room body s items n p q at there each. pointers_suit types call room body s items n p q at there each

@@ -1,5 +1,0 @@
-use Rattle.served_call.proofs.Cookies.{first_cookies}
-use Rattle.served_call.proofs.given.first_cookies.Goals as goal
-
-pub returns : goal.returns
-returns c = λ cookies e f. first_cookies cookies c.args.row.now c.args.count c.requires e f

@@ -1,5 +1,0 @@
-use Rattle.std.proofs.Common.{length}
-use Rattle.served_call.proofs.slots.+add_slots.Given as goal
-
-abbrev pub decreases-add_slots : goal.decreases-add_slots
-decreases-add_slots l = length l.uses.now

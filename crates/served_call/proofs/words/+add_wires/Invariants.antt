@@ -1,5 +1,0 @@
-use Rattle.std.proofs.Common.{length}
-use Rattle.served_call.proofs.words.+add_wires.Given as goal
-
-abbrev pub decreases-add_wires : goal.decreases-add_wires
-decreases-add_wires l = length l.slots.now

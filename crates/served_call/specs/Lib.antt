@@ -1,3 +1,0 @@
-pub mod Suited
-pub mod Said
-pub mod Laws

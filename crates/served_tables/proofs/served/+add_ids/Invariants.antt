@@ -1,5 +1,0 @@
-use Rattle.std.proofs.Common.{length}
-use Rattle.served_tables.proofs.served.+add_ids.Given as goal
-
-abbrev pub decreases-add_ids : goal.decreases-add_ids
-decreases-add_ids l = length l.tables.now

@@ -1,0 +1,71 @@
+-- What is known behind a round.
+use Rattle.std.proofs.Common.{◌≡◌, ℕ, ◌+◌, ◌<◌, ◌≤◌, Bool, Result, Ok, Err, IfOk, List, subst, arith, length}
+use Rattle.rpc_base.specs.Causes.{Rose}
+use Rattle.rpc_outside.specs.Links.{Shown}
+use Rattle.rpc_outside.specs.Doors.{DoorShown, ListensAt}
+use Rattle.rpc_outside.specs.declared.address.Address.{Address}
+use Rattle.ndr_table.specs.Tables.{TableForm}
+use Rattle.manager_api.specs.Answers.{Ans}
+use Rattle.manager_api.specs.Calls.{Call}
+use Rattle.group_hub.specs.declared.hub.Hub.{Hub}
+use Rattle.group_hub.specs.declared.pass.Pass.{Pass}
+use Rattle.group_hub.specs.Passes.{IsPassOf}
+use Rattle.server_rounds.specs.declared.round.Round.{Round}
+use Rattle.server_rounds.specs.declared.round.Stop.{Stop}
+use Rattle.server_rounds.specs.declared.round.Stop.TheVariants.{Done, DoorClosed, DoorFault, Memory}
+use Rattle.server_rounds.specs.Rounds.{IsRound, Stops}
+use Rattle.server_command.specs.Doors.{links_in, AreOut, TakesBack}
+use Rattle.server_command.specs.Serves.{IsFirst, IsOver, Serves}
+use Rattle.server_command.proofs.Doors.{are_out}
+use Rattle.server_command.proofs.Groups.{copies_ended}
+use Rattle.server_command.proofs.Logged.{logged}
+use Rattle.server_command.proofs.Apart.{apart}
+use Rattle.server_command.proofs.Connections.{hold}
+use Rattle.server_command.proofs.Statuses.{rose_later}
+
+pub if_ok : {T E : Type 0} (P Q : T → Type 0) (r : Result T E) → ((x : T) → P x → Q x) → IfOk r P → IfOk r Q
+if_ok P Q (Ok x) f h = f x h
+if_ok P Q (Err e) f h = h
+
+module _ {K : Type 0} (shows : K → Shown) (may : Call → Bool → Ans → Type 0) (tables : List TableForm) where
+  few_of : (a b : DoorShown K) (most count : ℕ) (stop : Stop) → Stops a b most count stop → count ≤ most
+  few_of a b most count Done s = omega (arith, s)
+  few_of a b most count DoorClosed s = let low = s.0 in omega (arith, low)
+  few_of a b most count DoorFault s = let low = s.0 in omega (arith, low)
+  few_of a b most count Memory s = omega (arith, s)
+
+  -- there are no more connections than there were to be, and their links are out
+  pub few : (h : Hub) (p : Pass) (a b : DoorShown K) (most : ℕ) (r : Round K) → IsRound shows may tables h p a most r b → most ≤ 1000000 → length r.finished.items ≤ 1000000
+  few h p a b most r round low = let fewer = few_of a b most (length r.finished.items) r.stop round.stop in omega (arith, fewer, low)
+
+  pub out : (h : Hub) (p : Pass) (a b : DoorShown K) (most : ℕ) (r : Round K) → IsRound shows may tables h p a most r b → AreOut r.finished.items b
+  out h p a b most r round = are_out a b r.finished.items round.door
+
+  pub serves : (h : Hub) (boot : ℕ) (p : Pass) (before heard left after : DoorShown K) (at : Address) (most : ℕ) (r : Round K) (printed logged_text : List ℕ) (status : ℕ) → h.boot ≡ boot → IsFirst boot p
+      → ListensAt before heard at → IsRound shows may tables h p heard most r left → IsPassOf h r.pass → TakesBack left (links_in r.finished.items) after
+      → IsOver shows h r.pass r.finished.items r.stop printed logged_text status → Serves shows may tables boot before at most after printed logged_text status
+  serves h boot p before heard left after at most r printed logged_text status boot_is new listens round pass back over = record {
+    hub = h;
+    boot_is = boot_is;
+    first = p;
+    new = new;
+    heard = heard;
+    listens = listens;
+    round = r;
+    left = left;
+    serves = round;
+    pass = pass;
+    given_back = back;
+    over = over;
+    logged = logged shows may tables h p over.last heard left most r logged_text over.logged over.last_pass round;
+    apart = apart shows may tables h p heard left most r pass round;
+    holds = hold shows may tables h p over.last heard left most r logged_text over.logged over.last_pass round;
+    ended = copies_ended shows may tables h p over.last heard left most r over.logged.copies round over.logged.each;
+  }
+
+  -- a failed door is known by its count
+  pub failed : (h : Hub) (p : Pass) (before heard left after : DoorShown K) (at : Address) (most : ℕ) (r : Round K) → ListensAt before heard at → IsRound shows may tables h p heard most r left
+      → TakesBack left (links_in r.finished.items) after → r.stop ≡ DoorFault → Rose before.faults after.faults
+  failed h p before heard left after at most r listens round back stop =
+      let s : Stops heard left most (length r.finished.items) DoorFault = subst (Stops heard left most (length r.finished.items)) stop round.stop in
+      rose_later before.faults heard.faults left.faults after.faults listens.counts.faults s.1 (let same = back.faults in omega (arith, same))

@@ -1,0 +1,25 @@
+use Rattle.std.proofs.Common.{rules, ◌≡◌, Option, subst}
+use denote.Param.Send.{sendable}
+use Rattle.std.proofs.Crossing.{crosses}
+use Rattle.std.specs.Arc.{arc_value}
+use Rattle.ndr_table.specs.Tables.{TableForm}
+use Rattle.desk_service.specs.Shows.{shown_by}
+use Rattle.desk_service.specs.State.{tables_with}
+use Rattle.server_rounds.specs.Desks.{echo_of, May}
+use Rattle.server_rounds.proofs.Crossing.{service_send, service_sync}
+use Rattle.server_command.specs.Serves.{Serves}
+use Rattle.server_command.proofs.Rounds.{if_ok}
+use Rattle.server_command.proofs.command.serve.Goals as goal
+
+pub serve_over-requires-send-S : goal.serve_over-requires-send-S
+serve_over-requires-send-S g c κs = let a = service_send in search (crosses, sendable) depth 40
+
+pub serve_over-requires-sync-S : goal.serve_over-requires-sync-S
+serve_over-requires-sync-S g c κs = let a = service_sync in search (crosses, sendable) depth 40
+
+pub returns-clause-serves : goal.returns-clause-serves
+returns-clause-serves g c =
+    let same : echo_of (arc_value c.in_ok-service-2.service) ≡ shown_by (λ t. t) c.args.echo = search rules in
+    if_ok _ _ c.serve_over.result
+    (λ p s. subst (λ (e : Option TableForm). Serves g.D.Link.Link.shows (May e) (tables_with e) c.args.boot (g.D.Door.shows c.args.door.now) c.args.at c.args.most (g.D.Door.shows c.serve_over.new.door) p.out p.log p.status) same s)
+    c.serve_over.ensures.serves

@@ -1,0 +1,12 @@
+pub mod Connections
+pub mod Doors
+pub mod Groups
+pub mod Holds
+pub mod Laws
+pub mod Lines
+pub mod Logs
+pub mod Serves
+pub mod Statuses
+pub mod Sums
+pub mod Texts
+pub mod Walks

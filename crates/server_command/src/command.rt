@@ -1,0 +1,48 @@
+//! A server over a door.
+ghost use Rattle.std.specs.Prelude.{◌≤◌, IfOk, IfErr};
+ghost use Rattle.desk_service.specs.Shows.{shown_by};
+ghost use Rattle.desk_service.specs.State.{tables_with};
+ghost use Rattle.server_rounds.specs.Desks.{May};
+ghost use Rattle.server_command.specs.Serves.{Serves, IsWhy};
+
+use crate::over::serve_over;
+use crate::printed::Printed;
+use desk_counts::Tally;
+use ndr_table::Table;
+use rpc_base::OutFault;
+use rpc_outside::{Address, Door, Link};
+use server_rounds::DeskService;
+use std::alloc::Global;
+use std::sync::{Arc, Wait};
+use std::thread::Threads;
+
+/// A server of that boot word listens at the address and serves up to so many connections that come to the door, side by
+/// side, with the built-in services and an echo of that interface (C706, "Connection-oriented RPC protocol machines",
+/// server). Behind the last it gives the links back, and tells what was printed.
+///
+/// # Errors
+///
+/// `Failed` where the door failed: nothing is to be printed, since it doesn't listen or there is no memory for more.
+/// `Memory` where there is no memory.
+pub fn serve<R, D>(
+    rt: R,
+    alloc: Global,
+    boot: u64,
+    echo: Option<Table>,
+    door: &mut D,
+    at: Address,
+    most: u32,
+) -> Result<Printed, OutFault>
+where
+    R: Wait + Threads + Send + Sync + Copy + 'static,
+    D: Door,
+    D::Link: 'static,
+    requires { most ≤ 1000000 }
+    ensures serves { IfOk result (λ p. Serves D.Link.shows (May (shown_by (λ t. t) echo)) (tables_with (shown_by (λ t. t) echo)) boot (D.shows door.old) at most (D.shows door.new) p.out p.log p.status) }
+    ensures why { IfErr result (IsWhy (D.shows door.old) (D.shows door.new)) }
+{
+    let tally = Arc::new(alloc, Tally::new())?;
+    let service = DeskService::new(alloc, at, echo, Arc::try_clone(&tally)?)?;
+    let service = Arc::new(alloc, service)?;
+    serve_over(rt, alloc, boot, &service, door, at, most, &tally)
+}

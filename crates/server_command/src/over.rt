@@ -1,0 +1,42 @@
+//! A server over a door, whoever manages its interfaces.
+ghost use Rattle.std.specs.Prelude.{◌≡◌, ◌≤◌, IfOk, IfErr};
+ghost use Rattle.std.specs.Arc.{arc_value};
+ghost use Rattle.server_command.specs.Serves.{Serves, IsWhy};
+
+use crate::ending::end;
+use crate::printed::Printed;
+use desk_counts::Tally;
+use group_hub::Hub;
+use rpc_base::OutFault;
+use rpc_outside::{Address, Door, Link};
+use server_rounds::Service;
+use std::alloc::Global;
+use std::sync::{Arc, Wait};
+use std::thread::Threads;
+
+/// A server of that boot word listens at the address and serves up to so many connections.
+pub(crate) fn serve_over<R, S, D>(
+    rt: R,
+    alloc: Global,
+    boot: u64,
+    service: &Arc<S, Global>,
+    door: &mut D,
+    at: Address,
+    most: u32,
+    tally: &Arc<Tally, Global>,
+) -> Result<Printed, OutFault>
+where
+    R: Wait + Threads + Send + Sync + Copy + 'static,
+    S: Service + Send + Sync + Drop + 'static,
+    D: Door,
+    D::Link: 'static,
+    requires few { most ≤ 1000000 }
+    ensures serves { IfOk result (λ p. Serves D.Link.shows (S.may (arc_value service.now)) (S.tables (arc_value service.now)) boot (D.shows door.old) at most (D.shows door.new) p.out p.log p.status) }
+    ensures why { IfErr result (IsWhy (D.shows door.old) (D.shows door.new)) }
+{
+    let (hub, pass) = Hub::new(alloc, boot)?;
+    let hub = Arc::new(alloc, hub)?;
+    door.listen(at)?;
+    let round = server_rounds::serve(rt, alloc, service, &hub, pass, door, most, tally);
+    end(&rt, alloc, &*hub, round, door)
+}

@@ -1,0 +1,4 @@
+pub mod Counting
+pub mod Packets
+pub mod Pieces
+pub mod Stats

@@ -1,0 +1,14 @@
+pub mod Accepting
+pub mod Askings
+pub mod Besides
+pub mod Calling
+pub mod Closing
+pub mod Cookies
+pub mod Hearing
+pub mod Holding
+pub mod Joining
+pub mod LeaveLemmas
+pub mod Saying
+pub mod Suiting
+pub mod Telling
+pub mod WireLemmas

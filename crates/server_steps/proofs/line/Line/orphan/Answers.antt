@@ -1,0 +1,10 @@
+use Rattle.server_steps.proofs.Calling.{orphans_so}
+use Rattle.server_steps.proofs.line.Line.orphan.Goals as goal
+
+pub orphan-requires-clause-serves : goal.orphan-requires-clause-serves
+orphan-requires-clause-serves g c = (c.args.self.now.number, c.requires.has)
+
+pub returns-clause-settled : goal.returns-clause-settled
+returns-clause-settled g c =
+    orphans_so g.K.Link.shows (g.M.Manager.may c.args._manager.now) (g.M.Manager.tables c.args._manager.now) c.args.hub.now c.args.self.now c.orphan.new.pass c.args.call c.orphan.ensures.pass c.orphan.ensures.still
+    c.requires c.orphan.result c.orphan.ensures.call

@@ -1,0 +1,12 @@
+pub mod Calls
+pub mod Early
+pub mod Endings
+pub mod Held
+pub mod Lines
+pub mod Passes
+pub mod Places
+pub mod Steps
+pub mod Stops
+pub mod Told
+pub mod Wires
+pub mod Works

@@ -1,0 +1,116 @@
+//! A connection before it is in a group.
+ghost use Rattle.std.specs.Prelude.{◌≡◌, List, ◌∷◌, MatchResult};
+ghost use Rattle.conn_histories.specs.declared.turn.Turn.{Turn};
+ghost use Rattle.conn_histories.specs.declared.turn.Turn.TheVariants.{Closed};
+ghost use Rattle.group_hub.specs.declared.pass.Pass.{Pass as PassSpec};
+ghost use Rattle.group_hub.specs.Passes.{IsPassOf};
+ghost use Rattle.server_ends.specs.Finishes.{Refuses};
+ghost use Rattle.conn_histories.specs.Requests.{ids_of};
+ghost use Rattle.server_steps.specs.Told.{Halted};
+ghost use Rattle.server_steps.specs.Early.{IsEarly, AsksGroup, IsClosing, HeardEarly, IsAlone};
+ghost use Rattle.server_steps.specs.Lines.{IsJoined};
+ghost use Rattle.server_steps.specs.Stops.{stop_by};
+
+use crate::line::Line;
+use crate::stop::Stop;
+use crate::{Fault, Heard, Wire};
+use conn_asks::ConnFault;
+use group_hub::{Hub, Pass};
+use rpc_outside::Link;
+use server_calls::Manager;
+use server_ends::{Membership, join_group};
+use std::snapshot::Snapshot;
+use std::sync::Wait;
+
+/// Why a connection doesn't go on behind a fault.
+pub(crate) fn stopped(fault: Fault) -> Stop
+    ensures { result ≡ stop_by fault }
+{
+    match fault {
+        Fault::Failed => Stop::Failed,
+        Fault::Memory => Stop::Memory,
+    }
+}
+
+/// Hears what comes next, before a bind.
+pub fn hear_early<K: Link, M: Manager>(wire: &mut Wire<K>, _manager: &M) -> Heard
+    requires { IsEarly K.shows (M.tables _manager.now) wire.old }
+    ensures first { wire.new.first.value ≡ wire.old.first.value }
+    ensures heard { HeardEarly K.shows (M.tables _manager.now) result wire.new }
+{
+    wire.hear()
+}
+
+/// Puts the last answer, that the connection is closed for a fault.
+pub fn put_close<K: Link, M: Manager>(
+    wire: &mut Wire<K>,
+    _manager: &M,
+    octets: &[u8],
+    fault: ConnFault,
+) -> Stop
+    requires { (turns : List Turn) × IsClosing K.shows (M.tables _manager.now) wire.old octets.now fault turns }
+    ensures first { wire.new.first.value ≡ wire.old.first.value }
+    ensures halted { (turns : List Turn) → IsClosing K.shows (M.tables _manager.now) wire.old octets.now fault turns → Halted K.shows (ids_of (M.tables _manager.now)) wire.new result (Closed octets.now fault ∷ turns) }
+{
+    match wire.put(octets) {
+        Ok(()) => Stop::Refused(fault),
+        Err(_) => Stop::Failed,
+    }
+}
+
+/// Joins the group of an id, or where that is 0 a new one.
+///
+/// # Errors
+///
+/// The connection and its pass, and the reason of the bind_nak.
+pub fn join<R: Wait, K: Link, M: Manager>(
+    rt: &R,
+    hub: &Hub,
+    _manager: &M,
+    wire: Wire<K>,
+    pass: Pass,
+    asked: u32,
+) -> Result<Line<K>, (Wire<K>, Pass, u16)>
+    requires pass { IsPassOf hub.now pass }
+    requires asks { AsksGroup K.shows (M.tables _manager.now) wire asked }
+    ensures joined { MatchResult result (λ line. (line.began.value ≡ pass) × (line.wire.first.value ≡ wire.first.value) × IsJoined K.shows (M.may _manager.now) (M.tables _manager.now) hub.now line asked) (λ back. (back.0 ≡ wire) × IsPassOf hub.now back.1 × Refuses hub.now.boot pass back.1 asked back.2) }
+{
+    let began = Snapshot::of(&pass);
+    let mut pass = pass;
+    match join_group(rt, hub, &mut pass, asked) {
+        Ok(Membership { group, number }) => Ok(Line {
+            wire,
+            pass,
+            group,
+            number,
+            retired: None,
+            began,
+        }),
+        Err(reason) => Err((wire, pass, reason)),
+    }
+}
+
+/// Refuses a bind for a reason; at want of memory, as which reason 1 counts, the connection ends for that.
+pub fn nak<K: Link, M: Manager>(
+    wire: &mut Wire<K>,
+    _hub: &Hub,
+    _manager: &M,
+    _pass: &Pass,
+    _asked: u32,
+    reason: u16,
+) -> Stop
+    requires asks { AsksGroup K.shows (M.tables _manager.now) wire.old _asked }
+    ensures first { wire.new.first.value ≡ wire.old.first.value }
+    ensures alone { (before : PassSpec) → Refuses _hub.now.boot before _pass.now _asked reason → IsAlone K.shows (M.tables _manager.now) (M.may _manager.now) _hub.now.boot before wire.new _pass.now result }
+{
+    match wire.nak(reason) {
+        Ok(()) => {
+            if reason == 1 {
+                Stop::Memory
+            } else {
+                Stop::Refused(ConnFault::Nak(reason))
+            }
+        }
+        Err(fault) => stopped(fault),
+    }
+}

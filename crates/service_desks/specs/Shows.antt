@@ -1,9 +1,0 @@
--- What an option of a table shows.
-use Rattle.std.specs.Prelude.{Option, Some, None}
-use Rattle.ndr_value.specs.declared.table.Table.{Table}
-use Rattle.ndr_value.specs.Shown.{shown}
-use Rattle.ndr_value.specs.Tables.{TableForm}
-
-abbrev pub shown_by : {A : Type 0} → (A → Table) → Option A → Option TableForm
-shown_by seen None = None
-shown_by seen (Some t) = Some (shown (seen t))

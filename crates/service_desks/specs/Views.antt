@@ -1,8 +1,0 @@
--- What contracts see of the desks.
-use Rattle.service_desks.specs.declared.desks.ServiceDesks.{ServiceDesks}
-use Rattle.service_desks.specs.Shows.{shown_by}
-use Rattle.service_desks.specs.State.{Services}
-
--- the state of each desk
-abbrev pub services : ServiceDesks → Services
-services d = record { probes = d.probe; store = d.store; endpoints = d.endpoints; echo = shown_by (λ t. t) d.echo }

@@ -1,4 +1,0 @@
-pub mod Named
-pub mod Whole
-pub mod Asked
-pub mod Owed

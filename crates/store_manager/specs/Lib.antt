@@ -1,0 +1,4 @@
+pub mod Files
+pub mod Steps
+pub mod Table
+pub mod Wholes

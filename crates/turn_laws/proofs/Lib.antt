@@ -1,9 +1,0 @@
-pub mod TaleFacts
-pub mod MarkFacts
-pub mod Replying
-pub mod Staying
-pub mod Going
-pub mod Ending
-pub mod Moments
-pub mod Reasoning
-pub mod Keeping
