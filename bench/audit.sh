@@ -1,5 +1,5 @@
 #!/usr/bin/env bash
-# Times the audit of a text of journals that is nearly all lines of one kind: 1 to 64 MiB of calls of a base, of
+# Times `dcerpc audit` on a text of journals that is nearly all lines of one kind: 1 to 64 MiB of calls of a base, of
 # Joins, of Joins with a Leave after each, of Accepts, of Accepts with a Cancel after each or with a Take and an End, and
 # of groups, with the ratio of each time to the one before.
 # Then that of journals that hold much open at once: calls that all run before the first of them ends; calls of one
@@ -8,7 +8,7 @@
 set -eu
 top=$(cd "$(dirname "$0")/.." && pwd)
 . "$top/bench/timing.sh"
-build_bench
+build_dcerpc
 text=$(mktemp)
 trap 'rm -f "$text"' EXIT
 
@@ -76,8 +76,8 @@ held() { # KIND COUNT
 for kind in base-calls joins leaves accepts cancels calls groups; do
     before=
     for mib in 1 4 16 64; do
-        journal "$kind" $((mib * 1048576)) >"$text"
-        time=$(least 0 "$bench" audit "$text")
+        journal "$kind" "$(sized $((mib * 1048576 - 200)))" >"$text"
+        time=$(least 0 "$program" audit "$text")
         show "$kind $mib MiB" "$time" "$before"
         before=$time
     done
@@ -86,8 +86,8 @@ done
 for kind in open-calls one-shared one-held connections handles; do
     before=
     for count in 25000 100000 400000; do
-        held "$kind" "$count" >"$text"
-        time=$(least 0 "$bench" audit "$text")
+        held "$kind" "$(sized "$count")" >"$text"
+        time=$(least 0 "$program" audit "$text")
         show "$kind $count" "$time" "$before"
         before=$time
     done

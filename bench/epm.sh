@@ -6,10 +6,11 @@ set -eu
 top=$(cd "$(dirname "$0")/.." && pwd)
 source "$top/bench/timing.sh"
 build_bench
+rounds=$(sized 20)
 
 for most in 4096 1024 256 64; do
-    for _ in 1 2 3; do "$bench" epm "$most" 20 time; done | awk -v most="$most" '
+    for _ in 1 2 3; do "$bench" epm "$most" "$rounds" time; done | awk -v most="$most" -v rounds="$rounds" '
         NF != 4 { exit 1 }
         best == "" || $4 < best { best = $4; entries = $2 }
-        END { calls = 20 * 4096 / most; printf "%5d entries a call %9.3f s, %8.1f us a call, %6.2f us an entry\n", most, best / 1e6, best / calls, best / entries }'
+        END { calls = rounds * 4096 / most; printf "%5d entries a call %9.3f s, %8.1f us a call, %6.2f us an entry\n", most, best / 1e6, best / calls, best / entries }'
 done

@@ -35,38 +35,43 @@ show_call() { # WHAT TIME [TIME]
 
 before=
 for rounds in 10000 20000 40000 80000; do
+    rounds=$(sized "$rounds")
     time=$(call 2 0 "$rounds")
     show_call "$((rounds * 3)) entries" "$time" "$before"
     before=$time
 done
 before=
 for waiting in 0 32 64 128 250; do
-    time=$(call 2 "$waiting" 20000)
+    time=$(call 2 "$waiting" "$(sized 20000)")
     show_call "$waiting calls wait" "$time" "$before"
     before=$time
 done
 before=
 for live in 2 1000 8000 64000; do
-    time=$(call "$live" 0 20000)
+    live=$(sized "$live")
+    time=$(call "$live" 0 "$(sized 20000)")
     show_call "$live handles are live" "$time" "$before"
     before=$time
 done
 before=
 for live in 1000 4000 16000 64000; do
-    time=$(each 500 "$live" 0 0 500 0)
+    live=$(sized "$live")
+    time=$(each "$(sized 500)" "$live" 0 0 "$(sized 500)" 0)
     show_call "closes, $live live" "$time" "$before"
     before=$time
 done
 each=connection
 before=
 for visits in 10000 20000 40000; do
+    visits=$(sized "$visits")
     time=$(each "$visits" 2 0 0 0 "$visits")
     show_call "$visits folds" "$time" "$before"
     before=$time
 done
 before=
 for live in 2 1000 8000 64000; do
-    time=$(each 500 "$live" 0 0 0 500)
+    live=$(sized "$live")
+    time=$(each "$(sized 500)" "$live" 0 0 0 "$(sized 500)")
     show_call "folds, $live live" "$time" "$before"
     before=$time
 done

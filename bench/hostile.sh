@@ -13,7 +13,6 @@ source "$top/bench/serving.sh"
 trap stop EXIT
 
 build_dcerpc
-program=$top/crates/dcerpc/out/dcerpc
 ulimit -n 4096 # the server has two descriptors for a connection
 
 octets() { printf "$(sed 's/../\\x&/g' <<<"$1")"; } # HEX

@@ -52,7 +52,7 @@ show_cost() { # WHAT CALLS MICROSECONDS [BEFORE]
     }'
 }
 
-visits=400
+visits=$(sized 400)
 for case in "0 0 one group" "16 0 groups of one shard" "1 0 groups of different shards" "1 1 different shards, folding"; do
     read -r step rolls what <<<"$case"
     one=
@@ -65,10 +65,11 @@ for case in "0 0 one group" "16 0 groups of one shard" "1 0 groups of different 
 done
 
 cost() { # WHAT GROUPS HANDLES VISITS [ROLLS]: and keeps the cost in `before`
-    local time
-    time=$(visited 1 1 "$2" "$3" "$4" "${5-0}")
-    show_cost "$1" $(($4 * calls)) "$time" "$before"
-    before=$(awk -v calls=$(($4 * calls)) -v time="$time" 'BEGIN { print time / calls }')
+    local time visits
+    visits=$(sized "$4")
+    time=$(visited 1 1 "$2" "$3" "$visits" "${5-0}")
+    show_cost "$1" $((visits * calls)) "$time" "$before"
+    before=$(awk -v calls=$((visits * calls)) -v time="$time" 'BEGIN { print time / calls }')
 }
 
 before=
@@ -78,4 +79,4 @@ for visits in 200 400 800 1600; do cost "$((visits * calls)) calls, folding" 0 0
 before=
 for groups in 1 16 256 1024; do cost "$groups groups are open" "$groups" 0 400; done
 before=
-for handles in 1 1000 8000 64000; do cost "$handles handles are live" 1 "$handles" 400; done
+for handles in 1 1000 8000 64000; do cost "$handles handles are live" 1 "$(sized "$handles")" 400; done

@@ -4,8 +4,9 @@
 # there were, and ends with 1 at the first that prints something else. It wants a C compiler.
 set -eu
 top=$(cd "$(dirname "$0")/.." && pwd)
-program=$top/crates/hub_walk/out/hub_walk
-(cd "$top/crates/hub_walk" && rt run >/dev/null) # builds it where it is stale
+source "$top/bench/timing.sh"
+build_bench hub_walk
+program=$bench
 folder=$(mktemp -d)
 trap 'rm -rf "$folder"' EXIT
 cat >"$folder/refuse.c" <<'C'
@@ -54,7 +55,7 @@ run() { # REFUSED: its output; how much it asked for is in the file `asked`
 
 ample=$(run 0)
 count=$(cat "$folder/asked")
-for refused in $(seq "$count"); do
+for refused in $(seq 1 "${PART:-1}" "$count"); do
     status=0
     printed=$(run "$refused") || status=$?
     if [ "$status" != 0 ] || [ "$printed" != "$ample" ]; then
@@ -63,4 +64,4 @@ for refused in $(seq "$count"); do
     fi
 done
 echo "$ample"
-echo "$count blocks of memory, each refused in turn: the same"
+echo "$(seq 1 "${PART:-1}" "$count" | wc -l) of $count blocks of memory, each refused in turn: the same"

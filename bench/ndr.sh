@@ -20,7 +20,7 @@ run() { # SHAPE N TIMES
 }
 
 line() { # WHAT SHAPE N TIMES
-    run "$2" "$3" "$4" | awk -v what="$1" -v times="$4" '
+    run "$2" "$(sized "$3")" "$(sized "$4")" | awk -v what="$1" -v times="$(sized "$4")" '
         function show(verb, time, room) {
             printf "%-24s %9d octets %s %8.1f MB/s, %7.2f times a copy", what, $1, verb, $1 * times / time, time / ($2 > 0 ? $2 : 1)
             if (times == 1) printf ", memory %.2f times the stub", room * 1024 / $1
@@ -41,6 +41,7 @@ line "100,000 texts" texts 100000 1
 doubled() { # SHAPE LEAST
     local n now before=
     for n in $2 $(($2 * 2)) $(($2 * 4)) $(($2 * 8)); do
+        n=$(sized "$n")
         now=$(run "$1" "$n" 1 | awk '{ print $3, $5 }')
         awk -v what="$1 $n" -v now="$now" -v before="$before" 'BEGIN {
             split(now, n, " ")

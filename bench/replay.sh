@@ -1,9 +1,9 @@
 #!/usr/bin/env bash
 # Times `dcerpc replay`: scripts of 2,000 to 16,000 rounds that open a handle each, with the ratio of
-# each time to the one before; a file of 64 MiB that is refused at its last line; and files of nearly
-# 64 MiB that are taken, each with the most memory that its replay has, by the size of the file: appends
-# to files of the store, appends in fragments, and requests that come octet by octet; and one that opens
-# a million connections, on which nothing comes, with the memory by the connection too. Then it times
+# each time to the one before; a file of 64 MiB that is refused at its last line; and files of 16 MiB to
+# nearly 64 MiB that are taken, each with the most memory that its replay has, by the size of the file:
+# appends to files of the store, appends in fragments, and requests that come octet by octet; and one that
+# opens a million connections, on which nothing comes, with the memory by the connection too. Then it times
 # `dcerpc load` of 25,000 to 100,000 steps.
 set -eu
 top=$(cd "$(dirname "$0")/.." && pwd)
@@ -26,9 +26,9 @@ script() { # ROUNDS
 }
 
 build_dcerpc
-program=$top/crates/dcerpc/out/dcerpc
 before=
 for rounds in 2000 4000 8000 16000; do
+    rounds=$(sized "$rounds")
     script "$rounds" >"$work/script"
     time=$(least 0 "$program" replay "$work/script")
     show "$rounds rounds" "$time" "$before"
@@ -44,8 +44,8 @@ time=$(least 2 "$program" replay "$work/long")
 show "64 MiB refused" "$time"
 
 # Scripts of so many octets at most, in rounds of a request, a run and a finish.
-long_script() { # appends|fragments|octets
-    awk -v kind="$1" -v most=67108864 '
+long_script() { # appends|fragments|octets MOST
+    awk -v kind="$1" -v most="$2" '
         function le(n, octets,   text) {
             for (; octets > 0; octets--) { text = text sprintf("%02x", n % 256); n = int(n / 256) }
             return text
@@ -106,7 +106,8 @@ long_script() { # appends|fragments|octets
 show_taken() { # WHAT [CONNECTIONS]
     local time
     time=$(least 0 "$program" replay "$work/long")
-    show "$1" "$time"
+    show "$1" "$time" "$before"
+    before=$time
     /usr/bin/time -f %M -o "$work/most" "$program" replay "$work/long" >/dev/null 2>&1
     awk -v most="$(cat "$work/most")" -v size="$(stat -c %s "$work/long")" -v count="${2-}" 'BEGIN {
         printf "%-24s %9.2f times the file", "most memory", most * 1024 / size
@@ -116,18 +117,23 @@ show_taken() { # WHAT [CONNECTIONS]
 }
 
 for kind in appends fragments octets; do
-    long_script "$kind" >"$work/long"
-    show_taken "64 MiB of $kind"
+    before=
+    for mib in 16 32 64; do
+        long_script "$kind" "$(sized $((mib * 1048576)))" >"$work/long"
+        show_taken "$mib MiB of $kind"
+    done
 done
 
 {
     echo 'boot 0000000000000001'
-    seq -f 'open %.0f' 1000000
+    seq -f 'open %.0f' "$(sized 1000000)"
 } >"$work/long"
-show_taken '1,000,000 connections' 1000000
+before=
+show_taken '1,000,000 connections' "$(sized 1000000)"
 
 before=
 for steps in 25000 50000 100000; do
+    steps=$(sized "$steps")
     time=$(least 0 "$program" load 7 "$steps")
     show "load of $steps steps" "$time" "$before"
     before=$time

@@ -1,17 +1,38 @@
 # What the scripts beside it time with; they source it, and set `top` to the repository.
+#
+# Set DCERPC to a program `dcerpc` that is built already; else the repository's is built. What a script needs beside it
+# is proved and built once, in a copy of the repository in BENCH_ROOM or below the folder for temporary files, and again
+# only when its sources change. PART=100 tries a script with a hundredth of each size.
 
-# Builds `dcerpc` where it isn't built or is older than its sources; without words it then ends with 1.
+# Sets `program` to `dcerpc`. The repository's is built where it isn't or is older than its sources: without words it
+# then ends with 1.
 build_dcerpc() {
     local status=0
+    program=${DCERPC:-}
+    if [ -n "$program" ]; then return 0; fi
     "$top/dcerpc" >/dev/null || status=$?
+    program=$top/crates/dcerpc/out/dcerpc
     [ "$status" = 1 ]
 }
 
-# Builds `bench` where it isn't built or is older than its sources, and sets `bench` to the program; without words it
-# says what its words may be.
-build_bench() {
-    (cd "$top/crates/bench" && rt run >/dev/null)
-    bench=$top/crates/bench/out/bench
+# Sets `bench` to the program of that name in `bench/crates`, which is built where it isn't or its sources have changed.
+build_bench() { # [NAME]
+    local name=${1-bench} sum
+    local room=${BENCH_ROOM:-${TMPDIR:-/tmp}/dcerpc-bench-$UID}/$name
+    sum=$("$top/tools/lay.py" "$room" "$name") || return 1
+    bench=$room/crates/$name/out/$name
+    if [ -x "$bench" ] && [ "$sum" = "$(cat "$room/built" 2>/dev/null)" ]; then return 0; fi
+    (cd "$room/crates/$name" && rt run </dev/null >"$room/said" 2>&1) || {
+        tail -n 20 "$room/said" >&2
+        return 1
+    }
+    echo "$sum" >"$room/built"
+}
+
+# A size of a script, or the part of it that is asked for.
+sized() { # SIZE
+    local size=$(($1 / ${PART:-1}))
+    echo $((size > 0 ? size : 1))
 }
 
 # The least time of three runs of a command, in microseconds. A run that ends with another status ends the script.
