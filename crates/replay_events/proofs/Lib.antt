@@ -11,6 +11,7 @@ pub mod Offing
 pub mod PeerLiving
 pub mod PeerTables
 pub mod Picking
+mod Printing
 pub mod Spared
 pub mod Sparing
 pub mod Staging

@@ -16,8 +16,9 @@ use Rattle.conn_histories.specs.Histories.Event.{Came, Paused, Did, Decided}
 use Rattle.conn_histories.specs.Histories.Decision.{ToGroup, RefuseGroup, Reply}
 use Rattle.replay_world.specs.Worlds.{Peer}
 use Rattle.replay_world.specs.Worlds.Printed.{Answered}
-use Rattle.replay_world.specs.Printing.{IsOnePdu, out_text}
-use Rattle.replay_world.specs.Counting.{ArePackets, ends_call}
+use Rattle.server_counts.specs.Pieces.{IsOnePdu}
+use Rattle.replay_world.specs.Printing.{out_text}
+use Rattle.server_counts.specs.Packets.{ArePackets, ends_call}
 use Rattle.replay_world.specs.Answered.{FitsPrinted}
 use Rattle.server_counts.specs.declared.place.NewPackets.{NewPackets}
 use Rattle.server_counts.specs.Packets.{PacketsView, at_start, Stands, AreMany, Comes}

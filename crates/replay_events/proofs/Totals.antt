@@ -7,7 +7,8 @@ use Rattle.std.proofs.lemmas.Bool.Decides.{nat_tests}
 use Rattle.desk_counts.specs.Numbers.{Numbers, none_yet, stopped, with_more}
 use Rattle.conn_histories.specs.Histories.{Event, stream, put}
 use Rattle.replay_world.specs.Worlds.{Peer, is_named, put_peer}
-use Rattle.replay_world.specs.Counting.{ArePackets, Counts, CountAll, ends_call}
+use Rattle.replay_world.specs.Counting.{Counts, CountAll}
+use Rattle.server_counts.specs.Packets.{ArePackets, ends_call}
 use Rattle.server_counts.proofs.OneRow.{one_row}
 use Rattle.replay_events.specs.Living.{Tallied, Grows}
 use Rattle.replay_events.specs.Tables.{RiseFrom}

@@ -6,7 +6,8 @@ use Rattle.desk_counts.specs.Numbers.{Numbers, with_more}
 use Rattle.conn_asks.specs.declared.events.Act.{Act}
 use Rattle.conn_histories.specs.Histories.{act_octets}
 use Rattle.replay_world.specs.Worlds.Printed.{Answered}
-use Rattle.replay_world.specs.Printing.{IsOnePdu, out_text}
+use Rattle.server_counts.specs.Pieces.{IsOnePdu}
+use Rattle.replay_world.specs.Printing.{out_text}
 use Rattle.replay_world.specs.Answered.{FitsPrinted}
 
 -- the octets of an act, if there is one

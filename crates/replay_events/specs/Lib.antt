@@ -5,6 +5,7 @@ pub mod Lived
 pub mod Living
 pub mod Marked
 pub mod Numbered
+pub mod Prints
 pub mod Showing
 pub mod Standing
 pub mod Tables

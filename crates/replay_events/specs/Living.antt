@@ -10,7 +10,7 @@ use Rattle.conn_histories.specs.Histories.Event.{Came, Paused, Did, Decided}
 use Rattle.replay_world.specs.Worlds.{Peer, Printed}
 use Rattle.replay_world.specs.Printing.{ArePrinted, out_text}
 use Rattle.replay_world.specs.Answered.{FitsPrinted}
-use Rattle.replay_world.specs.Counting.{ArePackets, ends_call}
+use Rattle.server_counts.specs.Packets.{ArePackets, ends_call}
 use Rattle.replay_events.specs.declared.played.Played.{Played}
 use Rattle.replay_events.specs.Showing.{Shows}
 

@@ -4,7 +4,7 @@ use Rattle.pdu_codec.specs.Pdus.{AreSpelled}
 use Rattle.conn_core.specs.Fields.{IsAt}
 use Rattle.conn_histories.specs.Histories.{stream, put}
 use Rattle.replay_world.specs.Worlds.{Peer}
-use Rattle.replay_world.specs.Printing.{IsOnePdu}
+use Rattle.server_counts.specs.Pieces.{IsOnePdu}
 use Rattle.server_counts.specs.Packets.{Stands}
 use Rattle.server_counts.specs.Pieces.{ArePdus}
 use Rattle.replay_events.specs.declared.played.Played.{Played}

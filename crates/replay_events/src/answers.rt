@@ -6,11 +6,12 @@ ghost use Rattle.server_counts.specs.Pieces.{ArePdus};
 ghost use Rattle.replay_events.specs.Numbered.{FitsStatus};
 ghost use Rattle.replay_events.specs.Answers.{act_octets_of, Answers};
 
+use crate::print::print_pdus;
 use conn_core::Act;
 use desk_counts::Counted;
 use handle_model::Said;
 use rpc_base::{NoMemory, Status};
-use server_counts::{NewPackets, print_pdus};
+use server_counts::NewPackets;
 use std::alloc::Global;
 
 /// A number as far as 32 bits tell it.

@@ -17,6 +17,7 @@ mod marked;
 mod peers;
 mod played;
 mod player;
+mod print;
 mod words;
 
 pub use laws::{totals_grow, totals_open, totals_stay};

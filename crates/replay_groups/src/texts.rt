@@ -1,7 +1,8 @@
 //! The text of the journals.
 ghost use Rattle.std.specs.Prelude.{◌≡◌, ◌++◌, OnOk, OnErr, List};
 ghost use Rattle.handle_model.specs.declared.entry.Entry.{Entry};
-ghost use Rattle.replay_world.specs.Replays.{history_text, journals_from, journals_text};
+ghost use Rattle.journal_text.specs.Histories.{history_text, journals_text};
+ghost use Rattle.replay_world.specs.Replays.{journals_from};
 ghost use Rattle.replay_groups.specs.Keeps.{Keeps};
 
 use crate::Groups;

@@ -8,7 +8,8 @@ use Rattle.pdu_stream.proofs.CutLaws.{same_fronts}
 use Rattle.desk_counts.specs.Numbers.{Numbers, with_more}
 use Rattle.conn_histories.specs.Histories.{stream, put}
 use Rattle.replay_world.specs.Worlds.{Peer}
-use Rattle.replay_world.specs.Counting.{IsPacket, HasNoPacket, ArePackets, Counts, CountAll, ends_call}
+use Rattle.replay_world.specs.Counting.{Counts, CountAll}
+use Rattle.server_counts.specs.Packets.{IsPacket, HasNoPacket, ArePackets, ends_call}
 
 -- a header stands in front, also where more follows
 front_head : (packet rest : List ℕ) → HasHead packet → HasHead (packet ++ rest)

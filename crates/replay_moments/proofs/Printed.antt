@@ -7,7 +7,8 @@ use Rattle.pdu_stream.proofs.CutLaws.{same_fronts, pdu_size}
 use Rattle.pdu_codec.specs.Faults.{frag_length}
 use Rattle.replay_world.specs.Worlds.{Printed}
 use Rattle.replay_world.specs.Worlds.Printed.{Answered}
-use Rattle.replay_world.specs.Printing.{IsOnePdu, ArePrinted}
+use Rattle.server_counts.specs.Pieces.{IsOnePdu}
+use Rattle.replay_world.specs.Printing.{ArePrinted}
 
 -- no PDU has no octets
 pdu_not_empty : (p : Pdu) → IsPdu p [] → ⊥

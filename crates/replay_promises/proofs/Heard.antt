@@ -22,7 +22,8 @@ use Rattle.conn_histories.specs.Histories.Event.{Came, Paused, Did, Decided}
 use Rattle.conn_laws.proofs.Along.{put_in_order}
 use Rattle.conn_histories.specs.Requests.{ids_of}
 use Rattle.replay_world.specs.Worlds.Printed.{Answered, Waits, Idle}
-use Rattle.replay_world.specs.Printing.{IsOnePdu, ArePrinted, answered_in, answered_on}
+use Rattle.server_counts.specs.Pieces.{IsOnePdu}
+use Rattle.replay_world.specs.Printing.{ArePrinted, answered_in, answered_on}
 use Rattle.replay_world.specs.Events.{lived, HappensOn, RestsAt, HappenOn, GoesOnAt}
 use Rattle.replay_world.specs.Promised.{sent_in}
 use Rattle.replay_moments.proofs.Peers.{found_name, put_found, put_others}

@@ -2,8 +2,8 @@
 use Rattle.std.specs.Prelude.{◌≡◌, ℕ, ◌==◌, if◌then◌else◌, List, [], ◌++◌, map, codes, decimal}
 use Rattle.std.specs.List.{flat_map}
 use Rattle.hex.specs.Hex.{encode_lower}
-use Rattle.pdu_codec.specs.declared.pdu.Pdu.{Pdu}
-use Rattle.pdu_codec.specs.Pdus.{IsPdu, AreSpelled}
+use Rattle.pdu_codec.specs.Pdus.{AreSpelled}
+use Rattle.server_counts.specs.Pieces.{IsOnePdu}
 use Rattle.replay_world.specs.Worlds.{Printed}
 use Rattle.replay_world.specs.Worlds.Printed.{Answered, Waits, Idle}
 
@@ -21,10 +21,6 @@ unfoldable pub out_text : List Printed → List ℕ
 out_text lines = flat_map printed_text lines
 
 -- THE LINES OF AN ANSWER
-
--- the octets are those of one PDU
-abbrev pub IsOnePdu : List ℕ → List ℕ → Type 0
-IsOnePdu piece octets = (octets ≡ piece) × ((p : Pdu) × IsPdu p piece)
 
 -- The octets are those of PDUs, one after the other, each of which is printed as answered on the connection.
 pub record ArePrinted (c : ℕ) (octets : List ℕ) (lines : List Printed) : Type 0 where

@@ -3,7 +3,7 @@ use Rattle.std.specs.Prelude.{◌≡◌, ℕ, suc, List, [], ◌∷◌, ◌++◌
 use Rattle.std.specs.List.{AllByRecursion}
 use Rattle.handle_model.specs.declared.entry.Entry.{Entry}
 use Rattle.handle_model.specs.History.{History, IsSound}
-use Rattle.journal_text.specs.Texts.{journal_text}
+use Rattle.journal_text.specs.Histories.{journals_text}
 use Rattle.hub_story.specs.Folded.{kept_since}
 use Rattle.replay_script.specs.declared.line.Line.{Line}
 use Rattle.replay_script.specs.declared.line.Line.TheVariants.{Boot}
@@ -34,13 +34,6 @@ journals_from boot id (past ∷ more) = kept_since (record { boot = boot; group 
 
 abbrev pub journals_of : {S : Type 0} → World S → List History
 journals_of w = journals_from w.boot 1 w.groups
-
-abbrev pub history_text : History → List ℕ
-history_text j = journal_text j.home j.base (reverse j.past)
-
-abbrev pub journals_text : List History → List ℕ
-journals_text [] = []
-journals_text (j ∷ js) = history_text j ++ journals_text js
 
 unfoldable pub log_text : {S : Type 0} → World S → List ℕ
 log_text w = journals_text (journals_of w)

@@ -4,7 +4,7 @@ use Rattle.std.specs.Prelude.{OnOk}
 use Rattle.std.specs.List.{AllByRecursion, list_any, list_all}
 use Rattle.std.proofs.lemmas.List.{map_push}
 use Rattle.handle_model.specs.History.{History}
-use Rattle.replay_world.specs.Replays.{history_text, journals_text}
+use Rattle.journal_text.specs.Histories.{history_text, journals_text}
 use Rattle.server_command.specs.Logs.{AreRising}
 
 pub all_snoc : {X : Type 0} (P : X → Type 0) (xs : List X) (y : X) → AllByRecursion P xs → P y → AllByRecursion P (xs ++ y ∷ [])

@@ -29,7 +29,7 @@ use Rattle.group_hub.specs.declared.pass.Pass.{Pass}
 use Rattle.group_hub.specs.Shards.{shard_of}
 use Rattle.group_hub.specs.Passes.{at_shard, EntersAt}
 use Rattle.journal_text.specs.Texts.{journal_text}
-use Rattle.replay_world.specs.Replays.{history_text, journals_text}
+use Rattle.journal_text.specs.Histories.{history_text, journals_text}
 use Rattle.server_command.specs.Logs.{Copy, ids_of, journal_of, front_at, AreRising, IsOpened, SeesOn, IsCopy, Logs}
 use Rattle.server_command.specs.Walks.{is_over, AllOver, Among, Walked}
 use Rattle.server_command.proofs.Ids.{opened_less}

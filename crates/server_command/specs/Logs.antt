@@ -11,7 +11,7 @@ use Rattle.hub_story.specs.Folded.{kept}
 use Rattle.group_hub.specs.declared.pass.Pass.{Pass}
 use Rattle.group_hub.specs.Shards.{shard_of}
 use Rattle.group_hub.specs.Passes.{at_shard}
-use Rattle.replay_world.specs.Replays.{journals_text}
+use Rattle.journal_text.specs.Histories.{journals_text}
 
 -- what a pass has seen of the shard of an id, and whether the id was opened there
 abbrev pub front_at : Pass → ℕ → List Item

@@ -3,7 +3,7 @@ use Rattle.std.specs.Prelude.{◌≡◌, ℕ, ◌<◌, ◌≤◌, ◌==◌, Bool
 use Rattle.std.specs.List.{AllByRecursion, list_any}
 use Rattle.group_hub.specs.declared.pass.Pass.{Pass}
 use Rattle.group_hub.specs.Shards.{shard_of}
-use Rattle.replay_world.specs.Replays.{journals_text}
+use Rattle.journal_text.specs.Histories.{journals_text}
 use Rattle.server_command.specs.Logs.{Copy, ids_of, journal_of, AreRising, IsOpened, SeesOn, IsCopy}
 
 -- the shard is known to have no further group

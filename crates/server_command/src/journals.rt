@@ -1,7 +1,7 @@
 //! The text of the journals, by rising id.
 ghost use Rattle.std.specs.Prelude.{◌≡◌, ◌≤◌, ◌+◌, ◌++◌, true, ℕ, List, length, OnOk};
 ghost use Rattle.handle_model.specs.History.{history_of};
-ghost use Rattle.replay_world.specs.Replays.{history_text};
+ghost use Rattle.journal_text.specs.Histories.{history_text};
 ghost use Rattle.group_hub.specs.declared.pass.Pass.{Pass as PassSpec};
 ghost use Rattle.group_hub.specs.Passes.{IsPassOf};
 ghost use Rattle.server_command.specs.Logs.{SeesOn, Logs};

@@ -7,7 +7,7 @@ use Rattle.pdu_codec.specs.Faults.{kind_at, flags_at, frag_length}
 use Rattle.pdu_stream.specs.Fragments.{has_flag}
 use Rattle.pdu_stream.specs.Cuts.{HasHead}
 use Rattle.pdu_stream.proofs.Heads.{Tested, tested_more, fault_along, size_along}
-use Rattle.replay_world.specs.Counting.{IsPacket, HasNoPacket, ArePackets, ends_call}
+use Rattle.server_counts.specs.Packets.{IsPacket, HasNoPacket, ArePackets, ends_call}
 use Rattle.server_counts.specs.declared.place.Place.{Place}
 use Rattle.server_counts.specs.declared.place.Place.TheVariants.{Head, Body, Stopped}
 use Rattle.server_counts.specs.declared.place.NewPackets.{NewPackets}

@@ -13,7 +13,7 @@ use Rattle.pdu_codec.proofs.PduLaws.{pdu_long}
 use Rattle.pdu_stream.specs.Fragments.{has_flag}
 use Rattle.pdu_stream.specs.Cuts.{HasHead}
 use Rattle.pdu_stream.proofs.CutLaws.{pdu_size, pdu_sound}
-use Rattle.replay_world.specs.Counting.{IsPacket, ends_call}
+use Rattle.server_counts.specs.Packets.{IsPacket, ends_call}
 use Rattle.server_counts.specs.Pieces.{IsFirstPdu, BeginWithPdu}
 use Rattle.server_counts.proofs.Fronts.{head_less, size_more}
 

@@ -3,7 +3,7 @@ use Rattle.std.proofs.Common.{◌≡◌, ℕ, inl, inr, List, [], ◌∷◌, ◌
 use Rattle.std.proofs.lemmas.List.{length-append}
 use Rattle.pdu_codec.specs.Faults.{frag_length}
 use Rattle.pdu_stream.proofs.CutLaws.{same_fronts}
-use Rattle.replay_world.specs.Counting.{IsPacket, HasNoPacket, ArePackets}
+use Rattle.server_counts.specs.Packets.{IsPacket, HasNoPacket, ArePackets}
 use Rattle.server_counts.proofs.Fronts.{head_more, size_more}
 
 front_size : (packet rest : List ℕ) → IsPacket packet → frag_length (packet ++ rest) ≡ length packet

@@ -4,7 +4,7 @@ use Rattle.std.proofs.lemmas.List.{length-append}
 use Rattle.pdu_codec.specs.Constants.{header_size}
 use Rattle.pdu_codec.specs.Faults.{frag_length}
 use Rattle.pdu_stream.specs.Cuts.{HasHead}
-use Rattle.replay_world.specs.Counting.{IsPacket, ends_call}
+use Rattle.server_counts.specs.Packets.{IsPacket, ends_call}
 use Rattle.server_counts.specs.declared.place.Place.{Place}
 use Rattle.server_counts.specs.declared.place.Place.TheVariants.{Head, Body, Stopped}
 use Rattle.server_counts.specs.declared.place.NewPackets.{NewPackets}

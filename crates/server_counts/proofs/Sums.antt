@@ -4,7 +4,7 @@ use Rattle.std.specs.Prelude.{min}
 use Rattle.std.proofs.lemmas.List.{length-append}
 use Rattle.std.proofs.lemmas.List.Elements.{filter-append}
 use Rattle.desk_counts.specs.Numbers.{Numbers, none_yet, stopped, with_more, listed}
-use Rattle.replay_world.specs.Counting.{ends_call}
+use Rattle.server_counts.specs.Packets.{ends_call}
 use Rattle.server_counts.specs.declared.place.NewPackets.{NewPackets}
 use Rattle.server_counts.specs.Packets.{PacketsView, Comes, AreMany, Stands, at_start}
 use Rattle.server_counts.proofs.Fronts.{counted_are_packets}

@@ -1,12 +1,33 @@
--- Where a stream of octets stands among its packets.
-use Rattle.std.specs.Prelude.{◌≡◌, ℕ, ◌+◌, ◌<◌, ◌≤◌, Bool, List, [], ◌∷◌, ◌++◌, length, filter, ⊤}
-use Rattle.pdu_codec.specs.Constants.{header_size}
-use Rattle.pdu_codec.specs.Faults.{frag_length}
+-- The packets of a stream of octets, and where a stream stands among them (C706, "Remote Management Interface",
+-- rpc__mgmt_inq_stats).
+use Rattle.std.specs.Prelude.{◌≡◌, ℕ, ◌+◌, ◌<◌, ◌≤◌, ◌==◌, Bool, ◌&&◌, List, [], ◌∷◌, ◌++◌, length, filter, ⊤, ◌⊎◌}
+use Rattle.pdu_codec.specs.Constants.{header_size, request_type, last_frag}
+use Rattle.pdu_codec.specs.Faults.{kind_at, flags_at, frag_length}
+use Rattle.pdu_stream.specs.Fragments.{has_flag}
 use Rattle.pdu_stream.specs.Cuts.{HasHead}
-use Rattle.replay_world.specs.Counting.{IsPacket, ends_call}
 use Rattle.server_counts.specs.declared.place.Place.{Place}
 use Rattle.server_counts.specs.declared.place.Place.TheVariants.{Head, Body, Stopped}
 use Rattle.server_counts.specs.declared.place.NewPackets.{NewPackets}
+
+-- A packet: a header without a fault, and as many octets as it says. Its body may be anything.
+pub record IsPacket (octets : List ℕ) : Type 0 where
+  pub head : HasHead octets
+  pub whole : length octets ≡ frag_length octets
+
+-- no packet stands whole in front
+abbrev pub HasNoPacket : List ℕ → Type 0
+HasNoPacket rest = (HasHead rest → ⊥) ⊎ (length rest < frag_length rest)
+
+-- The packets at the front of octets, up to a header with a fault or one whose octets aren't all there.
+abbrev pub ArePackets : List (List ℕ) → List ℕ → Type 0
+ArePackets [] octets = HasNoPacket octets
+ArePackets (packet ∷ more) octets = (rest : List ℕ) × (octets ≡ packet ++ rest) × IsPacket packet × ArePackets more rest
+
+-- a request's last fragment: a call, however many fragments it has
+abbrev pub ends_call : List ℕ → Bool
+ends_call packet = kind_at packet == request_type && has_flag last_frag (flags_at packet)
+
+-- ---- where a stream stands
 
 -- the octets of a header that is not whole, and the place
 pub record PacketsView : Type 0 where

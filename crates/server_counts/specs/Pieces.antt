@@ -1,13 +1,12 @@
 -- Octets that are PDUs, one after the other.
-use Rattle.std.specs.Prelude.{◌≡◌, ℕ, List, [], ◌++◌, length, map}
-use Rattle.std.specs.List.{AllByRecursion}
+use Rattle.std.specs.Prelude.{◌≡◌, ℕ, List, [], ◌++◌, length}
 use Rattle.pdu_codec.specs.declared.pdu.Pdu.{Pdu}
 use Rattle.pdu_codec.specs.Pdus.{IsPdu, AreSpelled}
-use Rattle.replay_world.specs.Worlds.Printed.{Answered}
-use Rattle.replay_world.specs.Printing.{IsOnePdu, out_text}
-use Rattle.replay_world.specs.Counting.{ArePackets}
-use Rattle.replay_world.specs.Answered.{FitsPrinted}
-use Rattle.server_counts.specs.Packets.{PacketsView, Stands}
+use Rattle.server_counts.specs.Packets.{ArePackets, PacketsView, Stands}
+
+-- the octets are those of one PDU
+abbrev pub IsOnePdu : List ℕ → List ℕ → Type 0
+IsOnePdu piece octets = (octets ≡ piece) × ((p : Pdu) × IsPdu p piece)
 
 -- the octets can be cut into PDUs
 abbrev pub ArePdus : List ℕ → Type 0
@@ -19,14 +18,6 @@ IsFirstPdu octets size = (p : Pdu) × (front : List ℕ) × (rest : List ℕ) ×
 
 abbrev pub BeginWithPdu : List ℕ → Type 0
 BeginWithPdu octets = (size : ℕ) × IsFirstPdu octets size
-
--- Each PDU of the octets is printed as answered on the connection, so that it can be read again, and so many are.
-pub record Prints (c : ℕ) (octets old : List ℕ) (count : ℕ) (new : List ℕ) : Type 0 where
-  pub pieces : List (List ℕ)
-  pub cut : AreSpelled IsOnePdu pieces octets
-  pub text : new ≡ old ++ out_text (map (Answered c) pieces)
-  pub fit : AllByRecursion FitsPrinted (map (Answered c) pieces)
-  pub count_is : count ≡ length pieces
 
 -- LAWS
 

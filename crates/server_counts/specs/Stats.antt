@@ -3,7 +3,7 @@
 use Rattle.std.specs.Prelude.{◌≡◌, ℕ, Some, List, length, filter}
 use Rattle.rpc_outside.specs.Links.{Shown}
 use Rattle.desk_counts.specs.Numbers.{Numbers, listed, stopped}
-use Rattle.replay_world.specs.Counting.{ArePackets, ends_call}
+use Rattle.server_counts.specs.Packets.{ArePackets, ends_call}
 
 -- of these packets that came and these that were put
 abbrev pub numbers_of : List (List ℕ) → List (List ℕ) → Numbers

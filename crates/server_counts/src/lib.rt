@@ -3,7 +3,7 @@
 //!
 //! They follow the heads of PDUs alone and take no memory. Contracts see a link that counts as the link inside.
 //!
-//! The packets of a stream of octets, counted as they come, and answered PDUs as lines of a replay.
+//! The packets of a stream of octets, counted as they come.
 #![tactic(auto)]
 
 mod behind;
@@ -12,10 +12,8 @@ mod laws;
 mod link;
 mod packets;
 mod place;
-mod print;
 
 pub use laws::{counted_are_packets, pdus_are_packets, pdus_go_on};
 pub use link::CountLink;
 pub use packets::Packets;
 pub use place::{NewPackets, Place};
-pub use print::print_pdus;

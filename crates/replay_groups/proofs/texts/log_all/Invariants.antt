@@ -1,5 +1,5 @@
 use Rattle.std.proofs.Common.{◌≡◌, ◌++◌, drop}
-use Rattle.replay_world.specs.Replays.{journals_text}
+use Rattle.journal_text.specs.Histories.{journals_text}
 use Rattle.replay_groups.proofs.texts.log_all.Given as goal
 
 -- with the texts of the groups that are left it is the whole text

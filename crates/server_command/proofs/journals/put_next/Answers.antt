@@ -2,7 +2,7 @@ use Rattle.std.proofs.Common.{◌≡◌, ◌∙◌, ℕ, ◌++◌, Ok, Some, Non
 use Rattle.handle_model.specs.History.{history_of}
 use Rattle.hub_story.specs.Histories.{home_of}
 use Rattle.group_hub.specs.Shards.{shard_of}
-use Rattle.replay_world.specs.Replays.{history_text}
+use Rattle.journal_text.specs.Histories.{history_text}
 use Rattle.server_command.proofs.Lists.{on_ok}
 use Rattle.server_command.proofs.Walking.{as_it_is, not_over_at, looked, looked_sees, walk_copies, walk_ends, found_opened, found_kept, none_opened}
 use Rattle.server_command.proofs.journals.put_next.Goals as goal

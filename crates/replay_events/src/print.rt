@@ -2,7 +2,8 @@
 ghost use Rattle.std.specs.Prelude.{◌≡◌, ◌++◌, IfOk, OnOk};
 ghost use Rattle.replay_world.specs.Worlds.Printed.{Answered};
 ghost use Rattle.replay_world.specs.Printing.{printed_text};
-ghost use Rattle.server_counts.specs.Pieces.{ArePdus, Prints, BeginWithPdu, IsFirstPdu};
+ghost use Rattle.server_counts.specs.Pieces.{ArePdus, BeginWithPdu, IsFirstPdu};
+ghost use Rattle.replay_events.specs.Prints.{Prints};
 
 use base_words::{put, put_decimal, put_hex};
 use pdu_codec::read_head;

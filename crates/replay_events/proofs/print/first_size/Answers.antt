@@ -2,7 +2,7 @@ use Rattle.std.proofs.Common.{◌≡◌, ◌++◌, List, ℕ, length, take, drop
 use Rattle.std.proofs.lemmas.List.{take-append-drop, length-take}
 use Rattle.pdu_codec.specs.Constants.{header_size}
 use Rattle.server_counts.proofs.Heads.{first_long, first_sound, first_size, head_len}
-use Rattle.server_counts.proofs.print.first_size.Goals as goal
+use Rattle.replay_events.proofs.print.first_size.Goals as goal
 
 pub unreachable-requires : goal.unreachable-requires
 unreachable-requires c = absurd (omega (arith, first_long c.args.octets.now c.requires, c.in_default.ensures.cases))

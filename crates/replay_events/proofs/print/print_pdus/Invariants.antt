@@ -1,6 +1,6 @@
 use Rattle.std.proofs.Common.{length}
-use Rattle.server_counts.proofs.Pieces.{PrintedSoFar}
-use Rattle.server_counts.proofs.print.print_pdus.Given as goal
+use Rattle.replay_events.proofs.Printing.{PrintedSoFar}
+use Rattle.replay_events.proofs.print.print_pdus.Given as goal
 
 abbrev pub invariant-loop-left : goal.invariant-loop-left
 invariant-loop-left l = PrintedSoFar l.name l.octets l.left l.initial.out.items l.out.items l.count

@@ -3,8 +3,8 @@ use Rattle.std.proofs.lemmas.List.{length-append, length-take, length-drop, take
 use Rattle.std.proofs.lemmas.Bool.Decides.{nat_tests}
 use Rattle.hex.specs.Hex.{IsBytes}
 use Rattle.server_counts.proofs.Heads.{first_within}
-use Rattle.server_counts.proofs.Pieces.{starts, begins, prints_on, printed}
-use Rattle.server_counts.proofs.print.print_pdus.Goals as goal
+use Rattle.replay_events.proofs.Printing.{starts, begins, prints_on, printed}
+use Rattle.replay_events.proofs.print.print_pdus.Goals as goal
 
 pub loop-left-init : goal.loop-left-init
 loop-left-init c = starts c.args.name c.args.octets.now c.args.out.now.items c.requires
