@@ -1,16 +1,19 @@
 //! The managers of a server whose connections are served side by side: a desk behind a lock, whose calls
 //! come one after another, and the built-in services, each of which has a lock of its own (C706, "Remote
-//! Procedure Call Model", interfaces and managers).
+//! Procedure Call Model", interfaces and managers). `DeskService` is what a server of this runtime serves connections with:
+//! the built-in interfaces and an echo of any other, each with its table and its manager.
 #![tactic(auto)]
 
 mod endpoints;
 mod lasting;
 mod locked;
 mod served;
+mod service;
 mod shared;
 
 /// The length in octets of the longest stub whose call is brief: a desk's call takes time by its stub.
 const BRIEF: usize = 65_536;
 
 pub use locked::Locked;
+pub use service::DeskService;
 pub use shared::SharedDesks;

@@ -14,6 +14,7 @@ mod outcomes;
 mod ready;
 mod request;
 mod running;
+mod service;
 mod slots;
 mod words;
 
@@ -25,3 +26,4 @@ pub use outcomes::Room;
 pub use ready::{Ready, prepared};
 pub use request::{message_of, slots_of};
 pub use running::{Answered, run};
+pub use service::Service;

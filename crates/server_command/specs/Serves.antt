@@ -17,7 +17,7 @@ use Rattle.group_hub.specs.Passes.{at_shard, IsPassOf}
 use Rattle.server_rounds.specs.declared.settled.Settled.{Settled}
 use Rattle.server_rounds.specs.declared.round.Round.{Round}
 use Rattle.server_rounds.specs.declared.round.Stop.{Stop}
-pub use Rattle.server_rounds.specs.Desks.{May}
+pub use Rattle.desk_locks.specs.Calls.{May}
 use Rattle.server_rounds.specs.Rounds.{IsRound}
 use Rattle.server_command.specs.Logs.{Logs}
 use Rattle.server_command.specs.Lines.{endings_in, status_with}

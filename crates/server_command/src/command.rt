@@ -2,16 +2,16 @@
 ghost use Rattle.std.specs.Prelude.{◌≤◌, IfOk, IfErr};
 ghost use Rattle.desk_service.specs.Shows.{shown_by};
 ghost use Rattle.desk_service.specs.State.{tables_with};
-ghost use Rattle.server_rounds.specs.Desks.{May};
+ghost use Rattle.desk_locks.specs.Calls.{May};
 ghost use Rattle.server_command.specs.Serves.{Serves, IsWhy};
 
 use crate::over::serve_over;
 use crate::printed::Printed;
 use desk_counts::Tally;
+use desk_locks::DeskService;
 use ndr_table::Table;
 use rpc_base::OutFault;
 use rpc_outside::{Address, Door, Link};
-use server_rounds::DeskService;
 use std::alloc::Global;
 use std::sync::{Arc, Wait};
 use std::thread::Threads;

@@ -9,7 +9,7 @@ use desk_counts::Tally;
 use group_hub::Hub;
 use rpc_base::OutFault;
 use rpc_outside::{Address, Door, Link};
-use server_rounds::Service;
+use server_calls::Service;
 use std::alloc::Global;
 use std::sync::{Arc, Wait};
 use std::thread::Threads;

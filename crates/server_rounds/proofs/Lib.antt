@@ -1,4 +1,3 @@
-pub mod Crossing
 pub mod Doors
 pub mod Endings
 pub mod Groups

@@ -1,4 +1,3 @@
-pub mod Desks
 pub mod Endings
 pub mod Passes
 pub mod Rounds

@@ -1,8 +1,8 @@
 //! A law of the definitions, as the contract of a function that does nothing.
 ghost use Rattle.server_rounds.specs.Endings.{GroupsEnd};
 
-use crate::Service;
 use rpc_outside::Link;
+use server_calls::Service;
 
 /// At the end of a round each group whose connections are all of the round has ended: the last of them that left, or the
 /// end of its last call, shut it.

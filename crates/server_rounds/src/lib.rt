@@ -2,21 +2,15 @@
 //! thread is joined before the round of them ends (C706, "Connection-oriented RPC protocol machines", server).
 //!
 //! The threads share the hub and the service, and nothing else: a connection has its link and its pass for itself, and
-//! both come back at the join. `DeskService` is what a server of this runtime serves them with: the built-in interfaces
-//! and an echo of any other, each with its table and its manager (C706, "Remote Procedure Call Model", interfaces and
-//! managers). What holds of a server's groups at the end of a round is the law `groups_end`.
+//! both come back at the join. What holds of a server's groups at the end of a round is the law `groups_end`.
 #![tactic(auto)]
 
-mod desks;
 mod laws;
 mod round;
 mod running;
-mod service;
 mod serving;
 mod settled;
 
-pub use desks::DeskService;
 pub use laws::groups_end;
 pub use round::{Round, Stop, serve};
-pub use service::Service;
 pub use settled::Settled;

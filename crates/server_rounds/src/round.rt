@@ -8,13 +8,13 @@ ghost use Rattle.server_rounds.specs.Served.{IsSettled};
 ghost use Rattle.server_rounds.specs.Rounds.{IsRound, Stops, HandsOutAll, came, passes};
 ghost use Rattle.server_rounds.specs.Serving.{IsServing, Keeps, links_of, Goes};
 
-use crate::service::Service;
 use crate::serving::Serving;
 use crate::settled::Settled;
 use desk_counts::Tally;
 use group_hub::{Hub, Pass};
 use rpc_base::OutFault;
 use rpc_outside::{Door, Link};
+use server_calls::Service;
 use server_counts::CountLink;
 use std::alloc::Global;
 use std::sync::{Arc, Wait};

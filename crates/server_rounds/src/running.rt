@@ -7,10 +7,10 @@ ghost use Rattle.server_ends.specs.Finishes.{Finishes};
 ghost use Rattle.server_rounds.specs.Served.{IsServed, finished_of};
 ghost use Rattle.server_rounds.specs.Running.{Keeps, WillKeep};
 
-use crate::service::Service;
 use crate::settled::Settled;
 use group_hub::{Hub, Pass};
 use rpc_outside::Link;
+use server_calls::Service;
 use server_ends::Finished;
 use server_run::serve_connection;
 use std::alloc::Global;

@@ -7,11 +7,11 @@ ghost use Rattle.group_hub.specs.Passes.{IsPassOf};
 ghost use Rattle.server_rounds.specs.Serving.{IsServing, HasRoom, links_of, Keeps, Same};
 
 use crate::running::Running;
-use crate::service::Service;
 use crate::settled::Settled;
 use group_hub::{Hub, Pass};
 use rpc_base::NoMemory;
 use rpc_outside::Link;
+use server_calls::Service;
 use std::alloc::Global;
 use std::collections::VecDeque;
 use std::mem;

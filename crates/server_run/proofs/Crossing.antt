@@ -19,9 +19,9 @@ use denote.Param.Send.{IsSend, IsSync, sendable, recorded_send, struct_send, shr
 use Rattle.std.proofs.Crossing.{crosses as owners}
 use Rattle.rpc_base.proofs.items.Items.TheSendSync.{the_send as items_send, the_sync as items_sync}
 use Rattle.ndr_value.proofs.shape.Shape.TheLaws.TheKnot.{crosses as shapes}
-use Rattle.ndr_value.specs.contracts.operation.Param as Param
-use Rattle.ndr_value.specs.contracts.operation.Op as Op
-use Rattle.ndr_value.specs.contracts.table.Table as Table
+use Rattle.ndr_table.specs.contracts.operation.Param as Param
+use Rattle.ndr_table.specs.contracts.operation.Op as Op
+use Rattle.ndr_table.specs.contracts.table.Table as Table
 use Rattle.manager_api.specs.contracts.served.Served as Served
 use Rattle.handle_model.specs.contracts.entry.Asked as Asked
 use Rattle.ndr_value.specs.contracts.value.Message as Message

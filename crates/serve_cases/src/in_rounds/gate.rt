@@ -1,10 +1,10 @@
 //! A manager of the tests' own, whose calls wait for one another.
+use desk_locks::DeskService;
 use handle_model::{CookieRow, Due};
 use manager_api::{Answer, Probe, Served};
 use ndr_value::Message;
 use rpc_base::Status;
-use server_calls::Manager;
-use server_rounds::{DeskService, Service};
+use server_calls::{Manager, Service};
 use std::alloc::Global;
 use std::sync::Wait;
 use std::sync::atomic::{AtomicU32, Ordering};

@@ -5,8 +5,8 @@ use Rattle.std.specs.Arc.{arc_value}
 use Rattle.ndr_table.specs.Tables.{TableForm}
 use Rattle.desk_service.specs.Shows.{shown_by}
 use Rattle.desk_service.specs.State.{tables_with}
-use Rattle.server_rounds.specs.Desks.{echo_of, May}
-use Rattle.server_rounds.proofs.Crossing.{service_send, service_sync}
+use Rattle.desk_locks.specs.Calls.{echo_of, May}
+use Rattle.desk_locks.proofs.Crossing.{service_send, service_sync}
 use Rattle.server_command.specs.Serves.{Serves}
 use Rattle.server_command.proofs.Rounds.{if_ok}
 use Rattle.server_command.proofs.command.serve.Goals as goal

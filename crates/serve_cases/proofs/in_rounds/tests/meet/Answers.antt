@@ -1,6 +1,6 @@
 use denote.Param.Send.{IsSend, IsSync, sendable}
 use Rattle.std.proofs.Crossing.{crosses}
-use Rattle.server_rounds.proofs.Crossing.{service_send, service_sync}
+use Rattle.desk_locks.proofs.Crossing.{service_send, service_sync}
 use Rattle.serve_cases.specs.contracts.in_rounds.gate.Gate as Gate
 use Rattle.serve_cases.proofs.in_rounds.tests.meet.Goals as goal
 

@@ -1,7 +1,7 @@
 use denote.Param.Send.{sendable}
 use Rattle.std.proofs.Crossing.{crosses}
-use Rattle.server_rounds.proofs.Crossing.{service_send, service_sync}
-use Rattle.server_rounds.proofs.desks.DeskService.new.Goals as goal
+use Rattle.desk_locks.proofs.Crossing.{service_send, service_sync}
+use Rattle.desk_locks.proofs.service.DeskService.new.Goals as goal
 
 pub shared-requires-send-S : goal.shared-requires-send-S
 shared-requires-send-S c κs = let a = service_send in search (crosses, sendable) depth 40

@@ -4,16 +4,16 @@ use Rattle.std.proofs.Crossing.{crosses}
 use Rattle.std.proofs.MapsCrossing.{crosses as maps}
 use Rattle.rpc_base.proofs.items.Items.TheSendSync.{the_send as items_send, the_sync as items_sync}
 use Rattle.ndr_value.proofs.shape.Shape.TheLaws.TheKnot.{crosses as shapes}
-use Rattle.ndr_value.specs.contracts.operation.Param as Param
-use Rattle.ndr_value.specs.contracts.operation.Op as Op
-use Rattle.ndr_value.specs.contracts.table.Table as Table
+use Rattle.ndr_table.specs.contracts.operation.Param as Param
+use Rattle.ndr_table.specs.contracts.operation.Op as Op
+use Rattle.ndr_table.specs.contracts.table.Table as Table
 use Rattle.manager_api.specs.contracts.served.Served as Served
-use Rattle.echo_manager.specs.contracts.desk.ProbeDesk as Probe
+use Rattle.echo_manager.specs.contracts.probe.ProbeDesk as Probe
 use Rattle.store_manager.specs.contracts.desk.StoreDesk as Store
 use Rattle.epm_manager.specs.contracts.desk.EpmDesk as Map
 use Rattle.desk_counts.specs.contracts.tally.Tally as Tally
 use Rattle.desk_locks.specs.contracts.shared.SharedDesks as Desks
-use Rattle.server_rounds.specs.contracts.desk_service.DeskService as Service
+use Rattle.desk_locks.specs.contracts.service.DeskService as Service
 
 -- ---- tables
 

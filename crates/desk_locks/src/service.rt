@@ -1,9 +1,8 @@
-//! The service.
+//! The service with which connections are served.
 ghost use Rattle.std.specs.Prelude.{◌≡◌};
 
-use crate::Service;
+use crate::shared::SharedDesks;
 use desk_counts::Tally;
-use desk_locks::SharedDesks;
 use desk_service::tables_with;
 use handle_model::{CookieRow, Due};
 use manager_api::{Answer, Probe, Served};
@@ -11,7 +10,7 @@ use ndr_table::Table;
 use ndr_value::Message;
 use rpc_base::NoMemory;
 use rpc_outside::Address;
-use server_calls::Manager;
+use server_calls::{Manager, Service};
 use std::alloc::Global;
 use std::marker::Model;
 use std::sync::{Arc, Wait};

@@ -2,8 +2,8 @@
 ghost use Rattle.std.specs.Prelude.{◌≡◌};
 ghost use Rattle.manager_api.specs.Served.{tables_in};
 
+use crate::manager::Manager;
 use manager_api::Served;
-use server_calls::Manager;
 use std::alloc::Global;
 
 /// A manager with the tables of its interfaces, as connections are served with them.
