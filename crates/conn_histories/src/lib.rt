@@ -3,14 +3,8 @@
 //! request is refused before it is accepted, which slots a call has, and what its end has to say; and the connection's
 //! story as turns, by what each thing that it was asked came to: what the turns say of the journal, of what is done and
 //! of what is answered.
-//!
-//! What the turns of a connection enter and answer, as plain programs.
 #![tactic(auto)]
 
-mod entries;
-mod octets;
 mod turn;
 
-pub use entries::entered;
-pub use octets::answered;
 pub use turn::{Deed, Fate, Off, Offs, Request, Run, Turn};

@@ -7,6 +7,7 @@ pub mod Growing
 pub mod Joining
 pub mod Keeping
 pub mod Limits
+pub mod Numbered
 pub mod Openings
 pub mod Owing
 pub mod Pruning

@@ -8,10 +8,10 @@ use crate::answer::AcceptRefusal;
 use crate::counts::accept_limit;
 use crate::group::Group;
 use crate::log::Log;
+use crate::numbers::number_slots;
 use call_table::CallTable;
 use handle_model::{Asked, count_opens};
 use handle_table::HandleTable;
-use journal_rules::number_slots;
 use rpc_base::NoMemory;
 
 impl Group {

@@ -14,6 +14,7 @@ mod judge;
 mod laws;
 mod log;
 mod marks;
+mod numbers;
 mod replies;
 
 pub use answer::{AcceptRefusal, Cancelled, JoinRefusal, Orphaned, Rest, Stage, Taking};
@@ -23,6 +24,7 @@ pub use laws::{
     accepts_grow, cancels_grow, ends_grow, grows_on, joins_grow, leaves_grow, orphans_grow,
     stays_earlier, takes_grow,
 };
+pub use numbers::number_slots;
 pub use replies::{
     cancels_reply, denies_reply, drops_reply, ends_reply, leaves_reply, orphans_reply, replies_stay,
 };

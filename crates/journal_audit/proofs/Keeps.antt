@@ -18,7 +18,7 @@ use Rattle.handle_model.specs.Calls.{any_clash}
 use Rattle.handle_model.specs.Bases.{is_number}
 use Rattle.handle_model.specs.Sound.{differ, is_fresh, names_apart, is_known, opening}
 use Rattle.handle_model.proofs.Held.{and_left, and_right}
-use Rattle.journal_rules.specs.Sounds.{taken_of}
+use Rattle.journal_audit.specs.Sounds.{taken_of}
 use Rattle.handle_table.specs.Handles.{Handles, item_of, looked}
 use Rattle.handle_table.specs.Kept.{Rises}
 use Rattle.journal_audit.specs.Calls.{serials_in, may_open, takes_apart, opens_apart}

@@ -15,7 +15,7 @@ use Rattle.journal_reader.specs.Fits.{FitsCall, FitsEntry}
 use Rattle.journal_reader.specs.Lines.{BeginsWithGroup, BeginsWithNoGroup, BeginsWithBase, BeginsWithNoBase, BeginsWithCall, BeginsWithNoCall, BeginsWithEntry, BeginsWithNoEntry}
 use Rattle.journal_reader.proofs.Heads.{group_fed, base_fed, call_fed, entry_fed}
 use Rattle.journal_reader.proofs.Listing.{fit_more}
-use Rattle.journal_rules.specs.Verdicts.{Tells}
+use Rattle.journal_audit.specs.Verdicts.{Tells}
 use Rattle.journal_audit.specs.declared.verdict.GroupVerdict.{GroupVerdict}
 use Rattle.journal_audit.specs.declared.verdict.AuditFault.{AuditFault}
 use Rattle.journal_audit.specs.declared.verdict.AuditFault.TheVariants as faults

@@ -11,7 +11,7 @@ use Rattle.handle_model.specs.Sound.{IsSoundBase}
 use Rattle.handle_model.specs.History.{History, since, with_entry, history_of, size}
 use Rattle.handle_model.specs.Journal.{Legal, Allowed, due}
 use Rattle.handle_model.proofs.Reversed.{reverse-snoc}
-use Rattle.journal_rules.specs.Verdicts.{IsBreach, BreachAt, Tells}
+use Rattle.journal_audit.specs.Verdicts.{IsBreach, BreachAt, Tells}
 use Rattle.journal_tables.specs.Tables.{Tables, Admits, entered, is_due}
 use Rattle.journal_tables.specs.Shown.{tables_of}
 use Rattle.journal_tables.proofs.Shown.{base_shown, admits_shown, follows, due_shown}

@@ -13,7 +13,7 @@ use Rattle.handle_model.specs.declared.base.Base.{Base}
 use Rattle.handle_model.specs.Bases.{is_number, has_item, numbers_of, serials_of}
 use Rattle.handle_model.specs.Sound.{rise_above, rise, at_most, differ, is_fresh, is_within, conflicts_with, are_apart, names_apart, is_known, opening, is_held, IsSoundBase}
 use Rattle.handle_model.proofs.Held.{and_left, and_right}
-use Rattle.journal_rules.specs.Sounds.{taken_of, is_head}
+use Rattle.journal_audit.specs.Sounds.{taken_of, is_head}
 use Rattle.journal_audit.specs.Calls.{serials_in, may_open, takes_apart, opens_apart, joins_calls, comes_next}
 use Rattle.journal_audit.specs.SoFar.{with_call, IsSoundSoFar}
 

@@ -9,9 +9,9 @@ use Rattle.handle_model.specs.declared.entry.Entry.{Entry}
 use Rattle.handle_model.specs.declared.base.Base.{Base}
 use Rattle.handle_model.specs.History.{IsSound, since, history_of, size}
 use Rattle.handle_model.specs.Journal.{Legal, Allowed, due}
-use Rattle.journal_rules.specs.declared.audit.Verdict.{Verdict}
-use Rattle.journal_rules.specs.declared.audit.Verdict.TheVariants as verdicts
-use Rattle.journal_rules.specs.Verdicts.{Tells, BreachAt, IsBreach}
+use Rattle.journal_audit.specs.declared.verdict.Verdict.{Verdict}
+use Rattle.journal_audit.specs.declared.verdict.Verdict.TheVariants as verdicts
+use Rattle.journal_audit.specs.Verdicts.{Tells, BreachAt, IsBreach}
 use Rattle.handle_model.proofs.Older.{older_since}
 
 -- each entry of a legal journal was allowed after those before it

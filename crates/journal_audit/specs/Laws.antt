@@ -4,9 +4,9 @@ use Rattle.handle_model.specs.declared.entry.Home.{Home}
 use Rattle.handle_model.specs.declared.entry.Entry.{Entry}
 use Rattle.handle_model.specs.declared.base.Base.{Base}
 use Rattle.handle_model.specs.History.{IsSound, history_of, size}
-use Rattle.journal_rules.specs.declared.audit.Verdict.{Verdict}
-use Rattle.journal_rules.specs.declared.audit.Verdict.TheVariants as verdicts
-use Rattle.journal_rules.specs.Verdicts.{Tells}
+use Rattle.journal_audit.specs.declared.verdict.Verdict.{Verdict}
+use Rattle.journal_audit.specs.declared.verdict.Verdict.TheVariants as verdicts
+use Rattle.journal_audit.specs.Verdicts.{Tells}
 use Rattle.journal_audit.specs.Files.{Journal, HasJournals, DepartsAt}
 
 -- a text is journals in one way

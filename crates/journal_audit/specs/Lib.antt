@@ -3,5 +3,7 @@ pub mod Files
 pub mod Laws
 pub mod Numbered
 pub mod SoFar
+pub mod Sounds
 pub mod Told
+pub mod Verdicts
 pub mod Watching

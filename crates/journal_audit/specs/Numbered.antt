@@ -14,7 +14,7 @@ use Rattle.handle_model.specs.Slots.{wire_of, names, named, kind_of, is_exclusiv
 use Rattle.handle_model.specs.Bases.{is_number, has_conn}
 use Rattle.handle_model.specs.Sound.{opening}
 use Rattle.handle_table.specs.Handles.{Handles, found, looked}
-use Rattle.journal_rules.specs.Sounds.{taken_of}
+use Rattle.journal_audit.specs.Sounds.{taken_of}
 
 -- the set has the number
 abbrev pub has : BTreeSet ℕ → ℕ → Bool

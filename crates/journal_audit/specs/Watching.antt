@@ -3,8 +3,8 @@ use Rattle.std.specs.Prelude.{◌≡◌, ℕ, ◌+◌, Bool, Option, Some, None,
 use Rattle.handle_model.specs.declared.entry.Entry.{Entry}
 use Rattle.handle_model.specs.declared.entry.Home.{Home}
 use Rattle.handle_model.specs.declared.base.Base.{Base}
-use Rattle.journal_rules.specs.declared.audit.Verdict.{Verdict}
-use Rattle.journal_rules.specs.declared.audit.Verdict.TheVariants as verdicts
+use Rattle.journal_audit.specs.declared.verdict.Verdict.{Verdict}
+use Rattle.journal_audit.specs.declared.verdict.Verdict.TheVariants as verdicts
 use Rattle.journal_tables.specs.Tables.{Tables, Admits, entered, is_due}
 use Rattle.journal_tables.specs.Shown.{base_tables}
 use Rattle.journal_audit.specs.Files.{HasEntries}

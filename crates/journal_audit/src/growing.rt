@@ -9,13 +9,13 @@ ghost use Rattle.journal_audit.specs.Numbered as seen;
 ghost use Rattle.journal_audit.specs.SoFar.{IsSoundSoFar, with_call};
 
 use crate::calls::{comes_behind, is_within, serials_differ};
+use crate::held::is_held;
 use crate::looks::{
     add_holds_of, add_serials, add_uses_of, all_free, all_known, all_may_open, is_fresh,
 };
 use crate::numbers::{Numbers, add, no_numbers};
 use handle_model::{Base, BaseCall, Home, names_apart};
 use handle_table::HandleTable;
-use journal_rules::is_held;
 use rpc_base::NoMemory;
 use std::alloc::Global;
 use std::marker::Model;

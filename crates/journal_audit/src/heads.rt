@@ -2,8 +2,8 @@
 ghost use Rattle.std.specs.Prelude.{◌≡◌, ◌<◌, ◌^◌, ◌↔◌, [], IsTrue};
 ghost use Rattle.journal_audit.specs.SoFar.{IsSoundSoFar};
 
+use crate::rising::is_head;
 use handle_model::{Base, Home};
-use journal_rules::is_head;
 
 /// Whether a base may begin so: one without calls.
 pub fn is_sound_head(home: Home, base: &Base) -> bool

@@ -2,9 +2,19 @@
 ghost use Rattle.std.specs.Prelude.{◌≡◌};
 ghost use Rattle.journal_audit.specs.declared.verdict.AuditFault.TheVariants.{Memory};
 
-use journal_rules::Verdict;
 use rpc_base::{Items, NoMemory};
 use thiserror::Error;
+
+/// What is said of a journal. The place of an entry is how many there were before it, those of the
+/// base among them.
+#[derive(Clone, Copy, Debug, PartialEq, Eq)]
+pub enum Verdict {
+    /// It is legal and settled; the number of its entries.
+    Legal(usize),
+    /// The place of the first entry that isn't allowed, or the number of entries where a Shut is due
+    /// at the end.
+    Breach { index: usize },
+}
 
 /// What is said of the journal of a group.
 #[derive(Clone, Copy, Debug, PartialEq, Eq)]

@@ -4,9 +4,9 @@ ghost use Rattle.std.specs.Prelude.{◌≡◌, ◌+◌, ◌<◌, ◌^◌, IfOk};
 ghost use Rattle.handle_model.specs.Sound.{IsSoundBase};
 ghost use Rattle.journal_audit.specs.Watching as spec;
 
+use crate::verdict::Verdict;
 use audit_tables::AuditTables;
 use handle_model::{Base, Entry, Home};
-use journal_rules::Verdict;
 use rpc_base::NoMemory;
 use std::alloc::Global;
 use std::marker::Model;

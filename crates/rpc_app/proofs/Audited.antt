@@ -2,9 +2,9 @@
 use Rattle.std.proofs.Common.{◌≡◌, ℕ, true, false, List, [], ◌∷◌, refl, ap, subst, inl, inr}
 use Rattle.std.specs.List.{list_all, AllByRecursion}
 use Rattle.handle_model.proofs.Held.{and_left, and_right}
-use Rattle.journal_rules.specs.declared.audit.Verdict.{Verdict}
-use Rattle.journal_rules.specs.declared.audit.Verdict.TheVariants as verdicts
-use Rattle.journal_rules.specs.Verdicts.{Tells}
+use Rattle.journal_audit.specs.declared.verdict.Verdict.{Verdict}
+use Rattle.journal_audit.specs.declared.verdict.Verdict.TheVariants as verdicts
+use Rattle.journal_audit.specs.Verdicts.{Tells}
 use Rattle.journal_audit.specs.declared.verdict.GroupVerdict.{GroupVerdict}
 use Rattle.journal_audit.specs.Files.{Journal, DepartsAt}
 use Rattle.journal_audit.specs.Told.{Audited, TellsAll}

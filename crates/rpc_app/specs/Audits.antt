@@ -2,8 +2,8 @@
 use Rattle.std.specs.Prelude.{◌≡◌, ℕ, Bool, true, false, List, [], ◌∷◌, ◌++◌, codes, decimal}
 use Rattle.std.specs.List.{list_all, AllByRecursion}
 use Rattle.handle_model.specs.History.{IsSound, history_of}
-use Rattle.journal_rules.specs.declared.audit.Verdict.{Verdict}
-use Rattle.journal_rules.specs.declared.audit.Verdict.TheVariants as verdicts
+use Rattle.journal_audit.specs.declared.verdict.Verdict.{Verdict}
+use Rattle.journal_audit.specs.declared.verdict.Verdict.TheVariants as verdicts
 use Rattle.journal_audit.specs.declared.verdict.GroupVerdict.{GroupVerdict}
 use Rattle.journal_audit.specs.Files.{Journal, HasJournals, DepartsAt}
 use Rattle.journal_audit.specs.Told.{Audited}

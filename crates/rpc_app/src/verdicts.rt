@@ -8,8 +8,7 @@ ghost use Rattle.rpc_app.specs.Making.{Says};
 
 use crate::make::MakeFault;
 use base_words::{put, put_decimal};
-use journal_audit::{AuditFault, GroupVerdict, audit};
-use journal_rules::Verdict;
+use journal_audit::{AuditFault, GroupVerdict, Verdict, audit};
 use replay::Replayed;
 use rpc_base::{NoMemory, Octets};
 use std::alloc::Global;

@@ -5,8 +5,8 @@ ghost use Rattle.server_steps.specs.declared.line.Line.{Line as LineSpec};
 ghost use Rattle.server_run.specs.Running.{IsTakenWith, HasDeparted, IsOverFrom, RunsTo};
 
 use crate::beside::{Beside, Departed, run_beside};
+use group_core::number_slots;
 use handle_model::{Asked, CookieRow, Reply};
-use journal_rules::number_slots;
 use ndr_value::Message;
 use rpc_outside::Link;
 use server_calls::{Manager, Room, first_cookies};

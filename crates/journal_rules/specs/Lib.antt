@@ -1,3 +1,0 @@
-pub mod Sounds
-pub mod Told
-pub mod Verdicts
