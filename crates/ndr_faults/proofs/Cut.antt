@@ -7,7 +7,8 @@ use Rattle.rpc_base.specs.declared.identifiers.Order.{Order}
 use Rattle.rpc_base.specs.Fields.{wire_of}
 use Rattle.ndr_value.specs.declared.shape.ArrayKind.{ArrayKind}
 use Rattle.ndr_value.specs.declared.shape.ArrayKind.TheVariants.{Fixed, Varying, Conformant, ConformantVarying}
-use Rattle.ndr_value.specs.Forms.{Form, OfBool, OfChar, OfInt, OfUint, OfEnum, OfStruct, Forms}
+use Rattle.ndr_value.specs.Forms.{Form, OfBool, OfChar, OfInt, OfUint, OfEnum, OfStruct, Forms, Body, ArmForms}
+use Rattle.ndr_value.specs.Fits.{selected}
 use Rattle.ndr_table.specs.Sound.{is_tag}
 use Rattle.ndr_scalars.specs.Scalars.{up, octets_of, number_in, number_at}
 use Rattle.ndr_arrays.specs.declared.counts.Counts.{Counts}
@@ -21,7 +22,7 @@ use Rattle.ndr_arrays.specs.Texts.{in_text, before_nul, cells_at, limit_at, coun
 use Rattle.ndr_model.specs.declared.departure.Departure.{Departure}
 use Rattle.ndr_model.specs.declared.departure.Departure.TheVariants.{Short, Bound, Tag, Pointer, Text, TooDeep, Trailing}
 use Rattle.ndr_model.specs.Part.{opens_with, in_place}
-use Rattle.ndr_model.specs.Reading.{unless_short, of_counts, of_text, number, name_at, wire_at, chars_at, array_at, tag_at, opened_at, struct_at}
+use Rattle.ndr_model.specs.Reading.{unless_short, of_counts, of_text, unnamed, number, name_at, wire_at, chars_at, array_at, tag_at, opened_at, struct_at}
 use Rattle.ndr_arrays.proofs.Steps.{bind_ok, unless_ok, when_ok, ok_is}
 use Rattle.ndr_scalars.proofs.Laws.{number_stands}
 use Rattle.ndr_model.proofs.Pieces.{number_is}
@@ -76,6 +77,10 @@ octets_some size = first (size == 1)
 
 pub some_octets : (size i k : ℕ) → i + octets_of size ≤ k → i < k
 some_octets size i k le = let one = octets_some size in omega (arith, le, one)
+
+unnamed_before : (k : ℕ) (arm : Option Body) (i : ℕ) → i < k → Before k (unnamed arm i)
+unnamed_before k None i lt = lt
+unnamed_before k (Some arm) i lt = lt
 
 -- octets of the front
 same_octets : (i n : ℕ) (front more : List ℕ) → i + n ≤ length front → take n (drop i (front ++ more)) ≡ take n (drop i front)
@@ -261,14 +266,15 @@ module _ (order : Order) (front more : List ℕ) where
       of_text_cut (bind_text (in_text_cut (counted_cut size moved i)) (λ x e. bind_text (cells_cut x.1 x.0.actual) (λ y f.
       bind_text (nul_cut y.0 (x.1 - 4) (position (λ c. c == 0) y.0) (counted_in_front size moved i x e)) (λ text g. text_alike))))
 
-  pub tag_cut : (t : Form) (i : ℕ) → is_tag t ≡ true → Cut k (tag_at order octets t i) (tag_at order front t i)
-  tag_cut OfBool i is = bind_cut (number_cut 1 i) (λ x e. alike)
-  tag_cut OfChar i is = bind_cut (number_cut 1 i) (λ x e. alike)
-  tag_cut (OfInt size) i is = bind_cut (number_cut size i) (λ x e. alike)
-  tag_cut (OfUint size) i is =
+  pub tag_cut : (t : Form) (arms : ArmForms) (i : ℕ) → is_tag t ≡ true → Cut k (tag_at order octets t arms i) (tag_at order front t arms i)
+  tag_cut OfBool arms i is = bind_cut (number_cut 1 i) (λ x e. alike)
+  tag_cut OfChar arms i is = bind_cut (number_cut 1 i) (λ x e. alike)
+  tag_cut (OfInt size) arms i is = bind_cut (number_cut size i) (λ x e. alike)
+  tag_cut (OfUint size) arms i is =
       bind_cut (number_cut size i) (λ x e. when_cut (nat_lt x.0 (2 ^ 63)) (pos x.0, x.1) (Tag (up i (octets_of size))) (some_octets size (up i (octets_of size)) k (number_in_front size i x e)))
-  tag_cut (OfEnum count) i is = bind_cut (name_cut count i) (λ x e. alike)
-  tag_cut _ i is = absurd cc
+  tag_cut (OfEnum count) arms i is =
+      bind_cut (number_cut 2 i) (λ x e. when_cut (nat_lt x.0 count) (pos x.0, x.1) (unnamed (selected arms (pos x.0)) (up i 2)) (unnamed_before k (selected arms (pos x.0)) (up i 2) (some_octets 2 (up i 2) k (number_in_front 2 i x e))))
+  tag_cut _ arms i is = absurd cc
 
   abbrev unopened : ℕ → Result (Option ℕ × ℕ) Departure
   unopened i = Ok (None, i)

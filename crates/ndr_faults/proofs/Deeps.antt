@@ -5,8 +5,8 @@ use Rattle.std.proofs.lemmas.List.{append-nil}
 use Rattle.rpc_base.specs.declared.identifiers.Order.{Order}
 use Rattle.rpc_base.specs.declared.identifiers.WireHandle.{WireHandle}
 use Rattle.rpc_base.specs.Fields.{wire_of}
-use Rattle.ndr_value.specs.Forms.{Form, OfBool, OfByte, OfChar, OfInt, OfUint, OfEnum, OfNamed, OfStruct, OfUnion, OfArray, OfText, OfRef, OfUnique, OfFull, OfHandle, Forms, no_form, then_form, Body, empty, holds}
-use Rattle.ndr_value.specs.Fits.{arm_of}
+use Rattle.ndr_value.specs.Forms.{Form, OfBool, OfByte, OfChar, OfInt, OfUint, OfEnum, OfNamed, OfStruct, OfUnion, OfArray, OfText, OfRef, OfUnique, OfFull, OfHandle, Forms, no_form, then_form, Body, empty, holds, ArmForms}
+use Rattle.ndr_value.specs.Fits.{selected, arm_of}
 use Rattle.ndr_value.specs.Values.{Val, VBool, VByte, VChar, VInt, VUint, VEnum, VStruct, VUnion, VArray, VText, VPtr, VFull, VHandle, Vals, then_val, Msg}
 use Rattle.ndr_table.specs.Tables.{OpForm}
 use Rattle.ndr_table.specs.Sound.{is_tag}
@@ -27,7 +27,7 @@ use Rattle.ndr_model.specs.Places.{Place, past, Last, onto, noting, keeping, loo
 use Rattle.ndr_model.specs.Part.{for_last, in_place, tag_size, opens_with, opened_marks, count_marks, tag_marks}
 use Rattle.ndr_model.specs.Same.{same}
 use Rattle.ndr_model.specs.Stub.{Entry, entries, range_marks, start}
-use Rattle.ndr_model.specs.Reading.{unless_short, of_counts, of_text, number, name_at, wire_at, chars_at, array_at, tag_at, opened_at, begun, struct_at}
+use Rattle.ndr_model.specs.Reading.{unless_short, of_counts, of_text, unnamed, number, name_at, wire_at, chars_at, array_at, tag_at, opened_at, begun, struct_at}
 use Rattle.ndr_model.specs.Scan.{level, unique_by, full_scan, full_by, of_type, arm_scan, each, times, scan}
 use Rattle.ndr_model.specs.Build.{PartEnds, Cursor, ahead, cursor, Built, Found, Row, ends, referent, behind_ref, behind_unique, behind_known, behind_met, behind_full, built_each, built_times, in_struct, in_array, built_arm, build, whole, follows, no_more, read_values}
 use Rattle.ndr_model.specs.Message.{enough, read_stub}
@@ -83,6 +83,10 @@ text_err A n i e = absurd cc
 
 tag_err : (A : Type 0) (n : ℕ) → NotDeep (fails A (Tag n))
 tag_err A n i e = absurd cc
+
+unnamed_err : (o : Option Body) (n : ℕ) → NotDeep (fails (ℤ × ℕ) (unnamed o n))
+unnamed_err None n i e = absurd cc
+unnamed_err (Some arm) n i e = absurd cc
 
 abbrev tag_ok : ℤ × ℕ → Result (ℤ × ℕ) Departure
 tag_ok x = Ok x
@@ -149,15 +153,17 @@ module _ (order : Order) (octets : List ℕ) where
   unless_tag : (b : Bool) (x : ℤ × ℕ) (i : ℕ) → NotDeep (if b then tag_ok x else Err (Tag i))
   unless_tag b x i = if_not b (tag_ok x) (fails (ℤ × ℕ) (Tag i)) (ok_not x) (tag_err (ℤ × ℕ) i)
 
-  tag_not : (t : Form) (i : ℕ) → is_tag t ≡ true → NotDeep (tag_at order octets t i)
-  tag_not OfBool i is = tag_is_not (number order octets 1 i) (λ x. (pos (if x.0 == 0 then 0 else 1), x.1)) (number_not 1 i)
-  tag_not OfChar i is = tag_is_not (number order octets 1 i) (λ x. (pos x.0, x.1)) (number_not 1 i)
-  tag_not (OfInt size) i is = tag_is_not (number order octets size i) (λ x. (signed size x.0, x.1)) (number_not size i)
-  tag_not (OfUint size) i is =
+  tag_not : (t : Form) (arms : ArmForms) (i : ℕ) → is_tag t ≡ true → NotDeep (tag_at order octets t arms i)
+  tag_not OfBool arms i is = tag_is_not (number order octets 1 i) (λ x. (pos (if x.0 == 0 then 0 else 1), x.1)) (number_not 1 i)
+  tag_not OfChar arms i is = tag_is_not (number order octets 1 i) (λ x. (pos x.0, x.1)) (number_not 1 i)
+  tag_not (OfInt size) arms i is = tag_is_not (number order octets size i) (λ x. (signed size x.0, x.1)) (number_not size i)
+  tag_not (OfUint size) arms i is =
       bind_not (number order octets size i) (λ x. (if nat_lt x.0 (2 ^ 63) then tag_ok (pos x.0, x.1) else Err (Tag (up i (octets_of size))))) (number_not size i)
       (λ x. unless_tag (nat_lt x.0 (2 ^ 63)) (pos x.0, x.1) (up i (octets_of size)))
-  tag_not (OfEnum count) i is = tag_is_not (name_at order octets count i) (λ x. (pos x.0, x.1)) (name_not count i)
-  tag_not _ i is = absurd cc
+  tag_not (OfEnum count) arms i is =
+      bind_not (number order octets 2 i) (λ x. (if nat_lt x.0 count then tag_ok (pos x.0, x.1) else Err (unnamed (selected arms (pos x.0)) (up i 2)))) (number_not 2 i)
+      (λ x. if_not (nat_lt x.0 count) (tag_ok (pos x.0, x.1)) (fails (ℤ × ℕ) (unnamed (selected arms (pos x.0)) (up i 2))) (ok_not (pos x.0, x.1)) (unnamed_err (selected arms (pos x.0)) (up i 2)))
+  tag_not _ arms i is = absurd cc
 
   opened_by : (b : Bool) (i : ℕ) → NotDeep (if b then (number order octets 4 i >>= λ x. opened_ok (Some x.0, x.1)) else opened_ok (None, i))
   opened_by true i = bind_not (number order octets 4 i) (λ x. opened_ok (Some x.0, x.1)) (number_not 4 i) (λ x. ok_not _)
@@ -485,14 +491,14 @@ module _ (types : List Form) (order : Order) (octets : List ℕ) where
         let h : (tag : ℤ) (s : Form) → arm_of u tag ≡ Some (holds s) → Both n room s =
         λ tag s e. so room d s (arm_has (Shallow types d) s t arms tag e sh) (arm_has (Targets types deep) s t arms tag e (each_arm types deep arms tg)) (arm_clear types s t arms tag e cl.1) (omega (arith, le)) in (
           λ moved p i e. let begin = in_place types u p.at in
-              let x = behind_piece (tag_at order octets t begin) (λ x. arm_scan (arm_of u x.0) (up begin (tag_size t)) (past p x.1) (scan types order octets n room None)) i (tag_not order octets t begin cl.0) e in
+              let x = behind_piece (tag_at order octets t arms begin) (λ x. arm_scan (arm_of u x.0) (up begin (tag_size t)) (past p x.1) (scan types order octets n room None)) i (tag_not order octets t arms begin cl.0) e in
               let f = arm_scans n room (arm_of u x.0.0) (up begin (tag_size t)) (past p x.0.1) i x.2 (λ s is. (h x.0.0 s is).0 None (past p x.0.1) i) in
-              (f.2.0, record { part = f.2.1.part; to = f.2.1.to; at = f.2.1.at; inside = of_arm {ms = []} (tag_is order octets t begin x.0 x.1) f.1 f.2.1.inside; points = f.2.1.points; is = f.2.1.is }),
+              (f.2.0, record { part = f.2.1.part; to = f.2.1.to; at = f.2.1.at; inside = of_arm {ms = []} (tag_is order octets t arms begin x.0 x.1) f.1 f.2.1.inside; points = f.2.1.points; is = f.2.1.is }),
           λ moved a q i e. let begin = in_place types u a.at in
-              let x = behind_piece (tag_at order octets t begin) (λ x. built_arm (arm_of u x.0) (up begin (tag_size t)) x.0 (ahead a x.1) (noting (tag_marks types t u x.0 a.at) q) (build types order octets n room None)) i (tag_not order octets t begin cl.0) e in
+              let x = behind_piece (tag_at order octets t arms begin) (λ x. built_arm (arm_of u x.0) (up begin (tag_size t)) x.0 (ahead a x.1) (noting (tag_marks types t u x.0 a.at) q) (build types order octets n room None)) i (tag_not order octets t arms begin cl.0) e in
               let ms = tag_marks types t u x.0.0 a.at in
               let f = arm_builds n room (arm_of u x.0.0) (up begin (tag_size t)) x.0.0 (ahead a x.0.1) (noting ms q) i x.2 (λ s is. (h x.0.0 s is).1 None (ahead a x.0.1) (noting ms q) i) in
-              record { part = f.2.part; to = f.2.to; at = f.2.at; inside = of_arm {ms = ms} (tag_is order octets t begin x.0 x.1) f.1 f.2.inside; points = f.2.points; deeper = f.2.deeper },
+              record { part = f.2.part; to = f.2.to; at = f.2.at; inside = of_arm {ms = ms} (tag_is order octets t arms begin x.0 x.1) f.1 f.2.inside; points = f.2.points; deeper = f.2.deeper },
         )
     one_deep n room d so (OfArray kind s) sh tg cl le =
         let h = so room d s sh tg cl (omega (arith, le)) in (

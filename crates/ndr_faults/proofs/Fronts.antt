@@ -152,10 +152,10 @@ module _ (types : List Form) (order : Order) (front more : List ℕ) (deep : ℕ
       let u = OfUnion t arms in
       let h : (tag : ℤ) (s : Form) → arm_of u tag ≡ Some (holds s) → Both n room s =
       λ tag s e. so room d s (arm_has (Shallow types d) s t arms tag e sh) (arm_has (Targets types deep) s t arms tag e (each_arm types deep arms tg)) (arm_clear types s t arms tag e cl.1) (omega (arith, le)) in (
-        λ moved p. bind_cut (tag_cut order front more t (in_place types u p.at) cl.0)
-            (λ x e. arm_scans n room (arm_of u x.0) (h x.0) (up (in_place types u p.at) (tag_size t)) (past p x.1) (tag_in_front (tag_is order front t (in_place types u p.at) x e))),
-        λ moved a q. bind_cut (tag_cut order front more t (in_place types u a.at) cl.0)
-            (λ x e. arm_builds n room (arm_of u x.0) (h x.0) (up (in_place types u a.at) (tag_size t)) x.0 (ahead a x.1) (noting (tag_marks types t u x.0 a.at) q) (tag_in_front (tag_is order front t (in_place types u a.at) x e))),
+        λ moved p. bind_cut (tag_cut order front more t arms (in_place types u p.at) cl.0)
+            (λ x e. arm_scans n room (arm_of u x.0) (h x.0) (up (in_place types u p.at) (tag_size t)) (past p x.1) (tag_in_front (tag_is order front t arms (in_place types u p.at) x e))),
+        λ moved a q. bind_cut (tag_cut order front more t arms (in_place types u a.at) cl.0)
+            (λ x e. arm_builds n room (arm_of u x.0) (h x.0) (up (in_place types u a.at) (tag_size t)) x.0 (ahead a x.1) (noting (tag_marks types t u x.0 a.at) q) (tag_in_front (tag_is order front t arms (in_place types u a.at) x e))),
       )
   one_cut n room d so (OfArray kind s) sh tg cl le =
       let h = so room d s sh tg cl (omega (arith, le)) in (

@@ -115,10 +115,10 @@ module _ (types : List Form) (order : Order) (octets : List ℕ) (deep : ℕ) (g
   one_settled n room d so (OfUnion t arms) sh tg le =
       let u = OfUnion t arms in
       let h : (tag : ℤ) (s : Form) → arm_of u tag ≡ Some (holds s) → Settled n room s = λ tag s e. so room d s (arm_has (Shallow types d) s t arms tag e sh) (arm_has (Targets types deep) s t arms tag e (each_arm types deep arms tg)) (omega (arith, le)) in (
-        λ moved p. bind_same (tag_at order octets t (in_place types u p.at)) (tag_at order octets t (in_place types u p.at))
+        λ moved p. bind_same (tag_at order octets t arms (in_place types u p.at)) (tag_at order octets t arms (in_place types u p.at))
             (λ x. arm_scan (arm_of u x.0) (up (in_place types u p.at) (tag_size t)) (past p x.1) (scan types order octets (suc n) room None)) (λ x. arm_scan (arm_of u x.0) (up (in_place types u p.at) (tag_size t)) (past p x.1) (scan types order octets n room None)) refl
             (λ x. arm_scans n room (arm_of u x.0) (h x.0) (up (in_place types u p.at) (tag_size t)) (past p x.1)),
-        λ moved a q. bind_same (tag_at order octets t (in_place types u a.at)) (tag_at order octets t (in_place types u a.at))
+        λ moved a q. bind_same (tag_at order octets t arms (in_place types u a.at)) (tag_at order octets t arms (in_place types u a.at))
             (λ x. built_arm (arm_of u x.0) (up (in_place types u a.at) (tag_size t)) x.0 (ahead a x.1) (noting (tag_marks types t u x.0 a.at) q) (build types order octets (suc n) room None))
             (λ x. built_arm (arm_of u x.0) (up (in_place types u a.at) (tag_size t)) x.0 (ahead a x.1) (noting (tag_marks types t u x.0 a.at) q) (build types order octets n room None)) refl
             (λ x. arm_builds n room (arm_of u x.0) (h x.0) (up (in_place types u a.at) (tag_size t)) x.0 (ahead a x.1) (noting (tag_marks types t u x.0 a.at) q)),

@@ -6,7 +6,8 @@ use Rattle.rpc_base.specs.declared.identifiers.Order.{Order}
 use Rattle.rpc_base.specs.declared.identifiers.WireHandle.{WireHandle}
 use Rattle.rpc_base.specs.Fields.{wire_of}
 use Rattle.ndr_value.specs.declared.shape.ArrayKind.{ArrayKind}
-use Rattle.ndr_value.specs.Forms.{Form, OfStruct, Forms}
+use Rattle.ndr_value.specs.Forms.{Form, OfStruct, Forms, ArmForms}
+use Rattle.ndr_value.specs.Fits.{selected}
 use Rattle.ndr_scalars.specs.Scalars.{up, octets_of, signed, Scalar}
 use Rattle.ndr_scalars.proofs.Laws.{number_read}
 use Rattle.ndr_arrays.specs.declared.counts.Counts.{Counts}
@@ -17,7 +18,7 @@ use Rattle.ndr_arrays.proofs.Steps.{through}
 use Rattle.ndr_arrays.proofs.Laws.{counts_read, text_read}
 use Rattle.ndr_model.specs.declared.departure.Departure.TheVariants.{Tag, Text}
 use Rattle.ndr_model.specs.Part.{IsWire, IsTag, tag_bool, tag_char, tag_int, tag_uint, tag_enum, Opens, in_a_greater, in_front, not_open, opens_with, in_place, Begins}
-use Rattle.ndr_model.specs.Reading.{unless_short, of_counts, of_text, number, name_at, wire_at, chars_at, array_at, tag_at, opened_at, begun, struct_at}
+use Rattle.ndr_model.specs.Reading.{unless_short, of_counts, of_text, unnamed, number, name_at, wire_at, chars_at, array_at, tag_at, opened_at, begun, struct_at}
 
 chosen : {A : Type 0} (b : Bool) (x y : A) → b ≡ true → (if b then x else y) ≡ x
 chosen {A} b x y e = ap (λ (c : Bool). if c then x else y) e
@@ -46,14 +47,16 @@ module _ (order : Order) (octets : List ℕ) where
   pub chars_again : {size moved : Option ℕ} {text : List ℕ} {i j : ℕ} → IsText order octets size moved text i j → chars_at order octets size moved i ≡ Ok (text, j)
   chars_again {size} {moved} {text} {i} {j} h = ap of_text (text_read order octets size moved text i j h)
 
-  pub tag_again : {t : Form} {tag : ℤ} {i j : ℕ} → IsTag order octets t tag i j → tag_at order octets t i ≡ Ok (tag, j)
-  tag_again (tag_bool {n = n} {i = i} {j = j} s) = through (number order octets 1 i) (λ y. Ok (pos (if y.0 == 0 then 0 else 1), y.1)) (n, j) (number_again s)
-  tag_again (tag_char {n = n} {i = i} {j = j} s) = through (number order octets 1 i) (λ y. Ok (pos y.0, y.1)) (n, j) (number_again s)
-  tag_again (tag_int {size = size} {n = n} {i = i} {j = j} s) = through (number order octets size i) (λ y. Ok (signed size y.0, y.1)) (n, j) (number_again s)
-  tag_again (tag_uint {size = size} {n = n} {i = i} {j = j} s lt) =
+  pub tag_again : {t : Form} {tag : ℤ} {i j : ℕ} (arms : ArmForms) → IsTag order octets t tag i j → tag_at order octets t arms i ≡ Ok (tag, j)
+  tag_again arms (tag_bool {n = n} {i = i} {j = j} s) = through (number order octets 1 i) (λ y. Ok (pos (if y.0 == 0 then 0 else 1), y.1)) (n, j) (number_again s)
+  tag_again arms (tag_char {n = n} {i = i} {j = j} s) = through (number order octets 1 i) (λ y. Ok (pos y.0, y.1)) (n, j) (number_again s)
+  tag_again arms (tag_int {size = size} {n = n} {i = i} {j = j} s) = through (number order octets size i) (λ y. Ok (signed size y.0, y.1)) (n, j) (number_again s)
+  tag_again arms (tag_uint {size = size} {n = n} {i = i} {j = j} s lt) =
       through (number order octets size i) (λ y. (if nat_lt y.0 (2 ^ 63) then Ok (pos y.0, y.1) else Err (Tag (up i (octets_of size))))) (n, j) (number_again s)
       ∙ chosen (nat_lt n (2 ^ 63)) (Ok (pos n, j)) (Err (Tag (up i (octets_of size)))) (lt-ltb _ _ lt)
-  tag_again (tag_enum {count = count} {n = n} {i = i} {j = j} s lt) = through (name_at order octets count i) (λ y. Ok (pos y.0, y.1)) (n, j) (name_again s lt)
+  tag_again arms (tag_enum {count = count} {n = n} {i = i} {j = j} s lt) =
+      through (number order octets 2 i) (λ y. (if nat_lt y.0 count then Ok (pos y.0, y.1) else Err (unnamed (selected arms (pos y.0)) (up i 2)))) (n, j) (number_again s)
+      ∙ chosen (nat_lt n count) (Ok (pos n, j)) (Err (unnamed (selected arms (pos n)) (up i 2))) (lt-ltb _ _ lt)
 
   opened_again : {types : List Form} {ss : Forms} {moved own : Option ℕ} {i j : ℕ} → Opens types order octets ss moved own i j → opened_at order octets types ss moved i ≡ Ok (own, j)
   opened_again in_a_greater = refl

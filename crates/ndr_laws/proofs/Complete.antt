@@ -133,24 +133,24 @@ module _ (types : List Form) (order : Order) (octets : List ℕ) (deep : ℕ) (g
               ∙ through (built_each (build types order octets n room) own ss (cursor (past p i)) (noting (opened_marks moved own p.at) q)) (λ x. Ok (VStruct x.0, x.1)) (vs, ends (cursor p') q') g.1,
         )
     part_built (suc d) (suc n) (an_empty_arm {room = room} {j = j} {moved = moved} {t = t} {arms = arms} {tag = tag} {p = p} {q = q} at is) ext sh tg le =
-        let e = tag_again order octets at in
+        let e = tag_again order octets arms at in
         let u = OfUnion t arms in
         let place = up (in_place types u p.at) (tag_size t) in
         let marked = noting (tag_marks types t u tag p.at) q in (
-          through (tag_at order octets t (in_place types u p.at)) (λ x. arm_scan (arm_of u x.0) place (past p x.1) (scan types order octets n room None)) (tag, j) e
+          through (tag_at order octets t arms (in_place types u p.at)) (λ x. arm_scan (arm_of u x.0) place (past p x.1) (scan types order octets n room None)) (tag, j) e
               ∙ ap (λ (o : Option Body). arm_scan o place (past p j) (scan types order octets n room None)) is,
-          through (tag_at order octets t (in_place types u p.at)) (λ x. built_arm (arm_of u x.0) place x.0 (ahead (cursor p) x.1) (noting (tag_marks types t u x.0 p.at) q) (build types order octets n room None)) (tag, j) e
+          through (tag_at order octets t arms (in_place types u p.at)) (λ x. built_arm (arm_of u x.0) place x.0 (ahead (cursor p) x.1) (noting (tag_marks types t u x.0 p.at) q) (build types order octets n room None)) (tag, j) e
               ∙ ap (λ (o : Option Body). built_arm o place tag (cursor (past p j)) marked (build types order octets n room None)) is,
         )
     part_built (suc d) (suc n) (an_arm {room = room} {j = j} {moved = moved} {t = t} {s = s} {arms = arms} {tag = tag} {v = v} {p = p} {p' = p'} {q = q} {q' = q'} at is part) ext sh tg le =
-        let e = tag_again order octets at in
+        let e = tag_again order octets arms at in
         let u = OfUnion t arms in
         let place = up (in_place types u p.at) (tag_size t) in
         let marked = noting (tag_marks types t u tag p.at) q in
         let g = part_built d n part ext (arm_has (Shallow types d) s t arms tag is sh) (arm_has (Targets types deep) s t arms tag is (each_arm types deep arms tg)) (omega (arith, le)) in (
-          through (tag_at order octets t (in_place types u p.at)) (λ x. arm_scan (arm_of u x.0) place (past p x.1) (scan types order octets n room None)) (tag, j) e
+          through (tag_at order octets t arms (in_place types u p.at)) (λ x. arm_scan (arm_of u x.0) place (past p x.1) (scan types order octets n room None)) (tag, j) e
               ∙ ap (λ (o : Option Body). arm_scan o place (past p j) (scan types order octets n room None)) is ∙ g.0,
-          through (tag_at order octets t (in_place types u p.at)) (λ x. built_arm (arm_of u x.0) place x.0 (ahead (cursor p) x.1) (noting (tag_marks types t u x.0 p.at) q) (build types order octets n room None)) (tag, j) e
+          through (tag_at order octets t arms (in_place types u p.at)) (λ x. built_arm (arm_of u x.0) place x.0 (ahead (cursor p) x.1) (noting (tag_marks types t u x.0 p.at) q) (build types order octets n room None)) (tag, j) e
               ∙ ap (λ (o : Option Body). built_arm o place tag (cursor (past p j)) marked (build types order octets n room None)) is
               ∙ through (build types order octets n room None s (cursor (past p j)) marked) (λ x. Ok (VUnion tag x.0, x.1)) (v, ends (cursor p') q') g.1,
         )

@@ -6,7 +6,8 @@ use Rattle.rpc_base.specs.declared.identifiers.Order.{Order}
 use Rattle.rpc_base.specs.declared.identifiers.WireHandle.{WireHandle}
 use Rattle.rpc_base.specs.Fields.{wire_of}
 use Rattle.ndr_value.specs.declared.shape.ArrayKind.{ArrayKind}
-use Rattle.ndr_value.specs.Forms.{Form, OfBool, OfChar, OfInt, OfUint, OfEnum, OfStruct, Forms}
+use Rattle.ndr_value.specs.Forms.{Form, OfBool, OfChar, OfInt, OfUint, OfEnum, OfStruct, Forms, ArmForms}
+use Rattle.ndr_value.specs.Fits.{selected}
 use Rattle.ndr_scalars.specs.Scalars.{up, octets_of, signed, number_at, Scalar}
 use Rattle.ndr_scalars.proofs.Laws.{number_stands}
 use Rattle.ndr_arrays.specs.declared.counts.Counts.{Counts}
@@ -22,7 +23,7 @@ use Rattle.ndr_arrays.proofs.Laws.{counts_stand, text_stands}
 use Rattle.ndr_model.specs.declared.departure.Departure.{Departure}
 use Rattle.ndr_model.specs.declared.departure.Departure.TheVariants.{Short, Tag, Text}
 use Rattle.ndr_model.specs.Part.{IsWire, IsTag, tag_bool, tag_char, tag_int, tag_uint, tag_enum, Opens, in_a_greater, in_front, not_open, opens_with, in_place, Begins}
-use Rattle.ndr_model.specs.Reading.{unless_short, of_counts, of_text, number, name_at, wire_at, chars_at, array_at, tag_at, opened_at, begun, struct_at}
+use Rattle.ndr_model.specs.Reading.{unless_short, of_counts, of_text, unnamed, number, name_at, wire_at, chars_at, array_at, tag_at, opened_at, begun, struct_at}
 
 short_ok : {A : Type 0} (n : ℕ) (o : Option A) (x : A) → unless_short n o ≡ Ok x → o ≡ Some x
 short_ok n None x e = absurd cc
@@ -61,25 +62,25 @@ module _ (order : Order) (octets : List ℕ) where
   pub chars_are : (size moved : Option ℕ) (i : ℕ) (x : List ℕ × ℕ) → chars_at order octets size moved i ≡ Ok x → IsText order octets size moved x.0 i x.1
   chars_are size moved i x e = text_stands order octets size moved i x (text_ok (text_at order octets size moved i) x e)
 
-  pub tag_is : (t : Form) (i : ℕ) (x : ℤ × ℕ) → tag_at order octets t i ≡ Ok x → IsTag order octets t x.0 i x.1
-  tag_is OfBool i x e =
+  pub tag_is : (t : Form) (arms : ArmForms) (i : ℕ) (x : ℤ × ℕ) → tag_at order octets t arms i ≡ Ok x → IsTag order octets t x.0 i x.1
+  tag_is OfBool arms i x e =
       let a = bind_ok (number order octets 1 i) (λ y. Ok (pos (if y.0 == 0 then 0 else 1), y.1)) x e in
       subst (λ (y : ℤ × ℕ). IsTag order octets OfBool y.0 i y.1) (ok_is Departure (pos (if a.0.0 == 0 then 0 else 1), a.0.1) x a.2) (tag_bool (number_is 1 i a.0 a.1))
-  tag_is OfChar i x e =
+  tag_is OfChar arms i x e =
       let a = bind_ok (number order octets 1 i) (λ y. Ok (pos y.0, y.1)) x e in
       subst (λ (y : ℤ × ℕ). IsTag order octets OfChar y.0 i y.1) (ok_is Departure (pos a.0.0, a.0.1) x a.2) (tag_char (number_is 1 i a.0 a.1))
-  tag_is (OfInt size) i x e =
+  tag_is (OfInt size) arms i x e =
       let a = bind_ok (number order octets size i) (λ y. Ok (signed size y.0, y.1)) x e in
       subst (λ (y : ℤ × ℕ). IsTag order octets (OfInt size) y.0 i y.1) (ok_is Departure (signed size a.0.0, a.0.1) x a.2) (tag_int (number_is size i a.0 a.1))
-  tag_is (OfUint size) i x e =
+  tag_is (OfUint size) arms i x e =
       let a = bind_ok (number order octets size i) (λ y. (if nat_lt y.0 (2 ^ 63) then Ok (pos y.0, y.1) else Err (Tag (up i (octets_of size))))) x e in
       let w = when_ok (nat_lt a.0.0 (2 ^ 63)) (Tag (up i (octets_of size))) (Ok (pos a.0.0, a.0.1)) x a.2 in
       subst (λ (y : ℤ × ℕ). IsTag order octets (OfUint size) y.0 i y.1) (ok_is Departure (pos a.0.0, a.0.1) x w.1) (tag_uint (number_is size i a.0 a.1) (ltb-true _ _ w.0))
-  tag_is (OfEnum count) i x e =
-      let a = bind_ok (name_at order octets count i) (λ y. Ok (pos y.0, y.1)) x e in
-      let n = name_is count i a.0 a.1 in
-      subst (λ (y : ℤ × ℕ). IsTag order octets (OfEnum count) y.0 i y.1) (ok_is Departure (pos a.0.0, a.0.1) x a.2) (tag_enum n.0 n.1)
-  tag_is _ i x e = absurd cc
+  tag_is (OfEnum count) arms i x e =
+      let a = bind_ok (number order octets 2 i) (λ y. (if nat_lt y.0 count then Ok (pos y.0, y.1) else Err (unnamed (selected arms (pos y.0)) (up i 2)))) x e in
+      let w = when_ok (nat_lt a.0.0 count) (unnamed (selected arms (pos a.0.0)) (up i 2)) (Ok (pos a.0.0, a.0.1)) x a.2 in
+      subst (λ (y : ℤ × ℕ). IsTag order octets (OfEnum count) y.0 i y.1) (ok_is Departure (pos a.0.0, a.0.1) x w.1) (tag_enum (number_is 2 i a.0 a.1) (ltb-true _ _ w.0))
+  tag_is _ arms i x e = absurd cc
 
   opened_by : (types : List Form) (ss : Forms) (i : ℕ) (b : Bool) (x : Option ℕ × ℕ) → opens_with types ss ≡ b → (if b then (number order octets 4 i >>= λ y. Ok (Some y.0, y.1)) else Ok (None, i)) ≡ Ok x → Opens types order octets ss None x.0 i x.1
   opened_by types ss i true x is e =

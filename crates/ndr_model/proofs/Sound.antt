@@ -94,7 +94,7 @@ module _ (types : List Form) (order : Order) (octets : List ℕ) (sc : ℕ → O
       let a = bind_ok (struct_at order octets types ss moved p.at) (λ x. each (sc room) x.0 ss (past p x.1)) h f in
       each_ext ex room a.0.0 ss (past p a.0.1) h a.2
   one_ext ex room moved (OfUnion t arms) p h f =
-      let a = bind_ok (tag_at order octets t (in_place types (OfUnion t arms) p.at))
+      let a = bind_ok (tag_at order octets t arms (in_place types (OfUnion t arms) p.at))
       (λ x. arm_scan (arm_of (OfUnion t arms) x.0) (up (in_place types (OfUnion t arms) p.at) (tag_size t)) (past p x.1) (sc room None)) h f in
       arm_ext ex room (arm_of (OfUnion t arms) a.0.0) (up (in_place types (OfUnion t arms) p.at) (tag_size t)) (past p a.0.1) h a.2
   one_ext ex room moved (OfArray kind s) p h f =
@@ -298,9 +298,9 @@ module _ (types : List Form) (order : Order) (octets : List ℕ) (sc : ℕ → O
       subst (λ (z : Val × PartEnds). Stands room moved (OfStruct ss) p q h z) (ok_is Departure (VStruct b.0.0, b.0.1) y b.2) (a_struct (begins order octets types ss moved p.at a.0 a.1) r.0, r.1, r.2)
   one_stands ex so room moved (OfUnion t arms) p q h y e f ext =
       let start = in_place types (OfUnion t arms) p.at in
-      let a = bind_ok (tag_at order octets t start) (λ x. built_arm (arm_of (OfUnion t arms) x.0) (up start (tag_size t)) x.0 (ahead (cursor p) x.1) (noting (tag_marks types t (OfUnion t arms) x.0 p.at) q) (bu room None)) y e in
-      let g = sym (through (tag_at order octets t start) (λ x. arm_scan (arm_of (OfUnion t arms) x.0) (up start (tag_size t)) (past p x.1) (sc room None)) a.0 a.1) ∙ f in
-      arm_stands ex so room moved t arms a.0.0 (up start (tag_size t)) a.0.1 (arm_of (OfUnion t arms) a.0.0) p q h y (tag_is order octets t start a.0 a.1) refl a.2 g ext
+      let a = bind_ok (tag_at order octets t arms start) (λ x. built_arm (arm_of (OfUnion t arms) x.0) (up start (tag_size t)) x.0 (ahead (cursor p) x.1) (noting (tag_marks types t (OfUnion t arms) x.0 p.at) q) (bu room None)) y e in
+      let g = sym (through (tag_at order octets t arms start) (λ x. arm_scan (arm_of (OfUnion t arms) x.0) (up start (tag_size t)) (past p x.1) (sc room None)) a.0 a.1) ∙ f in
+      arm_stands ex so room moved t arms a.0.0 (up start (tag_size t)) a.0.1 (arm_of (OfUnion t arms) a.0.0) p q h y (tag_is order octets t arms start a.0 a.1) refl a.2 g ext
   one_stands ex so room moved (OfArray kind s) p q h y e f ext =
       let a = bind_ok (array_at order octets kind moved p.at) (λ x. in_array (built_times (bu room None s) x.0.actual (ahead (cursor p) x.1) (noting (count_marks kind moved x.0 p.at x.1) q))) y e in
       let b = bind_ok (built_times (bu room None s) a.0.0.actual (cursor (past p a.0.1)) (noting (count_marks kind moved a.0.0 p.at a.0.1) q)) (λ x. Ok (VArray x.0, x.1)) y a.2 in

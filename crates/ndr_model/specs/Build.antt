@@ -111,7 +111,7 @@ module _ (types : List Form) (order : Order) (octets : List ℕ) where
   build_at sc bu room moved (OfText size) a q = chars_at order octets size moved a.at >>= λ x. Ok (VText x.0, ends (ahead a x.1) q)
   build_at sc bu room moved (OfNamed c switch) a q = of_type (slice_get types c) a.at (λ s. bu room moved s a q)
   build_at sc bu room moved (OfStruct ss) a q = struct_at order octets types ss moved a.at >>= λ x. in_struct (built_each (bu room) x.0 ss (ahead a x.1) (noting (opened_marks moved x.0 a.at) q))
-  build_at sc bu room moved (OfUnion t arms) a q = tag_at order octets t (in_place types (OfUnion t arms) a.at)
+  build_at sc bu room moved (OfUnion t arms) a q = tag_at order octets t arms (in_place types (OfUnion t arms) a.at)
       >>= λ x. built_arm (arm_of (OfUnion t arms) x.0) (up (in_place types (OfUnion t arms) a.at) (tag_size t)) x.0 (ahead a x.1) (noting (tag_marks types t (OfUnion t arms) x.0 a.at) q) (bu room None)
   build_at sc bu room moved (OfArray kind s) a q = array_at order octets kind moved a.at >>= λ x. in_array (built_times (bu room None s) x.0.actual (ahead a x.1) (noting (count_marks kind moved x.0 a.at x.1) q))
   build_at sc bu room moved (OfRef s) a q = number order octets 4 a.at >>= λ x. behind_ref (ahead a x.1) (referent sc bu room (up a.at 4) s q)

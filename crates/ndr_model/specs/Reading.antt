@@ -4,7 +4,8 @@ use Rattle.rpc_base.specs.declared.identifiers.Order.{Order}
 use Rattle.rpc_base.specs.declared.identifiers.WireHandle.{WireHandle}
 use Rattle.rpc_base.specs.Fields.{wire_of}
 use Rattle.ndr_value.specs.declared.shape.ArrayKind.{ArrayKind}
-use Rattle.ndr_value.specs.Forms.{Form, OfBool, OfChar, OfInt, OfUint, OfEnum, OfStruct, Forms}
+use Rattle.ndr_value.specs.Forms.{Form, OfBool, OfChar, OfInt, OfUint, OfEnum, OfStruct, Forms, Body, ArmForms}
+use Rattle.ndr_value.specs.Fits.{selected}
 use Rattle.ndr_scalars.specs.Scalars.{up, octets_of, signed, number_at}
 use Rattle.ndr_arrays.specs.declared.counts.Counts.{Counts}
 use Rattle.ndr_arrays.specs.declared.counts.CountFault.{CountFault}
@@ -33,6 +34,11 @@ of_text (Err (texts.Short n)) = Err (Short n)
 of_text (Err (texts.Bound i)) = Err (Bound i)
 of_text (Err (texts.Text i)) = Err (Text i)
 
+-- a tag at index i that is no name of its enumeration: without an arm it departs as a tag, with one as a name
+abbrev pub unnamed : Option Body → ℕ → Departure
+unnamed None i = Tag i
+unnamed (Some arm) i = Text i
+
 module _ (order : Order) (octets : List ℕ) where
   abbrev pub number : ℕ → ℕ → Result (ℕ × ℕ) Departure
   number size i = unless_short (length octets) (number_at order size octets i)
@@ -50,13 +56,14 @@ module _ (order : Order) (octets : List ℕ) where
   abbrev pub array_at : ArrayKind → Option ℕ → ℕ → Result (Counts × ℕ) Departure
   array_at kind moved i = of_counts (counts_at order octets kind moved i)
 
-  abbrev pub tag_at : Form → ℕ → Result (ℤ × ℕ) Departure
-  tag_at OfBool i = number 1 i >>= λ x. Ok (pos (if x.0 == 0 then 0 else 1), x.1)
-  tag_at OfChar i = number 1 i >>= λ x. Ok (pos x.0, x.1)
-  tag_at (OfInt size) i = number size i >>= λ x. Ok (signed size x.0, x.1)
-  tag_at (OfUint size) i = number size i >>= λ x. (if nat_lt x.0 (2 ^ 63) then Ok (pos x.0, x.1) else Err (Tag (up i (octets_of size))))
-  tag_at (OfEnum count) i = name_at count i >>= λ x. Ok (pos x.0, x.1)
-  tag_at _ i = Err (Tag i)
+  -- a tag of that shape, of a union of those arms
+  abbrev pub tag_at : Form → ArmForms → ℕ → Result (ℤ × ℕ) Departure
+  tag_at OfBool arms i = number 1 i >>= λ x. Ok (pos (if x.0 == 0 then 0 else 1), x.1)
+  tag_at OfChar arms i = number 1 i >>= λ x. Ok (pos x.0, x.1)
+  tag_at (OfInt size) arms i = number size i >>= λ x. Ok (signed size x.0, x.1)
+  tag_at (OfUint size) arms i = number size i >>= λ x. (if nat_lt x.0 (2 ^ 63) then Ok (pos x.0, x.1) else Err (Tag (up i (octets_of size))))
+  tag_at (OfEnum count) arms i = number 2 i >>= λ x. (if nat_lt x.0 count then Ok (pos x.0, x.1) else Err (unnamed (selected arms (pos x.0)) (up i 2)))
+  tag_at _ arms i = Err (Tag i)
 
   -- the max_count in front of a structure, and where the structure's gap begins
   abbrev pub opened_at : List Form → Forms → Option ℕ → ℕ → Result (Option ℕ × ℕ) Departure

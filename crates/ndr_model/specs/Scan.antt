@@ -68,7 +68,7 @@ module _ (types : List Form) (order : Order) (octets : List ℕ) where
   scan_at room moved go (OfText size) p = chars_at order octets size moved p.at >>= λ x. Ok (past p x.1)
   scan_at room moved go (OfNamed c switch) p = of_type (slice_get types c) p.at (λ s. go moved s p)
   scan_at room moved go (OfStruct ss) p = struct_at order octets types ss moved p.at >>= λ x. each go x.0 ss (past p x.1)
-  scan_at room moved go (OfUnion t arms) p = tag_at order octets t (in_place types (OfUnion t arms) p.at)
+  scan_at room moved go (OfUnion t arms) p = tag_at order octets t arms (in_place types (OfUnion t arms) p.at)
       >>= λ x. arm_scan (arm_of (OfUnion t arms) x.0) (up (in_place types (OfUnion t arms) p.at) (tag_size t)) (past p x.1) (go None)
   scan_at room moved go (OfArray kind s) p = array_at order octets kind moved p.at >>= λ x. times (go None s) x.0.actual (past p x.1)
   scan_at room moved go (OfRef s) p = number order octets 4 p.at >>= λ x. level room (up p.at 4) (Ok (past p x.1))

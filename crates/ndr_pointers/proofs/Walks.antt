@@ -88,10 +88,10 @@ module _ (types : List Form) (order : Order) (octets : List ℕ) where
   struct_scan room moved own go s ss p i is e =
       ap (λ (t : Form). scan_at types order octets room moved go t p) is ∙ ap (λ (r : Result (Option ℕ × ℕ) Departure). r >>= λ x. each go x.0 ss (past p x.1)) e
 
-  pub union_scan : (room : ℕ) (moved : Option ℕ) (go : Option ℕ → Form → Place → Scanned) (s t : Form) (arms : ArmForms) (p : Place) (tag : ℤ) (i : ℕ) (b : Option Body) → s ≡ OfUnion t arms → tag_at order octets t (in_place types s p.at) ≡ Ok (tag, i)
+  pub union_scan : (room : ℕ) (moved : Option ℕ) (go : Option ℕ → Form → Place → Scanned) (s t : Form) (arms : ArmForms) (p : Place) (tag : ℤ) (i : ℕ) (b : Option Body) → s ≡ OfUnion t arms → tag_at order octets t arms (in_place types s p.at) ≡ Ok (tag, i)
       → i ≡ up (in_place types s p.at) (tag_size t) + tag_size t → arm_of (OfUnion t arms) tag ≡ b → scan_at types order octets room moved go s p ≡ arm_scan b (i - tag_size t) (past p i) (go None)
   union_scan room moved go s t arms p tag i b is e i_is b_is =
-      let f : tag_at order octets t (in_place types (OfUnion t arms) p.at) ≡ Ok (tag, i) = subst (λ (u : Form). tag_at order octets t (in_place types u p.at) ≡ Ok (tag, i)) is e in
+      let f : tag_at order octets t arms (in_place types (OfUnion t arms) p.at) ≡ Ok (tag, i) = subst (λ (u : Form). tag_at order octets t arms (in_place types u p.at) ≡ Ok (tag, i)) is e in
       let g : i ≡ up (in_place types (OfUnion t arms) p.at) (tag_size t) + tag_size t = subst (λ (u : Form). i ≡ up (in_place types u p.at) (tag_size t) + tag_size t) is i_is in
       let k : up (in_place types (OfUnion t arms) p.at) (tag_size t) ≡ i - tag_size t = omega (arith, g) in
       ap (λ (u : Form). scan_at types order octets room moved go u p) is

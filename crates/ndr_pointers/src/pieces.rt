@@ -1,7 +1,7 @@
 //! The pieces of a flat part.
 ghost use Rattle.std.specs.Prelude.{◌≡◌, ◌^◌, Option, ◌<◌, ◌≤◌, ◌+◌, ◌-◌, ℕ, ℤ, List, length, true, IfOk, MatchOption, Some, None, slice_get};
 ghost use Rattle.rpc_base.specs.declared.identifiers.WireHandle.{WireHandle};
-ghost use Rattle.ndr_value.specs.Forms.{form, forms, arms_of, body, types_of, OfStruct, OfUnion, OfUint};
+ghost use Rattle.ndr_value.specs.Forms.{form, forms, arms_of, body, types_of, ArmForms, OfStruct, OfUnion, OfUint, OfEnum};
 ghost use Rattle.ndr_value.specs.Fits.{arm_of};
 ghost use Rattle.ndr_table.specs.Ordered.{is_size};
 ghost use Rattle.ndr_table.specs.Shown.{shown};
@@ -15,7 +15,7 @@ use crate::scan_fault::ReadError;
 use crate::state::Reader;
 use ndr_arrays::{CountFault, Counts, TextFault, read_counts, read_text};
 use ndr_model::Departure;
-use ndr_scalars::{read_int, read_uint, read_word};
+use ndr_scalars::{read_half_word, read_int, read_uint, read_word};
 use ndr_table::octets;
 use ndr_value::{Arm, ArrayKind, Shape, selected_arm, tag_fits};
 use rpc_base::{WireHandle, get_handle};
@@ -107,6 +107,17 @@ impl<'a> Reader<'a> {
         }
     }
 
+    // A number of two octets, and the index after it.
+    fn half_word(&self, at: usize) -> Result<(u16, usize), ReadError>
+        ensures exact { Gives (λ (x : ℕ × ℕ). x) result (number self.now.order self.now.octets.now 2 at) }
+        ensures place { IfOk result (λ x. x.1 ≡ up at 2 + 2) }
+    {
+        match read_half_word(self.order, self.octets, at) {
+            Ok(found) => Ok(found),
+            Err(_) => Err(ReadError::Departs(Departure::Short(self.octets.len()))),
+        }
+    }
+
     /// A name of an enumeration of so many, and the index after it.
     pub fn name(&self, count: u16, at: usize) -> Result<(u16, usize), ReadError>
         ensures exact { Gives (λ (x : ℕ × ℕ). x) result (name_at self.now.order self.now.octets.now count at) }
@@ -172,7 +183,7 @@ impl<'a> Reader<'a> {
 
     // A number that may be a tag: tags are signed.
     fn unsigned_tag(&self, size: u8, at: usize) -> Result<(i64, usize), ReadError>
-        ensures exact { Gives (λ (x : ℤ × ℕ). x) result (tag_at self.now.order self.now.octets.now (OfUint size) at) }
+        ensures exact { (arms : ArmForms) → Gives (λ (x : ℤ × ℕ). x) result (tag_at self.now.order self.now.octets.now (OfUint size) arms at) }
         ensures place { IfOk result (λ x. x.1 ≡ up at (octets_of size) + octets_of size) }
     {
         let (number, after) = self.number(size, at)?;
@@ -182,8 +193,25 @@ impl<'a> Reader<'a> {
         Err(ReadError::Departs(Departure::Tag(after - octets(size) as usize)))
     }
 
-    fn tag(&self, kind: &Shape, at: usize) -> Result<(i64, usize), ReadError>
-        ensures exact { Gives (λ (x : ℤ × ℕ). x) result (tag_at self.now.order self.now.octets.now (form kind.now) at) }
+    // A tag that is a name of an enumeration of so many. A number that is no name departs as a name where
+    // an arm is for it, and else as a tag.
+    fn name_tag(&self, count: u16, arms: &[Arm], at: usize) -> Result<(i64, usize), ReadError>
+        ensures exact { Gives (λ (x : ℤ × ℕ). x) result (tag_at self.now.order self.now.octets.now (OfEnum count) (arms_of arms.now) at) }
+        ensures place { IfOk result (λ x. x.1 ≡ up at 2 + 2) }
+    {
+        let (number, after) = self.half_word(at)?;
+        if number < count {
+            return Ok((i64::from(number), after));
+        }
+        let departure = match selected_arm(arms, i64::from(number)) {
+            None => Departure::Tag(after - 2),
+            Some(_) => Departure::Text(after - 2),
+        };
+        Err(ReadError::Departs(departure))
+    }
+
+    fn tag(&self, kind: &Shape, arms: &[Arm], at: usize) -> Result<(i64, usize), ReadError>
+        ensures exact { Gives (λ (x : ℤ × ℕ). x) result (tag_at self.now.order self.now.octets.now (form kind.now) (arms_of arms.now) at) }
         ensures place { IfOk result (λ x. x.1 ≡ up at (tag_size (form kind.now)) + tag_size (form kind.now)) }
     {
         match kind {
@@ -197,10 +225,7 @@ impl<'a> Reader<'a> {
             }
             Shape::Int(size) => self.signed(*size, at),
             Shape::Uint(size) => self.unsigned_tag(*size, at),
-            Shape::Enum(count) => {
-                let (name, after) = self.name(*count, at)?;
-                Ok((i64::from(name), after))
-            }
+            Shape::Enum(count) => self.name_tag(*count, arms, at),
             _ => Err(ReadError::Departs(Departure::Tag(at))),
         }
     }
@@ -211,16 +236,17 @@ impl<'a> Reader<'a> {
         &self,
         union: &Shape,
         kind: &Shape,
+        arms: &[Arm],
         at: usize,
     ) -> Result<(i64, usize), ReadError>
-        ensures exact { Gives (λ (x : ℤ × ℕ). x) result (tag_at self.now.order self.now.octets.now (form kind.now) (in_place (types_in self.now) (form union.now) at)) }
+        ensures exact { Gives (λ (x : ℤ × ℕ). x) result (tag_at self.now.order self.now.octets.now (form kind.now) (arms_of arms.now) (in_place (types_in self.now) (form union.now) at)) }
         ensures place { IfOk result (λ x. x.1 ≡ up (in_place (types_in self.now) (form union.now) at) (tag_size (form kind.now)) + tag_size (form kind.now)) }
     {
         if at > self.octets.len() {
             // No value begins behind the last octet.
             return Err(ReadError::Memory);
         }
-        self.tag(kind, aligned(at, self.table.align(union)))
+        self.tag(kind, arms, aligned(at, self.table.align(union)))
     }
 
     // The max_count in front of a structure, unless it is that of a greater one.

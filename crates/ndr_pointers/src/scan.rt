@@ -78,7 +78,7 @@ fn scan_one<'a>(
             scan_each(fuel, reader, room, own, members, begin, seen)
         }
         Shape::Union { tag, arms } => {
-            let (number, after) = reader.union_tag(shape, tag, at)?;
+            let (number, after) = reader.union_tag(shape, tag, arms, at)?;
             match arm_for(tag, arms, number) {
                 None => Err(ReadError::Departs(Departure::Tag(after - tag_octets(tag) as usize))),
                 Some(arm) => scan_arm(fuel, reader, room, arm, after, seen),

@@ -109,12 +109,12 @@ module _ (types : List Form) (order : Order) (octets : List ℕ) (sc : ℕ → O
       ap (λ (t : Form). build_at types order octets sc bu room moved t a q) is
       ∙ ap (λ (r : Result (Option ℕ × ℕ) Departure). r >>= λ x. in_struct (built_each (bu room) x.0 ss (ahead a x.1) (noting (opened_marks moved x.0 a.at) q))) e
 
-  pub union_build : (room : ℕ) (moved : Option ℕ) (s t : Form) (arms : ArmForms) (a : Cursor) (q : Last) (tag : ℤ) (i : ℕ) (b : Option Body) → s ≡ OfUnion t arms → tag_at order octets t (in_place types s a.at) ≡ Ok (tag, i)
+  pub union_build : (room : ℕ) (moved : Option ℕ) (s t : Form) (arms : ArmForms) (a : Cursor) (q : Last) (tag : ℤ) (i : ℕ) (b : Option Body) → s ≡ OfUnion t arms → tag_at order octets t arms (in_place types s a.at) ≡ Ok (tag, i)
       → i ≡ up (in_place types s a.at) (tag_size t) + tag_size t → arm_of (OfUnion t arms) tag ≡ b
       → build_at types order octets sc bu room moved s a q ≡ built_arm b (i - tag_size t) tag (ahead a i) (noting (Number (i - tag_size t) tag ∷ []) q) (bu room None)
   union_build room moved s t arms a q tag i b is e i_is b_is =
       let u = OfUnion t arms in
-      let f : tag_at order octets t (in_place types u a.at) ≡ Ok (tag, i) = subst (λ (x : Form). tag_at order octets t (in_place types x a.at) ≡ Ok (tag, i)) is e in
+      let f : tag_at order octets t arms (in_place types u a.at) ≡ Ok (tag, i) = subst (λ (x : Form). tag_at order octets t arms (in_place types x a.at) ≡ Ok (tag, i)) is e in
       let g : i ≡ up (in_place types u a.at) (tag_size t) + tag_size t = subst (λ (x : Form). i ≡ up (in_place types x a.at) (tag_size t) + tag_size t) is i_is in
       let k : up (in_place types u a.at) (tag_size t) ≡ i - tag_size t = omega (arith, g) in
       ap (λ (x : Form). build_at types order octets sc bu room moved x a q) is

@@ -179,7 +179,7 @@ fn build_union<'a>(
     requires { form shape.now ≡ OfUnion (form kind.now) (arms_of arms.now) }
     ensures { (moved : Option ℕ) → Gives (λ v. (val v, ends (cursor_of flat.new) (last_of tail.new))) result (build_at (types_in reader.now) reader.now.order reader.now.octets.now (scan (types_in reader.now) reader.now.order reader.now.octets.now fuel) (build (types_in reader.now) reader.now.order reader.now.octets.now fuel) room moved (form shape.now) (cursor_of flat.old) (last_of tail.old)) }
 {
-    let (tag, after) = reader.union_tag(shape, kind, flat.at)?;
+    let (tag, after) = reader.union_tag(shape, kind, arms, flat.at)?;
     let place = after - tag_octets(kind) as usize;
     match arm_for(kind, arms, tag) {
         None => Err(ReadError::Departs(Departure::Tag(place))),

@@ -5,5 +5,5 @@
 mod read;
 mod write;
 
-pub use read::{Short, read_int, read_uint, read_word};
+pub use read::{Short, read_half_word, read_int, read_uint, read_word};
 pub use write::{write_int, write_uint};

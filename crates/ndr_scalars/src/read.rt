@@ -138,6 +138,18 @@ fn uint_at(order: Order, size: u8, octets: &[u8], at: usize) -> Result<(u64, usi
     }
 }
 
+/// The number of two octets at the next multiple of two, and the index after it. It takes no memory.
+#[tactic(auto, unfolding(crate::specs::Scalars::number_at))]
+pub fn read_half_word(order: Order, octets: &[u8], at: usize) -> Result<(u16, usize), Short>
+    ensures exact { MatchResult result (λ x. number_at order 2 octets.now at ≡ Some x) (λ _. number_at order 2 octets.now at ≡ None) }
+    ensures place { IfOk result (λ x. x.1 ≡ up at 2 + 2) }
+{
+    match cells(2, octets, at) {
+        None => Err(Short),
+        Some((found, after)) => Ok((two(order, found), after)),
+    }
+}
+
 /// The number of four octets at the next multiple of four, and the index after it: a count, an
 /// offset or a pointer's id. It takes no memory.
 #[tactic(auto, unfolding(crate::specs::Scalars::number_at))]
