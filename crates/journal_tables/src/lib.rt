@@ -10,9 +10,9 @@ mod conns;
 mod enter;
 mod fits;
 mod fold;
+mod fold_chain;
 mod fold_laws;
 mod folding;
-mod folds;
 mod front;
 mod laws;
 mod tables;
@@ -21,12 +21,12 @@ pub use conns::{ConnTable, OpenConn};
 pub use fits::{
     call_runs, comes_next, fits_cancel, fits_deny, fits_end, fits_orphan, fits_slots, fits_take,
 };
+pub use fold_chain::{folds_again, folds_back, folds_on, folds_once, folds_stand, folds_twice};
 pub use fold_laws::{
     accepts_next, holds_accepts, holds_calls, holds_joins, holds_since_accept, holds_since_join,
     joins_next, keeps_accepts, keeps_joins, keeps_replies,
 };
 pub use folding::{advances_to, advances_twice, folds, gives_sound, keeps_legal};
-pub use folds::{folds_again, folds_back, folds_on, folds_once, folds_stand, folds_twice};
 pub use front::{folded_base, tables_after};
 pub use laws::{admits_allowed, follows_entries, shows_base, shows_conns, shows_due, shows_floor};
 pub use tables::Tables;
