@@ -1,15 +1,20 @@
 //! Calls on groups, one a line: `CALL -> ANSWER`. A call is written as the line of the entry that it makes; what the group
 //! gives itself, numbers and cookies, is of no account there. `group ID` begins a group, and `journal` is followed by the
-//! lines of its journal, each behind a `=`. `N x CALL` makes a call so often, and the answer is that to the last one. A call
+//! lines of its journal, each behind a `=`; `entries`, `entry PLACE`, `asked CALL` and `stage CALL` ask the group, and `fold`
+//! up to where its journal may be folded, and the base of all its entries. `N x CALL` makes a call so often, and the answer is that to the last one. A call
 //! whose condition doesn't hold is not made.
 
 mod answer;
 mod calls;
 mod due;
+mod folds;
+mod open;
 mod rounds;
 
+use crate::escapes::put_joined;
 use crate::groups::answer::Answer;
 use crate::groups::calls::{issued, make, visits};
+use crate::groups::folds::put_folded;
 use base_words::put;
 use cases_base::{CasesFault, Names, Plays, Step, Told, first_word, played};
 use group_core::Group;
@@ -49,6 +54,14 @@ fn entry_at(alloc: Global, group: &Group, at: usize) -> Result<Answer, NoMemory>
     Ok(Answer::Line(text))
 }
 
+/// Up to where the journal may be folded, and the base of all its entries.
+fn folded(alloc: Global, group: &Group) -> Result<Answer, NoMemory> {
+    let (mut text, mut joined) = (Vec::new(alloc), Vec::new(alloc));
+    put_folded(alloc, group, &mut text)?;
+    put_joined(text.as_slice(), &mut joined)?;
+    Ok(Answer::Line(joined))
+}
+
 /// How often a call is made, and its words.
 fn repeated(words: &str) -> (u32, &str) {
     match words.split_once(" x ") {
@@ -78,6 +91,7 @@ fn made(alloc: Global, group: &mut Group, line: &str) -> Result<Answer, NoMemory
     match read_entry(alloc, line)? {
         Some(entry) => make(alloc, group, entry),
         None if line == "entries" => Ok(Answer::Count(group.journal().len() as u64)),
+        None if line == "fold" => folded(alloc, group),
         None => Ok(Answer::Unread),
     }
 }

@@ -1,9 +1,8 @@
 //! Texts of journals, line by line, and what is asked of each: lines `ASK: ANSWER`.
 
 use crate::escapes::{put_joined, put_unescaped};
-use crate::folds::{base_told, put_folded};
 use crate::parts::{base_of, entries_of};
-use crate::verdicts::{CallAsk, put_audit, put_call, put_judged};
+use crate::verdicts::{put_audit, put_base};
 use base_words::{put, put_decimal};
 use cases_base::{CasesFault, Names, Plays, Step, Told, first_word, played};
 use handle_model::Base;
@@ -80,31 +79,6 @@ fn edited_text(alloc: Global, text: &str, edit: Edit<'_>) -> Result<Vec<u8>, NoM
     Ok(again)
 }
 
-/// Puts the verdict on the journal of a text.
-fn put_verdict_on(alloc: Global, text: &[u8], into: &mut Vec<u8>) -> Result<(), NoMemory> {
-    let Some((home, after)) = next_group(alloc, text)? else {
-        return put(b"no heading", into);
-    };
-    match entries_of(alloc, after)? {
-        (entries, []) => put_judged(alloc, home, entries.as_slice(), into),
-        _ => put(b"no entry", into),
-    }
-}
-
-/// Puts what is asked of a call of the journal of a text.
-fn put_call_in(
-    alloc: Global,
-    text: &[u8],
-    ask: CallAsk,
-    into: &mut Vec<u8>,
-) -> Result<(), NoMemory> {
-    let Some((home, after)) = next_group(alloc, text)? else {
-        return put(b"no heading", into);
-    };
-    let (entries, _) = entries_of(alloc, after)?;
-    put_call(alloc, home, entries.as_slice(), ask, into)
-}
-
 /// Puts how many lines of the text are a journal's, and whether they are written otherwise.
 fn put_read(alloc: Global, text: &[u8], into: &mut Vec<u8>) -> Result<(), NoMemory> {
     let mut again = Vec::new(alloc);
@@ -128,26 +102,16 @@ fn put_read(alloc: Global, text: &[u8], into: &mut Vec<u8>) -> Result<(), NoMemo
 /// Puts what is told where a text is asked that. False where it is no ask.
 fn put_told(alloc: Global, text: &[u8], ask: &str, into: &mut Vec<u8>) -> Result<bool, NoMemory> {
     let mut told = Vec::new(alloc);
-    match first_word(ask) {
-        ("audit", _) => put_audit(alloc, text, &mut told)?,
-        ("read", _) => put_read(alloc, text, &mut told)?,
-        ("fold", _) => put_folded(alloc, text, &mut told)?,
-        ("base", _) => put(base_told(alloc, text)?.as_bytes(), &mut told)?,
-        ("verdict", _) => put_verdict_on(alloc, text, &mut told)?,
-        ("reply", call) => {
-            let ask = CallAsk::Reply(call.parse::<u32>().unwrap_or(0));
-            put_call_in(alloc, text, ask, &mut told)?;
-        }
-        ("cookies", call) => {
-            let ask = CallAsk::Cookies(call.parse::<u32>().unwrap_or(0));
-            put_call_in(alloc, text, ask, &mut told)?;
-        }
+    match ask {
+        "audit" => put_audit(alloc, text, &mut told)?,
+        "read" => put_read(alloc, text, &mut told)?,
+        "base" => put_base(alloc, text, &mut told)?,
         _ => {
             let (Some(edit), Ok(whole)) = (edit_of(ask), str::from_utf8(text)) else {
                 return Ok(false);
             };
             let edited = edited_text(alloc, whole, edit)?;
-            put_verdict_on(alloc, edited.as_slice(), &mut told)?;
+            put_audit(alloc, edited.as_slice(), &mut told)?;
         }
     }
     put_joined(told.as_slice(), into)?;

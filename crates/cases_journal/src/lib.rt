@@ -1,9 +1,8 @@
-//! Plays cases of journals: lines that are read and written, the verdicts on journals and what they are folded to, and calls
-//! on groups.
+//! Plays cases of journals: lines that are read and written, the verdicts on texts of journals, and calls on groups with
+//! what their journals are folded to.
 #![tactic(auto)]
 
 mod escapes;
-mod folds;
 mod groups;
 mod journals;
 mod lines;

@@ -243,7 +243,12 @@ impl<R: Wait + Threads + Send + Sync + Copy + 'static> Plays for Door<R> {
         Ok(if is_line { Step::Held } else { Step::Outside })
     }
 
-    fn end(&mut self, _alloc: Global, _names: &Names, _come: &mut Vec<u8>) -> Result<Step, NoMemory> {
+    fn end(
+        &mut self,
+        _alloc: Global,
+        _names: &Names,
+        _come: &mut Vec<u8>,
+    ) -> Result<Step, NoMemory> {
         Ok(Step::Held)
     }
 }

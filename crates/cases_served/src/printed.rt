@@ -51,7 +51,7 @@ fn put_lines(alloc: Global, words: &str, into: &mut Vec<u8>) -> Result<bool, NoM
 fn put_stats(alloc: Global, words: &str, into: &mut Vec<u8>) -> Result<bool, NoMemory> {
     let mut numbers = [0; 4];
     for (number, word) in numbers.iter_mut().zip(words.split_whitespace()) {
-        *number = word.parse::<u32>().unwrap_or(0);
+        *number = word.parse::<u64>().unwrap_or(0);
     }
     let mut text = Vec::new(alloc);
     stats_line(alloc, numbers, &mut text)?;

@@ -124,7 +124,12 @@ impl<'a, R: Wait + Threads + Sync> Plays for Served<'a, R> {
         }
     }
 
-    fn end(&mut self, _alloc: Global, _names: &Names, _come: &mut Vec<u8>) -> Result<Step, NoMemory> {
+    fn end(
+        &mut self,
+        _alloc: Global,
+        _names: &Names,
+        _come: &mut Vec<u8>,
+    ) -> Result<Step, NoMemory> {
         Ok(Step::Held)
     }
 }

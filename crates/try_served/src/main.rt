@@ -5,14 +5,22 @@ use anyhow::{Error, Result};
 use cases_base::{CasesFault, Told};
 use cases_desks::desk_calls;
 use cases_served::{door_rounds, printed_lines, served_links};
+use std::alloc::Global;
+use std::sync::Wait;
+use std::thread::Threads;
 use std::{env, fs};
 
-fn told(rt: HostRuntime, subject: &str, text: &str) -> Result<Told, CasesFault> {
+fn told<R: Wait + Threads + Send + Sync + Copy + 'static>(
+    rt: R,
+    alloc: Global,
+    subject: &str,
+    text: &str,
+) -> Result<Told, CasesFault> {
     match subject {
-        "served" => served_links(&rt, rt.alloc(), text),
-        "door" => door_rounds(rt, rt.alloc(), text),
-        "printed" => printed_lines(rt.alloc(), text),
-        _ => desk_calls(&rt, rt.alloc(), text),
+        "served" => served_links(&rt, alloc, text),
+        "door" => door_rounds(rt, alloc, text),
+        "printed" => printed_lines(alloc, text),
+        _ => desk_calls(&rt, alloc, text),
     }
 }
 
@@ -21,7 +29,7 @@ fn main(rt: HostRuntime) -> Result<()> {
     for word in env::args(&rt)?.skip(1) {
         let text = fs::read_to_string(&rt, word.as_str())?;
         let subject = word.as_str().split('_').next().unwrap_or("");
-        match told(rt, subject, text.as_str()) {
+        match told(rt, alloc, subject, text.as_str()) {
             Ok(told) => {
                 let differences = String::from_utf8_lossy(alloc, told.differences.as_slice())?;
                 let (cases, wrong) = (told.cases, told.wrong);

@@ -1,29 +1,13 @@
 //! Calls on a group whose conditions are tried first.
-ghost use Rattle.std.specs.Prelude.{◌≡◌};
-ghost use Rattle.handle_model.specs.History.{IsSound};
-ghost use Rattle.journal_rules.specs.Told.{told};
 
 use crate::groups::answer::Answer;
 use crate::groups::due::run_down;
+use crate::groups::open::is_open;
 use crate::groups::rounds::{issue, may_end};
 use group_core::{AcceptRefusal, Group, Rest};
 use handle_model::{Asked, Entry, Outcomes, Said};
-use journal_rules::{Record, is_open};
 use rpc_base::NoMemory;
 use std::alloc::Global;
-
-/// The journal of a group.
-fn journal_of(group: &Group) -> Record<'_>
-    ensures past { told result ≡ group.now }
-    ensures sound { IsSound group.now }
-{
-    let journal = group.journal();
-    Record {
-        home: group.home(),
-        base: journal.base(),
-        entries: journal.as_slice(),
-    }
-}
 
 fn went(alloc: Global, rest: Rest) -> Result<Answer, NoMemory> {
     match rest {
@@ -58,7 +42,7 @@ fn refused(
 }
 
 fn accept(alloc: Global, group: &mut Group, asked: Asked) -> Result<Answer, NoMemory> {
-    if !is_open(journal_of(group), asked.conn) || asked.slots.len() > 4 {
+    if !is_open(group, asked.conn) || asked.slots.len() > 4 {
         return Ok(Answer::Unfit);
     }
     let before = format!(in alloc; "{asked:?}")?;
@@ -70,7 +54,7 @@ fn accept(alloc: Global, group: &mut Group, asked: Asked) -> Result<Answer, NoMe
 
 /// So many calls of the first connection issue a handle each.
 pub fn issued(alloc: Global, group: &mut Group, count: u32) -> Result<Answer, NoMemory> {
-    if !is_open(journal_of(group), 1) {
+    if !is_open(group, 1) {
         return Ok(Answer::Unfit);
     }
     if issue(alloc, group, count)? {
@@ -94,7 +78,7 @@ fn end(
 }
 
 fn leave(alloc: Global, group: &mut Group, conn: u32) -> Result<Answer, NoMemory> {
-    if !is_open(journal_of(group), conn) {
+    if !is_open(group, conn) {
         return Ok(Answer::Unfit);
     }
     went(alloc, group.leave(conn))
