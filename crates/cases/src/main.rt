@@ -1,14 +1,13 @@
 //! The program: `cases SUBJECT FILE..` goes through files of cases, by hand or made by other programs, and prints each that
-//! comes to something else than the file says, and then how many there were. The subjects are `stubs`, `loads` and, with a
-//! file of an interface that is echoed before those of stories, `desks`; another subject may follow the files of one. Beside
-//! `src/`, `data/` has the files.
+//! comes to something else than the file says, and then how many there were; another subject may follow the files of one. Before
+//! the stories of `desks` stands the file of an interface that is echoed. Beside `src/`, `data/` has the files.
 #![tactic(auto)]
 
 mod desks;
 mod loads;
-mod stubs;
 
-use anyhow::{Context, Result};
+use anyhow::{Context, Error, Result};
+use cases_base::Told;
 use ndr_table::Table;
 use std::alloc::Global;
 use std::rt::Env;
@@ -17,12 +16,13 @@ use std::{env, fs};
 /// What the next file has.
 #[derive(Drop)]
 enum Subject {
-    Stubs,
     Loads,
     /// The interface that the desks' echo serves.
     Echo,
     /// Stories of desks, with this table of the echo.
     Desks(Table),
+    /// Cases of the subject of that name.
+    Cases(String),
 }
 
 /// The words behind the program's name.
@@ -32,21 +32,6 @@ fn words(rt: &(impl Env + AllocGlobal), alloc: Global) -> Result<Vec<String>> {
         words.push(word)?;
     }
     Ok(words)
-}
-
-/// What a text of stubs comes to, behind what is told of each that differs.
-fn stubs_told(alloc: Global, file: &str, text: &str) -> Result<String> {
-    let blocks = stubs::gone_through(alloc, text)?;
-    let differences = String::from_utf8_lossy(alloc, blocks.differences.as_slice())?;
-    let (interfaces, stubs, canonical, wrong) = (
-        blocks.interfaces,
-        blocks.stubs,
-        blocks.canonical,
-        blocks.wrong,
-    );
-    Ok(format!(in alloc;
-        "{differences}{file}: {interfaces} interfaces, {stubs} stubs, {canonical} of them canonical, {wrong} differ\n"
-    )?)
 }
 
 /// What a story of desks comes to.
@@ -65,27 +50,55 @@ fn loads_told(alloc: Global, file: &str, text: &str) -> Result<String> {
     Ok(format!(in alloc; "{differences}{file}: {steps} steps, {wrong} differ\n")?)
 }
 
+/// What cases of a subject come to.
+fn played(alloc: Global, subject: &str, text: &str) -> Result<Told> {
+    let told = match subject {
+        "idl" => cases_idl::texts(alloc, text)?,
+        "interfaces" => cases_idl::interfaces(alloc, text)?,
+        "values" => cases_values::values(alloc, text)?,
+        "stubs" => ndr_lines::stubs(alloc, text)?,
+        "callers" => cases_callers::callers(alloc, text)?,
+        "calls" => cases_callers::calls(alloc, text)?,
+        "call_texts" => cases_callers::call_texts(alloc, text)?,
+        _ => return Err(Error::msg("no such subject")),
+    };
+    Ok(told)
+}
+
+/// What is told of them.
+fn cases_told(alloc: Global, subject: &str, file: &str, text: &str) -> Result<String> {
+    let told = played(alloc, subject, text).context(file)?;
+    let differences = String::from_utf8_lossy(alloc, told.differences.as_slice())?;
+    let (cases, wrong) = (told.cases, told.wrong);
+    Ok(format!(in alloc; "{differences}{file}: {cases} cases, {wrong} differ\n")?)
+}
+
 /// What a file of the subject comes to, and the subject of the next.
 fn told(alloc: Global, subject: Subject, file: &str, text: &str) -> Result<(String, Subject)> {
     match subject {
-        Subject::Stubs => Ok((stubs_told(alloc, file, text)?, Subject::Stubs)),
         Subject::Loads => Ok((loads_told(alloc, file, text)?, Subject::Loads)),
         Subject::Echo => Ok((
             String::new(alloc),
             Subject::Desks(desks::echo_of(alloc, text)?),
         )),
         Subject::Desks(echo) => Ok((story_told(alloc, &echo, file, text)?, Subject::Desks(echo))),
+        Subject::Cases(name) => Ok((
+            cases_told(alloc, name.as_str(), file, text)?,
+            Subject::Cases(name),
+        )),
     }
 }
 
 fn main(rt: HostRuntime) -> Result<()> {
     let alloc = rt.alloc();
-    let mut subject = Subject::Stubs;
+    let mut subject = Subject::Loads;
     for word in words(&rt, alloc)?.as_slice() {
         match word.as_str() {
-            "stubs" => subject = Subject::Stubs,
             "loads" => subject = Subject::Loads,
             "desks" => subject = Subject::Echo,
+            name if !name.contains('.') => {
+                subject = Subject::Cases(String::from_str(alloc, name)?);
+            }
             file => {
                 let text = fs::read_to_string(&rt, file)?;
                 let (lines, next) = told(alloc, subject, file, text.as_str())?;
