@@ -5,13 +5,16 @@
 #![tactic(auto)]
 
 mod desks;
-mod loads;
 mod stubs;
 
 use anyhow::{Context, Result};
+use cases_base::Told;
+use cases_runs::{loads, replayed, runs};
 use ndr_table::Table;
 use std::alloc::Global;
 use std::rt::Env;
+use std::sync::Wait;
+use std::thread::Threads;
 use std::{env, fs};
 
 /// What the next file has.
@@ -19,6 +22,8 @@ use std::{env, fs};
 enum Subject {
     Stubs,
     Loads,
+    Replayed,
+    Runs,
     /// The interface that the desks' echo serves.
     Echo,
     /// Stories of desks, with this table of the echo.
@@ -57,19 +62,38 @@ fn story_told(alloc: Global, echo: &Table, file: &str, text: &str) -> Result<Str
     Ok(format!(in alloc; "{differences}{file}: {rows} rows, {wrong} differ\n")?)
 }
 
-/// What loads come to.
-fn loads_told(alloc: Global, file: &str, text: &str) -> Result<String> {
-    let cases = loads::played(alloc, text)?;
-    let differences = String::from_utf8_lossy(alloc, cases.differences.as_slice())?;
-    let (steps, wrong) = (cases.steps, cases.wrong);
-    Ok(format!(in alloc; "{differences}{file}: {steps} steps, {wrong} differ\n")?)
+/// What cases come to.
+fn cases_told(alloc: Global, file: &str, told: Told) -> Result<String> {
+    let differences = String::from_utf8_lossy(alloc, told.differences.as_slice())?;
+    let (cases, wrong) = (told.cases, told.wrong);
+    Ok(format!(in alloc; "{differences}{file}: {cases} cases, {wrong} differ\n")?)
 }
 
 /// What a file of the subject comes to, and the subject of the next.
-fn told(alloc: Global, subject: Subject, file: &str, text: &str) -> Result<(String, Subject)> {
+fn told<R>(
+    rt: &R,
+    alloc: Global,
+    subject: Subject,
+    file: &str,
+    text: &str,
+) -> Result<(String, Subject)>
+where
+    R: Wait + Threads + Send + Sync + Copy + 'static,
+{
     match subject {
         Subject::Stubs => Ok((stubs_told(alloc, file, text)?, Subject::Stubs)),
-        Subject::Loads => Ok((loads_told(alloc, file, text)?, Subject::Loads)),
+        Subject::Loads => Ok((
+            cases_told(alloc, file, loads(alloc, text)?)?,
+            Subject::Loads,
+        )),
+        Subject::Replayed => Ok((
+            cases_told(alloc, file, replayed(alloc, text)?)?,
+            Subject::Replayed,
+        )),
+        Subject::Runs => Ok((
+            cases_told(alloc, file, runs(rt, alloc, text)?)?,
+            Subject::Runs,
+        )),
         Subject::Echo => Ok((
             String::new(alloc),
             Subject::Desks(desks::echo_of(alloc, text)?),
@@ -85,10 +109,12 @@ fn main(rt: HostRuntime) -> Result<()> {
         match word.as_str() {
             "stubs" => subject = Subject::Stubs,
             "loads" => subject = Subject::Loads,
+            "replayed" => subject = Subject::Replayed,
+            "runs" => subject = Subject::Runs,
             "desks" => subject = Subject::Echo,
             file => {
                 let text = fs::read_to_string(&rt, file)?;
-                let (lines, next) = told(alloc, subject, file, text.as_str())?;
+                let (lines, next) = told(&rt, alloc, subject, file, text.as_str())?;
                 print!(rt; "{lines}")?;
                 subject = next;
             }
