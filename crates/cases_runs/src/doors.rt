@@ -1,4 +1,6 @@
 //! A door and a dial in memory.
+ghost use Rattle.std.specs.Prelude.{◌≡◌, ◌≤◌, IsTrue};
+ghost use Rattle.rpc_base.specs.Causes.{Rose};
 
 use crate::links::{LinkPlan, PlayLink};
 use rpc_base::{Numbers, OutFault};
@@ -39,7 +41,11 @@ impl PlayDoor {
     }
 
     /// Counts a call, and whether it is to fail.
-    fn fails(&mut self) -> bool {
+    fn fails(&mut self) -> bool
+        ensures rose { IsTrue result → Rose self.old.faults self.new.faults }
+        ensures later { self.old.faults ≤ self.new.faults }
+        ensures same { self.new.closings ≡ self.old.closings }
+    {
         self.calls = self.calls.saturating_add(1);
         let fails = self.failing.as_slice().contains(&self.calls);
         if fails {
@@ -49,7 +55,9 @@ impl PlayDoor {
     }
 
     /// Keeps a link. Where there is no memory it is lost.
-    fn keep(&mut self, link: PlayLink) {
+    fn keep(&mut self, link: PlayLink)
+        ensures { (self.new.faults ≡ self.old.faults) × (self.new.closings ≡ self.old.closings) }
+    {
         if let Err(lost) = self.back.push(link) {
             drop(lost);
         }

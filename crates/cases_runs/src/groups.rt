@@ -115,15 +115,14 @@ impl Play {
         let (first, second) = first_word(rest);
         let number = read_u32(first.as_bytes()).unwrap_or(0);
         let other = read_u32(second.as_bytes()).unwrap_or(0);
-        let groups = &mut self.groups;
         Ok(Some(match word {
-            "bind" => format!(in alloc; "{:?}", bind(groups, number))?,
-            "open" => format!(in alloc; "{:?}", open(groups))?,
-            "join" => format!(in alloc; "{:?}", join(groups, number))?,
-            "take" => format!(in alloc; "{:?}", take(groups, 1, number))?,
-            "cancel" => format!(in alloc; "{:?}", cancel(groups, 1, number))?,
-            "orphan" => format!(in alloc; "{:?}", orphan(groups, 1, number))?,
-            "leave" => rest_text(alloc, leave(groups, 1, number))?,
+            "bind" => format!(in alloc; "{:?}", bind(&mut self.groups, number))?,
+            "open" => format!(in alloc; "{:?}", open(&mut self.groups))?,
+            "join" => format!(in alloc; "{:?}", join(&mut self.groups, number))?,
+            "take" => format!(in alloc; "{:?}", take(&mut self.groups, 1, number))?,
+            "cancel" => format!(in alloc; "{:?}", cancel(&mut self.groups, 1, number))?,
+            "orphan" => format!(in alloc; "{:?}", orphan(&mut self.groups, 1, number))?,
+            "leave" => rest_text(alloc, leave(&mut self.groups, 1, number))?,
             "accept" => self.accepted(alloc, number)?,
             "end" => self.ended(alloc, number, other)?,
             "goes_on" => self.told(alloc, number)?,

@@ -24,7 +24,8 @@ where
         rt, alloc, words, asked.boot, &mut shelf, &mut door, &mut dial, &mut out, &mut log,
     );
     let mut back = door.into_back();
-    back.append(&mut dial.into_back())?;
+    let mut dialled = dial.into_back();
+    back.append(&mut dialled)?;
     Ok(Come {
         status,
         out,

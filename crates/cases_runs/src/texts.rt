@@ -50,9 +50,9 @@ pub fn with_line(
     line: &[u8],
 ) -> Result<Vec<u8>, NoMemory> {
     let mut text = Vec::new(alloc);
-    let mut passed = 0;
+    let mut passed = 0u64;
     for own in script.split_inclusive(|octet| *octet == b'\n') {
-        passed += 1;
+        passed = passed.saturating_add(1);
         if passed == number {
             put(line, &mut text)?;
             put(b"\n", &mut text)?;

@@ -55,8 +55,22 @@ impl Wanted {
         self.status == come.status
             && self.out.as_slice() == come.out.written().as_slice()
             && (!self.says_log || self.log.as_slice() == come.log.written().as_slice())
-            && self.back.is_none_or(|count| count == come.back.len())
-            && self.links.iter().all(|wanted| come.has(wanted))
+            && self.has_links(come)
+    }
+
+    /// Whether as many links were given back, with what is to stand on them.
+    fn has_links(&self, come: &Come) -> bool {
+        if let Some(count) = self.back
+            && count != come.back.len()
+        {
+            return false;
+        }
+        for wanted in &self.links {
+            if !come.has(wanted) {
+                return false;
+            }
+        }
+        true
     }
 }
 
