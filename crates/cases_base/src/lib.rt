@@ -20,5 +20,5 @@ pub use names::Names;
 pub use octets::{are_octets, octets_of};
 pub use rows::{Answers, Row, answered};
 pub use stories::{Plays, Step, played};
-pub use told::Told;
+pub use told::{Told, subject_of};
 pub use words::{bare, first_word, put_debug};

@@ -50,4 +50,23 @@ impl Told {
         put(come, into)?;
         put(b"\n", into)
     }
+
+    /// The line that is told of the cases of a file, after one for each that came to something else.
+    pub fn put_line(&self, alloc: Global, file: &str, into: &mut Vec<u8>) -> Result<(), NoMemory> {
+        put(self.differences.as_slice(), into)?;
+        put(file.as_bytes(), into)?;
+        put(b": ", into)?;
+        put_decimal(alloc, self.cases, into)?;
+        put(b" cases, ", into)?;
+        put_decimal(alloc, self.wrong, into)?;
+        put(b" differ\n", into)
+    }
+}
+
+/// The subject of a file of cases: what stands in its name before the first `_`.
+pub fn subject_of(file: &str) -> &str {
+    match file.split_once('_') {
+        Some((subject, _)) => subject,
+        None => file,
+    }
 }
