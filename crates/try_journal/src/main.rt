@@ -10,7 +10,7 @@ use std::{env, fs};
 fn told(alloc: Global, subject: &str, text: &str) -> Result<Told, CasesFault> {
     match subject {
         "journals" => journal_texts(alloc, text),
-        "lines" => entry_lines(alloc, text),
+        "entries" => entry_lines(alloc, text),
         _ => group_calls(alloc, text),
     }
 }
