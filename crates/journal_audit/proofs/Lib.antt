@@ -11,4 +11,4 @@ pub mod Seen
 pub mod Sets
 pub mod SoFar
 pub mod Sounds
-pub mod Verdicts
+pub mod VerdictLaws

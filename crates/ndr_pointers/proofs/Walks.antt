@@ -4,7 +4,8 @@ use Rattle.std.specs.Prelude.{◌==◌, ℤ, if◌then◌else◌}
 use Rattle.std.proofs.lemmas.List.{drop_all}
 use Rattle.std.proofs.lemmas.Grind.{common_steps}
 use Rattle.ndr_value.specs.declared.shape.Shape.{Shape}
-use Rattle.ndr_value.specs.Forms.{Form, OfStruct, OfUnion, ArmForms, Body, Forms, form, forms}
+use Rattle.ndr_value.specs.declared.shape.Arm.{Arm}
+use Rattle.ndr_value.specs.Forms.{Form, OfStruct, OfUnion, ArmForms, Body, Forms, form, forms, arms_of}
 use Rattle.rpc_base.specs.declared.identifiers.Order.{Order}
 use Rattle.ndr_value.specs.Fits.{arm_of}
 use Rattle.ndr_scalars.specs.Scalars.{up}
@@ -17,6 +18,11 @@ use Rattle.ndr_model.specs.Scan.{Scanned, scan, scan_at, each, times, arm_scan}
 use Rattle.ndr_pointers.specs.declared.scan_fault.ReadError.{ReadError}
 use Rattle.ndr_pointers.specs.declared.scan_fault.ReadError.TheVariants as errors
 use Rattle.ndr_pointers.specs.Gives.{Fails}
+
+-- the arm of a union for a tag, told by equals of its parts
+pub arm_again : (kind same_kind : Shape) (arms same_arms : List Arm) (tag same_tag : ℤ) (arm : Option Body) → kind ≡ same_kind → arms ≡ same_arms → tag ≡ same_tag
+    → arm_of (OfUnion (form kind) (arms_of arms)) tag ≡ arm → arm_of (OfUnion (form same_kind) (arms_of same_arms)) same_tag ≡ arm
+arm_again kind same_kind arms same_arms tag same_tag arm k a z is = rw (← k, ← a, ← z) is
 
 -- ---- as many of one shape
 

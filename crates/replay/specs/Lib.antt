@@ -2,5 +2,6 @@ pub mod Closing
 pub mod Departures
 pub mod Hands
 pub mod Lines
+pub mod Meaning
 pub mod Playing
 pub mod Reading

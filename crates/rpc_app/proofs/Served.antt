@@ -10,7 +10,7 @@ use Rattle.rpc_app.specs.Asks.{ServeTask}
 use Rattle.rpc_app.specs.Runs.{Gains, GainsFront, Serves, RefusesText}
 use Rattle.rpc_app.specs.Obeys.{Shelf, Output, IsKept, Put, TellsText, IsTaken, NoneFailed}
 use Rattle.rpc_app.specs.Serving.{Doorway, IsUnused, IsSilent, PutBoth, PutInPart, IsPut, RefusesInterface, NoDoorFailed, HasServedWith, HasServed, ServesWith, ServesFor}
-use Rattle.desk_service.specs.State.{tables_with}
+use Rattle.server_command.specs.Tables.{tables_with}
 use Rattle.server_command.specs.Serves.{May}
 use Rattle.rpc_app.proofs.Told.{text_refused, text_served}
 use Rattle.server_command.proofs.Statuses.{IsServed, rose, served}

@@ -1,6 +1,6 @@
 -- What the program makes of a file.
 use Rattle.std.specs.Prelude.{◌≡◌, ◌⊎◌, ℕ, ◌++◌, List, [], Option, codes, decimal}
-use Rattle.replay_script.specs.Scripts.{IsScript, DepartsAt}
+use Rattle.replay.specs.Meaning.{IsScript, DepartsAt}
 use Rattle.idl_tree.specs.Idl.{IsIdl}
 use Rattle.idl_tree.specs.declared.declaration.Ast.{Ast}
 use Rattle.idl_reader.specs.declared.fault.IdlFault.{IdlFault}
@@ -13,10 +13,10 @@ use Rattle.idl_tables.specs.Interfaces.{tabled}
 use Rattle.rpc_app.specs.declared.command.Command.{Command}
 use Rattle.rpc_app.specs.declared.command.Command.TheVariants.{Replay, Idl, Audit}
 use Rattle.rpc_app.specs.Audits.{AreGood, IsAudited, HasBreach, DepartsAtJournalLine}
-use Rattle.replay_world.specs.Replays.{IsReplay}
+use Rattle.replay.specs.Meaning.{IsReplay}
 use Rattle.replay_world.specs.declared.fault.ReplayFault.TheVariants as script_faults
 use Rattle.replay.specs.Departures.{StopsAt, ServesAll}
-use Rattle.replay_groups.specs.Service.{service_of}
+use Rattle.replay.specs.Meaning.{service_of}
 
 -- the longest file that it takes: 64 MiB of a script or of journals, 1 MiB of an interface text
 abbrev pub limit : Command → ℕ

@@ -5,8 +5,8 @@ use Rattle.rpc_base.specs.Shelves.{Files, HasFile}
 use Rattle.ndr_table.specs.Tables.{TableForm}
 use Rattle.rpc_app.specs.declared.command.Command.{Command}
 use Rattle.rpc_app.specs.declared.command.Command.TheVariants.{Idl}
-use Rattle.replay_groups.specs.Service.{service_of}
-use Rattle.replay_moments.specs.Loads.{IsSummary}
+use Rattle.replay.specs.Meaning.{service_of}
+use Rattle.replay.specs.Meaning.{IsSummary}
 use Rattle.rpc_app.specs.Asks.{FileTask, Task, OfFile, OfLoad}
 use Rattle.rpc_app.specs.Commands.{limit, IsInterface, Makes, Refuses}
 

@@ -9,7 +9,7 @@ use Rattle.rpc_app.specs.declared.command.Command.TheVariants.{Idl}
 use Rattle.rpc_app.specs.Asks.{ServeTask}
 use Rattle.rpc_app.specs.Runs.{Gains, GainsFront, EndsEarly, Growth, Serves, RefusesText}
 use Rattle.rpc_app.specs.Obeys.{Shelf, Output, IsKept, Put, TellsText, IsTaken, NoneFailed}
-use Rattle.desk_service.specs.State.{tables_with}
+use Rattle.server_command.specs.Tables.{tables_with}
 use Rattle.server_command.specs.Serves.{May}
 use Rattle.server_command.specs.Serves as command
 

@@ -1,6 +1,6 @@
 //! What a command makes of a file.
 ghost use Rattle.std.specs.Prelude.{◌≡◌, IfOk, IfErr};
-ghost use Rattle.desk_service.specs.Shows.{shown_by};
+ghost use Rattle.server_command.specs.Tables.{shown_by};
 ghost use Rattle.rpc_app.specs.Commands.{Makes, line_refusal};
 ghost use Rattle.rpc_app.specs.Making.{IsWhy};
 

@@ -2,7 +2,7 @@
 ghost use Rattle.std.specs.Prelude.{◌≡◌, ◌⊎◌, ◌≤◌};
 ghost use Rattle.rpc_base.specs.Causes.{Rose};
 ghost use Rattle.rpc_app.specs.Runs.{Gains, GainsFront};
-ghost use Rattle.desk_service.specs.Shows.{shown_by};
+ghost use Rattle.server_command.specs.Tables.{shown_by};
 ghost use Rattle.rpc_app.specs.Serving.{IsPut, ServesWith, ServesFor};
 ghost use Rattle.rpc_app.specs.Words.{told_server};
 

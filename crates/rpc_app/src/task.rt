@@ -1,9 +1,9 @@
 //! A task is done, but for the outputs.
 ghost use Rattle.std.specs.Prelude.{◌≡◌, ◌+◌, ◌<◌, ◌≤◌, ◌^◌, [], Some, None, option_map, IfOk, IfErr};
 ghost use Rattle.ndr_table.specs.Shown.{shown};
-ghost use Rattle.desk_service.specs.Shows.{shown_by};
-ghost use Rattle.replay_groups.specs.Service.{service_of};
-ghost use Rattle.replay_moments.specs.Loads.{IsSummary};
+ghost use Rattle.server_command.specs.Tables.{shown_by};
+ghost use Rattle.replay.specs.Meaning.{service_of};
+ghost use Rattle.replay.specs.Meaning.{IsSummary};
 ghost use Rattle.rpc_app.specs.Asks.{IsInRange};
 ghost use Rattle.rpc_app.specs.Making.{WhyNot, WhyNotFile, WhyNotFiles, WhyNotTask};
 ghost use Rattle.rpc_app.specs.Runs.{IsLoaded, IsTooLong, MakesOf, ServesText, Serves, RefusesText, DoesFiles, DoesTask};

@@ -8,5 +8,6 @@ pub mod Logs
 pub mod Serves
 pub mod Statuses
 pub mod Sums
+pub mod Tables
 pub mod Texts
 pub mod Walks

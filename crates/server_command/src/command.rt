@@ -1,7 +1,7 @@
 //! A server over a door.
 ghost use Rattle.std.specs.Prelude.{◌≤◌, IfOk, IfErr};
-ghost use Rattle.desk_service.specs.Shows.{shown_by};
-ghost use Rattle.desk_service.specs.State.{tables_with};
+ghost use Rattle.desk_locks.specs.Tables.{shown_by};
+ghost use Rattle.desk_locks.specs.Tables.{tables_with};
 ghost use Rattle.desk_locks.specs.Calls.{May};
 ghost use Rattle.server_command.specs.Serves.{Serves, IsWhy};
 

@@ -11,7 +11,7 @@ use Rattle.ndr_model.specs.Scan.{Scanned, scan}
 use Rattle.ndr_pointers.proofs.Alikes.{struct_is, union_is}
 use Rattle.ndr_pointers.specs.Gives.{Gives}
 use Rattle.ndr_pointers.specs.Views.{types_in, place}
-use Rattle.ndr_pointers.proofs.Walks.{scan_step, struct_scan, union_scan, once_more, each_more, each_fails, moved_is}
+use Rattle.ndr_pointers.proofs.Walks.{scan_step, struct_scan, union_scan, arm_again, once_more, each_more, each_fails, moved_is}
 use Rattle.ndr_pointers.proofs.scan.+scan.Goals as goal
 
 pub scan_flat-returns : goal.scan_flat-returns
@@ -54,14 +54,15 @@ scan_one-returns-in-None-arm_for t c =
     let n = c.in_ok-number-in-Union.number in
     let fits : SFits w64 n = search rules in
     let k : to_z w64 (of_z w64 n) ≡ n = to_z-of_z w64 n fits in
-    let s : form c.args.shape.now ≡ OfUnion (form c.deref-in-Union.result.now) (arms_of c.deref-in-Union-3.result.now) =
-    union_is c.args.shape.now _ _ c.deref-in-Union.result.now c.deref-in-Union-3.result.now c.in-Union.is c.deref-in-Union.ensures c.deref-in-Union-3.ensures.value in
-    let none : arm_of (OfUnion (form c.deref-in-Union.result.now) (arms_of c.deref-in-Union-3.result.now)) n ≡ None =
-    subst (λ (z : ℤ). arm_of (OfUnion (form c.deref-in-Union.result.now) (arms_of c.deref-in-Union-3.result.now)) z ≡ None) k
-    (subst (λ (x : Shape). arm_of (OfUnion (form x) (arms_of c.deref-in-Union-3.result.now)) (to_z w64 (of_z w64 n)) ≡ None) (c.deref-in-Union-2.ensures ∙ sym c.deref-in-Union.ensures) c.in-None-arm_for.ensures) in
-    let size : tag_size (form c.deref-in-Union.result.now) ≡ c.tag_octets.result = ap (λ (x : Shape). tag_size (form x)) (c.deref-in-Union.ensures ∙ sym c.deref-in-None-arm_for.ensures) ∙ sym c.tag_octets.ensures.exact in
+    let kind = c.deref-in-Union.result.now in
+    let arms = c.deref-in-Union-2.result.now in
+    let s : form c.args.shape.now ≡ OfUnion (form kind) (arms_of arms) = union_is c.args.shape.now _ _ kind arms c.in-Union.is c.deref-in-Union.ensures c.deref-in-Union-2.ensures.value in
+    let none : arm_of (OfUnion (form kind) (arms_of arms)) n ≡ None =
+    arm_again c.deref-in-Union-3.result.now kind c.deref-in-Union-4.result.now arms (to_z w64 (of_z w64 n)) n None (c.deref-in-Union-3.ensures ∙ sym c.deref-in-Union.ensures)
+    (c.deref-in-Union-4.ensures.value ∙ sym c.deref-in-Union-2.ensures.value) k c.in-None-arm_for.ensures in
+    let size : tag_size (form kind) ≡ c.tag_octets.result = ap (λ (x : Shape). tag_size (form x)) (c.deref-in-Union.ensures ∙ sym c.deref-in-None-arm_for.ensures) ∙ sym c.tag_octets.ensures.exact in
     union_scan (types_in c.args.reader.now) c.args.reader.now.order c.args.reader.now.octets.now c.args.room c.args.moved (scan (types_in c.args.reader.now) c.args.reader.now.order c.args.reader.now.octets.now c.args.fuel c.args.room)
-    (form c.args.shape.now) (form c.deref-in-Union.result.now) (arms_of c.deref-in-Union-3.result.now) (place c.args.at c.args.seen.now) n c.in_ok-number-in-Union.after None s c.in_ok-number-in-Union.ensures.exact c.in_ok-number-in-Union.ensures.place none
+    (form c.args.shape.now) (form kind) (arms_of arms) (place c.args.at c.args.seen.now) n c.in_ok-number-in-Union.after None s c.in_ok-number-in-Union.ensures.exact c.in_ok-number-in-Union.ensures.place none
     ∙ ap (λ (w : ℕ). Err (Tag (c.in_ok-number-in-Union.after - w))) size
 
 pub scan_one-returns-in-Some-arm_for : goal.scan_one-returns-in-Some-arm_for
@@ -69,14 +70,15 @@ scan_one-returns-in-Some-arm_for t c =
     let n = c.in_ok-number-in-Union.number in
     let fits : SFits w64 n = search rules in
     let k : to_z w64 (of_z w64 n) ≡ n = to_z-of_z w64 n fits in
-    let s : form c.args.shape.now ≡ OfUnion (form c.deref-in-Union.result.now) (arms_of c.deref-in-Union-3.result.now) =
-    union_is c.args.shape.now _ _ c.deref-in-Union.result.now c.deref-in-Union-3.result.now c.in-Union.is c.deref-in-Union.ensures c.deref-in-Union-3.ensures.value in
+    let kind = c.deref-in-Union.result.now in
+    let arms = c.deref-in-Union-2.result.now in
+    let s : form c.args.shape.now ≡ OfUnion (form kind) (arms_of arms) = union_is c.args.shape.now _ _ kind arms c.in-Union.is c.deref-in-Union.ensures c.deref-in-Union-2.ensures.value in
     let b = body c.in-Some-arm_for.arm.now.shape in
-    let some : arm_of (OfUnion (form c.deref-in-Union.result.now) (arms_of c.deref-in-Union-3.result.now)) n ≡ Some b =
-    subst (λ (z : ℤ). arm_of (OfUnion (form c.deref-in-Union.result.now) (arms_of c.deref-in-Union-3.result.now)) z ≡ Some b) k
-    (subst (λ (x : Shape). arm_of (OfUnion (form x) (arms_of c.deref-in-Union-3.result.now)) (to_z w64 (of_z w64 n)) ≡ Some b) (c.deref-in-Union-2.ensures ∙ sym c.deref-in-Union.ensures) c.in-Some-arm_for.ensures) in
-    let i = c.in_ok-number-in-Union.after - tag_size (form c.deref-in-Union.result.now) in
+    let some : arm_of (OfUnion (form kind) (arms_of arms)) n ≡ Some b =
+    arm_again c.deref-in-Union-3.result.now kind c.deref-in-Union-4.result.now arms (to_z w64 (of_z w64 n)) n (Some b) (c.deref-in-Union-3.ensures ∙ sym c.deref-in-Union.ensures)
+    (c.deref-in-Union-4.ensures.value ∙ sym c.deref-in-Union-2.ensures.value) k c.in-Some-arm_for.ensures in
+    let i = c.in_ok-number-in-Union.after - tag_size (form kind) in
     subst (λ (f : Scanned). Gives (λ (j : ℕ). place j c.scan_arm.new.seen) c.scan_arm.result f)
     (sym (union_scan (types_in c.args.reader.now) c.args.reader.now.order c.args.reader.now.octets.now c.args.room c.args.moved (scan (types_in c.args.reader.now) c.args.reader.now.order c.args.reader.now.octets.now c.args.fuel c.args.room)
-    (form c.args.shape.now) (form c.deref-in-Union.result.now) (arms_of c.deref-in-Union-3.result.now) (place c.args.at c.args.seen.now) n c.in_ok-number-in-Union.after (Some b) s c.in_ok-number-in-Union.ensures.exact c.in_ok-number-in-Union.ensures.place some))
+    (form c.args.shape.now) (form kind) (arms_of arms) (place c.args.at c.args.seen.now) n c.in_ok-number-in-Union.after (Some b) s c.in_ok-number-in-Union.ensures.exact c.in_ok-number-in-Union.ensures.place some))
     (c.scan_arm.ensures i)

@@ -1,5 +1,5 @@
 use Rattle.std.proofs.Common.{sym, subst, IfOk}
-use Rattle.desk_service.specs.Shows.{shown_by}
+use Rattle.server_command.specs.Tables.{shown_by}
 use Rattle.rpc_app.specs.declared.command.Command.{Command}
 use Rattle.rpc_app.specs.Commands.{Makes}
 use Rattle.rpc_app.proofs.Made.{printed_made, audited_made}

@@ -1,5 +1,5 @@
 use Rattle.std.proofs.Common.{rules, ◌≡◌, refl}
-use Rattle.desk_service.specs.Shows.{shown_by}
+use Rattle.server_command.specs.Tables.{shown_by}
 use Rattle.rpc_app.specs.Runs.{Gains, GainsFront, RefusesText, Serves}
 use Rattle.rpc_app.specs.Words.{told_server}
 use Rattle.rpc_app.proofs.Served.{refused_so, shelf_failed, memory_out, served_for}

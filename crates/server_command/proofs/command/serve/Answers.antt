@@ -3,8 +3,8 @@ use denote.Param.Send.{sendable}
 use Rattle.std.proofs.Crossing.{crosses}
 use Rattle.std.specs.Arc.{arc_value}
 use Rattle.ndr_table.specs.Tables.{TableForm}
-use Rattle.desk_service.specs.Shows.{shown_by}
-use Rattle.desk_service.specs.State.{tables_with}
+use Rattle.desk_locks.specs.Tables.{shown_by}
+use Rattle.desk_locks.specs.Tables.{tables_with}
 use Rattle.desk_locks.specs.Calls.{echo_of, May}
 use Rattle.desk_locks.proofs.Crossing.{service_send, service_sync}
 use Rattle.server_command.specs.Serves.{Serves}
