@@ -232,16 +232,16 @@ fn judged(come: &[u8], wanted: &[u8]) -> Step {
 }
 
 impl Story {
-    /// The desks, which are made where no row has come yet. None where the interface of the echo isn't one.
-    fn desks(&mut self, alloc: Global) -> Result<Option<&mut ServiceDesks>, NoMemory> {
-        if self.desks.is_none() {
-            let echo = table_of(alloc, self.interface.as_str());
-            if echo.is_none() && !self.interface.is_empty() {
-                return Ok(None);
-            }
+    /// Makes the desks, where no row has come yet. They aren't made where the interface of the echo isn't one.
+    fn make_desks(&mut self, alloc: Global) -> Result<(), NoMemory> {
+        if self.desks.is_some() {
+            return Ok(());
+        }
+        let echo = table_of(alloc, self.interface.as_str());
+        if echo.is_some() || self.interface.is_empty() {
             self.desks = Some(ServiceDesks::new(alloc, echo.as_ref())?);
         }
-        Ok(self.desks.as_mut())
+        Ok(())
     }
 
     fn row(
@@ -251,7 +251,8 @@ impl Story {
         row: &Row<'_>,
         come: &mut Vec<u8>,
     ) -> Result<Step, NoMemory> {
-        let Some(desks) = self.desks(alloc)? else {
+        self.make_desks(alloc)?;
+        let Some(desks) = &mut self.desks else {
             return Ok(Step::Outside);
         };
         put_row(alloc, names, desks, row, come)?;

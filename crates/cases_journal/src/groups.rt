@@ -27,11 +27,12 @@ use std::alloc::Global;
 /// The boot word of the groups' server.
 const BOOT: u64 = 0x0102_0304_0506_0708;
 
-/// The present group, and what its case hasn't yet seen of a journal that it asked for.
+/// The present group, the journals that its case asked for, and how much of them it has seen.
 #[derive(Drop)]
 struct Groups {
     group: Group,
-    unseen: Vec<u8>,
+    lines: Vec<u8>,
+    seen: usize,
 }
 
 /// The entry of the line, which has no line feed.
@@ -115,15 +116,24 @@ fn judged(come: &[u8], wanted: &str) -> Step {
 }
 
 impl Groups {
+    /// What wasn't seen yet of the journal that was asked for.
+    fn unseen(&self) -> &[u8] {
+        let lines = self.lines.as_slice();
+        &lines[self.seen.min(lines.len())..]
+    }
+
     /// The next line of the journal that was asked for is to be that.
     fn see(&mut self, line: &str, come: &mut Vec<u8>) -> Result<Step, NoMemory> {
-        let unseen = self.unseen.as_slice();
-        let end = unseen
-            .iter()
-            .position(|octet| *octet == b'\n')
-            .unwrap_or(unseen.len());
-        put(&unseen[..end.min(unseen.len())], come)?;
-        self.unseen.drain(..unseen.len().min(end.saturating_add(1)));
+        let unseen = self.unseen();
+        let mut count: usize = 0;
+        for octet in unseen {
+            count = count.saturating_add(1);
+            if *octet == b'\n' {
+                break;
+            }
+            come.push(*octet)?;
+        }
+        self.seen = self.seen.saturating_add(count);
         Ok(judged(come.as_slice(), line))
     }
 
@@ -135,7 +145,7 @@ impl Groups {
             self.group.home(),
             journal.base(),
             journal.as_slice(),
-            &mut self.unseen,
+            &mut self.lines,
         )
     }
 
@@ -163,7 +173,8 @@ impl Groups {
 
 impl Plays for Groups {
     fn begin(&mut self, alloc: Global, _name: &str) -> Result<(), NoMemory> {
-        self.unseen.clear();
+        self.lines.clear();
+        self.seen = 0;
         self.begin_group(alloc, 1)
     }
 
@@ -193,7 +204,7 @@ impl Plays for Groups {
         _names: &Names,
         come: &mut Vec<u8>,
     ) -> Result<Step, NoMemory> {
-        put(self.unseen.as_slice(), come)?;
+        put(self.unseen(), come)?;
         Ok(judged(come.as_slice(), ""))
     }
 }
@@ -202,7 +213,8 @@ impl Plays for Groups {
 pub fn group_calls(alloc: Global, text: &str) -> Result<Told, CasesFault> {
     let mut groups = Groups {
         group: Group::begin(alloc, BOOT, 1)?,
-        unseen: Vec::new(alloc),
+        lines: Vec::new(alloc),
+        seen: 0,
     };
     played(alloc, &mut groups, text)
 }

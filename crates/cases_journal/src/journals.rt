@@ -17,65 +17,74 @@ struct Texts {
     text: Vec<u8>,
 }
 
-/// What is done with the line at a place, counted from 0.
+/// What is done with a line.
 #[derive(Clone, Copy)]
-enum Edit<'a> {
+enum How<'a> {
     /// It is left out.
-    Drop(usize),
+    Drop,
     /// It stands twice.
-    Double(usize),
+    Double,
     /// It stands behind the next.
-    Swap(usize),
+    Swap,
     /// Another stands in its place.
-    Put(usize, &'a str),
+    Put(&'a str),
+}
+
+/// What is done with the line of the entry at a place, counted from 0.
+#[derive(Clone, Copy)]
+struct Edit<'a> {
+    place: usize,
+    how: How<'a>,
 }
 
 fn edit_of(ask: &str) -> Option<Edit<'_>> {
     let (word, rest) = first_word(ask);
     let (place, line) = first_word(rest);
     let place = place.parse::<usize>().ok()?;
-    match word {
-        "drop" => Some(Edit::Drop(place)),
-        "double" => Some(Edit::Double(place)),
-        "swap" => Some(Edit::Swap(place)),
-        "put" => Some(Edit::Put(place, line)),
-        _ => None,
-    }
+    let how = match word {
+        "drop" => How::Drop,
+        "double" => How::Double,
+        "swap" => How::Swap,
+        "put" => How::Put(line),
+        _ => return None,
+    };
+    Some(Edit { place, how })
 }
 
-/// The lines with that edit, as far as there is a line at its place.
-fn edited<'a>(lines: &mut Vec<&'a str>, edit: Edit<'a>) -> Result<(), NoMemory> {
-    match edit {
-        Edit::Drop(place) if place < lines.len() => {
-            lines.remove(place);
+/// The lines with that edit, as far as there is a line at its place. The first one is a heading, and the last is empty.
+fn edited<'a>(lines: &mut Vec<&'a [u8]>, edit: Edit<'a>) -> Result<(), NoMemory> {
+    let at = edit.place.saturating_add(1);
+    let next = at.saturating_add(1);
+    if at >= lines.len() || next >= lines.len() {
+        return Ok(());
+    }
+    match edit.how {
+        How::Drop => {
+            lines.remove(at);
         }
-        Edit::Double(place) => {
-            if let Some(line) = lines.get(place) {
-                let line = *line;
-                lines.insert(place, line)?;
-            }
+        How::Double => {
+            let line = lines[at];
+            lines.insert(at, line)?;
         }
-        Edit::Swap(place) if place < lines.len() && place + 1 < lines.len() => {
-            lines.swap(place, place + 1);
-        }
-        Edit::Put(place, line) if place < lines.len() => lines[place] = line,
-        _ => {}
+        How::Swap => lines.swap(at, next),
+        How::Put(line) => lines[at] = line.as_bytes(),
     }
     Ok(())
 }
 
 /// The journal with that edit of its entries' lines.
-fn edited_text(alloc: Global, text: &str, edit: Edit<'_>) -> Result<Vec<u8>, NoMemory> {
+fn edited_text(alloc: Global, text: &[u8], edit: Edit<'_>) -> Result<Vec<u8>, NoMemory> {
     let mut lines = Vec::new(alloc);
-    for line in text.lines().skip(1) {
+    for line in text.split(|octet| *octet == b'\n') {
         lines.push(line)?;
     }
     edited(&mut lines, edit)?;
     let mut again = Vec::new(alloc);
-    for line in text.lines().take(1).chain(lines.iter().copied()) {
-        put(line.as_bytes(), &mut again)?;
+    for line in &lines {
+        put(line, &mut again)?;
         put(b"\n", &mut again)?;
     }
+    again.pop();
     Ok(again)
 }
 
@@ -107,10 +116,10 @@ fn put_told(alloc: Global, text: &[u8], ask: &str, into: &mut Vec<u8>) -> Result
         "read" => put_read(alloc, text, &mut told)?,
         "base" => put_base(alloc, text, &mut told)?,
         _ => {
-            let (Some(edit), Ok(whole)) = (edit_of(ask), str::from_utf8(text)) else {
+            let Some(edit) = edit_of(ask) else {
                 return Ok(false);
             };
-            let edited = edited_text(alloc, whole, edit)?;
+            let edited = edited_text(alloc, text, edit)?;
             put_audit(alloc, edited.as_slice(), &mut told)?;
         }
     }

@@ -2,10 +2,11 @@
 ghost use Rattle.std.specs.Prelude.{◌≡◌};
 ghost use Rattle.std.specs.List.{list_any};
 ghost use Rattle.handle_model.specs.Bases as bases;
+ghost use Rattle.handle_model.specs.History.{history_of};
 ghost use Rattle.handle_model.specs.Journal as spec;
 
 use group_core::Group;
-use handle_model::{Base, Entry};
+use handle_model::{Base, Entry, Home};
 
 fn any_joins(entries: &[Entry], conn: u32) -> bool
     ensures { result ≡ list_any (spec.joins conn) entries.now }
@@ -31,12 +32,17 @@ fn has_conn(base: &Base, conn: u32) -> bool
     any_number(base.conns.as_slice(), conn)
 }
 
-/// Whether the connection joined and did not leave.
 #[tactic(auto, using(handle_model::proofs::Sets::reversed))]
+fn is_open_in(home: Home, base: &Base, entries: &[Entry], conn: u32) -> bool
+    ensures { result ≡ spec.is_open (history_of home base.now entries.now) conn }
+{
+    (any_joins(entries, conn) || has_conn(base, conn)) && !any_leaves(entries, conn)
+}
+
+/// Whether the connection joined and did not leave.
 pub fn is_open(group: &Group, conn: u32) -> bool
     ensures { result ≡ spec.is_open group.now conn }
 {
     let journal = group.journal();
-    (any_joins(journal.as_slice(), conn) || has_conn(journal.base(), conn))
-        && !any_leaves(journal.as_slice(), conn)
+    is_open_in(group.home(), journal.base(), journal.as_slice(), conn)
 }

@@ -42,18 +42,31 @@ fn issues(alloc: Global, serial: u32) -> Result<Outcomes, NoMemory> {
     Ok(results)
 }
 
-/// One call issues the handle of the serial. Whether it did, and the group goes on.
-fn issue_one(alloc: Global, group: &mut Group, serial: u32) -> Result<bool, NoMemory>
+/// A call is accepted: its number, where there is room for it.
+fn accept(alloc: Global, group: &mut Group) -> Result<Option<u32>, NoMemory>
     requires { spec.is_open group.old 1 ≡ true }
     ensures { spec.is_open group.new 1 ≡ true }
 {
-    let (asked, results) = (request(alloc)?, issues(alloc, serial)?);
-    let Ok(call) = group.accept(asked) else {
-        return Ok(false);
-    };
-    let Taking::Run(_, _) = group.take(call) else {
-        return Ok(false);
-    };
+    let asked = request(alloc)?;
+    match group.accept(asked) {
+        Ok(call) => Ok(Some(call)),
+        Err(_) => Ok(None),
+    }
+}
+
+/// Whether a call is taken.
+fn start(group: &mut Group, call: u32) -> bool
+    requires { spec.is_open group.old 1 ≡ true }
+    ensures { spec.is_open group.new 1 ≡ true }
+{
+    matches!(group.take(call), Taking::Run(_, _))
+}
+
+/// Ends a call with these results. Whether it ran, they suit its slots, and the group goes on.
+fn end(alloc: Global, group: &mut Group, call: u32, results: Outcomes) -> Result<bool, NoMemory>
+    requires { spec.is_open group.old 1 ≡ true }
+    ensures { spec.is_open group.new 1 ≡ true }
+{
     if !may_end(group, call, results.as_slice()) {
         return Ok(false);
     }
@@ -64,6 +77,21 @@ fn issue_one(alloc: Global, group: &mut Group, serial: u32) -> Result<bool, NoMe
             Ok(false)
         }
     }
+}
+
+/// One call issues the handle of the serial. Whether it did, and the group goes on.
+fn issue_one(alloc: Global, group: &mut Group, serial: u32) -> Result<bool, NoMemory>
+    requires { spec.is_open group.old 1 ≡ true }
+    ensures { spec.is_open group.new 1 ≡ true }
+{
+    let results = issues(alloc, serial)?;
+    let Some(call) = accept(alloc, group)? else {
+        return Ok(false);
+    };
+    if !start(group, call) {
+        return Ok(false);
+    }
+    end(alloc, group, call, results)
 }
 
 /// As many calls as there are serials from the first to the last issue a handle each. Whether each did.
