@@ -8,7 +8,10 @@ mod desks;
 mod loads;
 mod stubs;
 
-use anyhow::{Context, Result};
+use anyhow::{Context, Error, Result};
+use cases_base::Told;
+use cases_wire::{conns, contexts, fields, pdus, streams, towers};
+use cases_words::{asks, lines, links, words as texts};
 use ndr_table::Table;
 use std::alloc::Global;
 use std::rt::Env;
@@ -23,6 +26,8 @@ enum Subject {
     Echo,
     /// Stories of desks, with this table of the echo.
     Desks(Table),
+    /// Cases of the subject of that name.
+    Cases(String),
 }
 
 /// The words behind the program's name.
@@ -65,6 +70,32 @@ fn loads_told(alloc: Global, file: &str, text: &str) -> Result<String> {
     Ok(format!(in alloc; "{differences}{file}: {steps} steps, {wrong} differ\n")?)
 }
 
+/// What cases of a subject come to.
+fn played(alloc: Global, subject: &str, text: &str) -> Result<Told> {
+    let told = match subject {
+        "fields" => fields(alloc, text)?,
+        "pdus" => pdus(alloc, text)?,
+        "streams" => streams(alloc, text)?,
+        "contexts" => contexts(alloc, text)?,
+        "conns" => conns(alloc, text)?,
+        "towers" => towers(alloc, text)?,
+        "words" => texts(alloc, text)?,
+        "lines" => lines(alloc, text)?,
+        "asks" => asks(alloc, text)?,
+        "links" => links(alloc, text)?,
+        _ => return Err(Error::msg("no such subject")),
+    };
+    Ok(told)
+}
+
+/// What is told of them.
+fn cases_told(alloc: Global, subject: &str, file: &str, text: &str) -> Result<String> {
+    let told = played(alloc, subject, text).context(file)?;
+    let differences = String::from_utf8_lossy(alloc, told.differences.as_slice())?;
+    let (cases, wrong) = (told.cases, told.wrong);
+    Ok(format!(in alloc; "{differences}{file}: {cases} cases, {wrong} differ\n")?)
+}
+
 /// What a file of the subject comes to, and the subject of the next.
 fn told(alloc: Global, subject: Subject, file: &str, text: &str) -> Result<(String, Subject)> {
     match subject {
@@ -75,6 +106,10 @@ fn told(alloc: Global, subject: Subject, file: &str, text: &str) -> Result<(Stri
             Subject::Desks(desks::echo_of(alloc, text)?),
         )),
         Subject::Desks(echo) => Ok((story_told(alloc, &echo, file, text)?, Subject::Desks(echo))),
+        Subject::Cases(name) => Ok((
+            cases_told(alloc, name.as_str(), file, text)?,
+            Subject::Cases(name),
+        )),
     }
 }
 
@@ -86,6 +121,9 @@ fn main(rt: HostRuntime) -> Result<()> {
             "stubs" => subject = Subject::Stubs,
             "loads" => subject = Subject::Loads,
             "desks" => subject = Subject::Echo,
+            name if !name.contains('.') => {
+                subject = Subject::Cases(String::from_str(alloc, name)?);
+            }
             file => {
                 let text = fs::read_to_string(&rt, file)?;
                 let (lines, next) = told(alloc, subject, file, text.as_str())?;
