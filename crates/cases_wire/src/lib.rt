@@ -2,16 +2,16 @@
 //! whole connections of a server.
 #![tactic(auto)]
 
-mod conns;
-mod contexts;
-mod fields;
-mod pdus;
-mod streams;
-mod towers;
+mod conn_stories;
+mod context_stories;
+mod field_rows;
+mod pdu_rows;
+mod stream_rows;
+mod tower_rows;
 
-pub use conns::conns;
-pub use contexts::contexts;
-pub use fields::fields;
-pub use pdus::pdus;
-pub use streams::streams;
-pub use towers::towers;
+pub use conn_stories::conns;
+pub use context_stories::contexts;
+pub use field_rows::fields;
+pub use pdu_rows::pdus;
+pub use stream_rows::streams;
+pub use tower_rows::towers;

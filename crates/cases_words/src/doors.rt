@@ -4,7 +4,7 @@ ghost use Rattle.rpc_outside.specs.LinkLists.{are_new};
 ghost use Rattle.rpc_outside.specs.ScriptDoors.{door_shown};
 ghost use Rattle.rpc_outside.specs.ScriptDials.{dial_shown};
 
-use crate::links::{numbers_of, put_put, put_take, steps_of};
+use crate::link_rows::{numbers_of, put_put, put_take, steps_of};
 use base_words::{put, put_octets};
 use cases_base::Names;
 use rpc_base::{Items, NoMemory};

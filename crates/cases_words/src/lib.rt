@@ -2,14 +2,14 @@
 //! memory answer by their scripts.
 #![tactic(auto)]
 
-mod asks;
+mod ask_rows;
 mod doors;
 mod given;
-mod lines;
-mod links;
-mod words;
+mod line_rows;
+mod link_rows;
+mod word_rows;
 
-pub use asks::asks;
-pub use lines::lines;
-pub use links::links;
-pub use words::words;
+pub use ask_rows::asks;
+pub use line_rows::lines;
+pub use link_rows::links;
+pub use word_rows::words;

@@ -13,9 +13,9 @@ use std::alloc::Global;
 /// `READER TEXT`: what is read of a text, and what is written of that. `put_WRITER TEXT`: what is written of a number or of
 /// octets, behind `x`.
 #[derive(Clone, Copy)]
-struct Words;
+struct WordRows;
 
-impl Answers for Words {
+impl Answers for WordRows {
     fn answer(
         &mut self,
         alloc: Global,
@@ -142,5 +142,5 @@ fn put_split(alloc: Global, given: &[u8], into: &mut Vec<u8>) -> Result<(), NoMe
 
 /// What is told of rows of words.
 pub fn words(alloc: Global, text: &str) -> Result<Told, CasesFault> {
-    answered(alloc, &mut Words, text)
+    answered(alloc, &mut WordRows, text)
 }

@@ -1,7 +1,7 @@
 //! Lines that a connection holds to.
 
-use crate::conns::acts::put_act;
-use crate::conns::answers::{answer, answers};
+use crate::conn_stories::acts::put_act;
+use crate::conn_stories::answers::{answer, answers};
 use base_words::{put, put_hex};
 use cases_base::{Names, first_word, octets_of};
 use conn_core::Conn;

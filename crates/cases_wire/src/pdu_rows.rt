@@ -14,9 +14,9 @@ use std::alloc::Global;
 /// behind an octet. `head OCTETS`: the header alone, and what it says untested. `fronts OCTETS`: why no front of them is a PDU,
 /// the shortest first. `sized OCTETS`: the same where each says its own size.
 #[derive(Clone, Copy)]
-struct Pdus;
+struct PduRows;
 
-impl Answers for Pdus {
+impl Answers for PduRows {
     fn answer(
         &mut self,
         alloc: Global,
@@ -178,5 +178,5 @@ fn put_run(
 
 /// What is told of rows of PDUs.
 pub fn pdus(alloc: Global, text: &str) -> Result<Told, CasesFault> {
-    answered(alloc, &mut Pdus, text)
+    answered(alloc, &mut PduRows, text)
 }

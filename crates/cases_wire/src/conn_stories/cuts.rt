@@ -1,7 +1,7 @@
 //! Streams that come to the same acts however they are cut: octet by octet, and in two pieces.
 
-use crate::conns::lines::holds;
-use crate::conns::player::server;
+use crate::conn_stories::lines::holds;
+use crate::conn_stories::player::server;
 use base_words::put;
 use cases_base::Names;
 use conn_core::Conn;

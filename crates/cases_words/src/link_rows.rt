@@ -14,9 +14,9 @@ use std::alloc::Global;
 /// `quiet`, `await` or `end`; a put takes so many octets at most, and the takes and puts of these numbers fail. `door CALLS /
 /// NUMBERS / STEPS ; STEPS` and `dial` likewise: see there.
 #[derive(Clone, Copy)]
-struct Links;
+struct LinkRows;
 
-impl Answers for Links {
+impl Answers for LinkRows {
     fn answer(
         &mut self,
         alloc: Global,
@@ -180,5 +180,5 @@ pub fn put_put(
 
 /// What is told of rows of links, doors and dials.
 pub fn links(alloc: Global, text: &str) -> Result<Told, CasesFault> {
-    answered(alloc, &mut Links, text)
+    answered(alloc, &mut LinkRows, text)
 }

@@ -8,8 +8,8 @@
 //! `orphan ID`, `close CAUSE OCTETS`, and `none`. `held` and `open`: what stands in front must wait, or needn't. Lines that
 //! answer: `bound GROUP OCTETS`, `nak REASON OCTETS`, `fault STATUS OCTETS`, `ran STATUS OCTETS`, `out STUB as OCTETS`, `drop`.
 
-use crate::conns::cuts::Cut;
-use crate::conns::lines::holds;
+use crate::conn_stories::cuts::Cut;
+use crate::conn_stories::lines::holds;
 use base_words::put;
 use cases_base::{Names, Plays, Step, first_word, octets_of};
 use conn_core::Conn;

@@ -14,9 +14,9 @@ use std::alloc::Global;
 /// `piece LENGTH MOST HEAD INDEX`: where a fragment's piece of a stub begins, and its size. `long COUNT`: the size of a request
 /// whose first fragment has 8 octets less than the longest stub, and whose second has so many.
 #[derive(Clone, Copy)]
-struct Streams;
+struct StreamRows;
 
-impl Answers for Streams {
+impl Answers for StreamRows {
     fn answer(
         &mut self,
         alloc: Global,
@@ -225,5 +225,5 @@ fn put_held(alloc: Global, octets: &[u8], into: &mut Vec<u8>) -> Result<(), NoMe
 
 /// What is told of rows of streams.
 pub fn streams(alloc: Global, text: &str) -> Result<Told, CasesFault> {
-    answered(alloc, &mut Streams, text)
+    answered(alloc, &mut StreamRows, text)
 }

@@ -10,9 +10,9 @@ use std::alloc::Global;
 /// `line TEXT`: what a text with a line feed behind it says in its first line, and what is left. `text TEXT`: the same of the
 /// text as it is.
 #[derive(Clone, Copy)]
-struct Lines;
+struct LineRows;
 
-impl Answers for Lines {
+impl Answers for LineRows {
     fn answer(
         &mut self,
         alloc: Global,
@@ -52,5 +52,5 @@ fn put_line(alloc: Global, line: &Line, into: &mut Vec<u8>) -> Result<(), NoMemo
 
 /// What is told of rows of scripts' lines.
 pub fn lines(alloc: Global, text: &str) -> Result<Told, CasesFault> {
-    answered(alloc, &mut Lines, text)
+    answered(alloc, &mut LineRows, text)
 }

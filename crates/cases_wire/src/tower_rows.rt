@@ -9,9 +9,9 @@ use tower_codec::{Tower, TowerFault, read_tower, write_tower};
 /// `read OCTETS`: what a tower says, or why there is none. `again OCTETS`: `same` where what is read is written as these
 /// octets. `fronts OCTETS`: how many fronts of them end within the tower. `memory`: the text of its want.
 #[derive(Clone, Copy)]
-struct Towers;
+struct TowerRows;
 
-impl Answers for Towers {
+impl Answers for TowerRows {
     fn answer(
         &mut self,
         alloc: Global,
@@ -82,5 +82,5 @@ fn put_fronts(alloc: Global, octets: &[u8], into: &mut Vec<u8>) -> Result<(), No
 
 /// What is told of rows of towers.
 pub fn towers(alloc: Global, text: &str) -> Result<Told, CasesFault> {
-    answered(alloc, &mut Towers, text)
+    answered(alloc, &mut TowerRows, text)
 }

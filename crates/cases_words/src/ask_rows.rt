@@ -8,9 +8,9 @@ use std::alloc::Global;
 
 /// Reads words. Two spaces in a row have an empty word between them.
 #[derive(Clone, Copy)]
-struct Asks;
+struct AskRows;
 
-impl Answers for Asks {
+impl Answers for AskRows {
     fn answer(
         &mut self,
         alloc: Global,
@@ -72,5 +72,5 @@ fn put_idl(alloc: Global, idl: Option<&str>, into: &mut Vec<u8>) -> Result<(), N
 
 /// What is told of rows of words that ask.
 pub fn asks(alloc: Global, text: &str) -> Result<Told, CasesFault> {
-    answered(alloc, &mut Asks, text)
+    answered(alloc, &mut AskRows, text)
 }

@@ -11,9 +11,9 @@ use std::alloc::Global;
 /// `FIELD ORDER OCTETS`: what is read behind the first octet, and what is then written. `drep OCTETS`: the order that a data
 /// representation says.
 #[derive(Clone, Copy)]
-struct Fields;
+struct FieldRows;
 
-impl Answers for Fields {
+impl Answers for FieldRows {
     fn answer(
         &mut self,
         alloc: Global,
@@ -120,5 +120,5 @@ fn put_identifier(
 
 /// What is told of rows of fields.
 pub fn fields(alloc: Global, text: &str) -> Result<Told, CasesFault> {
-    answered(alloc, &mut Fields, text)
+    answered(alloc, &mut FieldRows, text)
 }
