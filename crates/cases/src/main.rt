@@ -4,27 +4,84 @@
 #![tactic(auto)]
 
 use anyhow::{Error, Result};
-use cases_base::{Told, subject_of};
+use cases_base::{CasesFault, Told, subject_of};
 use std::alloc::Global;
+use std::thread::Threads;
 use std::{env, fs};
 
-/// What cases of a subject come to.
-fn played(alloc: Global, subject: &str, text: &str) -> Result<Told> {
+/// What cases of PDUs, streams, connections and what they stand on come to. None where the subject is none of these.
+fn of_octets(alloc: Global, subject: &str, text: &str) -> Result<Option<Told>, CasesFault> {
     let told = match subject {
+        "fields" => cases_wire::fields(alloc, text)?,
+        "pdus" => cases_wire::pdus(alloc, text)?,
+        "streams" => cases_wire::streams(alloc, text)?,
+        "contexts" => cases_wire::contexts(alloc, text)?,
+        "conns" => cases_wire::conns(alloc, text)?,
+        "towers" => cases_wire::towers(alloc, text)?,
+        _ => return Ok(None),
+    };
+    Ok(Some(told))
+}
+
+/// What cases of words, lines and interface texts come to.
+fn of_words(alloc: Global, subject: &str, text: &str) -> Result<Option<Told>, CasesFault> {
+    let told = match subject {
+        "words" => cases_words::words(alloc, text)?,
+        "lines" => cases_words::lines(alloc, text)?,
+        "asks" => cases_words::asks(alloc, text)?,
+        "links" => cases_words::links(alloc, text)?,
         "idl" => cases_idl::texts(alloc, text)?,
         "interfaces" => cases_idl::interfaces(alloc, text)?,
+        _ => return Ok(None),
+    };
+    Ok(Some(told))
+}
+
+/// What cases of values, stubs and callers come to.
+fn of_values(alloc: Global, subject: &str, text: &str) -> Result<Option<Told>, CasesFault> {
+    let told = match subject {
         "values" => cases_values::values(alloc, text)?,
         "stubs" => ndr_lines::stubs(alloc, text)?,
         "callers" => cases_callers::callers(alloc, text)?,
         "calls" => cases_callers::calls(alloc, text)?,
         "texts" => cases_callers::call_texts(alloc, text)?,
-        "journals" => cases_journal::journal_texts(alloc, text)?,
-        "lines" => cases_journal::entry_lines(alloc, text)?,
-        "groups" => cases_journal::group_calls(alloc, text)?,
-        "desks" => cases_desks::desk_calls(alloc, text)?,
-        _ => return Err(Error::msg("no such subject")),
+        _ => return Ok(None),
     };
-    Ok(told)
+    Ok(Some(told))
+}
+
+/// What cases of journals, groups and desks come to.
+fn of_groups<R: Threads>(
+    rt: &R,
+    alloc: Global,
+    subject: &str,
+    text: &str,
+) -> Result<Option<Told>, CasesFault> {
+    let told = match subject {
+        "journals" => cases_journal::journal_texts(alloc, text)?,
+        "entries" => cases_journal::entry_lines(alloc, text)?,
+        "groups" => cases_journal::group_calls(alloc, text)?,
+        "desks" => cases_desks::desk_calls(rt, alloc, text)?,
+        _ => return Ok(None),
+    };
+    Ok(Some(told))
+}
+
+/// What cases of a subject come to.
+fn played<R: Threads>(rt: &R, alloc: Global, subject: &str, text: &str) -> Result<Told> {
+    if let Some(told) = of_octets(alloc, subject, text)? {
+        return Ok(told);
+    }
+    if let Some(told) = of_words(alloc, subject, text)? {
+        return Ok(told);
+    }
+    if let Some(told) = of_values(alloc, subject, text)? {
+        return Ok(told);
+    }
+    match of_groups(rt, alloc, subject, text)? {
+        Some(told) => Ok(told),
+        None => Err(Error::msg("no such subject")),
+    }
 }
 
 /// What is told of a file's cases.
@@ -38,7 +95,7 @@ fn main(rt: HostRuntime) -> Result<()> {
     let alloc = rt.alloc();
     for file in env::args(&rt)?.skip(1) {
         let text = fs::read_to_string(&rt, file.as_str())?;
-        let told = played(alloc, subject_of(file.as_str()), text.as_str())?;
+        let told = played(&rt, alloc, subject_of(file.as_str()), text.as_str())?;
         let line = line_of(alloc, file.as_str(), &told)?;
         print!(rt; "{line}")?;
     }
