@@ -20,16 +20,22 @@ class Part:
     """A journal, or a part of one that is too long for a file."""
 
     line: int  # (of its heading in the log, or of its first entry)
-    group: journal.Group  # (what stands in front of its first entry)
+    head: list  # (its heading, and the lines of its base)
     lines: list
-    is_last: bool
     size: int = 0
+    is_first: bool = True
+    is_last: bool = True
 
-    def text(self):
-        return [self.group.heading(), *self.begin(), *self.lines]
+    def begun(self):
+        """The group in front of the first entry."""
+        group = journal.Group.headed(self.head[0])
+        for line in self.head[1:]:
+            group.base(line)
+        return group
 
-    def begin(self):
-        return self.group.base_lines() if self.group.count else ()
+    def line_in_log(self, number):
+        """The line of the log that is this line of the part."""
+        return self.line + (number - 1 if self.is_first else number - 1 - len(self.head))
 
 
 class Refused(Exception):
@@ -44,61 +50,63 @@ def numbered(file):
             yield number, line[:-1]
 
 
-def copied(group):
-    """A group of its own that says the same."""
-    found = journal.Group.headed(group.heading())
-    for line in group.base_lines() if group.count else ():
-        found.base(line)
-    found.past = dict(group.past)
-    return found
-
-
-def followed(part):
-    """The group behind a part's entries, as far as they are allowed."""
-    group = copied(part.group)
-    for line in part.lines:
-        if breaches.why(group, line):
-            return None
-        group.enter(line)
-    return group
+def behind(part):
+    """The group behind a part's entries, or None where one of them isn't allowed."""
+    try:
+        group = part.begun()
+        for line in part.lines:
+            if breaches.why(group, line):
+                return None
+            group.enter(line)
+        return group
+    except (ValueError, IndexError, KeyError):
+        return None  # (the program says what is wrong)
 
 
 def cut(part, number, is_shut):
     """Ends a part that is as long as a file may be, and begins the next one. A Shut stays with what it ends."""
-    behind = None if is_shut else followed(part)
-    if behind is None or behind.is_due():
+    group = None if is_shut else behind(part)
+    if group is None or group.is_due():
         return None
     part.is_last = False
-    return Part(number, behind, [], True)
+    head = [group.heading(), *group.base_lines()]
+    return Part(number, head, [], sum(map(len, head)), is_first=False)
+
+
+def unfit(line, before, part):
+    """Why a line isn't one of journals, by its form and its place, or None."""
+    verb = line.split(" ")[0]
+    why = departures.of_form(line, departures.JOURNAL_FORMS)
+    if why is None and part is None and verb != "group":
+        return "a journal begins with its heading, group G boot X"
+    if why is None and (verb == "base" and before != "group" or verb == "base-call" and before not in ("base", "base-call")):
+        return "a base stands behind a heading alone, and its calls behind it"
+    return why
 
 
 def parts(file):
     """The journals of a log one by one, long ones in parts."""
-    part, is_based, before = None, False, ""
+    part, before = None, ""
     for number, line in numbered(file):
-        why = departures.of_form(line, departures.JOURNAL_FORMS)
-        verb = line.split(" ")[0]
-        if why is None and part is None and verb != "group":
-            why = "a journal begins with its heading, group G boot X"
-        if why is None and verb == "base" and before != "group" or verb == "base-call" and before not in ("base", "base-call"):
-            why = "it stands behind a heading alone, and its calls behind it"
+        why = unfit(line, before, part)
         if why:
-            raise Refused(number, f"`{line[:100]}`: {why}")
-        before = verb
-        if verb == "group":
             if part:
                 yield part
-            part = Part(number, journal.Group.headed(line), [], True, len(line))
-        elif verb in ("base", "base-call"):
-            part.group.base(line)
-            part.size += len(line) + 1
+            raise Refused(number, f"`{line[:100]}`: {why}")
+        before = line.split(" ")[0]
+        if before == "group":
+            if part:
+                yield part
+            part = Part(number, [line], [])
+        elif before in ("base", "base-call"):
+            part.head.append(line)
         else:
-            after = cut(part, number, verb == "shut") if part.size > PIECE_MOST else None
+            after = cut(part, number, before == "shut") if part.size > PIECE_MOST else None
             if after:
                 yield part
                 part = after
             part.lines.append(line)
-            part.size += len(line) + 1
+        part.size += len(line) + 1
     if part:
         yield part
 
@@ -106,49 +114,73 @@ def parts(file):
 def pieces(file):
     """The parts of a log by files that `audit` takes."""
     found, size = [], 0
-    for part in parts(file):
-        if found and size + part.size > PIECE_MOST:
-            yield found
-            found, size = [], 0
-        found.append(part)
-        size += part.size
+    try:
+        for part in parts(file):
+            if found and size + part.size > PIECE_MOST:
+                yield found
+                found, size = [], 0
+            found.append(part)
+            size += part.size
+    except Refused:
+        # (what stands in front of that line may depart too)
+        yield found
+        raise
     yield found
 
 
+def refused(found, number):
+    """A line that the program refuses, as one of the log."""
+    for part in found:
+        whole = len(part.head) + len(part.lines)
+        if number <= whole:
+            line = [*part.head, *part.lines][number - 1]
+            return Refused(part.line_in_log(number), f"`{line[:100]}`: it may not stand there, or a number is out of its range")
+        number -= whole
+    return RuntimeError("audit refuses a line that isn't there")
+
+
 def audited(found):
-    """What the program says of these parts: a verdict for each, or what it refuses."""
+    """What the program says of these parts: a verdict for each."""
+    if not found:
+        return []
     with tempfile.NamedTemporaryFile("w", encoding="utf-8", errors="surrogateescape", newline="\n") as it:
         for part in found:
-            it.writelines(f"{line}\n" for line in part.text())
+            it.writelines(f"{line}\n" for line in [*part.head, *part.lines])
         it.flush()
         ran = subprocess.run(
             [f"{TOP}/dcerpc", "audit", it.name], stdin=subprocess.DEVNULL, stdout=subprocess.PIPE, text=True,
             env={**os.environ, "DCERPC_SAY": "no"})
     verdicts = ran.stdout.splitlines()
+    if ran.returncode == REFUSED and verdicts and verdicts[0].startswith("refused: journal line "):
+        raise refused(found, int(verdicts[0].split(" ")[-1]))
     if ran.returncode not in (0, BREACH) or len(verdicts) != len(found):
         raise RuntimeError(f"audit ends with status {ran.returncode}: {ran.stdout.strip() or 'nothing'}")
     return verdicts
 
 
 def reason(part, at):
-    """The line of the log of a breach, and why it is one, in words."""
-    group = copied(part.group)
-    for line in part.lines[:at - group.count]:
+    """The line of a breach, if it isn't behind the last one, and why it is one, in words."""
+    group = part.begun()
+    first = group.count
+    for line in part.lines[:at - first]:
         if breaches.why(group, line):
-            return None, "an entry before it isn't allowed either"
+            return line, "an entry before it isn't allowed either"
         group.enter(line)
-    if at - part.group.count >= len(part.lines):
-        return None, breaches.at_end(group) or "the journal may not end here"
-    line = part.lines[at - part.group.count]
-    return line, breaches.why(group, line) or "its base isn't sound, or the reason isn't known"
+    if at - first >= len(part.lines):
+        return None, breaches.at_end(group)
+    return part.lines[at - first], breaches.why(group, part.lines[at - first])
 
 
 def told(name, part, verdict):
     """A breach in words."""
     at = int(verdict.split(" ")[-1])
-    line, why = reason(part, at)
-    where = f"entry {at}, `{line[:100]}`" if line else f"behind its last entry, at place {at}"
-    return f"    {name}, the journal at line {part.line}: group {part.group.id} of boot {part.group.boot}: {where}: {why}"
+    try:
+        line, why = reason(part, at)
+    except (ValueError, IndexError, KeyError):
+        line, why = None, None
+    id, boot = part.head[0].split(" ")[1::2]
+    where = f"entry {at}, `{line[:100]}`" if line else f"place {at}"
+    return f"    {name}: group {id} of boot {boot}, from line {part.line} on: {where}: {why or 'it is not known why'}"
 
 
 def judge_file(name):

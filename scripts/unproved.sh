@@ -5,18 +5,18 @@
 # thread. A check that fails ends the program with status 124, which is none of its own.
 readonly unproved_checks=exitcode=124:detect_stack_use_after_return=0:quarantine_size_mb=8:thread_local_quarantine_size_kb=16:malloc_context_size=0:allocator_release_to_os_interval_ms=1000
 
-# Copies what `rt try` compiled to a file, while that waits for the other end of a pipe: the process is the one that
-# was started from the toolchain's folder below `room`.
+# The file below a folder that some process runs, whether or not a loader started it.
+run_below() {
+    cat /proc/[0-9]*/maps 2>/dev/null | awk -v below="$1/" '
+        index($6, below) == 1 && $2 ~ /x/ { print $6; exit }'
+}
+
+# Copies what `rt try` compiled to a file, while that waits for the other end of a pipe.
 catch_program() {
-    local room=$1 to=$2 process
+    local room=$1 to=$2 found
     exec 3>"$room/script" || return 1
-    for process in /proc/[0-9]*; do
-        if [[ $(readlink "$process/exe" 2>/dev/null) == "$room/tmp/"* ]]; then
-            cp "$process/exe" "$to"
-            return
-        fi
-    done
-    return 1
+    found=$(run_below "$room/tmp")
+    [ -n "$found" ] && cp "$found" "$to"
 }
 
 # `rt try` compiles the program into a folder that is gone once it has ended, so it is given a pipe to read, in place
