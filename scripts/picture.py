@@ -5,7 +5,9 @@ import story
 
 COLOURS = ("#0072b2", "#d55e00", "#009e73", "#cc79a7", "#e69f00", "#56b4e9", "#7b3294", "#8c6d31")
 RUNS, WAITS, DENIED = "#5b7083", "#c9d3dc", "#c0392b"
-LEFT, RIGHT, LANE, HEAD, FOOT, LEGEND = 96, 30, 46, 46, 30, 62
+# (beside the number of a call, and so that few threads lie on another)
+SHIFTS = (7, -7, 5, -5, 8, -8, 6, -6)
+LEFT, RIGHT, ROW, GAP, HEAD, FOOT, LEGEND = 96, 30, 22, 24, 46, 30, 62
 STYLE = (
     "text{font:11px sans-serif;fill:#223}.small{font-size:9px;fill:#667}.title{font-size:13px;font-weight:bold}"
     ".on{fill:#fff}.lane{stroke:#9ab;stroke-width:1.5}.grid{stroke:#eef1f4}.thread{fill:none;stroke-width:2}"
@@ -54,16 +56,32 @@ class Panel:
         count = max(len(told.entries), 1)
         self.step = max(9.0, min(64.0, 1500 / count))
         self.width = LEFT + self.step * (count + 1) + RIGHT
-        self.lanes = {number: at for at, number in enumerate(sorted(told.connections))}
-        self.bottom = top + HEAD + LANE * max(len(self.lanes), 1)
+        self.rows, self.tops = {}, {}
+        self.bottom = top + HEAD
+        for number in sorted(told.connections):
+            self.tops[number] = self.bottom
+            self.bottom += GAP + ROW * self.stack(number)
         self.height = self.bottom - top + FOOT
 
     def x(self, at):
         """Where an entry stands; what was there before the first is left of it."""
         return LEFT + self.step * ((len(self.told.entries) if at is None else at) + 0.75)
 
-    def y(self, connection):
-        return self.top + HEAD + LANE * (self.lanes[connection] + 0.5)
+    def stack(self, connection):
+        """Gives each call of a connection a row in its lane, so that none lies on another, and answers how many rows those are."""
+        free = []
+        for bar in sorted((it for it in self.told.bars.values() if it.call.connection == connection), key=lambda it: it.accepted):
+            row = next((at for at, it in enumerate(free) if it <= bar.accepted), len(free))
+            free[row:row + 1] = [len(self.told.entries) if bar.ended is None else bar.ended]
+            self.rows[bar.call.number] = row
+        return max(len(free), 1)
+
+    def y(self, connection, call=None):
+        return self.tops[connection] + (GAP + ROW) / 2 + ROW * self.rows.get(call, 0)
+
+    def y_of(self, number):
+        """The height of a call's bar."""
+        return self.y(self.told.bars[number].call.connection, number)
 
     def heading(self):
         group = self.told.group
@@ -88,9 +106,13 @@ class Panel:
         yield titled(line(begin, y, end, y, class_="lane"), f"connection {it.number} {it.how}{left}")
         if it.joined >= 0:
             yield titled(dot(begin, y, 4, fill="#fff", stroke="#456"), f"join {it.number}, entry {self.told.first + it.joined}")
-        if it.left is not None and it.left >= 0:
-            bar = line(end, y - 13, end, y + 13, stroke="#456", stroke_width=3)
-            yield titled(bar, f"leave {it.number}, entry {self.told.first + it.left}")
+
+    def leave(self, it):
+        y, x = self.y(it.number), self.x(it.left)
+        if it.left is None or it.left < 0:
+            return ""
+        bar = line(x, y - 13, x, y + 13, stroke="#1c2833", stroke_width=3)
+        return titled(bar, f"leave {it.number}, entry {self.told.first + it.left}")
 
     def about(self, bar):
         call = bar.call
@@ -101,17 +123,11 @@ class Panel:
         return "\n".join([*said, bar.fate or ("still runs" if bar.taken is not None else "still waits")])
 
     def bar(self, bar):
-        y, begin, end = self.y(bar.call.connection), self.x(bar.accepted), self.x(bar.ended)
+        y, begin, end = self.y_of(bar.call.number), self.x(bar.accepted), self.x(bar.ended)
         taken = end if bar.taken is None else self.x(bar.taken)
         shape = rect(begin, y - 9, taken - begin, 18, fill=WAITS, stroke="#8a98a5")
         if bar.taken is not None:
             shape += rect(taken, y - 9, end - taken, 18, fill=RUNS, stroke="#3f505f")
-        said = str(bar.call.number)
-        room = max(taken - begin, end - taken if bar.taken is not None else 0)
-        at, where = ((begin, "") if taken - begin >= end - taken else (taken, "on"))
-        if room >= 7 * len(said) + 4:
-            more = f"call {said}" if room >= 44 else said
-            shape += text(at + 4, y + 4, more, class_=where)
         for at, what in bar.marks:
             shape += mark(what, self.x(at), y - 12)
         if bar.fate.startswith("denied") or bar.fate.startswith("dropped"):
@@ -120,19 +136,27 @@ class Panel:
             shape += text(end + 2, y - 11, "fault", class_="small")
         yield titled(shape, self.about(bar))
 
+    def label(self, bar):
+        """The number of a call, where there is room for it."""
+        begin, end = self.x(bar.accepted), self.x(bar.ended)
+        taken = end if bar.taken is None else self.x(bar.taken)
+        said, room = str(bar.call.number), max(taken - begin, end - taken)
+        if room < 7 * len(said) + 4:
+            return ""
+        at, where = (begin, "") if taken - begin >= end - taken else (taken, "on")
+        said = f"call {said}" if room >= 44 else said
+        return text(at + 4, self.y_of(bar.call.number) + 4, said, class_=where, pointer_events="none")
+
     def path(self, thread):
         """The points of a thread: where its handle is issued, through the calls that use it, to its end."""
-        shift = 5 - (thread.serial * 3) % 11
-        bars = self.told.bars
-        first = self.y(bars[thread.issuer].call.connection) if thread.issuer else self.top + HEAD - 8
+        shift = SHIFTS[thread.serial % len(SHIFTS)]
+        first = self.y_of(thread.issuer) if thread.issuer else self.top + HEAD - 8
         points = [(self.x(thread.issued), first + shift)]
         for it in thread.users:
-            bar = bars[it]
-            y = self.y(bar.call.connection) + shift
+            bar, y = self.told.bars[it], self.y_of(it) + shift
             points += [(max(self.x(bar.taken), points[-1][0]), y), (self.x(bar.ended), y)]
         if thread.closer is None:
-            last = self.bottom - 2 if thread.ended is not None else points[-1][1]
-            points.append((max(self.x(thread.ended), points[-1][0]), last))
+            points.append((max(self.x(thread.ended), points[-1][0]), points[-1][1]))
         return points
 
     def thread(self, thread):
@@ -141,8 +165,9 @@ class Panel:
         x, y = points[0]
         drawn = f"M{x:.1f} {y:.1f}"
         for to_x, to_y in points[1:]:
-            bend = min(max((to_x - x) / 2, 3), 40)
-            drawn += f"C{x + bend:.1f} {y:.1f} {to_x - bend:.1f} {to_y:.1f} {to_x:.1f} {to_y:.1f}"
+            # (it stays at its height until it is used again)
+            bend = min(max(to_x - x, 2), 36)
+            drawn += f"H{to_x - bend:.1f}C{to_x - bend / 3:.1f} {y:.1f} {to_x - bend / 1.5:.1f} {to_y:.1f} {to_x:.1f} {to_y:.1f}"
             x, y = to_x, to_y
         shape = tag("path", d=drawn, class_="thread", stroke=colour) + dot(*points[0], 3.5, fill=colour)
         if thread.ended is not None:
@@ -172,6 +197,10 @@ class Panel:
             yield from self.bar(it)
         for it in self.told.threads.values():
             yield self.thread(it)
+        for it in self.told.bars.values():
+            yield self.label(it)
+        for it in self.told.connections.values():
+            yield self.leave(it)
         yield from self.ending()
 
 
@@ -189,8 +218,8 @@ def legend(y):
     yield mark("cancelled", 118, y + 9) + text(128, y + 11, "cancel")
     yield mark("orphaned", 184, y + 8) + text(194, y + 11, "orphan")
     yield mark("denied", 254, y + 7) + text(264, y + 11, "denied or dropped")
-    yield line(372, y, 372, y + 14, stroke="#222", stroke_width=1.5) + line(376, y, 376, y + 14, stroke="#222", stroke_width=1.5)
-    yield text(384, y + 11, "shut") + text(430, y + 11, "numbers below: entries from the group's first", class_="small")
+    yield line(384, y, 384, y + 14, stroke="#222", stroke_width=1.5) + line(388, y, 388, y + 14, stroke="#222", stroke_width=1.5)
+    yield text(396, y + 11, "shut") + text(440, y + 11, "numbers below: entries from the group's first", class_="small")
 
 
 def drawn(journals):
