@@ -2,6 +2,8 @@
 # sources. To be sourced, with `top` the top of the repository.
 # shellcheck shell=bash
 readonly proved=$top/crates/dcerpc/out/dcerpc
+# The program of a release archive.
+readonly released=$top/libexec/dcerpc
 # What `rt try` compiled, with run-time checks and without a proof. Nothing but `./dcerpc` runs it.
 readonly unproved=$top/out/unproved/dcerpc-unproved
 # About how many minutes of one processor the proofs below the program take from nothing.
