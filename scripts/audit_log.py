@@ -8,6 +8,7 @@ from dataclasses import dataclass
 
 import breaches
 import departures
+import idl_text
 import journal
 
 TOP = os.path.dirname(os.path.dirname(os.path.realpath(__file__)))
@@ -92,7 +93,7 @@ def parts(file):
         if why:
             if part:
                 yield part
-            raise Refused(number, f"`{line[:100]}`: {why}")
+            raise Refused(number, f"`{idl_text.plain(line, 100)}`: {why}")
         before = line.split(" ")[0]
         if before == "group":
             if part:
@@ -134,7 +135,7 @@ def refused(found, number):
         whole = len(part.head) + len(part.lines)
         if number <= whole:
             line = [*part.head, *part.lines][number - 1]
-            return Refused(part.line_in_log(number), f"`{line[:100]}`: it may not stand there, or a number is out of its range")
+            return Refused(part.line_in_log(number), f"`{idl_text.plain(line, 100)}`: it may not stand there, or a number is out of its range")
         number -= whole
     return RuntimeError("audit refuses a line that isn't there")
 
@@ -179,8 +180,13 @@ def told(name, part, verdict):
     except (ValueError, IndexError, KeyError):
         line, why = None, None
     id, boot = part.head[0].split(" ")[1::2]
-    where = f"entry {at}, `{line[:100]}`" if line else f"place {at}"
+    where = f"entry {at}, `{idl_text.plain(line, 100)}`" if line else f"place {at}"
     return f"    {name}: group {id} of boot {boot}, from line {part.line} on: {where}: {why or 'it is not known why'}"
+
+
+def reasons(name, verdicts):
+    """Why the journals of a file are breaches that the program says are."""
+    return [told(name, part, verdict) for part, verdict in zip(parts(name), verdicts) if " breach " in verdict]
 
 
 def judge_file(name):

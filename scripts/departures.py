@@ -1,6 +1,8 @@
 """Why a line departs, for a person: of a replay script, of a script of calls, of journals."""
 import re
 
+from idl_text import plain
+
 NUMBER = "(?:0|[1-9][0-9]*)"
 OCTETS = "(?:-|(?:[0-9a-f]{2})+)"
 CONNECTION_MOST = 1_000_000
@@ -55,7 +57,7 @@ def of_form(line, forms):
     if line != line.strip() or "  " in line or "\t" in line or "\r" in line:
         return "one space stands between two words, and none before the first or behind the last"
     if verb not in forms:
-        return f"`{verb}` begins no line; one begins with {', '.join(forms)}"
+        return f"`{plain(verb)}` begins no line; one begins with {', '.join(forms)}"
     says, pattern = forms[verb]
     return None if re.fullmatch(pattern, line) else f"the form is: {says}"
 
@@ -146,7 +148,7 @@ def why(text, number, judge):
     if number > len(lines):
         return "the text ends too early" if lines else "the file is empty"
     line = lines[number - 1]
-    shown = line if len(line) <= 100 else line[:97] + "..."
+    shown = plain(line, 100)
     if number == len(lines) and not is_ended:
         return f"line {number}, `{shown}`: it has no line feed at its end"
     try:

@@ -14,7 +14,7 @@ def usage():
     """The commands, a line each."""
     found = ["it takes one of these commands:"]
     found += [f"  {it.usage}" for it in vocabulary.COMMANDS]
-    return [*found, "`man ./share/dcerpc.1`, or README.md, has the rest; an example: " + vocabulary.COMMANDS[0].example]
+    return [*found, "README.md has the rest; an example: " + vocabulary.COMMANDS[0].example]
 
 
 def wrong_words(given):
@@ -185,6 +185,13 @@ def unloaded(given):
     return found or ["a file can't be read"]
 
 
+def breaches(file, verdicts):
+    """Why journals of a file are breaches, in words."""
+    import audit_log
+
+    return [it.strip() for it in audit_log.reasons(file, verdicts)]
+
+
 SAID = {
     4: ["an output failed: standard output or standard error is closed, full, or a pipe that nobody reads"],
     5: ["memory ran out; DCERPC_MEMORY bounds that of a server"],
@@ -204,6 +211,8 @@ def ended(given, status, said):
             return unloaded(given)
         if status == 7:
             return at_door(given)
+        if status == 2 and given[0] == "audit":
+            return breaches(files_of(given)[1], lines)
         if status in (2, 6, 8):
             told = [(it, line(it)) for it in lines]
             found = [f"{it}: {why}" for it, whys in told for why in whys if not it.startswith("stats ")]

@@ -119,10 +119,16 @@ def place(text, at):
     return before.count("\n") + 1, at - begin + 1, text[begin:].split("\n", 1)[0]
 
 
+def plain(text, most=40):
+    """A text as a terminal may show it: printable ASCII, and not too long."""
+    said = re.sub(r"[^ -~]", "?", text.replace("\t", " "))
+    return said if len(said) <= most else said[:most - 3] + "..."
+
+
 def shown(text, at):
     """The lines that show an octet of a text."""
     line, column, whole = place(text, at)
     first = max(0, column - 60)
     found = [it for it in tokens(text, at + 1) if it[2] == at]
-    token = f"at `{found[0][1]}`" if found else "at the end" if at >= len(text) else f"at {text[at]!r}"
-    return f"line {line}, column {column}, {token}", [whole[first:first + 100], " " * (column - 1 - first) + "^"]
+    token = f"at `{plain(found[0][1])}`" if found else "at the end" if at >= len(text) else f"at `{plain(text[at])}`"
+    return f"line {line}, column {column}, {token}", [plain(whole[first:first + 100], 100), " " * (column - 1 - first) + "^"]

@@ -3,6 +3,7 @@ from dataclasses import dataclass, field
 
 import breaches
 import departures
+import idl_text
 import journal
 
 
@@ -147,7 +148,7 @@ def stories(text):
         why = departures.of_form(line, departures.JOURNAL_FORMS)
         verb = line.split(" ")[0]
         if why or not found and verb != "group":
-            raise ValueError(f"line {number}, `{line[:80]}`: {why or 'a journal begins with group G boot X'}")
+            raise ValueError(f"line {number}, `{idl_text.plain(line, 80)}`: {why or 'a journal begins with group G boot X'}")
         if verb == "group":
             found.append(Story(journal.Group.headed(line)))
             is_over = is_begun = False

@@ -18,6 +18,7 @@ import server
 READ_AT_MOST = 1 << 20
 PR_SET_PDEATHSIG = 1
 SIGNS = {signal.SIGINT, signal.SIGTERM}
+STOPPED = ["stopped: its door was closed, which is status 7; the lines and journals of those that were served are printed"]
 WATCHED = SIGNS | {signal.SIGCHLD, signal.SIGHUP}
 
 
@@ -153,7 +154,8 @@ def stop(pid, times):
 
 
 def wait(child, is_server):
-    """Waits for the program's end, and hands on what the launcher is told meanwhile."""
+    """Waits for the program's end, and hands on what the launcher is told meanwhile. Answers how the program ended, and how often
+    it was asked to stop."""
     times = 0
     while child.poll() is None:
         told = signal.sigwaitinfo(WATCHED)
@@ -165,7 +167,7 @@ def wait(child, is_server):
         elif told.si_code <= 0:
             # (what a terminal sends comes to the program too)
             os.kill(child.pid, told.si_signo)
-    return child.returncode
+    return child.returncode, times
 
 
 def end_as(status):
@@ -186,14 +188,12 @@ def main(program, *words):
     ended = threading.Event()
     if is_server:
         threading.Thread(target=watch_door, args=(child.pid, is_spoken, ended), daemon=True).start()
-    status = wait(child, is_server)
+    status, times = wait(child, is_server)
     ended.set()
     if is_spoken:
         said = out.text().decode("utf-8", "replace")
-        for line in explain.ended(list(words), status, said):
+        for line in STOPPED if times and status == 7 else explain.ended(list(words), status, said):
             say(line)
-    elif isinstance(out, Copied):
-        out.text()
     end_as(status)
 
 
