@@ -118,7 +118,7 @@ def main(host, port):
     try:
         call(dce, Close(), cursor=reader)
     except DCERPCException as error:
-        print(f"store_close of the same cursor: {error}")
+        print(f"store_close of the same cursor: fault {error.get_error_code():08x}")
     dce.disconnect()
 
 
