@@ -118,7 +118,8 @@ def main(host, port):
     try:
         call(dce, Close(), cursor=reader)
     except DCERPCException as error:
-        print(f"store_close of the same cursor: fault {error.get_error_code():08x}")
+        # (some versions of impacket put more words in front of the status)
+        print(f"store_close of the same cursor: {str(error).split()[-1]}")
     dce.disconnect()
 
 
