@@ -26,6 +26,7 @@ class Part:
     size: int = 0
     is_first: bool = True
     is_last: bool = True
+    is_whole: bool = True  # (its last line has a line feed)
 
     def begun(self):
         """The group in front of the first entry."""
@@ -45,10 +46,7 @@ class Refused(Exception):
 
 def numbered(file):
     with open(file, encoding="utf-8", errors="surrogateescape", newline="\n") as it:
-        for number, line in enumerate(it, 1):
-            if not line.endswith("\n"):
-                raise Refused(number, "it has no line feed at its end")
-            yield number, line[:-1]
+        yield from enumerate(it, 1)
 
 
 def behind(part):
@@ -86,16 +84,14 @@ def unfit(line, before, part):
 
 
 def parts(file):
-    """The journals of a log one by one, long ones in parts."""
+    """The journals of a log one by one, long ones in parts. The first line that is none of a journal is the last of its part: the
+    program refuses it."""
     part, before = None, ""
-    for number, line in numbered(file):
-        why = unfit(line, before, part)
-        if why:
-            if part:
-                yield part
-            raise Refused(number, f"`{idl_text.plain(line, 100)}`: {why}")
-        before = line.split(" ")[0]
-        if before == "group":
+    for number, whole in numbered(file):
+        line = whole.rstrip("\n")
+        is_fit = whole.endswith("\n") and unfit(line, before, part) is None
+        before = line.split(" ")[0] if is_fit else ""
+        if before == "group" or part is None:
             if part:
                 yield part
             part = Part(number, [line], [])
@@ -108,6 +104,9 @@ def parts(file):
                 part = after
             part.lines.append(line)
         part.size += len(line) + 1
+        part.is_whole = whole.endswith("\n")
+        if not is_fit:
+            break
     if part:
         yield part
 
@@ -115,29 +114,34 @@ def parts(file):
 def pieces(file):
     """The parts of a log by files that `audit` takes."""
     found, size = [], 0
-    try:
-        for part in parts(file):
-            if found and size + part.size > PIECE_MOST:
-                yield found
-                found, size = [], 0
-            found.append(part)
-            size += part.size
-    except Refused:
-        # (what stands in front of that line may depart too)
-        yield found
-        raise
+    for part in parts(file):
+        if found and size + part.size > PIECE_MOST:
+            yield found
+            found, size = [], 0
+        found.append(part)
+        size += part.size
     yield found
 
 
 def refused(found, number):
     """A line that the program refuses, as one of the log."""
     for part in found:
-        whole = len(part.head) + len(part.lines)
-        if number <= whole:
-            line = [*part.head, *part.lines][number - 1]
-            return Refused(part.line_in_log(number), f"`{idl_text.plain(line, 100)}`: it may not stand there, or a number is out of its range")
-        number -= whole
+        lines = [*part.head, *part.lines]
+        if number <= len(lines):
+            line, before = lines[number - 1], lines[number - 2].split(" ")[0] if number > 1 else ""
+            is_cut = number == len(lines) and not part.is_whole
+            why = "it has no line feed at its end" if is_cut else unfit(line, before, part if number > 1 else None)
+            why = why or "it may not stand there, or a number is out of its range"
+            return Refused(part.line_in_log(number), f"`{idl_text.plain(line, 100)}`: {why}")
+        number -= len(lines)
     return RuntimeError("audit refuses a line that isn't there")
+
+
+def written(found, it):
+    """Writes parts to a file."""
+    for part in found:
+        it.write("\n".join([*part.head, *part.lines]) + "\n" * part.is_whole)
+    it.flush()
 
 
 def audited(found):
@@ -145,9 +149,7 @@ def audited(found):
     if not found:
         return []
     with tempfile.NamedTemporaryFile("w", encoding="utf-8", errors="surrogateescape", newline="\n") as it:
-        for part in found:
-            it.writelines(f"{line}\n" for line in [*part.head, *part.lines])
-        it.flush()
+        written(found, it)
         ran = subprocess.run(
             [f"{TOP}/dcerpc", "audit", it.name], stdin=subprocess.DEVNULL, stdout=subprocess.PIPE, text=True,
             env={**os.environ, "DCERPC_SAY": "no"})

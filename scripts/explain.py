@@ -111,9 +111,8 @@ def refused_idl(kind, number, at, file):
         text = it.read()
     where, lines = idl_text.shown(text, at)
     found = [f"{file}: {where}: {found[0]}", *lines]
-    if kind == "idl" and number == 2:
-        found.append(f"expected: {' or '.join(idl_text.expected(text, at))}")
-    return found
+    expected = idl_text.expected(text, at) if (kind, number) == ("idl", 2) else []
+    return [*found, f"expected: {' or '.join(expected)}"] if expected else found
 
 
 def refusal(line, given):
