@@ -26,6 +26,7 @@ class Part:
     size: int = 0
     is_first: bool = True
     is_last: bool = True
+    began: int = 0  # (the line of the journal's heading)
     is_whole: bool = True  # (its last line has a line feed)
 
     def begun(self):
@@ -62,14 +63,17 @@ def behind(part):
         return None  # (the program says what is wrong)
 
 
-def cut(part, number, is_shut):
-    """Ends a part that is as long as a file may be, and begins the next one. A Shut stays with what it ends."""
-    group = None if is_shut else behind(part)
-    if group is None or group.is_due():
+def cut(part, number):
+    """Ends a part that is as long as a file may be, and answers the one that goes on behind it; or the part itself where a Shut is
+    due, which stays with what it ends; or None where nothing that follows counts, since the journal has a breach or ended."""
+    group = behind(part)
+    if group is None or group.shut_at is not None:
         return None
+    if group.is_due():
+        return part
     part.is_last = False
     head = [group.heading(), *group.base_lines()]
-    return Part(number, head, [], sum(map(len, head)), is_first=False)
+    return Part(number, head, [], sum(map(len, head)), is_first=False, began=part.began)
 
 
 def unfit(line, before, part):
@@ -86,7 +90,7 @@ def unfit(line, before, part):
 def parts(file):
     """The journals of a log one by one, long ones in parts. The first line that is none of a journal is the last of its part: the
     program refuses it."""
-    part, before = None, ""
+    part, before, is_over = None, "", False
     for number, whole in numbered(file):
         line = whole.rstrip("\n")
         is_fit = whole.endswith("\n") and unfit(line, before, part) is None
@@ -94,12 +98,17 @@ def parts(file):
         if before == "group" or part is None:
             if part:
                 yield part
-            part = Part(number, [line], [])
+            part, is_over = Part(number, [line], [], began=number), False
         elif before in ("base", "base-call"):
             part.head.append(line)
+        elif is_over and is_fit:
+            continue
         else:
-            after = cut(part, number, before == "shut") if part.size > PIECE_MOST else None
-            if after:
+            after = cut(part, number) if is_fit and part.size > PIECE_MOST else part
+            if after is None:
+                # (the line in which a breach shows, at the latest)
+                is_over, after = True, part
+            elif after is not part:
                 yield part
                 part = after
             part.lines.append(line)
@@ -183,7 +192,7 @@ def told(name, part, verdict):
         line, why = None, None
     id, boot = part.head[0].split(" ")[1::2]
     where = f"entry {at}, `{idl_text.plain(line, 100)}`" if line else f"place {at}"
-    return f"    {name}: group {id} of boot {boot}, from line {part.line} on: {where}: {why or 'it is not known why'}"
+    return f"    {name}: group {id} of boot {boot}, from line {part.began} on: {where}: {why or 'it is not known why'}"
 
 
 def reasons(name, verdicts):
