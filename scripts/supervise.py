@@ -143,17 +143,16 @@ def watch_door(pid, is_spoken, ended):
 
 
 def stop(pid, times):
-    """Asks a server to stop, for the so manieth time."""
+    """Asks a server to stop, for the so manieth time. Answers what that comes to."""
     if times == 1 and server.close_door(pid):
-        say("nobody else is let in; the server ends once its connections have. A second sign ends them, a third kills it")
-    elif times == 2 and server.end_links(pid) + server.close_door(pid):
-        say("its connections are ended. A third sign kills it, and what it would print is lost")
-    else:
-        say("killed: its lines and journals are lost")
-        os.kill(pid, signal.SIGKILL)
+        return "nobody else is let in; the server ends once its connections have. A second sign ends them, a third kills it"
+    if times == 2 and server.end_links(pid) + server.close_door(pid):
+        return "its connections are ended. A third sign kills it, and what it would print is lost"
+    os.kill(pid, signal.SIGKILL)
+    return "killed: its lines and journals are lost"
 
 
-def wait(child, is_server):
+def wait(child, is_server, is_spoken):
     """Waits for the program's end, and hands on what the launcher is told meanwhile. Answers how the program ended, and how often
     it was asked to stop."""
     times = 0
@@ -163,7 +162,9 @@ def wait(child, is_server):
             continue
         if is_server and told.si_signo in SIGNS:
             times += 1
-            stop(child.pid, times)
+            came = stop(child.pid, times)
+            if is_spoken:
+                say(came)
         elif told.si_code <= 0:
             # (what a terminal sends comes to the program too)
             os.kill(child.pid, told.si_signo)
@@ -188,7 +189,7 @@ def main(program, *words):
     ended = threading.Event()
     if is_server:
         threading.Thread(target=watch_door, args=(child.pid, is_spoken, ended), daemon=True).start()
-    status, times = wait(child, is_server)
+    status, times = wait(child, is_server, is_spoken)
     ended.set()
     if is_spoken:
         said = out.text().decode("utf-8", "replace")
