@@ -1,4 +1,4 @@
-//! Plays cases of the whole program, of scripts of loads, and of the groups of a replay. `cases_runs FILE..` goes through
+//! Plays cases of the whole program, and of scripts of loads. `cases_runs FILE..` goes through
 //! files of cases; the subject of a file is what stands in its name before the first `_`. Beside `src/`, `data/` has the
 //! files.
 #![tactic(auto)]
@@ -6,13 +6,10 @@
 mod asked;
 mod doors;
 mod gates;
-mod groups;
-mod kept;
 mod links;
 mod loads;
 mod plays;
 mod present;
-mod rests;
 mod runs;
 mod texts;
 mod wanted;
@@ -34,7 +31,6 @@ fn played<R: Wait + Threads + Send + Sync + Copy + 'static>(
     let told = match subject {
         "runs" => plays::runs(rt, alloc, text)?,
         "loads" => loads::loads(alloc, text)?,
-        "replayed" => groups::replayed(alloc, text)?,
         _ => return Err(Error::msg("no such subject")),
     };
     Ok(told)
