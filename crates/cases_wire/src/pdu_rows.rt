@@ -1,10 +1,13 @@
 //! PDUs, read and written.
+ghost use Rattle.std.specs.Prelude.{◌≡◌, false};
+ghost use Rattle.pdu_codec.specs.Pdus.{has_object};
 
 use base_words::{put, put_decimal, put_hex};
 use cases_base::{Answers, CasesFault, Names, Told, answered, first_word, octets_of, put_debug};
+use pdu_codec::flags::{FIRST_FRAG, LAST_FRAG};
 use pdu_codec::{
-    Body, FragmentHead, Pdu, PduFault, raw_head, read_head, read_pdu, spelled_is_writable,
-    write_pdu,
+    Body, FragmentHead, Pdu, PduFault, RequestBody, ResponseBody, raw_head, read_head, read_pdu,
+    spelled_is_writable, write_pdu,
 };
 use rpc_base::NoMemory;
 use std::alloc::Global;
@@ -58,39 +61,59 @@ fn written(alloc: Global, octets: &[u8]) -> Result<Vec<u8>, PduFault> {
     Ok(again)
 }
 
-/// The request or the response, written from its stub. Another PDU is a `Kind`.
+/// The header of a whole request or response.
+fn whole_head(pdu: &Pdu, alloc_hint: u32, context: u16) -> FragmentHead
+    ensures { has_object result.flags ≡ false }
+{
+    FragmentHead {
+        flags: FIRST_FRAG | LAST_FRAG,
+        order: pdu.order,
+        call_id: pdu.call_id,
+        alloc_hint,
+        context,
+    }
+}
+
+/// The request or the response, written whole from its stub. Another PDU is a `Kind`.
 fn fragment(alloc: Global, octets: &[u8]) -> Result<Vec<u8>, PduFault> {
-    let Pdu {
-        flags,
-        order,
-        call_id,
-        body,
-        ..
-    } = read_pdu(alloc, octets)?;
-    let head = FragmentHead {
-        flags: flags & 0x7f,
-        order,
-        call_id,
-        alloc_hint: 0,
-        context: 0,
-    };
+    let pdu = read_pdu(alloc, octets)?;
     let mut again = vec![in alloc; 0xff; 1]?;
-    match body {
-        Body::Request(body) if body.stub.len() < 65_000 => FragmentHead {
-            alloc_hint: body.alloc_hint,
-            context: body.context,
-            ..head
+    match &pdu.body {
+        Body::Request(body) => {
+            let head = whole_head(&pdu, body.alloc_hint, body.context);
+            put_request(head, body, &mut again)?;
         }
-        .write_request(body.op, body.stub.as_slice(), &mut again)?,
-        Body::Response(body) if body.stub.len() < 65_000 => FragmentHead {
-            alloc_hint: body.alloc_hint,
-            context: body.context,
-            ..head
+        Body::Response(body) => {
+            let head = whole_head(&pdu, body.alloc_hint, body.context);
+            put_response(head, body, &mut again)?;
         }
-        .write_response(body.stub.as_slice(), &mut again)?,
         _ => return Err(PduFault::Kind),
     }
     Ok(again)
+}
+
+fn put_request(head: FragmentHead, body: &RequestBody, again: &mut Vec<u8>) -> Result<(), PduFault>
+    requires { has_object head.flags ≡ false }
+{
+    let stub = body.stub.as_slice();
+    if stub.len() > 65_000 {
+        return Err(PduFault::Length);
+    }
+    head.write_request(body.op, stub, again)?;
+    Ok(())
+}
+
+fn put_response(
+    head: FragmentHead,
+    body: &ResponseBody,
+    again: &mut Vec<u8>,
+) -> Result<(), PduFault> {
+    let stub = body.stub.as_slice();
+    if stub.len() > 65_000 {
+        return Err(PduFault::Length);
+    }
+    head.write_response(stub, again)?;
+    Ok(())
 }
 
 fn put_again(

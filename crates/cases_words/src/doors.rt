@@ -55,7 +55,7 @@ fn put_nexts(
 ) -> Result<(), NoMemory>
     ensures { OnOk result ((door_shown door.new).out ≡ (door_shown door.old).out) }
 {
-    let [call, calls @ ..] = calls else {
+    let Some((call, later)) = calls.split_first() else {
         return Ok(());
     };
     if *call == "listen" {
@@ -63,7 +63,7 @@ fn put_nexts(
             Ok(()) => put(b"listens ", into)?,
             Err(_) => put(b"failed ", into)?,
         }
-        return put_nexts(alloc, door, calls, into);
+        return put_nexts(alloc, door, later, into);
     }
     match door.next() {
         Ok(Some(mut link)) => {
@@ -71,17 +71,17 @@ fn put_nexts(
             if *call == "put" {
                 put_put(alloc, &mut link, b"abc", into)?;
             }
-            put_nexts(alloc, door, calls, into)?;
+            put_nexts(alloc, door, later, into)?;
             door.back(link);
             Ok(())
         }
         Ok(None) => {
             put(b"none ", into)?;
-            put_nexts(alloc, door, calls, into)
+            put_nexts(alloc, door, later, into)
         }
         Err(_) => {
             put(b"failed ", into)?;
-            put_nexts(alloc, door, calls, into)
+            put_nexts(alloc, door, later, into)
         }
     }
 }
@@ -95,7 +95,7 @@ fn put_dials(
 ) -> Result<(), NoMemory>
     ensures { OnOk result ((dial_shown dial.new).out ≡ (dial_shown dial.old).out) }
 {
-    let [call, calls @ ..] = calls else {
+    let Some((call, later)) = calls.split_first() else {
         return Ok(());
     };
     match dial.dial(AT) {
@@ -104,13 +104,13 @@ fn put_dials(
             if *call == "put" {
                 put_put(alloc, &mut link, b"abc", into)?;
             }
-            put_dials(alloc, dial, calls, into)?;
+            put_dials(alloc, dial, later, into)?;
             dial.back(link);
             Ok(())
         }
         Err(_) => {
             put(b"failed ", into)?;
-            put_dials(alloc, dial, calls, into)
+            put_dials(alloc, dial, later, into)
         }
     }
 }

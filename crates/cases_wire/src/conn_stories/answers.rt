@@ -1,4 +1,7 @@
 //! Answers to what a connection waits for, as cases write them.
+ghost use Rattle.std.specs.Bool.{OnTrue};
+ghost use Rattle.std.specs.Option.{option_copied};
+ghost use Rattle.conn_asks.specs.Answers.{FitsStub};
 
 use base_words::read_hex_u32;
 use cases_base::{Names, first_word, octets_of};
@@ -36,7 +39,10 @@ fn said(alloc: Global, names: &Names, verb: &str, rest: &str) -> Result<Option<S
     Ok(octets_of(alloc, names, stub)?.map(|stub| Said::Out(Octets::from_vec(stub))))
 }
 
-fn fits(said: &Option<Said>) -> bool {
+/// Whether a response may have that stub.
+fn fits(said: Option<&Said>) -> bool
+    ensures { OnTrue result (FitsStub (option_copied said.entry)) }
+{
     match said {
         Some(Said::Out(stub)) => stub.len() <= MOST_STUB,
         _ => true,
@@ -55,9 +61,10 @@ pub fn answer(
         return group_answer(conn, verb, first_word(rest).0);
     }
     let said = said(alloc, names, verb, rest)?;
-    if !conn.is_calling() || !fits(&said) || said.is_none() != (verb == "drop") {
+    let said = said.as_ref();
+    if !conn.is_calling() || !fits(said) || said.is_none() != (verb == "drop") {
         return Ok(None);
     }
     let executed = verb == "ran" || verb == "out";
-    Ok(Some(conn.reply(said.as_ref(), executed)?))
+    Ok(Some(conn.reply(said, executed)?))
 }

@@ -1,4 +1,5 @@
 //! Streams that come to the same acts however they are cut: octet by octet, and in two pieces.
+ghost use Rattle.std.specs.Prelude.{◌<◌};
 
 use crate::conn_stories::lines::holds;
 use crate::conn_stories::player::server;
@@ -80,22 +81,32 @@ impl Cut {
         Ok(done == lines.len())
     }
 
-    /// Whether the stream comes to the acts, octet by octet, and in two pieces, the first of which leaves it whole.
-    pub fn agrees(
+    /// Whether the stream comes to the acts in two pieces, the first of which leaves it whole, cut at places so far apart.
+    fn agrees_in_two(
         &self,
         alloc: Global,
         names: &Names,
+        apart: usize,
         come: &mut Vec<u8>,
-    ) -> Result<bool, NoMemory> {
-        if !self.hears(alloc, names, 0, 1, come)? {
-            return Ok(false);
-        }
-        let apart = (self.apart as usize).max(1);
+    ) -> Result<bool, NoMemory>
+        requires { 0 < apart }
+    {
         for at in (0..=self.stream.len()).step_by(apart) {
             if !self.hears(alloc, names, at, self.stream.len(), come)? {
                 return Ok(false);
             }
         }
         Ok(true)
+    }
+
+    /// Whether the stream comes to the acts, octet by octet and in two pieces.
+    pub fn agrees(
+        &self,
+        alloc: Global,
+        names: &Names,
+        come: &mut Vec<u8>,
+    ) -> Result<bool, NoMemory> {
+        let apart = (self.apart as usize).max(1);
+        Ok(self.hears(alloc, names, 0, 1, come)? && self.agrees_in_two(alloc, names, apart, come)?)
     }
 }
