@@ -112,4 +112,4 @@ module _ (types : List Form) (order : Order) (octets : List ℕ) where
   union_fails room moved go s t arms p (errors.Departs d) is h =
       ap (λ (u : Form). scan_at types order octets room moved go u p) is
       ∙ ap (λ (r : Result (ℤ × ℕ) Departure). r >>= λ x. arm_scan (arm_of (OfUnion t arms) x.0) (up (in_place types (OfUnion t arms) p.at) (tag_size t)) (past p x.1) (go None))
-        (subst (λ (u : Form). tag_at order octets t arms (in_place types u p.at) ≡ Err d) is h)
+      (subst (λ (u : Form). tag_at order octets t arms (in_place types u p.at) ≡ Err d) is h)
