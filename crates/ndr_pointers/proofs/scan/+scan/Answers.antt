@@ -11,7 +11,7 @@ use Rattle.ndr_model.specs.Scan.{Scanned, scan}
 use Rattle.ndr_pointers.proofs.Alikes.{struct_is, union_is}
 use Rattle.ndr_pointers.specs.Gives.{Gives}
 use Rattle.ndr_pointers.specs.Views.{types_in, place}
-use Rattle.ndr_pointers.proofs.Walks.{scan_step, struct_scan, union_scan, arm_again, once_more, each_more, each_fails, moved_is}
+use Rattle.ndr_pointers.proofs.Walks.{scan_step, struct_scan, union_scan, union_fails, arm_again, once_more, each_more, each_fails, moved_is}
 use Rattle.ndr_pointers.proofs.scan.+scan.Goals as goal
 
 pub scan_flat-returns : goal.scan_flat-returns
@@ -82,3 +82,12 @@ scan_one-returns-in-Some-arm_for t c =
     (sym (union_scan (types_in c.args.reader.now) c.args.reader.now.order c.args.reader.now.octets.now c.args.room c.args.moved (scan (types_in c.args.reader.now) c.args.reader.now.order c.args.reader.now.octets.now c.args.fuel c.args.room)
     (form c.args.shape.now) (form kind) (arms_of arms) (place c.args.at c.args.seen.now) n c.in_ok-number-in-Union.after (Some b) s c.in_ok-number-in-Union.ensures.exact c.in_ok-number-in-Union.ensures.place some))
     (c.scan_arm.ensures i)
+
+pub scan_one-returns-in_err-number-in-Union : goal.scan_one-returns-in_err-number-in-Union
+scan_one-returns-in_err-number-in-Union t c =
+    let kind = c.deref-in-Union.result.now in
+    let arms = c.deref-in-Union-2.result.now in
+    let s : form c.args.shape.now ≡ OfUnion (form kind) (arms_of arms) = union_is c.args.shape.now _ _ kind arms c.in-Union.is c.deref-in-Union.ensures c.deref-in-Union-2.ensures.value in
+    let p = err_from_is_err_and c.from_residual-in_err-number-in-Union.result c.from_residual-in_err-number-in-Union.ensures.1 in
+    rw (p.1, p.2) (union_fails (types_in c.args.reader.now) c.args.reader.now.order c.args.reader.now.octets.now c.in_err-number-in-Union.field-0.0 c.args.room c.args.moved
+    (scan (types_in c.args.reader.now) c.args.reader.now.order c.args.reader.now.octets.now c.args.fuel c.args.room) (form c.args.shape.now) (form kind) (arms_of arms) (place c.args.at c.args.seen.now) s c.in_err-number-in-Union.ensures.exact)
