@@ -14,7 +14,7 @@ use Rattle.hub_story.specs.Calls.{Enters}
 use Rattle.hub_story.specs.Passes.{Seen, Knows}
 use Rattle.hub_story.proofs.ItemLemmas.{past-append}
 use Rattle.atomic_table.specs.Seated.{TableId}
-use Rattle.group_hub.specs.Shards.{ShardLock}
+use Rattle.group_hub.specs.declared.lock.ShardLock.{ShardLock}
 use Rattle.group_hub.specs.Passes.{IsOf}
 use Rattle.group_hub.specs.declared.hub.Hub.{Hub}
 use Rattle.group_hub.specs.declared.pass.Pass.{Pass}

@@ -1,7 +1,7 @@
 -- Which call a worker asks for.
 use Rattle.std.specs.Prelude.{ℕ, Bool, List, map}
 use Rattle.atomic_table.specs.Seated.{TableId}
-use Rattle.group_hub.specs.Shards.{ShardLock}
+use Rattle.group_hub.specs.declared.lock.ShardLock.{ShardLock}
 use Rattle.group_hub.specs.declared.hub.Hub.{Hub}
 
 -- a call of a group, at a hub of that boot word and these locks
