@@ -69,7 +69,8 @@ def has_function(crate, names):
 
 def has_file(word):
     places = [TOP, os.path.join(TOP, "crates"), os.path.join(TOP, "docs")]
-    return any(os.path.exists(os.path.join(place, word)) for place in places)
+    ends = ("", ".antt", ".rt")
+    return "/out" in word or any(os.path.exists(os.path.join(place, word + end)) for place in places for end in ends)
 
 
 def words(name, text, known, outside):
