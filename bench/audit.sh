@@ -86,7 +86,8 @@ done
 for kind in open-calls one-shared one-held connections handles; do
     before=
     for count in 25000 100000 400000; do
-        held "$kind" "$(sized "$count")" >"$text"
+        count=$(sized "$count")
+        held "$kind" "$count" >"$text"
         time=$(least 0 "$program" audit "$text")
         show "$kind $count" "$time" "$before"
         before=$time

@@ -4,15 +4,13 @@
 # is proved and built once, in a copy of the repository in BENCH_ROOM or below the folder for temporary files, and again
 # only when its sources change. PART=100 tries a script with a hundredth of each size.
 
-# Sets `program` to `dcerpc`. The repository's is built where it isn't or is older than its sources: without words it
-# then ends with 1.
+# Sets `program` to `dcerpc`. The repository's is proved and built where it isn't or is older than its sources: no figure
+# is one of an unproved build.
 build_dcerpc() {
-    local status=0
     program=${DCERPC:-}
     if [ -n "$program" ]; then return 0; fi
-    "$top/dcerpc" >/dev/null || status=$?
     program=$top/crates/dcerpc/out/dcerpc
-    [ "$status" = 1 ]
+    "$top/prove"
 }
 
 # Sets `bench` to the program of that name in `bench/crates`, which is built where it isn't or its sources have changed.

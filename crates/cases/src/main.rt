@@ -1,98 +1,103 @@
-//! The program: `cases SUBJECT FILE..` goes through files of cases, by hand or made by other programs, and prints each that
-//! comes to something else than the file says, and then how many there were. The subjects are `stubs`, `loads` and, with a
-//! file of an interface that is echoed before those of stories, `desks`; another subject may follow the files of one. Beside
-//! `src/`, `data/` has the files.
+//! The program: `cases FILE..` goes through files of cases, by hand or made by other programs, and prints each that comes to
+//! something else than the file says, and then how many there were. The subject of a file is what stands in its name before
+//! the first `_`. Beside `src/`, `data/` has the files. Cases that need threads are those of `cases_served` and `cases_runs`.
 #![tactic(auto)]
 
-mod desks;
-mod loads;
-mod stubs;
-
-use anyhow::{Context, Result};
-use ndr_table::Table;
+use anyhow::{Error, Result};
+use cases_base::{CasesFault, Told, subject_of};
 use std::alloc::Global;
-use std::rt::Env;
+use std::thread::Threads;
 use std::{env, fs};
 
-/// What the next file has.
-#[derive(Drop)]
-enum Subject {
-    Stubs,
-    Loads,
-    /// The interface that the desks' echo serves.
-    Echo,
-    /// Stories of desks, with this table of the echo.
-    Desks(Table),
+/// What cases of PDUs, streams, connections and what they stand on come to. None where the subject is none of these.
+fn of_octets(alloc: Global, subject: &str, text: &str) -> Result<Option<Told>, CasesFault> {
+    let told = match subject {
+        "fields" => cases_wire::fields(alloc, text)?,
+        "pdus" => cases_wire::pdus(alloc, text)?,
+        "streams" => cases_wire::streams(alloc, text)?,
+        "contexts" => cases_wire::contexts(alloc, text)?,
+        "conns" => cases_wire::conns(alloc, text)?,
+        "towers" => cases_wire::towers(alloc, text)?,
+        _ => return Ok(None),
+    };
+    Ok(Some(told))
 }
 
-/// The words behind the program's name.
-fn words(rt: &(impl Env + AllocGlobal), alloc: Global) -> Result<Vec<String>> {
-    let mut words = Vec::new(alloc);
-    for word in env::args(rt).context("the words")?.skip(1) {
-        words.push(word)?;
+/// What cases of words, lines and interface texts come to.
+fn of_words(alloc: Global, subject: &str, text: &str) -> Result<Option<Told>, CasesFault> {
+    let told = match subject {
+        "words" => cases_words::words(alloc, text)?,
+        "lines" => cases_words::lines(alloc, text)?,
+        "asks" => cases_words::asks(alloc, text)?,
+        "links" => cases_words::links(alloc, text)?,
+        "idl" => cases_idl::texts(alloc, text)?,
+        "interfaces" => cases_idl::interfaces(alloc, text)?,
+        _ => return Ok(None),
+    };
+    Ok(Some(told))
+}
+
+/// What cases of values, stubs and callers come to.
+fn of_values(alloc: Global, subject: &str, text: &str) -> Result<Option<Told>, CasesFault> {
+    let told = match subject {
+        "values" => cases_values::values(alloc, text)?,
+        "stubs" => ndr_lines::stubs(alloc, text)?,
+        "callers" => cases_callers::callers(alloc, text)?,
+        "calls" => cases_callers::calls(alloc, text)?,
+        "texts" => cases_callers::call_texts(alloc, text)?,
+        _ => return Ok(None),
+    };
+    Ok(Some(told))
+}
+
+/// What cases of journals, groups and desks come to.
+fn of_groups<R: Threads>(
+    rt: &R,
+    alloc: Global,
+    subject: &str,
+    text: &str,
+) -> Result<Option<Told>, CasesFault> {
+    let told = match subject {
+        "journals" => cases_journal::journal_texts(alloc, text)?,
+        "entries" => cases_journal::entry_lines(alloc, text)?,
+        "groups" => cases_journal::group_calls(alloc, text)?,
+        "desks" => cases_desks::desk_calls(rt, alloc, text)?,
+        _ => return Ok(None),
+    };
+    Ok(Some(told))
+}
+
+/// What cases of a subject come to.
+fn played<R: Threads>(rt: &R, alloc: Global, subject: &str, text: &str) -> Result<Told> {
+    if let Some(told) = of_octets(alloc, subject, text)? {
+        return Ok(told);
     }
-    Ok(words)
-}
-
-/// What a text of stubs comes to, behind what is told of each that differs.
-fn stubs_told(alloc: Global, file: &str, text: &str) -> Result<String> {
-    let blocks = stubs::gone_through(alloc, text)?;
-    let differences = String::from_utf8_lossy(alloc, blocks.differences.as_slice())?;
-    let (interfaces, stubs, canonical, wrong) = (
-        blocks.interfaces,
-        blocks.stubs,
-        blocks.canonical,
-        blocks.wrong,
-    );
-    Ok(format!(in alloc;
-        "{differences}{file}: {interfaces} interfaces, {stubs} stubs, {canonical} of them canonical, {wrong} differ\n"
-    )?)
-}
-
-/// What a story of desks comes to.
-fn story_told(alloc: Global, echo: &Table, file: &str, text: &str) -> Result<String> {
-    let story = desks::played(alloc, echo, text)?;
-    let differences = String::from_utf8_lossy(alloc, story.differences.as_slice())?;
-    let (rows, wrong) = (story.rows, story.wrong);
-    Ok(format!(in alloc; "{differences}{file}: {rows} rows, {wrong} differ\n")?)
-}
-
-/// What loads come to.
-fn loads_told(alloc: Global, file: &str, text: &str) -> Result<String> {
-    let cases = loads::played(alloc, text)?;
-    let differences = String::from_utf8_lossy(alloc, cases.differences.as_slice())?;
-    let (steps, wrong) = (cases.steps, cases.wrong);
-    Ok(format!(in alloc; "{differences}{file}: {steps} steps, {wrong} differ\n")?)
-}
-
-/// What a file of the subject comes to, and the subject of the next.
-fn told(alloc: Global, subject: Subject, file: &str, text: &str) -> Result<(String, Subject)> {
-    match subject {
-        Subject::Stubs => Ok((stubs_told(alloc, file, text)?, Subject::Stubs)),
-        Subject::Loads => Ok((loads_told(alloc, file, text)?, Subject::Loads)),
-        Subject::Echo => Ok((
-            String::new(alloc),
-            Subject::Desks(desks::echo_of(alloc, text)?),
-        )),
-        Subject::Desks(echo) => Ok((story_told(alloc, &echo, file, text)?, Subject::Desks(echo))),
+    if let Some(told) = of_words(alloc, subject, text)? {
+        return Ok(told);
     }
+    if let Some(told) = of_values(alloc, subject, text)? {
+        return Ok(told);
+    }
+    match of_groups(rt, alloc, subject, text)? {
+        Some(told) => Ok(told),
+        None => Err(Error::msg("no such subject")),
+    }
+}
+
+/// What is told of a file's cases.
+fn line_of(alloc: Global, file: &str, told: &Told) -> Result<String> {
+    let mut line = Vec::new(alloc);
+    told.put_line(alloc, file, &mut line)?;
+    Ok(String::from_utf8_lossy(alloc, line.as_slice())?)
 }
 
 fn main(rt: HostRuntime) -> Result<()> {
     let alloc = rt.alloc();
-    let mut subject = Subject::Stubs;
-    for word in words(&rt, alloc)?.as_slice() {
-        match word.as_str() {
-            "stubs" => subject = Subject::Stubs,
-            "loads" => subject = Subject::Loads,
-            "desks" => subject = Subject::Echo,
-            file => {
-                let text = fs::read_to_string(&rt, file)?;
-                let (lines, next) = told(alloc, subject, file, text.as_str())?;
-                print!(rt; "{lines}")?;
-                subject = next;
-            }
-        }
+    for file in env::args(&rt)?.skip(1) {
+        let text = fs::read_to_string(&rt, file.as_str())?;
+        let told = played(&rt, alloc, subject_of(file.as_str()), text.as_str())?;
+        let line = line_of(alloc, file.as_str(), &told)?;
+        print!(rt; "{line}")?;
     }
     Ok(())
 }

@@ -2,11 +2,9 @@
 //! the next shard meanwhile isn't stopped; in a group of the same shard it is.
 ghost use Rattle.std.specs.Prelude.{◌≡◌, [], length, IfOk};
 ghost use Rattle.group_hub.specs.Passes.{IsPassOf};
-ghost use Rattle.hub_play.specs.Members.{Sits};
 
 use group_hub::{Hub, Pass};
 use handle_model::Asked;
-use hub_play::{Member, make_calls, open};
 use rpc_base::{Items, NoMemory, Octets, Order};
 use std::alloc::Global;
 use std::rt::Clock;
@@ -76,13 +74,13 @@ fn open_large<R: Wait>(rt: &R, hub: &Hub, pass: &mut Pass, alloc: Global) -> boo
     requires { IsPassOf hub.now pass.old }
     ensures { IsPassOf hub.now pass.new }
 {
-    let Ok(opener) = open(rt, hub, pass) else {
+    let Ok((group, conn)) = hub.open_group(rt, pass) else {
         return false;
     };
-    let Ok(asked) = request(alloc, opener.conn) else {
+    let Ok(asked) = request(alloc, conn) else {
         return false;
     };
-    opener.group == 1 && hub.accept(rt, pass, opener.group, asked).is_ok()
+    group == 1 && hub.accept(rt, pass, group, asked).is_ok()
 }
 
 /// The journal of group 1 is copied: how long that took, in nanoseconds; 0 where it can't be told.
@@ -102,19 +100,16 @@ fn copy<R: Wait + Clock>(rt: &R, hub: &Hub, pass: Pass, signals: &Signals) -> (P
     }
 }
 
-/// Calls of a connection, one after the other, until the copy is done.
+/// Connections join a group, one after the other, until the copy is done.
 fn call_beside<R: Wait + Clock>(
     rt: &R,
     hub: &Hub,
     pass: Pass,
-    alloc: Global,
-    member: Member,
+    group: u32,
     signals: &Signals,
 ) -> (Pass, Beside)
-    requires pass { IsPassOf hub.now pass }
-    requires sits { Sits pass member }
-    ensures pass { IsPassOf hub.now result.0 }
-    ensures sits { Sits result.0 member }
+    requires { IsPassOf hub.now pass }
+    ensures { IsPassOf hub.now result.0 }
 {
     let mut pass = pass;
     let mut beside = Beside { all: 0, longest: 0 };
@@ -127,7 +122,7 @@ fn call_beside<R: Wait + Clock>(
             continue;
         }
         let start = Instant::now(rt);
-        let _ = make_calls(rt, alloc, hub, &mut pass, member, None, 1);
+        let _ = hub.find_join(rt, &mut pass, group.max(1));
         let time = passed(rt, start).unwrap_or(0);
         beside = Beside {
             all: beside.all.saturating_add(time),
@@ -143,13 +138,10 @@ fn side_by_side<R: Threads + Wait + Clock + Sync>(
     hub: &Hub,
     pass: Pass,
     other: Pass,
-    alloc: Global,
-    member: Member,
+    group: u32,
 ) -> (Pass, Pass, Option<bool>)
-    requires passes { IsPassOf hub.now pass × IsPassOf hub.now other }
-    requires sits { Sits other member }
-    ensures passes { IsPassOf hub.now result.0 × IsPassOf hub.now result.1 }
-    ensures sits { Sits result.1 member }
+    requires { IsPassOf hub.now pass × IsPassOf hub.now other }
+    ensures { IsPassOf hub.now result.0 × IsPassOf hub.now result.1 }
 {
     let signals = Signals {
         begun: AtomicBool::new(false),
@@ -162,9 +154,9 @@ fn side_by_side<R: Threads + Wait + Clock + Sync>(
             ensures { IsPassOf hub.entry.now result.0 }
         { copy(rt, hub, pass, &signals) },
         || -> (Pass, Beside)
-            requires { IsPassOf hub.now other × Sits other member }
-            ensures { IsPassOf hub.entry.now result.0 × Sits result.0 member }
-        { call_beside(rt, hub, other, alloc, member, &signals) },
+            requires { IsPassOf hub.now other }
+            ensures { IsPassOf hub.entry.now result.0 }
+        { call_beside(rt, hub, other, group, &signals) },
     );
     (pass, other, went_on(time, beside))
 }
@@ -175,17 +167,15 @@ fn was_once<R: Threads + Wait + Clock + Sync>(
     hub: &Hub,
     pass: Pass,
     other: Pass,
-    alloc: Global,
-    member: Member,
+    group: u32,
     wanted: bool,
 ) -> bool
-    requires passes { IsPassOf hub.now pass × IsPassOf hub.now other }
-    requires sits { Sits other member }
+    requires { IsPassOf hub.now pass × IsPassOf hub.now other }
 {
     let mut pass = pass;
     let mut other = other;
     for _ in 0..ROUNDS {
-        let (one, two, was) = side_by_side(rt, hub, pass, other, alloc, member);
+        let (one, two, was) = side_by_side(rt, hub, pass, other, group);
         if was == Some(wanted) {
             return true;
         }
@@ -221,9 +211,9 @@ fn behind<R: Threads + Wait + Clock + Sync>(
         return None;
     }
     let mut other = hub.split(&mut pass);
-    let member = open(rt, &hub, &mut other).ok()?;
-    let was = was_once(rt, &hub, pass, other, alloc, member, wanted);
-    Some((member.group, was))
+    let (group, _) = hub.open_group(rt, &mut other).ok()?;
+    let was = was_once(rt, &hub, pass, other, group, wanted);
+    Some((group, was))
 }
 
 #[test]

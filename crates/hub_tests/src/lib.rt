@@ -1,21 +1,12 @@
-//! Groups at one shard's lock and at a hub of sixteen shards: one thread, two on one handle, and sixteen.
+//! Threads that meet at the groups of a hub: a turn that one keeps while another calls at the next shard or at the same, and
+//! two that look for one group; and what a third thread is told of a group that has ended, before it is retired and after.
 #![tactic(auto)]
 
 #[cfg(test)]
 mod beside;
 #[cfg(test)]
+mod hold;
+#[cfg(test)]
+mod lives;
+#[cfg(test)]
 mod looks;
-#[cfg(test)]
-mod play;
-#[cfg(test)]
-mod rows;
-#[cfg(test)]
-mod shards;
-#[cfg(test)]
-mod shared;
-#[cfg(test)]
-mod threads;
-#[cfg(test)]
-mod turns;
-#[cfg(test)]
-mod visit;

@@ -1,75 +1,50 @@
-//! A thread that looks at journals while others enter.
-ghost use Rattle.std.specs.Prelude.{◌≤◌};
+//! Two threads that look for a group which isn't open.
 ghost use Rattle.group_hub.specs.Passes.{IsPassOf};
 
-use crate::visit::{Calls, visit_all};
-use group_hub::{Hub, Pass};
-use hub_play::{Judged, judge};
-use std::alloc::Global;
+use group_hub::{Absence, FindRefusal, Hub, Pass};
 use std::sync::Wait;
+use std::test::Fail;
 use std::thread;
 use std::thread::Threads;
 
-/// How many entries there were at all.
-fn size(judged: Judged) -> u64 {
-    (judged.entries as u64).saturating_add(judged.folded)
-}
-
-/// Looks at a group's journal, and looks again: whether both are legal, and the second has no less.
-fn look<R: Wait>(rt: &R, alloc: Global, hub: &Hub, pass: &mut Pass, group: u32) -> bool
-    requires pass { IsPassOf hub.now pass.old }
-    requires id { 1 ≤ group }
-    ensures { IsPassOf hub.now pass.new }
-{
-    let Some(seen) = judge(rt, alloc, hub, pass, group) else {
-        return false;
-    };
-    match judge(rt, alloc, hub, pass, group) {
-        Some(again) => size(seen) <= size(again) && seen.accepts <= again.accepts,
-        None => false,
-    }
-}
-
-/// Looks at sixteen groups, one after the other, from that one on: whether all was well.
-fn look_all<R: Wait>(rt: &R, hub: &Hub, pass: Pass, alloc: Global, first: u32) -> (Pass, bool)
+/// Looks so often for a group that isn't open.
+fn look<R: Wait>(rt: &R, hub: &Hub, pass: Pass, id: u32, count: u32) -> Pass
     requires { IsPassOf hub.now pass }
-    ensures { IsPassOf hub.now result.0 }
+    ensures { IsPassOf hub.now result }
 {
     let mut pass = pass;
-    for step in 0..16 {
-        let group = first.wrapping_add(step) % 16 + 1;
-        if !look(rt, alloc, hub, &mut pass, group) {
-            return (pass, false);
-        }
+    for _ in 0..count {
+        let _ = hub.find_join(rt, &mut pass, id.max(1));
     }
-    (pass, true)
+    pass
 }
 
-/// One thread visits the groups while another looks at them: the calls that were made, where all that was
-/// seen is legal.
-pub fn visit_and_look<R: Threads + Wait + Sync>(
-    rt: &R,
-    hub: &Hub,
-    pass: Pass,
-    alloc: Global,
-    first: u32,
-) -> (Pass, Option<Calls>)
+fn look_in_two<R: Threads + Wait + Sync>(rt: &R, hub: &Hub, pass: Pass) -> Pass
     requires { IsPassOf hub.now pass }
-    ensures { IsPassOf hub.now result.0 }
+    ensures { IsPassOf hub.now result }
 {
     let mut pass = pass;
     let other = hub.split(&mut pass);
-    let ((mut pass, made), (other, is_well)) = thread::join(
+    let (mut pass, other) = thread::join(
         rt,
-        || -> (Pass, Option<Calls>)
+        || -> Pass
             requires { IsPassOf hub.now pass }
-            ensures { IsPassOf hub.entry.now result.0 }
-        { visit_all(rt, hub, pass, alloc, first) },
-        || -> (Pass, bool)
+            ensures { IsPassOf hub.entry.now result }
+        { look(rt, hub, pass, 17, 1000) },
+        || -> Pass
             requires { IsPassOf hub.now other }
-            ensures { IsPassOf hub.entry.now result.0 }
-        { look_all(rt, hub, other, alloc, first) },
+            ensures { IsPassOf hub.entry.now result }
+        { look(rt, hub, other, 17, 1000) },
     );
     hub.join(&mut pass, other);
-    (pass, if is_well { made } else { None })
+    pass
+}
+
+#[test]
+fn two_threads_look_a_thousand_times_each(rt: HostRuntime) -> Result<(), Fail> {
+    let (hub, pass) = Hub::new(rt.alloc(), 1)?;
+    let mut pass = look_in_two(&rt, &hub, pass);
+    let missed = hub.find_join(&rt, &mut pass, 17);
+    assert_eq!(rt; missed, Err(FindRefusal::NoGroup(Absence::Directory(2000))));
+    Ok(())
 }

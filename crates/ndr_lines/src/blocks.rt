@@ -1,9 +1,10 @@
-//! Texts of blocks: an interface, a line `--`, and lines of cases of its first operation. Among these a
-//! line `asked HEX` has the request, in little-endian order, that the responses behind it answer. A
-//! block ends with a line `==`.
+//! Texts of stubs. A case is an interface, whose first line may be `# NAME`, a line `--`, and lines of stubs of its first
+//! operation. Among these a line `asked OCTETS` has the request, in little-endian order, that the responses behind it answer. A
+//! case ends with a line `==`.
 
-use crate::case::{Case, case_of, decoded};
-use base_words::{put, put_decimal, read_octets};
+use crate::case::{Case, case_of, decoded, octets_of_words};
+use base_words::put;
+use cases_base::{CasesFault, Told};
 use idl_check::check;
 use idl_reader::read_idl;
 use marshal_table::build;
@@ -13,133 +14,128 @@ use ndr_value::Message;
 use rpc_base::{NoMemory, Order};
 use std::alloc::Global;
 
-/// What was gone through so far.
-#[derive(Drop)]
-pub struct Blocks {
-    text: Vec<u8>,
-    is_text: bool,
-    table: Option<Table>,
-    asked: Option<Message>,
-    pub interfaces: u32,
-    pub stubs: u32,
-    /// How many of the stubs are in canonical form.
-    pub canonical: u32,
-    pub wrong: u32,
-    /// The lines that differ, each with what came in the place of what is wanted.
-    pub differences: Vec<u8>,
+/// What is told of a text of stubs: each stub is a case.
+pub fn stubs(alloc: Global, text: &str) -> Result<Told, CasesFault> {
+    let mut blocks = Blocks::new(alloc);
+    for line in text.lines() {
+        blocks.line(alloc, line)?;
+    }
+    Ok(blocks.told)
 }
 
+/// The table of an interface text, if it has one.
 pub fn table_of(alloc: Global, text: &[u8]) -> Option<Table> {
     let tree = read_idl(alloc, text).ok()?;
     let checked = check(alloc, &tree).ok()?;
     build(alloc, &checked).ok()
 }
 
+/// The present case, and what is told of those before it.
+#[derive(Drop)]
+struct Blocks {
+    name: String,
+    text: Vec<u8>,
+    is_text: bool,
+    table: Option<Table>,
+    asked: Option<Message>,
+    number: u64,
+    told: Told,
+}
+
 impl Blocks {
-    /// None yet.
-    pub fn new(alloc: Global) -> Blocks {
+    fn new(alloc: Global) -> Blocks {
         Blocks {
+            name: String::new(alloc),
             text: Vec::new(alloc),
             is_text: true,
             table: None,
             asked: None,
-            interfaces: 0,
-            stubs: 0,
-            canonical: 0,
-            wrong: 0,
-            differences: Vec::new(alloc),
+            number: 0,
+            told: Told::new(alloc),
         }
     }
 
-    fn differs(&mut self, alloc: Global, line: &[u8], answer: &[u8]) -> Result<(), NoMemory> {
-        self.wrong = self.wrong.saturating_add(1);
-        put(b"interface ", &mut self.differences)?;
-        put_decimal(alloc, u64::from(self.interfaces), &mut self.differences)?;
-        put(b": ", &mut self.differences)?;
-        put(line, &mut self.differences)?;
-        put(b" but ", &mut self.differences)?;
-        put(answer, &mut self.differences)?;
-        put(b"\n", &mut self.differences)
+    fn outside(&self) -> CasesFault {
+        CasesFault::Line(self.number)
     }
 
-    fn text_line(&mut self, alloc: Global, line: &[u8]) -> Result<(), NoMemory> {
-        if line != b"--".as_slice() {
-            put(line, &mut self.text)?;
-            return put(b"\n", &mut self.text);
+    fn text_line(&mut self, alloc: Global, line: &str) -> Result<(), CasesFault> {
+        if let Some(name) = line.strip_prefix("# ") {
+            self.name = String::from_str(alloc, name)?;
+            return Ok(());
+        }
+        if line != "--" {
+            put(line.as_bytes(), &mut self.text)?;
+            put(b"\n", &mut self.text)?;
+            return Ok(());
         }
         self.table = table_of(alloc, self.text.as_slice());
-        self.interfaces = self.interfaces.saturating_add(1);
         self.text.clear();
         self.is_text = false;
+        if self.table.is_none() {
+            return Err(self.outside());
+        }
         Ok(())
     }
 
-    fn end_block(&mut self) {
+    fn end_block(&mut self, alloc: Global) {
+        self.name = String::new(alloc);
         self.is_text = true;
         self.table = None;
         self.asked = None;
     }
 
     // The request that is answered.
-    fn asked_line(&mut self, alloc: Global, hex: &[u8], line: &[u8]) -> Result<(), NoMemory> {
-        let stub = read_octets(alloc, hex)?;
-        let message = match (&self.table, &stub) {
-            (Some(table), Some(stub)) => decoded(
-                alloc,
-                table,
-                Way::Request,
-                Order::Little,
-                None,
-                stub.as_slice(),
-            )
-            .ok(),
+    fn asked_line(&mut self, alloc: Global, words: &str) -> Result<(), CasesFault> {
+        let message = match (&self.table, octets_of_words(alloc, words)?) {
+            (Some(table), Some(stub)) => {
+                decoded(alloc, table, Way::Request, Order::Little, None, &stub).ok()
+            }
             _ => None,
         };
         if message.is_none() {
-            return self.differs(alloc, line, b"no request");
+            return Err(self.outside());
         }
         self.asked = message;
         Ok(())
     }
 
-    fn answer(&self, alloc: Global, case: &Case<'_>) -> Result<Vec<u8>, NoMemory> {
+    fn answer(&self, alloc: Global, case: &Case<'_>) -> Result<Option<Vec<u8>>, NoMemory> {
         match &self.table {
             Some(table) => case.answer(alloc, table, self.asked.as_ref()),
-            None => {
-                let mut answer = Vec::new(alloc);
-                put(b"no table", &mut answer)?;
-                Ok(answer)
-            }
+            None => Ok(None),
         }
     }
 
-    fn case_line(&mut self, alloc: Global, line: &[u8]) -> Result<(), NoMemory> {
+    fn case_line(&mut self, alloc: Global, line: &str) -> Result<(), CasesFault> {
         let Some(case) = case_of(line) else {
-            return self.differs(alloc, line, b"no case");
+            return Err(self.outside());
         };
-        self.stubs = self.stubs.saturating_add(1);
-        if case.is_canonical {
-            self.canonical = self.canonical.saturating_add(1);
+        let Some(answer) = self.answer(alloc, &case)? else {
+            return Err(self.outside());
+        };
+        self.told.count();
+        if answer.as_slice() != case.wanted.as_bytes() {
+            let name = self.name.as_str();
+            self.told
+                .differs(alloc, name, self.number, line, answer.as_slice())?;
         }
-        let answer = self.answer(alloc, &case)?;
-        if answer.as_slice() == case.wanted {
-            return Ok(());
-        }
-        self.differs(alloc, line, answer.as_slice())
+        Ok(())
     }
 
-    /// Goes through the next line.
-    pub fn line(&mut self, alloc: Global, line: &[u8]) -> Result<(), NoMemory> {
+    // Goes through the next line.
+    fn line(&mut self, alloc: Global, line: &str) -> Result<(), CasesFault> {
+        self.number = self.number.saturating_add(1);
         if self.is_text {
             return self.text_line(alloc, line);
         }
-        match line {
-            b"==" => {
-                self.end_block();
-                Ok(())
-            }
-            [b'a', b's', b'k', b'e', b'd', b' ', hex @ ..] => self.asked_line(alloc, hex, line),
-            _ => self.case_line(alloc, line),
+        if line == "==" {
+            self.end_block(alloc);
+            return Ok(());
+        }
+        match line.strip_prefix("asked ") {
+            Some(words) => self.asked_line(alloc, words),
+            None => self.case_line(alloc, line),
         }
     }
 }

@@ -3,61 +3,64 @@
 use crate::read::{has_plain_text, message_of};
 use crate::text::{put_fault, put_message};
 use crate::typed::are_typed;
-use base_words::{cut_at, put, read_octets};
+use base_words::put;
+use cases_base::{Names, octets_of};
 use ndr_codec::{NdrFault, Way, decode, encode, fits, in_range};
 use ndr_table::Table;
 use ndr_value::Message;
-use rpc_base::{NoMemory, Octets, Order};
+use rpc_base::{NoMemory, Order};
 use std::alloc::Global;
 
-/// A line `WAY ORDER HEX = TEXT`, with `==` in place of `=` where the octets are the canonical ones.
+/// A line `WAY ORDER OCTETS = TEXT`, with `==` in place of `=` where the octets are the canonical ones.
 #[derive(Clone, Copy)]
 pub struct Case<'a> {
     way: Way,
     order: Order,
-    hex: &'a [u8],
-    pub is_canonical: bool,
-    pub wanted: &'a [u8],
+    words: &'a str,
+    is_canonical: bool,
+    pub wanted: &'a str,
 }
 
-fn way_of(word: &[u8]) -> Option<Way> {
+fn way_of(word: &str) -> Option<Way> {
     match word {
-        b"request" => Some(Way::Request),
-        b"response" => Some(Way::Response),
+        "request" => Some(Way::Request),
+        "response" => Some(Way::Response),
         _ => None,
     }
 }
 
-fn order_of(word: &[u8]) -> Option<Order> {
+fn order_of(word: &str) -> Option<Order> {
     match word {
-        b"little" => Some(Order::Little),
-        b"big" => Some(Order::Big),
-        _ => None,
-    }
-}
-
-// Whether the octets are the canonical ones.
-fn says_canonical(sign: &[u8]) -> Option<bool> {
-    match sign {
-        b"=" => Some(false),
-        b"==" => Some(true),
+        "little" => Some(Order::Little),
+        "big" => Some(Order::Big),
         _ => None,
     }
 }
 
 /// The case of a line. None where it has another form.
-pub fn case_of(line: &[u8]) -> Option<Case<'_>> {
-    let (way, rest) = cut_at(b' ', line)?;
-    let (order, rest) = cut_at(b' ', rest)?;
-    let (hex, rest) = cut_at(b' ', rest)?;
-    let (sign, wanted) = cut_at(b' ', rest)?;
+pub fn case_of(line: &str) -> Option<Case<'_>> {
+    let (way, rest) = line.split_once(' ')?;
+    let (order, rest) = rest.split_once(' ')?;
+    let (words, rest) = rest.split_once(" =")?;
+    let (is_canonical, wanted) = match rest.strip_prefix("= ") {
+        Some(wanted) => (true, wanted),
+        None => (false, rest.strip_prefix(' ')?),
+    };
     Some(Case {
         way: way_of(way)?,
         order: order_of(order)?,
-        hex,
-        is_canonical: says_canonical(sign)?,
+        words,
+        is_canonical,
         wanted,
     })
+}
+
+/// The octets of words; `-` are none. None where they aren't octets.
+pub fn octets_of_words(alloc: Global, words: &str) -> Result<Option<Vec<u8>>, NoMemory> {
+    if words == "-" {
+        return Ok(Some(Vec::new(alloc)));
+    }
+    octets_of(alloc, &Names::new(alloc), words)
 }
 
 /// The message of the first operation that has a stub.
@@ -154,7 +157,7 @@ impl Case<'_> {
 
     // Whether the message that the wanted text is read as is written as those octets.
     fn is_read(&self, alloc: Global, table: &Table, asked: Option<&Message>, stub: &[u8]) -> bool {
-        match message_of(alloc, table, self.way, self.wanted) {
+        match message_of(alloc, table, self.way, self.wanted.as_bytes()) {
             None => false,
             Some(message) => match self.written(alloc, table, asked, &message) {
                 None => false,
@@ -169,15 +172,15 @@ impl Case<'_> {
         alloc: Global,
         table: &Table,
         asked: Option<&Message>,
-        stub: &Octets,
+        stub: &[u8],
         into: &mut Vec<u8>,
     ) -> Result<(), NoMemory> {
-        let message = match decoded(alloc, table, self.way, self.order, asked, stub.as_slice()) {
+        let message = match decoded(alloc, table, self.way, self.order, asked, stub) {
             Ok(message) => message,
             Err(fault) => return put_fault(fault, alloc, into),
         };
         put_message(&message, alloc, into)?;
-        self.put_written(alloc, table, asked, &message, stub.as_slice(), into)?;
+        self.put_written(alloc, table, asked, &message, stub, into)?;
         if !is_fit(alloc, table, self.way, asked, &message)? {
             put(b" of another operation", into)?;
         }
@@ -190,18 +193,18 @@ impl Case<'_> {
         Ok(())
     }
 
-    /// The text of what the stub is.
+    /// The text of what the stub is. None where the line has no octets.
     pub fn answer(
         &self,
         alloc: Global,
         table: &Table,
         asked: Option<&Message>,
-    ) -> Result<Vec<u8>, NoMemory> {
+    ) -> Result<Option<Vec<u8>>, NoMemory> {
+        let Some(stub) = octets_of_words(alloc, self.words)? else {
+            return Ok(None);
+        };
         let mut answer = Vec::new(alloc);
-        match read_octets(alloc, self.hex)? {
-            None => put(b"no octets", &mut answer)?,
-            Some(stub) => self.put_answer(alloc, table, asked, &stub, &mut answer)?,
-        }
-        Ok(answer)
+        self.put_answer(alloc, table, asked, &stub, &mut answer)?;
+        Ok(Some(answer))
     }
 }

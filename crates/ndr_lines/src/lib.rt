@@ -1,5 +1,5 @@
-//! Lines with stubs of interfaces: each is decoded, and what came is compared with what the line names. Its text is
-//! read too, where its octets are the canonical ones and it has no handles, and what comes is written.
+//! Stubs as cases. Lines have stubs of interfaces: each is decoded, and what came is compared with what the line names. Its text
+//! is read too, where its octets are the canonical ones and it has no handles, and what comes is written.
 #![tactic(auto)]
 
 mod blocks;
@@ -8,7 +8,7 @@ mod read;
 mod text;
 mod typed;
 
-pub use blocks::{Blocks, table_of};
+pub use blocks::{stubs, table_of};
 pub use case::{decoded, is_fit};
 pub use text::put_message;
 pub use typed::are_typed;

@@ -105,11 +105,11 @@ module _ (types : List Form) (order : Order) (octets : List ℕ) where
       ∙ ap (λ (c : Option Body). arm_scan c (up (in_place types (OfUnion t arms) p.at) (tag_size t)) (past p i) (go None)) b_is
       ∙ ap (λ (j : ℕ). arm_scan b j (past p i) (go None)) k
 
-  -- where its tag departs, so does the union
-  pub union_fails : (room : ℕ) (moved : Option ℕ) (go : Option ℕ → Form → Place → Scanned) (s t : Form) (arms : ArmForms) (p : Place) (e : ReadError) → s ≡ OfUnion t arms → Fails e (tag_at order octets t arms (in_place types s p.at))
-      → Fails e (scan_at types order octets room moved go s p)
-  union_fails room moved go s t arms p errors.Memory is h = tt
-  union_fails room moved go s t arms p (errors.Departs d) is h =
+  -- its tag departs
+  pub union_fails : (err : ReadError) (room : ℕ) (moved : Option ℕ) (go : Option ℕ → Form → Place → Scanned) (s t : Form) (arms : ArmForms) (p : Place) → s ≡ OfUnion t arms
+      → Fails err (tag_at order octets t arms (in_place types s p.at)) → Fails err (scan_at types order octets room moved go s p)
+  union_fails errors.Memory room moved go s t arms p is e = tt
+  union_fails (errors.Departs d) room moved go s t arms p is e =
+      let f : tag_at order octets t arms (in_place types (OfUnion t arms) p.at) ≡ Err d = subst (λ (u : Form). tag_at order octets t arms (in_place types u p.at) ≡ Err d) is e in
       ap (λ (u : Form). scan_at types order octets room moved go u p) is
-      ∙ ap (λ (r : Result (ℤ × ℕ) Departure). r >>= λ x. arm_scan (arm_of (OfUnion t arms) x.0) (up (in_place types (OfUnion t arms) p.at) (tag_size t)) (past p x.1) (go None))
-      (subst (λ (u : Form). tag_at order octets t arms (in_place types u p.at) ≡ Err d) is h)
+      ∙ ap (λ (r : Result (ℤ × ℕ) Departure). r >>= λ x. arm_scan (arm_of (OfUnion t arms) x.0) (up (in_place types (OfUnion t arms) p.at) (tag_size t)) (past p x.1) (go None)) f

@@ -1,9 +1,6 @@
 //! The program calls itself, over sockets of the loopback.
-use crate::called::PROBE;
-use crate::calls::{shelf_of, told, words_of};
-use crate::outcome::ran;
-use base_system::{SocketDial, SocketDoor};
-use rpc_base::{NoMemory, Numbers, VecSink};
+use crate::outcome::outcome;
+use rpc_base::NoMemory;
 use std::alloc::Global;
 use std::net::{Ipv4Addr, Net, TcpListener};
 use std::rt::Clock;
@@ -12,9 +9,16 @@ use std::test::*;
 use std::thread;
 use std::thread::Threads;
 use std::time::Duration;
-use test_rows::same;
 
-const SCRIPT: &[u8] = b"bind 1 new
+const PROBE: &str = "[uuid(5f0c7a12-3b4d-4e6f-8a90-b1c2d3e4f506), version(1.0)]
+interface probe {
+  typedef [context_handle] void *probe_h;
+  error_status_t probe_open([in] handle_t b, [in] unsigned long n, [out] probe_h *h);
+  error_status_t probe_close([in, out] probe_h *h);
+}
+";
+
+const SCRIPT: &str = "bind 1 new
 start 1 probe_open (5)
 wait 1
 start 1 probe_open (6)
@@ -26,7 +30,7 @@ wait 1
 close 1
 ";
 
-const CALLED: &[u8] = b"6 0
+const CALLED: &[u8] = b"6
 1 bound 1
 1 done ($h1, 0)
 1 done ($h2, 0)
@@ -35,7 +39,7 @@ const CALLED: &[u8] = b"6 0
 =>
 ";
 
-const SERVED: &[u8] = b"0 0
+const SERVED: &[u8] = b"0
 connection 1 closed
 stats 4 0 5 5
 =>
@@ -59,33 +63,14 @@ shut 2:0:6
 /// How often the caller looks for the server, 10 milliseconds apart.
 const MOST_LOOKS: u32 = 1_000;
 
-/// What comes of these words over sockets.
-fn outcome<R: Wait + Threads + Net + Send + Sync + Copy + 'static>(
-    rt: &R,
-    alloc: Global,
-    words: &str,
-) -> Result<Vec<u8>, NoMemory> {
-    let list = words_of(alloc, words)?;
-    let mut door = SocketDoor::new(rt, alloc);
-    let mut dial = SocketDial::new(rt, alloc);
-    let mut shelf = shelf_of(alloc, [PROBE, SCRIPT], 0)?;
-    let mut out = VecSink::new(alloc, Numbers::new(alloc));
-    let mut log = VecSink::new(alloc, Numbers::new(alloc));
-    let words = list.as_slice();
-    let status = ran(
-        rt, alloc, words, &mut shelf, &mut door, &mut dial, &mut out, &mut log,
-    );
-    told(alloc, status, 0, &out, &log)
-}
-
-/// The same once somebody listens.
+/// What comes of these words once somebody listens.
 fn outcome_once_heard<R: Wait + Threads + Net + Clock + Send + Sync + Copy + 'static>(
     rt: &R,
     alloc: Global,
     words: &str,
 ) -> Result<Vec<u8>, NoMemory> {
     for _ in 0..MOST_LOOKS {
-        let text = outcome(rt, alloc, words)?;
+        let text = outcome(rt, alloc, words, &[("i", PROBE), ("s", SCRIPT)])?;
         if !text.starts_with(b"7") {
             return Ok(text);
         }
@@ -104,10 +89,10 @@ fn the_program_calls_its_own_server(rt: HostRuntime) -> Result<(), Fail> {
     let call = format!(in alloc; "call 127.0.0.1:{port} i s")?;
     let (served, called) = thread::join(
         &rt,
-        || outcome(&rt, alloc, serve.as_str()),
+        || outcome(&rt, alloc, serve.as_str(), &[]),
         || outcome_once_heard(&rt, alloc, call.as_str()),
     );
-    same(called?.as_slice(), CALLED)?;
-    same(served?.as_slice(), SERVED)?;
+    assert_eq!(rt; called?.as_slice(), CALLED);
+    assert_eq!(rt; served?.as_slice(), SERVED);
     Ok(())
 }

@@ -1,6 +1,5 @@
 use Rattle.group_hub.specs.Passes.{IsPassOf}
-use Rattle.hub_play.specs.Members.{Sits}
 use Rattle.hub_tests.proofs.beside.call_beside.Given as goal
 
 abbrev pub invariant-loop : goal.invariant-loop
-invariant-loop g l = IsPassOf l.hub l.pass × Sits l.pass l.member
+invariant-loop g l = IsPassOf l.hub l.pass

@@ -1,6 +1,5 @@
 use Rattle.group_hub.specs.Passes.{IsPassOf}
-use Rattle.hub_play.specs.Members.{Sits}
 use Rattle.hub_tests.proofs.beside.was_once.Given as goal
 
 abbrev pub invariant-loop : goal.invariant-loop
-invariant-loop g l = IsPassOf l.hub l.pass × IsPassOf l.hub l.other × Sits l.other l.member
+invariant-loop g l = IsPassOf l.hub l.pass × IsPassOf l.hub l.other

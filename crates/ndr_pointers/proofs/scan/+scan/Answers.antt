@@ -85,9 +85,9 @@ scan_one-returns-in-Some-arm_for t c =
 
 pub scan_one-returns-in_err-number-in-Union : goal.scan_one-returns-in_err-number-in-Union
 scan_one-returns-in_err-number-in-Union t c =
-    let p = err_from_is_err_and c.from_residual-in_err-number-in-Union.result c.from_residual-in_err-number-in-Union.ensures.1 in
     let kind = c.deref-in-Union.result.now in
     let arms = c.deref-in-Union-2.result.now in
     let s : form c.args.shape.now ≡ OfUnion (form kind) (arms_of arms) = union_is c.args.shape.now _ _ kind arms c.in-Union.is c.deref-in-Union.ensures c.deref-in-Union-2.ensures.value in
-    rw (p.1, p.2) (union_fails (types_in c.args.reader.now) c.args.reader.now.order c.args.reader.now.octets.now c.args.room c.args.moved (scan (types_in c.args.reader.now) c.args.reader.now.order c.args.reader.now.octets.now c.args.fuel c.args.room)
-    (form c.args.shape.now) (form kind) (arms_of arms) (place c.args.at c.args.seen.now) c.in_err-number-in-Union.field-0.0 s c.in_err-number-in-Union.ensures.exact)
+    let p = err_from_is_err_and c.from_residual-in_err-number-in-Union.result c.from_residual-in_err-number-in-Union.ensures.1 in
+    rw (p.1, p.2) (union_fails (types_in c.args.reader.now) c.args.reader.now.order c.args.reader.now.octets.now c.in_err-number-in-Union.field-0.0 c.args.room c.args.moved
+    (scan (types_in c.args.reader.now) c.args.reader.now.order c.args.reader.now.octets.now c.args.fuel c.args.room) (form c.args.shape.now) (form kind) (arms_of arms) (place c.args.at c.args.seen.now) s c.in_err-number-in-Union.ensures.exact)

@@ -1,0 +1,121 @@
+//! Stories of interface texts: the lines of a text, and those of its canonical text or of its table.
+
+use crate::rows::declared;
+use crate::spelling::spelled;
+use crate::tables::put_table;
+use base_words::put;
+use cases_base::{CasesFault, Names, Plays, Step, Told, bare, first_word, played};
+use idl_forms::copy_tree;
+use idl_print::print_idl;
+use idl_reader::{IdlFault, read_idl};
+use rpc_base::NoMemory;
+use std::alloc::Global;
+
+/// What is told of stories of interface texts. A line `text` has the next line of the text, and `declare` declarations that stand
+/// in an interface of a UUID; `printed` has the next line of the canonical text that is wanted, and `table` that of the table. Each
+/// may stand between quotation marks. The canonical text is its own, and has the same table.
+pub fn interfaces(alloc: Global, text: &str) -> Result<Told, CasesFault> {
+    let mut story = Story {
+        text: Vec::new(alloc),
+        printed: Vec::new(alloc),
+        table: Vec::new(alloc),
+    };
+    played(alloc, &mut story, text)
+}
+
+/// A text, and the texts that are wanted of it; empty ones are of no interest.
+#[derive(Drop)]
+struct Story {
+    text: Vec<u8>,
+    printed: Vec<u8>,
+    table: Vec<u8>,
+}
+
+impl Plays for Story {
+    fn begin(&mut self, _alloc: Global, _name: &str) -> Result<(), NoMemory> {
+        self.text.clear();
+        self.printed.clear();
+        self.table.clear();
+        Ok(())
+    }
+
+    fn step(
+        &mut self,
+        alloc: Global,
+        _names: &Names,
+        line: &str,
+        _come: &mut Vec<u8>,
+    ) -> Result<Step, NoMemory> {
+        let (word, rest) = first_word(line);
+        let Some(spelled) = spelled(alloc, bare(rest))? else {
+            return Ok(Step::Outside);
+        };
+        let into = match word {
+            "text" => &mut self.text,
+            "printed" => &mut self.printed,
+            "table" => &mut self.table,
+            "declare" => {
+                self.text = declared(alloc, &spelled)?;
+                return Ok(Step::Held);
+            }
+            _ => return Ok(Step::Outside),
+        };
+        put(&spelled, into)?;
+        put(b"\n", into)?;
+        Ok(Step::Held)
+    }
+
+    fn end(&mut self, alloc: Global, _names: &Names, come: &mut Vec<u8>) -> Result<Step, NoMemory> {
+        let printed = printed(alloc, &self.text)?;
+        if !self.printed.is_empty() && printed.as_slice() != self.printed.as_slice() {
+            put(&printed, come)?;
+            return Ok(Step::Differs);
+        }
+        if !self.table.is_empty() {
+            put_table(alloc, &self.text, come)?;
+            if come.as_slice() != self.table.as_slice() {
+                return Ok(Step::Differs);
+            }
+        }
+        canonical_held(alloc, &printed, &self.table, come)
+    }
+}
+
+/// Whether a canonical text is that of itself, and has the table, where one is wanted.
+fn canonical_held(
+    alloc: Global,
+    text: &[u8],
+    table: &[u8],
+    come: &mut Vec<u8>,
+) -> Result<Step, NoMemory> {
+    let mut own = Vec::new(alloc);
+    put_table(alloc, text, &mut own)?;
+    if !table.is_empty() && own.as_slice() != table {
+        put(b"another table of the canonical text", come)?;
+        return Ok(Step::Differs);
+    }
+    if printed(alloc, text)?.as_slice() != text {
+        put(b"another canonical text of the canonical text", come)?;
+        return Ok(Step::Differs);
+    }
+    Ok(Step::Held)
+}
+
+/// The canonical text, printed behind what was there.
+fn printed(alloc: Global, text: &[u8]) -> Result<Vec<u8>, NoMemory> {
+    let mut printed = Vec::new(alloc);
+    let tree = match read_idl(alloc, text) {
+        Ok(tree) => tree,
+        Err(IdlFault::Memory) => return Err(NoMemory),
+        Err(fault) => {
+            put(format!(in alloc; "{fault}")?.as_bytes(), &mut printed)?;
+            return Ok(printed);
+        }
+    };
+    put(b"> ", &mut printed)?;
+    print_idl(alloc, &copy_tree(alloc, &tree)?, &mut printed)?;
+    match printed.strip_prefix(b"> ") {
+        Some(text) => Ok(Vec::from_slice(alloc, text)?),
+        None => Ok(printed),
+    }
+}

@@ -1,0 +1,48 @@
+//! Which connections are open.
+ghost use Rattle.std.specs.Prelude.{◌≡◌};
+ghost use Rattle.std.specs.List.{list_any};
+ghost use Rattle.handle_model.specs.Bases as bases;
+ghost use Rattle.handle_model.specs.History.{history_of};
+ghost use Rattle.handle_model.specs.Journal as spec;
+
+use group_core::Group;
+use handle_model::{Base, Entry, Home};
+
+fn any_joins(entries: &[Entry], conn: u32) -> bool
+    ensures { result ≡ list_any (spec.joins conn) entries.now }
+{
+    entries.iter().any(|entry| entry.joins(conn))
+}
+
+fn any_leaves(entries: &[Entry], conn: u32) -> bool
+    ensures { result ≡ list_any (spec.leaves conn) entries.now }
+{
+    entries.iter().any(|entry| entry.leaves(conn))
+}
+
+fn any_number(numbers: &[u32], number: u32) -> bool
+    ensures { result ≡ list_any (bases.is_number number) numbers.now }
+{
+    numbers.iter().any(|n| *n == number)
+}
+
+fn has_conn(base: &Base, conn: u32) -> bool
+    ensures { result ≡ bases.has_conn base.now conn }
+{
+    any_number(base.conns.as_slice(), conn)
+}
+
+#[tactic(auto, using(handle_model::proofs::Sets::reversed))]
+fn is_open_in(home: Home, base: &Base, entries: &[Entry], conn: u32) -> bool
+    ensures { result ≡ spec.is_open (history_of home base.now entries.now) conn }
+{
+    (any_joins(entries, conn) || has_conn(base, conn)) && !any_leaves(entries, conn)
+}
+
+/// Whether the connection joined and did not leave.
+pub fn is_open(group: &Group, conn: u32) -> bool
+    ensures { result ≡ spec.is_open group.now conn }
+{
+    let journal = group.journal();
+    is_open_in(group.home(), journal.base(), journal.as_slice(), conn)
+}

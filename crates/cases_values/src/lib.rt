@@ -1,0 +1,9 @@
+//! Values as cases: which text of a value a shape has, and which values are of a shape. A shape is written as the parameters of
+//! an operation, of which the last has it.
+#![tactic(auto)]
+
+mod rows;
+mod shapes;
+mod values;
+
+pub use rows::values;

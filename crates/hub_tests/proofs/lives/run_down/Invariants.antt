@@ -1,0 +1,5 @@
+use Rattle.std.proofs.Common.{length}
+use Rattle.hub_tests.proofs.lives.run_down.Given as goal
+
+abbrev pub decreases-loop-due : goal.decreases-loop-due
+decreases-loop-due l = length l.list

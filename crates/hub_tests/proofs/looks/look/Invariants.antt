@@ -1,0 +1,5 @@
+use Rattle.group_hub.specs.Passes.{IsPassOf}
+use Rattle.hub_tests.proofs.looks.look.Given as goal
+
+abbrev pub invariant-loop : goal.invariant-loop
+invariant-loop g l = IsPassOf l.hub l.pass

@@ -1,7 +1,0 @@
-use Rattle.std.proofs.Common.{◌≤◌}
-use Rattle.group_hub.specs.Passes.{IsPassOf}
-use Rattle.hub_play.specs.Members.{Sits}
-use Rattle.hub_tests.proofs.shared.roll_on.Given as goal
-
-abbrev pub invariant-loop : goal.invariant-loop
-invariant-loop g l = IsPassOf l.hub l.pass × (1 ≤ l.member.group) × Sits l.pass l.member

@@ -1,4 +1,0 @@
-//! Interface texts and their marshalling tables.
-
-mod tests;
-mod text;

@@ -1,4 +1,0 @@
-use Rattle.wire_tests.proofs.pdus.written.Goals as goal
-
-pub write_pdu-requires : goal.write_pdu-requires
-write_pdu-requires c = c.spelled_is_writable.ensures c.in_ok-pdu.pdu c.args.octets.now c.in_ok-pdu.ensures.found
