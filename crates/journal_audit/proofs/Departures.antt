@@ -12,7 +12,7 @@ use Rattle.journal_reader.specs.Lines.{BeginsWithCall}
 use Rattle.journal_audit.specs.Files.{Journal, head_of, HasBase, HeadDeparts, CallDeparts, UnheldDeparts, BaseDeparts, JournalDeparts, HasJournal, HasJournals, DepartsAt, journal_size, sizes}
 use Rattle.journal_audit.proofs.Lines.{group_first, base_first, call_first}
 use Rattle.journal_audit.proofs.SoFar.{with_calls}
-use Rattle.journal_audit.proofs.Journals.{Fronts, calls_front, begins, heads_same, has_same, more_sound, next_sound, journal_first, journal_departs}
+use Rattle.journal_audit.proofs.TextJournals.{Fronts, calls_front, begins, heads_same, has_same, more_sound, next_sound, journal_first, journal_departs}
 
 -- CALLS
 

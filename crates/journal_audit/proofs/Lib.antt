@@ -1,7 +1,6 @@
 pub mod Conflicts
 pub mod Departures
 pub mod Items
-pub mod Journals
 pub mod Keeps
 pub mod Lines
 pub mod Lookups
@@ -11,4 +10,5 @@ pub mod Seen
 pub mod Sets
 pub mod SoFar
 pub mod Sounds
+pub mod TextJournals
 pub mod VerdictLaws

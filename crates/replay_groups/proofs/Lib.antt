@@ -1,6 +1,6 @@
 pub mod Asking
 pub mod Behind
-pub mod Binding
+pub mod BindLaws
 pub mod Determined
 pub mod Down
 pub mod Ending

@@ -8,7 +8,7 @@ use Rattle.journal_audit.specs.Verdicts.{Tells}
 use Rattle.journal_audit.specs.declared.verdict.GroupVerdict.{GroupVerdict}
 use Rattle.journal_audit.specs.Files.{Journal, DepartsAt}
 use Rattle.journal_audit.specs.Told.{Audited, TellsAll}
-use Rattle.journal_audit.proofs.Journals.{one_reading, neither_both}
+use Rattle.journal_audit.proofs.TextJournals.{one_reading, neither_both}
 use Rattle.journal_audit.proofs.VerdictLaws.{good_is_legal}
 use Rattle.rpc_app.specs.Audits.{is_legal, is_good, IsGood, AreGood, IsAudited, HasBreach, DepartsAtJournalLine, verdict_lines, journal_refusal}
 use Rattle.rpc_app.specs.Commands.{RefusesJournals}

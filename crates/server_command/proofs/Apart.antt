@@ -31,7 +31,7 @@ use Rattle.server_rounds.specs.Served.{IsSettled, finished_of}
 use Rattle.server_rounds.specs.Rounds.{IsRound, passes}
 use Rattle.server_rounds.specs.Endings.{HasConn}
 use Rattle.server_command.specs.Groups.{AreApart}
-use Rattle.server_command.proofs.Journals.{any_kept}
+use Rattle.server_command.proofs.PrintedJournals.{any_kept}
 use Rattle.server_command.proofs.Groups.{low_shard, sound_in}
 use Rattle.server_command.proofs.Leaves.{story_leaves, left_once, OwnPlace, own_place}
 

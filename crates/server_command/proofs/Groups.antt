@@ -29,7 +29,7 @@ use Rattle.server_rounds.specs.Endings.{HasConn, IsThere}
 use Rattle.server_rounds.proofs.Groups.{groups_end}
 use Rattle.server_command.specs.Logs.{Copy, IsCopy, front_at}
 use Rattle.server_command.specs.Groups.{printed_past, EndsWithShut, EndsIfOurs}
-use Rattle.server_command.proofs.Journals.{there, any_kept, shut_ends}
+use Rattle.server_command.proofs.PrintedJournals.{there, any_kept, shut_ends}
 use Rattle.server_command.proofs.Names.{same_number, named}
 
 pub low_shard : (g : ℕ) → shard_of g < 16

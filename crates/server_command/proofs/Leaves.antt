@@ -24,7 +24,7 @@ use Rattle.conn_histories.specs.declared.turn.Turn.{Turn}
 use Rattle.conn_histories.specs.declared.turn.Turn.TheVariants.{Called}
 use Rattle.conn_histories.specs.Entries.{asked_as, fate_entries, deed_entries, all_entries, has_left, deed_left, turn_left, story_entries}
 use Rattle.conn_histories.specs.Tales.{whole}
-use Rattle.server_command.proofs.Journals.{there}
+use Rattle.server_command.proofs.PrintedJournals.{there}
 use Rattle.server_command.proofs.Names.{same_number}
 
 -- ---- in what a connection that is gone entered

@@ -7,13 +7,13 @@ pub mod Doors
 pub mod Folding
 pub mod Groups
 pub mod Ids
-pub mod Journals
 pub mod Lasting
 pub mod Leaves
 pub mod Limits
 pub mod Lists
 pub mod Logged
 pub mod Names
+pub mod PrintedJournals
 pub mod Rounds
 pub mod Statuses
 pub mod Staying

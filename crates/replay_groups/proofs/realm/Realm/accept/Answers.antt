@@ -4,7 +4,7 @@ use Rattle.handle_model.specs.Journal.{is_open, slots}
 use Rattle.replay_world.specs.Worlds.{journal}
 use Rattle.group_core.specs.Calls.{Accepts}
 use Rattle.replay_groups.specs.Keeps.{Answers, whole_of, past_at}
-use Rattle.replay_groups.proofs.Binding.{kept}
+use Rattle.replay_groups.proofs.BindLaws.{kept}
 use Rattle.replay_groups.proofs.Requesting.{has_now, waits_now, accepted, limited_as}
 use Rattle.replay_groups.proofs.realm.Realm.accept.Goals as goal
 

@@ -1,6 +1,6 @@
 use Rattle.std.proofs.Common.{refl}
 use Rattle.std.specs.Prelude.{⊤}
-use Rattle.replay_groups.proofs.Binding.{kept, bound}
+use Rattle.replay_groups.proofs.BindLaws.{kept, bound}
 use Rattle.replay_groups.proofs.realm.Realm.bind.Goals as goal
 
 pub bind-requires : goal.bind-requires

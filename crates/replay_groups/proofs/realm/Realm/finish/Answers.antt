@@ -8,7 +8,7 @@ use Rattle.manager_api.specs.Served.{tables_in}
 use Rattle.desk_service.specs.Views.{services}
 use Rattle.replay_groups.specs.Ends.{EndsIn}
 use Rattle.replay_groups.specs.Holding.{Moves}
-use Rattle.replay_groups.proofs.Binding.{kept}
+use Rattle.replay_groups.proofs.BindLaws.{kept}
 use Rattle.replay_groups.proofs.Ending.{IsOf, ended}
 use Rattle.replay_groups.proofs.realm.Realm.finish.Goals as goal
 

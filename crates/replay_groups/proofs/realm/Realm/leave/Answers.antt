@@ -2,7 +2,7 @@ use Rattle.std.proofs.Common.{◌≡◌, true, refl}
 use Rattle.handle_model.specs.Journal.{is_open}
 use Rattle.handle_model.specs.declared.entry.Entry.TheVariants.{Leave}
 use Rattle.replay_world.specs.Worlds.{journal}
-use Rattle.replay_groups.proofs.Binding.{kept}
+use Rattle.replay_groups.proofs.BindLaws.{kept}
 use Rattle.replay_groups.proofs.Moving.{known_groups, settles}
 use Rattle.replay_groups.proofs.realm.Realm.leave.Goals as goal
 

@@ -1,7 +1,7 @@
 use Rattle.std.proofs.Common.{refl}
 use Rattle.std.specs.Prelude.{⊤}
 use Rattle.group_core.specs.Calls.{Takes}
-use Rattle.replay_groups.proofs.Binding.{kept}
+use Rattle.replay_groups.proofs.BindLaws.{kept}
 use Rattle.replay_groups.proofs.Moving.{goes}
 use Rattle.replay_groups.proofs.realm.Realm.take.Goals as goal
 
