@@ -221,10 +221,11 @@ impl Plays for Caller {
             return Ok(Step::Outside);
         };
         let (given, wanted) = (given.trim(), wanted.trim());
-        match first_word(given) {
-            ("hear", words) => self.hear(alloc, names, words, come)?,
-            ("is", _) => self.put_state(come)?,
-            ("lost", _) => self.put_lost(come)?,
+        let (word, words) = first_word(given);
+        match word {
+            "hear" => self.hear(alloc, names, words, come)?,
+            "is" => self.put_state(come)?,
+            "lost" => self.put_lost(come)?,
             _ => return self.put_begun(alloc, names, given, wanted, come),
         }
         Ok(held(wanted, come))

@@ -31,6 +31,11 @@ struct Story {
     table: Vec<u8>,
 }
 
+fn put_line(line: &[u8], into: &mut Vec<u8>) -> Result<(), NoMemory> {
+    put(line, into)?;
+    put(b"\n", into)
+}
+
 impl Plays for Story {
     fn begin(&mut self, _alloc: Global, _name: &str) -> Result<(), NoMemory> {
         self.text.clear();
@@ -50,18 +55,13 @@ impl Plays for Story {
         let Some(spelled) = spelled(alloc, bare(rest))? else {
             return Ok(Step::Outside);
         };
-        let into = match word {
-            "text" => &mut self.text,
-            "printed" => &mut self.printed,
-            "table" => &mut self.table,
-            "declare" => {
-                self.text = declared(alloc, &spelled)?;
-                return Ok(Step::Held);
-            }
+        match word {
+            "text" => put_line(&spelled, &mut self.text)?,
+            "printed" => put_line(&spelled, &mut self.printed)?,
+            "table" => put_line(&spelled, &mut self.table)?,
+            "declare" => self.text = declared(alloc, &spelled)?,
             _ => return Ok(Step::Outside),
-        };
-        put(&spelled, into)?;
-        put(b"\n", into)?;
+        }
         Ok(Step::Held)
     }
 

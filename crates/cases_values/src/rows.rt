@@ -87,10 +87,10 @@ fn put_value(
             }
             let mut printed = Vec::new(alloc);
             print_value(alloc, &value, &mut printed)?;
-            if !text.split_at(at.min(text.len())).1.starts_with(&printed) {
-                put(b" of another text", into)?;
+            match text.get(at..) {
+                Some(rest) if rest.starts_with(printed.as_slice()) => Ok(()),
+                _ => put(b" of another text", into),
             }
-            Ok(())
         }
     }
 }
