@@ -1,6 +1,6 @@
 //! Stories of call scripts over links in memory.
 
-ghost use Rattle.std.specs.Prelude.{◌≡◌, true, IfOk};
+ghost use Rattle.std.specs.Prelude.{◌≡◌, true};
 ghost use Rattle.rpc_outside.specs.LinkLists.{is_new};
 
 use base_words::{put, put_decimal, put_hex};
