@@ -112,10 +112,12 @@ fn printed(alloc: Global, text: &[u8]) -> Result<Vec<u8>, NoMemory> {
             return Ok(printed);
         }
     };
-    put(b"> ", &mut printed)?;
-    print_idl(alloc, &copy_tree(alloc, &tree)?, &mut printed)?;
-    match printed.strip_prefix(b"> ") {
-        Some(text) => Ok(Vec::from_slice(alloc, text)?),
-        None => Ok(printed),
+    let mut behind = Vec::new(alloc);
+    put(b"> ", &mut behind)?;
+    print_idl(alloc, &copy_tree(alloc, &tree)?, &mut behind)?;
+    match behind.strip_prefix(b"> ") {
+        Some(text) => put(text, &mut printed)?,
+        None => put(b"what was there is no more", &mut printed)?,
     }
+    Ok(printed)
 }

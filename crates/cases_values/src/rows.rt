@@ -114,7 +114,10 @@ fn put_read_from(
     into: &mut Vec<u8>,
 ) -> Result<bool, NoMemory> {
     let (index, words) = first_word(words);
-    let (Some(index), Some(shaped)) = (read_u32(index.as_bytes()), shape_of(alloc, words)?) else {
+    let Some(index) = read_u32(index.as_bytes()) else {
+        return Ok(false);
+    };
+    let Some(shaped) = shape_of(alloc, words)? else {
         return Ok(false);
     };
     match read_value(alloc, &shaped.types, &shaped.shape, text, index as usize) {
@@ -143,7 +146,10 @@ fn put_is(alloc: Global, words: &str, text: &[u8], into: &mut Vec<u8>) -> Result
     let Some((own, other)) = words.split_once("::") else {
         return Ok(false);
     };
-    let (Some(shaped), Some(value)) = (shape_of(alloc, own)?, value_of(alloc, other, text)?) else {
+    let Some(shaped) = shape_of(alloc, own)? else {
+        return Ok(false);
+    };
+    let Some(value) = value_of(alloc, other, text)? else {
         return Ok(false);
     };
     let mut heap = Vec::new(alloc);

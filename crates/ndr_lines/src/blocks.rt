@@ -87,11 +87,12 @@ impl Blocks {
 
     // The request that is answered.
     fn asked_line(&mut self, alloc: Global, words: &str) -> Result<(), CasesFault> {
-        let message = match (&self.table, octets_of_words(alloc, words)?) {
-            (Some(table), Some(stub)) => {
-                decoded(alloc, table, Way::Request, Order::Little, None, &stub).ok()
-            }
-            _ => None,
+        let Some(stub) = octets_of_words(alloc, words)? else {
+            return Err(self.outside());
+        };
+        let message = match &self.table {
+            Some(table) => decoded(alloc, table, Way::Request, Order::Little, None, &stub).ok(),
+            None => None,
         };
         if message.is_none() {
             return Err(self.outside());
