@@ -19,17 +19,23 @@ pub fn apart(alloc: Global, octets: &Octets) -> Result<Value, NoMemory> {
 }
 
 fn all_apart(alloc: Global, message: Message) -> Result<Message, NoMemory> {
+    let Message {
+        values: whole,
+        heap,
+        wires,
+    } = message;
     let mut values = Values::new(alloc);
-    for value in message.values {
-        values.push(match value {
+    for value in whole {
+        let value = match value {
             Value::Octets(octets) => apart(alloc, &octets)?,
             other => other,
-        })?;
+        };
+        values.push(value)?;
     }
     Ok(Message {
         values,
-        heap: message.heap,
-        wires: message.wires,
+        heap,
+        wires,
     })
 }
 
