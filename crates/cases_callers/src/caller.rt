@@ -179,28 +179,31 @@ impl Caller {
         come: &mut Vec<u8>,
     ) -> Result<Step, NoMemory> {
         let (word, rest) = first_word(given);
-        match self.begun(alloc, names, word, rest)? {
-            None => put(b"may not", come)?,
-            Some(octets) if word == "put" => put_fragments(alloc, octets.as_slice(), come)?,
-            Some(octets) => {
-                put_hex(alloc, octets.as_slice(), come)?;
-                return Ok(match octets_of(alloc, names, wanted)? {
-                    Some(wanted) if wanted.as_slice() == octets.as_slice() => Step::Held,
-                    Some(_) => Step::Differs,
-                    None => Step::Outside,
-                });
-            }
+        let Some(octets) = self.begun(alloc, names, word, rest)? else {
+            put(b"may not", come)?;
+            return Ok(held(wanted, come.as_slice()));
+        };
+        if word == "put" {
+            put_fragments(alloc, octets.as_slice(), come)?;
+            return Ok(held(wanted, come.as_slice()));
         }
-        Ok(held(wanted, come))
+        put_hex(alloc, octets.as_slice(), come)?;
+        match octets_of(alloc, names, wanted)? {
+            Some(wanted) => Ok(step_of(wanted.as_slice() == octets.as_slice())),
+            None => Ok(Step::Outside),
+        }
     }
 }
 
 /// Whether what came is what is wanted.
 fn held(wanted: &str, come: &[u8]) -> Step {
-    if wanted.as_bytes() == come {
-        Step::Held
-    } else {
-        Step::Differs
+    step_of(wanted.as_bytes() == come)
+}
+
+fn step_of(held: bool) -> Step {
+    match held {
+        true => Step::Held,
+        false => Step::Differs,
     }
 }
 
@@ -221,13 +224,14 @@ impl Plays for Caller {
             return Ok(Step::Outside);
         };
         let (given, wanted) = (given.trim(), wanted.trim());
-        match first_word(given) {
-            ("hear", words) => self.hear(alloc, names, words, come)?,
-            ("is", _) => self.put_state(come)?,
-            ("lost", _) => self.put_lost(come)?,
+        let (word, words) = first_word(given);
+        match word {
+            "hear" => self.hear(alloc, names, words, come)?,
+            "is" => self.put_state(come)?,
+            "lost" => self.put_lost(come)?,
             _ => return self.put_begun(alloc, names, given, wanted, come),
         }
-        Ok(held(wanted, come))
+        Ok(held(wanted, come.as_slice()))
     }
 
     fn end(

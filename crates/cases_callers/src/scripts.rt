@@ -1,6 +1,6 @@
 //! Stories of call scripts over links in memory.
 
-ghost use Rattle.std.specs.Prelude.{◌≡◌, true, IfOk};
+ghost use Rattle.std.specs.Prelude.{◌≡◌, true};
 ghost use Rattle.rpc_outside.specs.LinkLists.{is_new};
 
 use base_words::{put, put_decimal, put_hex};
@@ -118,13 +118,30 @@ fn put_end(alloc: Global, end: CallEnd, into: &mut Vec<u8>) -> Result<(), NoMemo
 }
 
 impl Script {
-    // The dial with the links of the script; those that aren't told end at once.
+    // The steps of the link at that place; one that isn't told ends at once.
+    fn link(&self, at: usize) -> &str {
+        match self.links.get(at) {
+            Some(link) => link.as_str(),
+            None => "end",
+        }
+    }
+
+    // The dial with the links of the script.
     fn dial(&self, alloc: Global, names: &Names) -> Result<Option<ScriptDial>, NoMemory> {
-        let one = self.links.first().map_or("end", |link| link.as_str());
-        let other = self.links.get(1).map_or("end", |link| link.as_str());
-        match (steps_of(alloc, names, one)?, steps_of(alloc, names, other)?) {
-            (Some(one), Some(other)) => Ok(Some(dial_of(alloc, one, other)?)),
-            _ => Ok(None),
+        let Some(one) = steps_of(alloc, names, self.link(0))? else {
+            return Ok(None);
+        };
+        let Some(other) = steps_of(alloc, names, self.link(1))? else {
+            return Ok(None);
+        };
+        Ok(Some(dial_of(alloc, one, other)?))
+    }
+
+    // Whether these octets are wanted on the link that was given back at that place.
+    fn wants_put(&self, at: usize, written: &[u8]) -> bool {
+        match self.put.get(at) {
+            Some(wanted) => wanted.as_slice() == written,
+            None => false,
         }
     }
 
@@ -139,13 +156,10 @@ impl Script {
         let mut is_right = links.len() == self.put.len();
         for at in 0..links.len() {
             if let Some(link) = links.get(at) {
+                let written = link.written().as_slice();
                 put(b"\nput ", into)?;
-                put_hex(alloc, link.written().as_slice(), into)?;
-                is_right = is_right
-                    && self
-                        .put
-                        .get(at)
-                        .is_some_and(|wanted| wanted.as_slice() == link.written().as_slice());
+                put_hex(alloc, written, into)?;
+                is_right = is_right && self.wants_put(at, written);
             }
         }
         Ok(is_right)

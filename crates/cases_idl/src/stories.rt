@@ -31,6 +31,11 @@ struct Story {
     table: Vec<u8>,
 }
 
+fn put_line(line: &[u8], into: &mut Vec<u8>) -> Result<(), NoMemory> {
+    put(line, into)?;
+    put(b"\n", into)
+}
+
 impl Plays for Story {
     fn begin(&mut self, _alloc: Global, _name: &str) -> Result<(), NoMemory> {
         self.text.clear();
@@ -50,18 +55,13 @@ impl Plays for Story {
         let Some(spelled) = spelled(alloc, bare(rest))? else {
             return Ok(Step::Outside);
         };
-        let into = match word {
-            "text" => &mut self.text,
-            "printed" => &mut self.printed,
-            "table" => &mut self.table,
-            "declare" => {
-                self.text = declared(alloc, &spelled)?;
-                return Ok(Step::Held);
-            }
+        match word {
+            "text" => put_line(&spelled, &mut self.text)?,
+            "printed" => put_line(&spelled, &mut self.printed)?,
+            "table" => put_line(&spelled, &mut self.table)?,
+            "declare" => self.text = declared(alloc, &spelled)?,
             _ => return Ok(Step::Outside),
-        };
-        put(&spelled, into)?;
-        put(b"\n", into)?;
+        }
         Ok(Step::Held)
     }
 
@@ -112,10 +112,12 @@ fn printed(alloc: Global, text: &[u8]) -> Result<Vec<u8>, NoMemory> {
             return Ok(printed);
         }
     };
-    put(b"> ", &mut printed)?;
-    print_idl(alloc, &copy_tree(alloc, &tree)?, &mut printed)?;
-    match printed.strip_prefix(b"> ") {
-        Some(text) => Ok(Vec::from_slice(alloc, text)?),
-        None => Ok(printed),
+    let mut behind = Vec::new(alloc);
+    put(b"> ", &mut behind)?;
+    print_idl(alloc, &copy_tree(alloc, &tree)?, &mut behind)?;
+    match behind.strip_prefix(b"> ") {
+        Some(text) => put(text, &mut printed)?,
+        None => put(b"what was there is no more", &mut printed)?,
     }
+    Ok(printed)
 }

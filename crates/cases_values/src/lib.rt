@@ -4,6 +4,6 @@
 
 mod rows;
 mod shapes;
-mod values;
+mod texts;
 
 pub use rows::values;

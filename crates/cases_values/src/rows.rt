@@ -1,7 +1,7 @@
 //! Rows of values, `NAME | WORD .. | WANTED`.
 
 use crate::shapes::{Shaped, shape_of};
-use crate::values::value_of;
+use crate::texts::value_of;
 use base_words::{put, put_decimal, read_u32};
 use cases_base::{Answers, CasesFault, Names, Told, answered, first_word, put_debug};
 use cases_idl::spelled;
@@ -11,9 +11,9 @@ use std::alloc::Global;
 use value_text::{TextFault, print_value, read_value};
 
 /// What is told of rows of values, whose texts are spelled on one line. `value SHAPE :: TEXT` is read, and wants the value or the
-/// fault; `from INDEX SHAPE :: TEXT` is read from that index on; `print SHAPE :: TEXT` wants the text of the value. `is SHAPE ::
-/// OTHER SHAPE :: TEXT` wants `yes` where the value that the text has by the other shape is of the shape, where the heap has one
-/// byte, and else `no`.
+/// fault; `from INDEX SHAPE :: TEXT` is read from that index on; `print SHAPE :: TEXT` wants `same` where the value has that very
+/// text. `is SHAPE :: OTHER SHAPE :: TEXT` wants `yes` where the value that the text has by the other shape is of the shape, where
+/// the heap has one byte, and else `no`.
 pub fn values(alloc: Global, text: &str) -> Result<Told, CasesFault> {
     answered(alloc, &mut Rows, text)
 }
@@ -87,10 +87,10 @@ fn put_value(
             }
             let mut printed = Vec::new(alloc);
             print_value(alloc, &value, &mut printed)?;
-            if !text.split_at(at.min(text.len())).1.starts_with(&printed) {
-                put(b" of another text", into)?;
+            match text.get(at..) {
+                Some(rest) if rest.starts_with(printed.as_slice()) => Ok(()),
+                _ => put(b" of another text", into),
             }
-            Ok(())
         }
     }
 }
@@ -114,7 +114,10 @@ fn put_read_from(
     into: &mut Vec<u8>,
 ) -> Result<bool, NoMemory> {
     let (index, words) = first_word(words);
-    let (Some(index), Some(shaped)) = (read_u32(index.as_bytes()), shape_of(alloc, words)?) else {
+    let Some(index) = read_u32(index.as_bytes()) else {
+        return Ok(false);
+    };
+    let Some(shaped) = shape_of(alloc, words)? else {
         return Ok(false);
     };
     match read_value(alloc, &shaped.types, &shaped.shape, text, index as usize) {
@@ -130,20 +133,27 @@ fn put_printed(
     text: &[u8],
     into: &mut Vec<u8>,
 ) -> Result<bool, NoMemory> {
-    match value_of(alloc, words, text)? {
-        None => Ok(false),
-        Some(value) => {
-            print_value(alloc, &value, into)?;
-            Ok(true)
-        }
+    let Some(value) = value_of(alloc, words, text)? else {
+        return Ok(false);
+    };
+    let mut printed = Vec::new(alloc);
+    print_value(alloc, &value, &mut printed)?;
+    if printed.as_slice() == text {
+        put(b"same", into)?;
+    } else {
+        put(&printed, into)?;
     }
+    Ok(true)
 }
 
 fn put_is(alloc: Global, words: &str, text: &[u8], into: &mut Vec<u8>) -> Result<bool, NoMemory> {
     let Some((own, other)) = words.split_once("::") else {
         return Ok(false);
     };
-    let (Some(shaped), Some(value)) = (shape_of(alloc, own)?, value_of(alloc, other, text)?) else {
+    let Some(shaped) = shape_of(alloc, own)? else {
+        return Ok(false);
+    };
+    let Some(value) = value_of(alloc, other, text)? else {
         return Ok(false);
     };
     let mut heap = Vec::new(alloc);

@@ -24,7 +24,10 @@ pub fn shape_of(alloc: Global, words: &str) -> Result<Option<Shaped>, NoMemory> 
     let Some(table) = table_of(alloc, text.as_bytes()) else {
         return Ok(None);
     };
-    let Some(param) = table.op(0).and_then(|op| op.params.last()) else {
+    let Some(op) = table.op(0) else {
+        return Ok(None);
+    };
+    let Some(param) = op.params.last() else {
         return Ok(None);
     };
     Ok(Some(Shaped {

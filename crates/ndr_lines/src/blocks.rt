@@ -1,8 +1,9 @@
 //! Texts of stubs. A case is an interface, whose first line may be `# NAME`, a line `--`, and lines of stubs of its first
-//! operation. Among these a line `asked OCTETS` has the request, in little-endian order, that the responses behind it answer. A
-//! case ends with a line `==`.
+//! operation. Among these a line `asked OCTETS` has the request, in little-endian order, that the responses behind it answer, and
+//! `fits TEXT = ANSWER` says whether the request of that text is of the operation. A case ends with a line `==`.
 
 use crate::case::{Case, case_of, decoded, octets_of_words};
+use crate::fit::put_fit;
 use base_words::put;
 use cases_base::{CasesFault, Told};
 use idl_check::check;
@@ -87,11 +88,12 @@ impl Blocks {
 
     // The request that is answered.
     fn asked_line(&mut self, alloc: Global, words: &str) -> Result<(), CasesFault> {
-        let message = match (&self.table, octets_of_words(alloc, words)?) {
-            (Some(table), Some(stub)) => {
-                decoded(alloc, table, Way::Request, Order::Little, None, &stub).ok()
-            }
-            _ => None,
+        let Some(stub) = octets_of_words(alloc, words)? else {
+            return Err(self.outside());
+        };
+        let message = match &self.table {
+            Some(table) => decoded(alloc, table, Way::Request, Order::Little, None, &stub).ok(),
+            None => None,
         };
         if message.is_none() {
             return Err(self.outside());
@@ -107,6 +109,22 @@ impl Blocks {
         }
     }
 
+    // Tells of a line that came to this.
+    fn compare(
+        &mut self,
+        alloc: Global,
+        line: &str,
+        wanted: &str,
+        come: &[u8],
+    ) -> Result<(), NoMemory> {
+        self.told.count();
+        if come == wanted.as_bytes() {
+            return Ok(());
+        }
+        let (name, number) = (self.name.as_str(), self.number);
+        self.told.differs(alloc, name, number, line, come)
+    }
+
     fn case_line(&mut self, alloc: Global, line: &str) -> Result<(), CasesFault> {
         let Some(case) = case_of(line) else {
             return Err(self.outside());
@@ -114,12 +132,23 @@ impl Blocks {
         let Some(answer) = self.answer(alloc, &case)? else {
             return Err(self.outside());
         };
-        self.told.count();
-        if answer.as_slice() != case.wanted.as_bytes() {
-            let name = self.name.as_str();
-            self.told
-                .differs(alloc, name, self.number, line, answer.as_slice())?;
+        self.compare(alloc, line, case.wanted, &answer)?;
+        Ok(())
+    }
+
+    fn fit_line(&mut self, alloc: Global, line: &str) -> Result<(), CasesFault> {
+        let Some((text, wanted)) = line.rsplit_once(" = ") else {
+            return Err(self.outside());
+        };
+        let mut come = Vec::new(alloc);
+        let is_text = match &self.table {
+            Some(table) => put_fit(alloc, table, text, &mut come)?,
+            None => false,
+        };
+        if !is_text {
+            return Err(self.outside());
         }
+        self.compare(alloc, line, wanted, &come)?;
         Ok(())
     }
 
@@ -133,8 +162,11 @@ impl Blocks {
             self.end_block(alloc);
             return Ok(());
         }
-        match line.strip_prefix("asked ") {
-            Some(words) => self.asked_line(alloc, words),
+        if let Some(words) = line.strip_prefix("asked ") {
+            return self.asked_line(alloc, words);
+        }
+        match line.strip_prefix("fits ") {
+            Some(line) => self.fit_line(alloc, line),
             None => self.case_line(alloc, line),
         }
     }

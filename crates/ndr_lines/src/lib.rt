@@ -4,11 +4,13 @@
 
 mod blocks;
 mod case;
+mod fit;
 mod read;
 mod text;
 mod typed;
 
 pub use blocks::{stubs, table_of};
 pub use case::{decoded, is_fit};
+pub use fit::apart;
 pub use text::put_message;
 pub use typed::are_typed;

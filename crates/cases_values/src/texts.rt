@@ -1,8 +1,9 @@
 //! Values, by their texts.
 
 use crate::shapes::shape_of;
-use ndr_value::{Value, Values};
-use rpc_base::{NoMemory, Octets};
+use ndr_lines::apart;
+use ndr_value::Value;
+use rpc_base::NoMemory;
 use std::alloc::Global;
 use value_text::{TextFault, read_value};
 
@@ -33,12 +34,4 @@ fn value_of_shape(alloc: Global, words: &str, text: &[u8]) -> Result<Option<Valu
         Err(TextFault::Memory) => Err(NoMemory),
         Err(_) => Ok(None),
     }
-}
-
-fn apart(alloc: Global, octets: &Octets) -> Result<Value, NoMemory> {
-    let mut values = Values::new(alloc);
-    for octet in octets.as_slice() {
-        values.push(Value::Byte(*octet))?;
-    }
-    Ok(Value::Array(values))
 }
