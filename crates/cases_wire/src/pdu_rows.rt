@@ -6,8 +6,8 @@ use base_words::{put, put_decimal, put_hex};
 use cases_base::{Answers, CasesFault, Names, Told, answered, first_word, octets_of, put_debug};
 use pdu_codec::flags::{FIRST_FRAG, LAST_FRAG};
 use pdu_codec::{
-    Body, FragmentHead, Pdu, PduFault, RequestBody, ResponseBody, raw_head, read_head, read_pdu,
-    spelled_is_writable, write_pdu,
+    Body, FragmentHead, HEADER_SIZE, Pdu, PduFault, RequestBody, ResponseBody, raw_head, read_head,
+    read_pdu, spelled_is_writable, write_pdu,
 };
 use rpc_base::{NoMemory, Order};
 use std::alloc::Global;
@@ -127,21 +127,25 @@ fn put_again(
     octets: &[u8],
     into: &mut Vec<u8>,
 ) -> Result<(), NoMemory> {
-    match again {
-        Ok(again) if again.as_slice() == octets => put(b"same", into),
-        Ok(again) if again.as_slice().strip_prefix(&[0xff]) == Some(octets) => {
-            put(b"same", into)
-        }
-        Ok(again) => put_hex(alloc, again.as_slice(), into),
-        Err(fault) => put_debug(alloc, &fault, into),
+    let again = match again {
+        Ok(again) => again,
+        Err(fault) => return put_debug(alloc, &fault, into),
+    };
+    let again = again.as_slice();
+    if again == octets || again.strip_prefix(&[0xff]) == Some(octets) {
+        return put(b"same", into);
     }
+    put_hex(alloc, again, into)
 }
 
 fn put_head(alloc: Global, octets: &[u8], into: &mut Vec<u8>) -> Result<(), NoMemory> {
+    if octets.len() < HEADER_SIZE {
+        return put(b"short", into);
+    }
+    let raw = raw_head(octets);
     let Some(header) = octets.first_chunk() else {
         return put(b"short", into);
     };
-    let raw = raw_head(octets);
     match read_head(*header) {
         Ok(head) => put_debug(alloc, &head, into)?,
         Err(fault) => put_debug(alloc, &fault, into)?,
