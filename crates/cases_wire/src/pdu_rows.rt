@@ -6,10 +6,10 @@ use base_words::{put, put_decimal, put_hex};
 use cases_base::{Answers, CasesFault, Names, Told, answered, first_word, octets_of, put_debug};
 use pdu_codec::flags::{FIRST_FRAG, LAST_FRAG};
 use pdu_codec::{
-    Body, FragmentHead, Pdu, PduFault, RequestBody, ResponseBody, raw_head, read_head, read_pdu,
-    spelled_is_writable, write_pdu,
+    Body, FragmentHead, HEADER_SIZE, Pdu, PduFault, RequestBody, ResponseBody, raw_head, read_head,
+    read_pdu, spelled_is_writable, write_pdu,
 };
-use rpc_base::NoMemory;
+use rpc_base::{NoMemory, Order};
 use std::alloc::Global;
 
 /// `read OCTETS`: the PDU, or why there is none. `again OCTETS`: `same` where what is read is written as these octets, or what
@@ -62,13 +62,13 @@ fn written(alloc: Global, octets: &[u8]) -> Result<Vec<u8>, PduFault> {
 }
 
 /// The header of a whole request or response.
-fn whole_head(pdu: &Pdu, alloc_hint: u32, context: u16) -> FragmentHead
+fn whole_head(order: Order, call_id: u32, alloc_hint: u32, context: u16) -> FragmentHead
     ensures { has_object result.flags ≡ false }
 {
     FragmentHead {
         flags: FIRST_FRAG | LAST_FRAG,
-        order: pdu.order,
-        call_id: pdu.call_id,
+        order,
+        call_id,
         alloc_hint,
         context,
     }
@@ -76,44 +76,49 @@ fn whole_head(pdu: &Pdu, alloc_hint: u32, context: u16) -> FragmentHead
 
 /// The request or the response, written whole from its stub. Another PDU is a `Kind`.
 fn fragment(alloc: Global, octets: &[u8]) -> Result<Vec<u8>, PduFault> {
-    let pdu = read_pdu(alloc, octets)?;
-    let mut again = vec![in alloc; 0xff; 1]?;
-    match &pdu.body {
-        Body::Request(body) => {
-            let head = whole_head(&pdu, body.alloc_hint, body.context);
-            put_request(head, body, &mut again)?;
-        }
-        Body::Response(body) => {
-            let head = whole_head(&pdu, body.alloc_hint, body.context);
-            put_response(head, body, &mut again)?;
-        }
-        _ => return Err(PduFault::Kind),
+    let Pdu {
+        order,
+        call_id,
+        body,
+        ..
+    } = read_pdu(alloc, octets)?;
+    match body {
+        Body::Request(body) => request_again(alloc, order, call_id, body),
+        Body::Response(body) => response_again(alloc, order, call_id, body),
+        _ => Err(PduFault::Kind),
     }
+}
+
+fn request_again(
+    alloc: Global,
+    order: Order,
+    call_id: u32,
+    body: RequestBody,
+) -> Result<Vec<u8>, PduFault> {
+    let head = whole_head(order, call_id, body.alloc_hint, body.context);
+    let mut again = vec![in alloc; 0xff; 1]?;
+    let stub = body.stub.as_slice();
+    if stub.len() > 65_000 {
+        return Err(PduFault::Length);
+    }
+    head.write_request(body.op, stub, &mut again)?;
     Ok(again)
 }
 
-fn put_request(head: FragmentHead, body: &RequestBody, again: &mut Vec<u8>) -> Result<(), PduFault>
-    requires { has_object head.flags ≡ false }
-{
+fn response_again(
+    alloc: Global,
+    order: Order,
+    call_id: u32,
+    body: ResponseBody,
+) -> Result<Vec<u8>, PduFault> {
+    let head = whole_head(order, call_id, body.alloc_hint, body.context);
+    let mut again = vec![in alloc; 0xff; 1]?;
     let stub = body.stub.as_slice();
     if stub.len() > 65_000 {
         return Err(PduFault::Length);
     }
-    head.write_request(body.op, stub, again)?;
-    Ok(())
-}
-
-fn put_response(
-    head: FragmentHead,
-    body: &ResponseBody,
-    again: &mut Vec<u8>,
-) -> Result<(), PduFault> {
-    let stub = body.stub.as_slice();
-    if stub.len() > 65_000 {
-        return Err(PduFault::Length);
-    }
-    head.write_response(stub, again)?;
-    Ok(())
+    head.write_response(stub, &mut again)?;
+    Ok(again)
 }
 
 fn put_again(
@@ -122,21 +127,25 @@ fn put_again(
     octets: &[u8],
     into: &mut Vec<u8>,
 ) -> Result<(), NoMemory> {
-    match again {
-        Ok(again) if again.as_slice() == octets => put(b"same", into),
-        Ok(again) if again.as_slice().strip_prefix(&[0xff]) == Some(octets) => {
-            put(b"same", into)
-        }
-        Ok(again) => put_hex(alloc, again.as_slice(), into),
-        Err(fault) => put_debug(alloc, &fault, into),
+    let again = match again {
+        Ok(again) => again,
+        Err(fault) => return put_debug(alloc, &fault, into),
+    };
+    let again = again.as_slice();
+    if again == octets || again.strip_prefix(&[0xff]) == Some(octets) {
+        return put(b"same", into);
     }
+    put_hex(alloc, again, into)
 }
 
 fn put_head(alloc: Global, octets: &[u8], into: &mut Vec<u8>) -> Result<(), NoMemory> {
+    if octets.len() < HEADER_SIZE {
+        return put(b"short", into);
+    }
+    let raw = raw_head(octets);
     let Some(header) = octets.first_chunk() else {
         return put(b"short", into);
     };
-    let raw = raw_head(octets);
     match read_head(*header) {
         Ok(head) => put_debug(alloc, &head, into)?,
         Err(fault) => put_debug(alloc, &fault, into)?,

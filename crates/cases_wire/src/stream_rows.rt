@@ -180,9 +180,16 @@ fn put_pdu(
             Ok(Some(joined)) => put_joined(alloc, names, &joined, into),
             Err(fault) => put_debug(alloc, &fault, into),
         },
-        Body::CoCancel if joiner.mark(call_id) => put(b"marked", into),
-        Body::Orphaned if joiner.drop_call(call_id) => put(b"dropped", into),
+        Body::CoCancel => put_done(joiner.mark(call_id), b"marked", into),
+        Body::Orphaned => put_done(joiner.drop_call(call_id), b"dropped", into),
         _ => put(b"nothing", into),
+    }
+}
+
+fn put_done(done: bool, word: &[u8], into: &mut Vec<u8>) -> Result<(), NoMemory> {
+    match done {
+        true => put(word, into),
+        false => put(b"nothing", into),
     }
 }
 

@@ -2,7 +2,7 @@
 
 use base_words::{put, put_hex};
 use cases_base::{Answers, CasesFault, Names, Told, answered, first_word, octets_of};
-use rpc_base::NoMemory;
+use rpc_base::{NoMemory, SyntaxId};
 use std::alloc::Global;
 use tower_codec::{Tower, TowerFault, read_tower, write_tower};
 
@@ -45,12 +45,15 @@ fn put_read(alloc: Global, octets: &[u8], into: &mut Vec<u8>) -> Result<(), NoMe
     }
 }
 
+fn put_syntax(alloc: Global, syntax: &SyntaxId, into: &mut Vec<u8>) -> Result<(), NoMemory> {
+    put_hex(alloc, syntax.id.as_bytes(), into)?;
+    let (major, minor) = (syntax.major, syntax.minor);
+    put(format!(in alloc; " {major}.{minor} ")?.as_bytes(), into)
+}
+
 fn put_tower(alloc: Global, tower: &Tower, into: &mut Vec<u8>) -> Result<(), NoMemory> {
-    for syntax in [&tower.iface, &tower.transfer] {
-        put_hex(alloc, syntax.id.as_bytes(), into)?;
-        let (major, minor) = (syntax.major, syntax.minor);
-        put(format!(in alloc; " {major}.{minor} ")?.as_bytes(), into)?;
-    }
+    put_syntax(alloc, &tower.iface, into)?;
+    put_syntax(alloc, &tower.transfer, into)?;
     let [a, b, c, d] = tower.ip;
     let (minor, port) = (tower.minor, tower.port);
     let text = format!(in alloc; "{minor} {a}.{b}.{c}.{d}:{port}")?;

@@ -21,8 +21,8 @@ fn links_of(alloc: Global, names: &Names, text: &str) -> Result<Links, NoMemory>
     ensures { IfOk result (λ links. are_new links.items ≡ true) }
 {
     let mut links = Links::new(alloc);
-    for steps in text.split(';') {
-        let steps = steps_of(alloc, names, steps)?;
+    for peer in text.split(';') {
+        let steps = steps_of(alloc, names, peer)?;
         links.push(ScriptLink::new(alloc, steps, 9, Items::new(alloc), Items::new(alloc)))?;
     }
     Ok(links)

@@ -148,9 +148,12 @@ pub fn put_take(
     requires { (shown link.old).closed ≡ false }
     ensures { (shown link.new).closed ≡ false }
 {
-    let mut buffer = [0; 8];
-    match link.take(&mut buffer[..size.max(1).min(8)]) {
-        Ok(Taken::Bytes(count)) => put_hex(alloc, &buffer[..count], into)?,
+    let mut buffer = vec![in alloc; 0_u8; size.max(1).min(8)]?;
+    match link.take(buffer.as_mut_slice()) {
+        Ok(Taken::Bytes(count)) => {
+            buffer.truncate(count);
+            put_hex(alloc, buffer.as_slice(), into)?;
+        }
         Ok(Taken::Quiet) => put(b"quiet", into)?,
         Ok(Taken::End) => put(b"end", into)?,
         Err(_) => put(b"failed", into)?,

@@ -113,7 +113,8 @@ fn put_wide(alloc: Global, given: &[u8], into: &mut Vec<u8>) -> Result<(), NoMem
     let Some(number) = read_hex_u128(given) else {
         return put(b"none", into);
     };
-    put_decimal(alloc, (number >> 64) as u64, into)?;
+    let front = u64::try_from(number >> 64).unwrap_or(0);
+    put_decimal(alloc, front, into)?;
     put(b" ", into)?;
     put_hex_u128(alloc, number, into)
 }

@@ -89,13 +89,14 @@ impl Conns {
 
     fn feed(&mut self, octets: &[u8], come: &mut Vec<u8>) -> Result<Step, NoMemory> {
         self.whole.feed(octets)?;
-        if let Some(singly) = &mut self.singly
-            && !come_singly(singly, octets)?
-        {
+        let comes = match &mut self.singly {
+            Some(singly) => come_singly(singly, octets)?,
+            None => true,
+        };
+        if !comes {
             put(b"an act before the last octet", come)?;
-            return Ok(Step::Differs);
         }
-        Ok(Step::Held)
+        Ok(step_of(comes))
     }
 
     /// Plays a line on each connection.
