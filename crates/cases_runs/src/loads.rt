@@ -113,10 +113,11 @@ impl Plays for Loads {
         line: &str,
         come: &mut Vec<u8>,
     ) -> Result<Step, NoMemory> {
-        match first_word(line) {
-            ("step", "") => self.begin_step(alloc),
-            ("number", word) => Ok(self.begin_load(word)),
-            ("=", hex) => self.hear(alloc, hex),
+        let (word, rest) = first_word(line);
+        match word {
+            "step" => self.begin_step(alloc),
+            "number" => Ok(self.begin_load(rest)),
+            "=" => self.hear(alloc, rest),
             _ => self.compare(alloc, line, come),
         }
     }
