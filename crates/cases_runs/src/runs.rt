@@ -4,12 +4,31 @@ use crate::asked::{Asked, Failing, shelf_of};
 use crate::doors::PlayDoor;
 use crate::wanted::Come;
 use rpc_app::run;
-use rpc_base::{NoMemory, VecSink};
+use rpc_base::{MapShelf, NoMemory, VecSink};
 use std::alloc::Global;
 use std::sync::Wait;
 use std::thread::Threads;
 
-/// What comes of what a case asks. What the contract of a run says isn't said again: cases compare what came.
+/// The program over these words, of which it has the status. What its contract says isn't said again: cases compare what
+/// came.
+fn ran<R>(
+    rt: &R,
+    alloc: Global,
+    words: &[String],
+    boot: u64,
+    shelf: &mut MapShelf,
+    door: &mut PlayDoor,
+    dial: &mut PlayDoor,
+    out: &mut VecSink,
+    log: &mut VecSink,
+) -> u8
+where
+    R: Wait + Threads + Send + Sync + Copy + 'static,
+{
+    run(rt, alloc, words, boot, shelf, door, dial, out, log)
+}
+
+/// What comes of what a case asks.
 pub fn come_of<R>(rt: &R, alloc: Global, asked: Asked) -> Result<Come, NoMemory>
 where
     R: Wait + Threads + Send + Sync + Copy + 'static,
@@ -36,7 +55,7 @@ where
     let mut out = VecSink::new(alloc, out);
     let mut log = VecSink::new(alloc, log);
     let words = words.as_slice();
-    let status = run(
+    let status = ran(
         rt, alloc, words, boot, &mut shelf, &mut door, &mut dial, &mut out, &mut log,
     );
     let mut back = door.into_back();
