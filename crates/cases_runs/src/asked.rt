@@ -34,6 +34,20 @@ pub fn copy_files(alloc: Global, files: &[TextFile]) -> Result<Vec<TextFile>, No
     Ok(copies)
 }
 
+/// The file of that name, if it is there.
+pub fn copy_named(
+    alloc: Global,
+    files: &[TextFile],
+    name: &str,
+) -> Result<Option<TextFile>, NoMemory> {
+    for file in files {
+        if file.name.as_str() == name {
+            return Ok(Some(file.copy(alloc)?));
+        }
+    }
+    Ok(None)
+}
+
 /// The numbers of the calls that fail, from 1, of each object of the outside.
 #[derive(Drop)]
 pub struct Failing {
@@ -82,10 +96,10 @@ impl Asked {
         let mut asked = Asked::new(alloc);
         asked.set_words(alloc, word)?;
         asked.words.push(String::from_str(alloc, "f")?)?;
-        asked.add_file(alloc, "f")?;
-        if let Some(file) = asked.files.last_mut() {
-            file.text.extend_from_slice(text)?;
-        }
+        asked.files.push(TextFile {
+            name: String::from_str(alloc, "f")?,
+            text: text.to_vec(alloc)?,
+        })?;
         Ok(asked)
     }
 
@@ -95,15 +109,6 @@ impl Asked {
         for word in line.split_whitespace() {
             self.words.push(String::from_str(alloc, word)?)?;
         }
-        Ok(())
-    }
-
-    /// An empty file of that name.
-    pub fn add_file(&mut self, alloc: Global, name: &str) -> Result<(), NoMemory> {
-        self.files.push(TextFile {
-            name: String::from_str(alloc, name)?,
-            text: Vec::new(alloc),
-        })?;
         Ok(())
     }
 }
@@ -116,9 +121,10 @@ pub fn shelf_of(
 ) -> Result<MapShelf, NoMemory> {
     let mut all = ShelfFiles::new(alloc);
     for file in files {
+        let TextFile { name, text } = file;
         all.push(ShelfFile {
-            name: Octets::from_vec(file.name.into_bytes()),
-            octets: Octets::from_vec(file.text),
+            name: Octets::from_vec(name.into_bytes()),
+            octets: Octets::from_vec(text),
         })?;
     }
     Ok(MapShelf::new(all, failing))

@@ -49,15 +49,16 @@ impl PlayLink {
     pub fn new(alloc: Global, plan: LinkPlan) -> PlayLink
         ensures { result.closed ≡ false }
     {
+        let LinkPlan {
+            steps,
+            most,
+            failing_takes,
+            failing_puts,
+            gates,
+        } = plan;
         PlayLink {
-            link: ScriptLink::new(
-                alloc,
-                plan.steps,
-                plan.most.max(1),
-                plan.failing_takes,
-                plan.failing_puts,
-            ),
-            gates: plan.gates,
+            link: ScriptLink::new(alloc, steps, most.max(1), failing_takes, failing_puts),
+            gates,
             faults: 0,
             quiets: 0,
             ends: 0,

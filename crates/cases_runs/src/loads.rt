@@ -9,7 +9,7 @@ use std::alloc::Global;
 
 /// What was made so far of a load.
 #[derive(Drop)]
-struct Loads {
+struct LoadPlay {
     load: Load,
     /// The present step, the lines that it makes, in order, and how many of them stood in the text.
     step: Option<LoadStep>,
@@ -18,9 +18,9 @@ struct Loads {
     answers: Vec<Octets>,
 }
 
-impl Loads {
-    fn new(alloc: Global) -> Loads {
-        Loads {
+impl LoadPlay {
+    fn new(alloc: Global) -> LoadPlay {
+        LoadPlay {
             load: Load::new(0),
             step: None,
             made: Vec::new(alloc),
@@ -100,9 +100,9 @@ impl Loads {
     }
 }
 
-impl Plays for Loads {
+impl Plays for LoadPlay {
     fn begin(&mut self, alloc: Global, _name: &str) -> Result<(), NoMemory> {
-        *self = Loads::new(alloc);
+        *self = LoadPlay::new(alloc);
         Ok(())
     }
 
@@ -113,10 +113,11 @@ impl Plays for Loads {
         line: &str,
         come: &mut Vec<u8>,
     ) -> Result<Step, NoMemory> {
-        match first_word(line) {
-            ("step", "") => self.begin_step(alloc),
-            ("number", word) => Ok(self.begin_load(word)),
-            ("=", hex) => self.hear(alloc, hex),
+        let (word, rest) = first_word(line);
+        match word {
+            "step" => self.begin_step(alloc),
+            "number" => Ok(self.begin_load(rest)),
+            "=" => self.hear(alloc, rest),
             _ => self.compare(alloc, line, come),
         }
     }
@@ -133,6 +134,6 @@ impl Plays for Loads {
 
 /// What is told of steps of loads.
 pub fn loads(alloc: Global, text: &str) -> Result<Told, CasesFault> {
-    let mut loads = Loads::new(alloc);
+    let mut loads = LoadPlay::new(alloc);
     played(alloc, &mut loads, text)
 }

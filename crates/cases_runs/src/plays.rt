@@ -15,7 +15,7 @@
 //! The text of a file, of `out`, `log` and `verdicts` stands in lines `|LINE`, or `+TEXT` without a line feed. There `$(OCTETS)` stands
 //! for the digits of octets, and a `\` closes a line that ends in spaces.
 
-use crate::asked::{Asked, TextFile, copy_files};
+use crate::asked::{Asked, TextFile, copy_files, copy_named};
 use crate::present::Present;
 use crate::runs::{are_verdicts, come_of, each_front_departs};
 use crate::texts::{put_text, with_line};
@@ -54,9 +54,10 @@ where
         line: &str,
         _come: &mut Vec<u8>,
     ) -> Result<Step, NoMemory> {
-        let read = match first_word(line) {
-            ("with", change) => self.change(alloc, names, change)?,
-            ("again", name) => self.again(alloc, name)?,
+        let (word, rest) = first_word(line);
+        let read = match word {
+            "with" => self.change(alloc, names, rest)?,
+            "again" => self.again(alloc, rest)?,
             _ => self.present.line(alloc, names, line)?,
         };
         Ok(if read { Step::Held } else { Step::Outside })
@@ -101,13 +102,11 @@ where
     /// The file of that name as it was in the case before.
     fn again(&mut self, alloc: Global, name: &str) -> Result<bool, NoMemory> {
         self.present.settle(alloc)?;
-        for file in &self.before {
-            if file.name.as_str() == name {
-                self.present.asked.files.push(file.copy(alloc)?)?;
-                return Ok(true);
-            }
-        }
-        Ok(false)
+        let Some(file) = copy_named(alloc, self.before.as_slice(), name)? else {
+            return Ok(false);
+        };
+        self.present.asked.files.push(file)?;
+        Ok(true)
     }
 
     /// Whether the present case comes to what it wants.

@@ -94,7 +94,10 @@ impl Present {
             return Ok(true);
         }
         self.settle(alloc)?;
-        Ok(self.asks(alloc, word, rest)? || self.wants(alloc, names, word, rest)?)
+        if self.asks(alloc, word, rest)? {
+            return Ok(true);
+        }
+        self.wants(alloc, names, word, rest)
     }
 
     /// Whether it is a line of a link.
@@ -105,17 +108,24 @@ impl Present {
         word: &str,
         rest: &str,
     ) -> Result<bool, NoMemory> {
-        let flags = &mut self.asked.flags;
         match word {
             "gives" => return self.give(alloc, names, rest),
             "awaits" => self.plan.steps.push(LinkStep::AwaitPut)?,
             "rests" => self.plan.steps.push(LinkStep::Quiet)?,
-            "begins" => self.plan.gates.start = Some(flags.flag(alloc, rest)?),
-            "answered" => self.plan.gates.idle = Some(flags.flag(alloc, rest)?),
-            "ends" => self.plan.gates.end = Some(flags.flag(alloc, rest)?),
-            "closed" => self.plan.gates.closed = Some(flags.flag(alloc, rest)?),
             "most" => return Ok(self.bound(rest)),
             "fails" => return self.fails(rest),
+            _ => return self.gate_line(alloc, word, rest),
+        }
+        Ok(true)
+    }
+
+    /// Whether it is a line of a flag of the link.
+    fn gate_line(&mut self, alloc: Global, word: &str, name: &str) -> Result<bool, NoMemory> {
+        match word {
+            "begins" => self.plan.gates.start = Some(self.asked.flags.flag(alloc, name)?),
+            "answered" => self.plan.gates.idle = Some(self.asked.flags.flag(alloc, name)?),
+            "ends" => self.plan.gates.end = Some(self.asked.flags.flag(alloc, name)?),
+            "closed" => self.plan.gates.closed = Some(self.asked.flags.flag(alloc, name)?),
             _ => return Ok(false),
         }
         Ok(true)

@@ -1,27 +1,62 @@
 //! The program over an outside in memory.
 
-use crate::asked::{Asked, shelf_of};
+use crate::asked::{Asked, Failing, shelf_of};
 use crate::doors::PlayDoor;
 use crate::wanted::Come;
 use rpc_app::run;
-use rpc_base::{NoMemory, VecSink};
+use rpc_base::{MapShelf, NoMemory, VecSink};
 use std::alloc::Global;
 use std::sync::Wait;
 use std::thread::Threads;
 
-/// What comes of what a case asks. What the contract of a run says isn't said again: cases compare what came.
+/// The program over these words, of which it has the status. What its contract says isn't said again: cases compare what
+/// came.
+fn ran<R>(
+    rt: &R,
+    alloc: Global,
+    words: &[String],
+    boot: u64,
+    shelf: &mut MapShelf,
+    door: &mut PlayDoor,
+    dial: &mut PlayDoor,
+    out: &mut VecSink,
+    log: &mut VecSink,
+) -> u8
+where
+    R: Wait + Threads + Send + Sync + Copy + 'static,
+{
+    run(rt, alloc, words, boot, shelf, door, dial, out, log)
+}
+
+/// What comes of what a case asks.
 pub fn come_of<R>(rt: &R, alloc: Global, asked: Asked) -> Result<Come, NoMemory>
 where
     R: Wait + Threads + Send + Sync + Copy + 'static,
 {
-    let mut shelf = shelf_of(alloc, asked.files, asked.failing.shelf)?;
-    let mut door = PlayDoor::new(alloc, asked.callers, asked.failing.door);
-    let mut dial = PlayDoor::new(alloc, asked.servers, asked.failing.dial);
-    let mut out = VecSink::new(alloc, asked.failing.out);
-    let mut log = VecSink::new(alloc, asked.failing.log);
-    let words = asked.words.as_slice();
-    let status = run(
-        rt, alloc, words, asked.boot, &mut shelf, &mut door, &mut dial, &mut out, &mut log,
+    let Asked {
+        words,
+        boot,
+        files,
+        failing,
+        callers,
+        servers,
+        ..
+    } = asked;
+    let Failing {
+        shelf,
+        door,
+        dial,
+        out,
+        log,
+    } = failing;
+    let mut shelf = shelf_of(alloc, files, shelf)?;
+    let mut door = PlayDoor::new(alloc, callers, door);
+    let mut dial = PlayDoor::new(alloc, servers, dial);
+    let mut out = VecSink::new(alloc, out);
+    let mut log = VecSink::new(alloc, log);
+    let words = words.as_slice();
+    let status = ran(
+        rt, alloc, words, boot, &mut shelf, &mut door, &mut dial, &mut out, &mut log,
     );
     let mut back = door.into_back();
     let mut dialled = dial.into_back();

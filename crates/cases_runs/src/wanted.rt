@@ -85,11 +85,10 @@ pub struct Come {
 
 impl Come {
     fn has(&self, wanted: &WantedLink) -> bool {
-        match wanted
-            .number
-            .checked_sub(1)
-            .and_then(|at| self.back.get(at))
-        {
+        let Some(at) = wanted.number.checked_sub(1) else {
+            return false;
+        };
+        match self.back.get(at) {
             Some(link) => link.written() == wanted.octets.as_slice(),
             None => false,
         }

@@ -3,6 +3,7 @@
 use base_system::{SocketDial, SocketDoor};
 use rpc_app::run;
 use rpc_base::{MapShelf, NoMemory, Numbers, Octets, ShelfFile, ShelfFiles, VecSink};
+use rpc_outside::{Dial, Door};
 use std::alloc::Global;
 use std::net::Net;
 use std::sync::Wait;
@@ -32,6 +33,27 @@ fn shelf_of(alloc: Global, texts: &[(&str, &str)]) -> Result<MapShelf, NoMemory>
     Ok(MapShelf::new(files, Numbers::new(alloc)))
 }
 
+/// The program over these words, of which it has the status. What its contract says isn't said again: the test compares
+/// what came.
+fn ran<R, D, Q>(
+    rt: &R,
+    alloc: Global,
+    words: &[String],
+    shelf: &mut MapShelf,
+    door: &mut D,
+    dial: &mut Q,
+    out: &mut VecSink,
+    log: &mut VecSink,
+) -> u8
+where
+    R: Wait + Threads + Send + Sync + Copy + 'static,
+    D: Door,
+    D::Link: 'static,
+    Q: Dial,
+{
+    run(rt, alloc, words, BOOT, shelf, door, dial, out, log)
+}
+
 /// The status, what is on out and what is on log behind these words, where files have these texts.
 pub fn outcome<R: Wait + Threads + Net + Send + Sync + Copy + 'static>(
     rt: &R,
@@ -46,8 +68,8 @@ pub fn outcome<R: Wait + Threads + Net + Send + Sync + Copy + 'static>(
     let mut out = VecSink::new(alloc, Numbers::new(alloc));
     let mut log = VecSink::new(alloc, Numbers::new(alloc));
     let words = list.as_slice();
-    let status = run(
-        rt, alloc, words, BOOT, &mut shelf, &mut door, &mut dial, &mut out, &mut log,
+    let status = ran(
+        rt, alloc, words, &mut shelf, &mut door, &mut dial, &mut out, &mut log,
     );
     let head = format!(in alloc; "{status}\n")?;
     let mut text = head.as_bytes().to_vec(alloc)?;
