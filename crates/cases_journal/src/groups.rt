@@ -63,6 +63,18 @@ fn folded(alloc: Global, group: &Group) -> Result<Answer, NoMemory> {
     Ok(Answer::Line(joined))
 }
 
+/// Puts the lines of the journal.
+fn put_journal(alloc: Global, group: &Group, into: &mut Vec<u8>) -> Result<(), NoMemory> {
+    let journal = group.journal();
+    journal_text(
+        alloc,
+        group.home(),
+        journal.base(),
+        journal.as_slice(),
+        into,
+    )
+}
+
 /// How often a call is made, and its words.
 fn repeated(words: &str) -> (u32, &str) {
     match words.split_once(" x ") {
@@ -137,18 +149,6 @@ impl Groups {
         Ok(judged(come.as_slice(), line))
     }
 
-    /// The case goes on with the journal's lines.
-    fn ask_journal(&mut self, alloc: Global) -> Result<(), NoMemory> {
-        let journal = self.group.journal();
-        journal_text(
-            alloc,
-            self.group.home(),
-            journal.base(),
-            journal.as_slice(),
-            &mut self.lines,
-        )
-    }
-
     /// Another group begins.
     fn begin_group(&mut self, alloc: Global, id: u32) -> Result<(), NoMemory> {
         self.group = Group::begin(alloc, BOOT, id)?;
@@ -158,7 +158,7 @@ impl Groups {
     /// A line that is no call's.
     fn order(&mut self, alloc: Global, line: &str) -> Result<Step, NoMemory> {
         match first_word(line) {
-            ("journal", "") => self.ask_journal(alloc)?,
+            ("journal", "") => put_journal(alloc, &self.group, &mut self.lines)?,
             ("group", id) => {
                 let Ok(id) = id.parse::<u32>() else {
                     return Ok(Step::Outside);

@@ -55,17 +55,17 @@ fn edit_of(ask: &str) -> Option<Edit<'_>> {
 fn edited<'a>(lines: &mut Vec<&'a [u8]>, edit: Edit<'a>) -> Result<(), NoMemory> {
     let at = edit.place.saturating_add(1);
     let next = at.saturating_add(1);
-    if at >= lines.len() || next >= lines.len() {
+    if next >= lines.len() {
         return Ok(());
     }
+    let Some(line) = lines.get(at).copied() else {
+        return Ok(());
+    };
     match edit.how {
         How::Drop => {
             lines.remove(at);
         }
-        How::Double => {
-            let line = lines[at];
-            lines.insert(at, line)?;
-        }
+        How::Double => lines.insert(at, line)?,
         How::Swap => lines.swap(at, next),
         How::Put(line) => lines[at] = line.as_bytes(),
     }
@@ -127,6 +127,18 @@ fn put_told(alloc: Global, text: &[u8], ask: &str, into: &mut Vec<u8>) -> Result
     Ok(true)
 }
 
+/// What a line asks, and the answer that it wants. A line between quotation marks is one of the text, and so is one without
+/// a colon that a space follows or that is its end.
+fn ask_of(line: &str) -> Option<(&str, &str)> {
+    if line.starts_with('"') {
+        return None;
+    }
+    match line.split_once(": ") {
+        Some((ask, wanted)) => Some((ask, wanted.trim())),
+        None => Some((line.strip_suffix(':')?, "")),
+    }
+}
+
 impl Plays for Texts {
     fn begin(&mut self, _alloc: Global, _name: &str) -> Result<(), NoMemory> {
         self.text.clear();
@@ -140,14 +152,11 @@ impl Plays for Texts {
         line: &str,
         come: &mut Vec<u8>,
     ) -> Result<Step, NoMemory> {
-        if let Some((ask, wanted)) = line.split_once(":")
-            && (wanted.is_empty() || wanted.starts_with(' '))
-            && !line.starts_with('"')
-        {
+        if let Some((ask, wanted)) = ask_of(line) {
             if !put_told(alloc, self.text.as_slice(), ask, come)? {
                 return Ok(Step::Outside);
             }
-            return Ok(if come.as_slice() == wanted.trim().as_bytes() {
+            return Ok(if come.as_slice() == wanted.as_bytes() {
                 Step::Held
             } else {
                 Step::Differs
