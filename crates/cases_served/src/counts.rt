@@ -1,5 +1,7 @@
 //! What is counted on a link.
 ghost use Rattle.std.specs.Prelude.{◌≡◌, ◌<◌, false, length};
+ghost use Rattle.rpc_outside.specs.Links.{IsNew};
+ghost use Rattle.rpc_outside.specs.ScriptLinks.{shown};
 
 use desk_counts::Tally;
 use rpc_base::NoMemory;
@@ -28,7 +30,7 @@ pub fn counted(
     link: ScriptLink,
     takes: u32,
 ) -> Result<Vec<(usize, [u32; 4])>, NoMemory>
-    requires { link.closed ≡ false }
+    requires { IsNew (shown link) }
 {
     let tally = Arc::new(alloc, Tally::new())?;
     let mut link = CountLink::new(link, tally);
