@@ -79,7 +79,7 @@ impl Ground {
         };
         let tally = Arc::new(alloc, Tally::new())?;
         let desks = DeskService::new(alloc, at, None, tally.clone()?)?;
-        let service = Arc::new(alloc, Gate::new(desks, place, meets))?;
+        let service = Arc::new(alloc, Gate::new(desks, place == Place::Here, meets))?;
         let (hub, pass) = Hub::new(alloc, BOOT)?;
         let hub = Arc::new(alloc, hub)?;
         Ok(Ground {
