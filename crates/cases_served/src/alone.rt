@@ -190,8 +190,10 @@ pub fn two<R: Wait + Threads + Sync>(
     let second = HeldLink::new(second, flags.second());
     let (hub, pass) = Hub::new(alloc, BOOT)?;
     let mut rest = pass;
-    let passes = (hub.split(&mut rest), hub.split(&mut rest));
-    let (first, second) = side_by_side(rt, alloc, &hub, passes, (first, second), &manager)?;
+    let pass = hub.split(&mut rest);
+    let other = hub.split(&mut rest);
+    let (passes, links) = ((pass, other), (first, second));
+    let (first, second) = side_by_side(rt, alloc, &hub, passes, links, &manager)?;
     let journals = journals(rt, alloc, &hub, rest)?;
     let mut second = end_of(alloc, &second)?;
     put_left(alloc, manager.into_handles(), &mut second.ends)?;
