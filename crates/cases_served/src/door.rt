@@ -144,16 +144,28 @@ impl<R: Wait + Threads + Send + Sync + Copy + 'static> Door<R> {
     /// The connection of that number, from 1 on.
     fn by_index(&self, text: &str) -> Option<&Done> {
         let index = text.parse::<usize>().ok()?;
-        self.done.get(index.checked_sub(1)?)
+        let at = index.checked_sub(1)?;
+        self.done.get(at)
     }
 
     /// The connection of that number in a group.
     fn by_member(&self, text: &str) -> Option<&Done> {
         let (group, number) = text.split_once('.')?;
         let (group, number) = (group.parse::<u32>().ok()?, number.parse::<u32>().ok()?);
-        self.done
-            .iter()
-            .find(|done| done.joined == Some((group, number)))
+        for done in &self.done {
+            if done.joined == Some((group, number)) {
+                return Some(done);
+            }
+        }
+        None
+    }
+
+    /// The connection of that name, by what kind of name it is.
+    fn named(&self, kind: &str, name: &str) -> Option<&Done> {
+        match kind {
+            "link" => self.by_index(name),
+            _ => self.by_member(name),
+        }
     }
 
     /// What a connection is to have come to.
@@ -166,11 +178,7 @@ impl<R: Wait + Threads + Send + Sync + Copy + 'static> Door<R> {
     ) -> Result<Step, NoMemory> {
         let (word, rest) = first_word(wanted);
         let (name, rest) = first_word(rest);
-        let done = match word {
-            "link" => self.by_index(name),
-            _ => self.by_member(name),
-        };
-        let Some(done) = done else {
+        let Some(done) = self.named(word, name) else {
             put(b"no such connection", come)?;
             return Ok(Step::Differs);
         };

@@ -159,7 +159,11 @@ impl Setup {
             for size in &self.sizes {
                 for failing in &self.failing {
                     let now = self.once(rt, alloc, *place, *size, *failing)?;
-                    if came.as_ref().is_some_and(|before| *before != now) {
+                    let is_same = match &came {
+                        Some(before) => *before == now,
+                        None => true,
+                    };
+                    if !is_same {
                         return Ok(None);
                     }
                     came = Some(now);
