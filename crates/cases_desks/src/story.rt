@@ -303,7 +303,7 @@ impl Plays for Story {
     }
 }
 
-fn told(alloc: Global, text: &str) -> Result<Told, CasesFault> {
+fn story_of(alloc: Global, text: &str) -> Result<Told, CasesFault> {
     let mut story = Story {
         interface: String::new(alloc),
         desks: None,
@@ -317,7 +317,7 @@ pub fn desk_calls<R: Threads>(rt: &R, alloc: Global, text: &str) -> Result<Told,
     let child = Builder::new()
         .stack_size(STACK)
         .spawn(rt, move || -> Result<Told, CasesFault> {
-            told(alloc, text.as_str())
+            story_of(alloc, text.as_str())
         });
     match child {
         Ok(child) => child.join(rt),

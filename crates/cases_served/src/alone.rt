@@ -125,9 +125,9 @@ pub fn one<R: Wait + Threads + Sync>(
 ) -> Result<Came, NoMemory>
     requires { link.closed ≡ false }
 {
-    let flags = Flags::new();
+    let flags = Flags::new(ends_late);
     let manager = Held::new(alloc, running, &flags);
-    let link = HeldLink::new(link, flags.alone(ends_late));
+    let link = HeldLink::new(link, flags.alone());
     let (hub, pass) = Hub::new(alloc, BOOT)?;
     let mut rest = pass;
     let pass = hub.split(&mut rest);
@@ -184,14 +184,16 @@ pub fn two<R: Wait + Threads + Sync>(
 ) -> Result<Came, NoMemory>
     requires { (first.closed ≡ false) × (second.closed ≡ false) }
 {
-    let flags = Flags::new();
+    let flags = Flags::new(false);
     let manager = Held::new(alloc, running, &flags);
     let first = HeldLink::new(first, flags.first());
     let second = HeldLink::new(second, flags.second());
     let (hub, pass) = Hub::new(alloc, BOOT)?;
     let mut rest = pass;
-    let passes = (hub.split(&mut rest), hub.split(&mut rest));
-    let (first, second) = side_by_side(rt, alloc, &hub, passes, (first, second), &manager)?;
+    let pass = hub.split(&mut rest);
+    let other = hub.split(&mut rest);
+    let (passes, links) = ((pass, other), (first, second));
+    let (first, second) = side_by_side(rt, alloc, &hub, passes, links, &manager)?;
     let journals = journals(rt, alloc, &hub, rest)?;
     let mut second = end_of(alloc, &second)?;
     put_left(alloc, manager.into_handles(), &mut second.ends)?;

@@ -1,5 +1,7 @@
 //! What is counted on a link.
 ghost use Rattle.std.specs.Prelude.{◌≡◌, ◌<◌, false, length};
+ghost use Rattle.rpc_outside.specs.Links.{IsNew};
+ghost use Rattle.rpc_outside.specs.ScriptLinks.{shown};
 
 use desk_counts::Tally;
 use rpc_base::NoMemory;
@@ -28,13 +30,14 @@ pub fn counted(
     link: ScriptLink,
     takes: u32,
 ) -> Result<Vec<(usize, [u32; 4])>, NoMemory>
-    requires { link.closed ≡ false }
+    requires open { link.closed ≡ false }
+    requires new { IsNew (shown link) }
 {
     let tally = Arc::new(alloc, Tally::new())?;
     let mut link = CountLink::new(link, tally);
     let mut told = Vec::new(alloc);
     for _ in 0..takes {
-        let mut buffer = [0; 20];
+        let mut buffer = [0u8; 20];
         let count = take_one(&mut link, &mut buffer);
         told.push((count, link.counts()))?;
     }

@@ -90,6 +90,37 @@ impl<R: Wait + Threads + Send + Sync + Copy + 'static> Door<R> {
         Ok(())
     }
 
+    /// So many groups are opened: what the hub answers at last.
+    fn put_opened(
+        &mut self,
+        alloc: Global,
+        ground: Ground,
+        count: u32,
+        come: &mut Vec<u8>,
+    ) -> Result<(), NoMemory> {
+        let mut ground = ground;
+        for _ in 1..count {
+            let (next, _) = ground.open(&self.rt);
+            ground = next;
+        }
+        let (ground, opened) = ground.open(&self.rt);
+        self.ground = Some(ground);
+        put_debug(alloc, &opened, come)
+    }
+
+    /// A further connection joins a group: what the hub answers.
+    fn put_found(
+        &mut self,
+        alloc: Global,
+        ground: Ground,
+        id: u32,
+        come: &mut Vec<u8>,
+    ) -> Result<(), NoMemory> {
+        let (ground, found) = ground.find(&self.rt, id);
+        self.ground = Some(ground);
+        put_debug(alloc, &found, come)
+    }
+
     /// Puts what the hub answers. False where it isn't asked.
     fn put_asked(
         &mut self,
@@ -98,18 +129,13 @@ impl<R: Wait + Threads + Send + Sync + Copy + 'static> Door<R> {
         come: &mut Vec<u8>,
     ) -> Result<bool, NoMemory> {
         let (word, number) = first_word(asked);
-        let Some(ground) = &mut self.ground else {
+        let Some(ground) = self.ground.take() else {
             return Ok(false);
         };
         let number = number.parse::<u32>().unwrap_or(0);
         match word {
-            "find" => put_debug(alloc, &ground.find(&self.rt, number), come)?,
-            "open" => {
-                for _ in 1..number {
-                    let _ = ground.open(&self.rt);
-                }
-                put_debug(alloc, &ground.open(&self.rt), come)?;
-            }
+            "find" => self.put_found(alloc, ground, number, come)?,
+            "open" => self.put_opened(alloc, ground, number, come)?,
             _ => return Ok(false),
         }
         Ok(true)
@@ -118,16 +144,28 @@ impl<R: Wait + Threads + Send + Sync + Copy + 'static> Door<R> {
     /// The connection of that number, from 1 on.
     fn by_index(&self, text: &str) -> Option<&Done> {
         let index = text.parse::<usize>().ok()?;
-        self.done.get(index.checked_sub(1)?)
+        let at = index.checked_sub(1)?;
+        self.done.get(at)
     }
 
     /// The connection of that number in a group.
     fn by_member(&self, text: &str) -> Option<&Done> {
         let (group, number) = text.split_once('.')?;
         let (group, number) = (group.parse::<u32>().ok()?, number.parse::<u32>().ok()?);
-        self.done
-            .iter()
-            .find(|done| done.joined == Some((group, number)))
+        for done in &self.done {
+            if done.joined == Some((group, number)) {
+                return Some(done);
+            }
+        }
+        None
+    }
+
+    /// The connection of that name, by what kind of name it is.
+    fn named(&self, kind: &str, name: &str) -> Option<&Done> {
+        match kind {
+            "link" => self.by_index(name),
+            _ => self.by_member(name),
+        }
     }
 
     /// What a connection is to have come to.
@@ -140,11 +178,7 @@ impl<R: Wait + Threads + Send + Sync + Copy + 'static> Door<R> {
     ) -> Result<Step, NoMemory> {
         let (word, rest) = first_word(wanted);
         let (name, rest) = first_word(rest);
-        let done = match word {
-            "link" => self.by_index(name),
-            _ => self.by_member(name),
-        };
-        let Some(done) = done else {
+        let Some(done) = self.named(word, name) else {
             put(b"no such connection", come)?;
             return Ok(Step::Differs);
         };
@@ -177,10 +211,11 @@ impl<R: Wait + Threads + Send + Sync + Copy + 'static> Door<R> {
         wanted: &str,
         come: &mut Vec<u8>,
     ) -> Result<Step, NoMemory> {
-        let Some(ground) = &mut self.ground else {
+        let Some(ground) = self.ground.take() else {
             return Ok(Step::Outside);
         };
-        let text = ground.journals(&self.rt)?;
+        let (ground, text) = ground.journals(&self.rt)?;
+        self.ground = Some(ground);
         match word {
             "audit" => put_audit(alloc, text.as_slice(), come)?,
             _ => put_joined(text.as_slice(), come)?,

@@ -1,6 +1,5 @@
 //! A service whose calls may wait for one another.
 
-use crate::places::Place;
 use desk_locks::DeskService;
 use handle_model::{CookieRow, Due};
 use manager_api::{Answer, Probe, Served};
@@ -19,17 +18,17 @@ const TRIES: u32 = 20_000_000;
 #[derive(Drop)]
 pub struct Gate {
     desks: DeskService,
-    place: Place,
+    is_brief: bool,
     meets: bool,
     entered: AtomicU32,
 }
 
 impl Gate {
-    /// A new one.
-    pub fn new(desks: DeskService, place: Place, meets: bool) -> Gate {
+    /// A new one, whose calls run in their connection's thread or in threads of their own.
+    pub fn new(desks: DeskService, is_brief: bool, meets: bool) -> Gate {
         Gate {
             desks,
-            place,
+            is_brief,
             meets,
             entered: AtomicU32::new(0),
         }
@@ -72,7 +71,7 @@ impl Manager for Gate {
     }
 
     fn is_brief(&self, _iface: u16, _op: u16, _stub: usize) -> bool {
-        self.place == Place::Here
+        self.is_brief
     }
 
     fn rundown<R: Wait>(&self, rt: &R, due: Due) {

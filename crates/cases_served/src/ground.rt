@@ -79,7 +79,7 @@ impl Ground {
         };
         let tally = Arc::new(alloc, Tally::new())?;
         let desks = DeskService::new(alloc, at, None, tally.clone()?)?;
-        let service = Arc::new(alloc, Gate::new(desks, place, meets))?;
+        let service = Arc::new(alloc, Gate::new(desks, place == Place::Here, meets))?;
         let (hub, pass) = Hub::new(alloc, BOOT)?;
         let hub = Arc::new(alloc, hub)?;
         Ok(Ground {
@@ -92,20 +92,64 @@ impl Ground {
     }
 
     /// Opens a group, which its first connection has joined and doesn't leave.
-    pub fn open<R: Wait>(&mut self, rt: &R) -> Result<(u32, u32), OpenRefusal> {
-        self.hub.open_group(rt, &mut self.pass)
+    pub fn open<R: Wait>(self, rt: &R) -> (Ground, Result<(u32, u32), OpenRefusal>) {
+        let Ground {
+            alloc,
+            hub,
+            mut pass,
+            service,
+            tally,
+        } = self;
+        let opened = hub.open_group(rt, &mut pass);
+        let ground = Ground {
+            alloc,
+            hub,
+            pass,
+            service,
+            tally,
+        };
+        (ground, opened)
     }
 
     /// A further connection joins a group, and doesn't leave.
-    pub fn find<R: Wait>(&mut self, rt: &R, id: u32) -> Result<u32, FindRefusal> {
-        self.hub.find_join(rt, &mut self.pass, id.max(1))
+    pub fn find<R: Wait>(self, rt: &R, id: u32) -> (Ground, Result<u32, FindRefusal>) {
+        let Ground {
+            alloc,
+            hub,
+            mut pass,
+            service,
+            tally,
+        } = self;
+        let found = hub.find_join(rt, &mut pass, id.max(1));
+        let ground = Ground {
+            alloc,
+            hub,
+            pass,
+            service,
+            tally,
+        };
+        (ground, found)
     }
 
     /// The journals of all groups.
-    pub fn journals<R: Wait>(&mut self, rt: &R) -> Result<Vec<u8>, NoMemory> {
-        let mut text = Vec::new(self.alloc);
-        put_journals(rt, self.alloc, &*self.hub, &mut self.pass, &mut text)?;
-        Ok(text)
+    pub fn journals<R: Wait>(self, rt: &R) -> Result<(Ground, Vec<u8>), NoMemory> {
+        let Ground {
+            alloc,
+            hub,
+            mut pass,
+            service,
+            tally,
+        } = self;
+        let mut text = Vec::new(alloc);
+        put_journals(rt, alloc, &*hub, &mut pass, &mut text)?;
+        let ground = Ground {
+            alloc,
+            hub,
+            pass,
+            service,
+            tally,
+        };
+        Ok((ground, text))
     }
 
     /// Serves a connection of each peer, all side by side: what they come to.

@@ -111,6 +111,8 @@ pub struct Flags {
     always: AtomicBool,
     /// A call waits for a link's end.
     begun: AtomicBool,
+    /// The peer of the one link there is may end.
+    ends: AtomicBool,
     /// That link was closed.
     gone: AtomicBool,
     /// The other link was closed.
@@ -118,21 +120,22 @@ pub struct Flags {
 }
 
 impl Flags {
-    /// Nothing yet.
-    pub fn new() -> Flags {
+    /// Nothing yet. Where the peer of the one link ends late, that is once a call waits.
+    pub fn new(ends_late: bool) -> Flags {
         Flags {
             always: AtomicBool::new(true),
             begun: AtomicBool::new(false),
+            ends: AtomicBool::new(!ends_late),
             gone: AtomicBool::new(false),
             other_gone: AtomicBool::new(false),
         }
     }
 
-    /// Those of the one link there is, whose peer ends once a call waits, or at any time.
-    pub fn alone(&self, ends_late: bool) -> Gates<'_> {
+    /// Those of the one link there is.
+    pub fn alone(&self) -> Gates<'_> {
         Gates {
             start: &self.always,
-            end: if ends_late { &self.begun } else { &self.always },
+            end: &self.ends,
             closed: &self.gone,
         }
     }
@@ -182,6 +185,7 @@ impl<'a> Held<'a> {
 
     fn wait(&self) {
         self.flags.begun.store(true, Ordering::SeqCst);
+        self.flags.ends.store(true, Ordering::SeqCst);
         for _ in 0..TRIES {
             if self.flags.gone.load(Ordering::SeqCst) {
                 return;

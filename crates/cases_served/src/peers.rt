@@ -1,6 +1,8 @@
 //! What the peers of links do.
 ghost use Rattle.std.specs.Prelude.{◌≡◌, false, true, IfOk};
 ghost use Rattle.rpc_outside.specs.LinkLists.{is_new};
+ghost use Rattle.rpc_outside.specs.Links.{IsNew};
+ghost use Rattle.rpc_outside.specs.ScriptLinks.{shown};
 
 use cases_base::{Names, octets_of};
 use rpc_base::{Items, NoMemory, Numbers, Octets};
@@ -85,7 +87,8 @@ impl Peer {
         failing: Failing,
     ) -> Result<ScriptLink, NoMemory>
         ensures open { IfOk result (λ link. link.closed ≡ false) }
-        ensures new { IfOk result (λ link. is_new link ≡ true) }
+        ensures listed { IfOk result (λ link. is_new link ≡ true) }
+        ensures new { IfOk result (λ link. IsNew (shown link)) }
     {
         let (mut takes, mut puts) = (Numbers::new(alloc), Numbers::new(alloc));
         match failing {

@@ -135,7 +135,7 @@ impl<'a, R: Wait + Threads + Sync> Plays for Served<'a, R> {
 }
 
 /// What is told of connections on their own, and of two that are tied.
-pub fn served_links<R: Wait + Threads + Sync>(
+pub fn served_links<R: Wait + Threads + Sync + Copy>(
     rt: &R,
     alloc: Global,
     text: &str,

@@ -62,20 +62,15 @@ impl Setup {
     /// `calls PLACE..`: here, beside, or beside where those of an operation wait, as `held OPERATION`.
     fn set_places(&mut self, text: &str) -> Result<bool, NoMemory> {
         self.places.clear();
-        let mut words = text.split_whitespace();
-        while let Some(word) = words.next() {
-            let place = match word {
-                "here" => Place::Here,
-                "beside" => Place::Beside,
-                _ => {
-                    let number = words.next().and_then(|op| op.parse::<u16>().ok());
-                    match number {
-                        Some(op) if word == "held" => Place::Held(op),
-                        _ => return Ok(false),
-                    }
-                }
-            };
-            self.places.push(place)?;
+        let mut is_held = false;
+        for word in text.split_whitespace() {
+            match (word, word.parse::<u16>()) {
+                ("held", _) => is_held = true,
+                ("here", _) => self.places.push(Place::Here)?,
+                ("beside", _) => self.places.push(Place::Beside)?,
+                (_, Ok(op)) if is_held => self.places.push(Place::Held(op))?,
+                _ => return Ok(false),
+            }
         }
         Ok(true)
     }
@@ -164,10 +159,14 @@ impl Setup {
             for size in &self.sizes {
                 for failing in &self.failing {
                     let now = self.once(rt, alloc, *place, *size, *failing)?;
-                    match &came {
-                        Some(before) if *before != now => return Ok(None),
-                        _ => came = Some(now),
+                    let is_same = match &came {
+                        Some(before) => *before == now,
+                        None => true,
+                    };
+                    if !is_same {
+                        return Ok(None);
                     }
+                    came = Some(now);
                 }
             }
         }
