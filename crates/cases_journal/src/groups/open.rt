@@ -33,10 +33,23 @@ fn has_conn(base: &Base, conn: u32) -> bool
 }
 
 #[tactic(auto, using(handle_model::proofs::Sets::reversed))]
+fn has_joined(home: Home, base: &Base, entries: &[Entry], conn: u32) -> bool
+    ensures { result ≡ spec.has_joined (history_of home base.now entries.now) conn }
+{
+    any_joins(entries, conn) || has_conn(base, conn)
+}
+
+#[tactic(auto, using(handle_model::proofs::Sets::reversed))]
+fn has_left(home: Home, base: &Base, entries: &[Entry], conn: u32) -> bool
+    ensures { result ≡ list_any (spec.leaves conn) (history_of home base.now entries.now).past }
+{
+    any_leaves(entries, conn)
+}
+
 fn is_open_in(home: Home, base: &Base, entries: &[Entry], conn: u32) -> bool
     ensures { result ≡ spec.is_open (history_of home base.now entries.now) conn }
 {
-    (any_joins(entries, conn) || has_conn(base, conn)) && !any_leaves(entries, conn)
+    has_joined(home, base, entries, conn) && !has_left(home, base, entries, conn)
 }
 
 /// Whether the connection joined and did not leave.
