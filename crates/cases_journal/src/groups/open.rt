@@ -32,14 +32,14 @@ fn has_conn(base: &Base, conn: u32) -> bool
     any_number(base.conns.as_slice(), conn)
 }
 
-#[tactic(auto, using(handle_model::proofs::Sets::reversed))]
+#[tactic(auto, using(crate::proofs::Sets::reversed))]
 fn has_joined(home: Home, base: &Base, entries: &[Entry], conn: u32) -> bool
     ensures { result ≡ spec.has_joined (history_of home base.now entries.now) conn }
 {
     any_joins(entries, conn) || has_conn(base, conn)
 }
 
-#[tactic(auto, using(handle_model::proofs::Sets::reversed))]
+#[tactic(auto, using(crate::proofs::Sets::reversed))]
 fn has_left(home: Home, base: &Base, entries: &[Entry], conn: u32) -> bool
     ensures { result ≡ list_any (spec.leaves conn) (history_of home base.now entries.now).past }
 {
