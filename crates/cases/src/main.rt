@@ -1,6 +1,6 @@
 //! The program: `cases FILE..` goes through files of cases, by hand or made by other programs, and prints each that comes to
 //! something else than the file says, and then how many there were. The subject of a file is what stands in its name before
-//! the first `_`. Beside `src/`, `data/` has the files. Cases that need threads are those of `cases_served` and `cases_runs`.
+//! the first `_`. Beside `src/`, `data/` has the files.
 #![tactic(auto)]
 
 use anyhow::{Error, Result};
