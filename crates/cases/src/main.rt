@@ -40,7 +40,6 @@ fn of_words(alloc: Global, subject: &str, text: &str) -> Result<Option<Told>, Ca
 /// What cases of values, stubs and callers come to.
 fn of_values(alloc: Global, subject: &str, text: &str) -> Result<Option<Told>, CasesFault> {
     let told = match subject {
-        "values" => cases_values::values(alloc, text)?,
         "stubs" => ndr_lines::stubs(alloc, text)?,
         "callers" => cases_callers::callers(alloc, text)?,
         "calls" => cases_callers::calls(alloc, text)?,
@@ -58,9 +57,6 @@ fn of_groups<R: Threads>(
     text: &str,
 ) -> Result<Option<Told>, CasesFault> {
     let told = match subject {
-        "journals" => cases_journal::journal_texts(alloc, text)?,
-        "entries" => cases_journal::entry_lines(alloc, text)?,
-        "groups" => cases_journal::group_calls(alloc, text)?,
         "desks" => cases_desks::desk_calls(rt, alloc, text)?,
         _ => return Ok(None),
     };
