@@ -2,10 +2,10 @@
 # Times calls of `dcerpc serve` over the loopback, made by `dcerpc call`: calls a second over 1, 4 and 16 connections,
 # each by a caller of its own with one call out at a time, of the probe, where a handle is opened and closed, and of the
 # store, where 4 or 4,096 octets are appended to a file and read. Each rate is the greatest of three, from the start of
-# the first caller to the end of the last. A file has 16 MiB at most, and the three runs append no more than that. Behind
+# the first caller to the end of the last. A file has 16 MiB at most, and the three runs append no more than that. After
 # each rate stands how it is to that of one connection, and the memory that the server has then, the files of all three
 # among it.
-# Then what a call of the probe costs behind many calls, and beside connections that say nothing.
+# Then what a call of the probe costs after many calls, and beside connections that say nothing.
 # Last, what a connection costs that says nothing, of 200. Servers and clients share the processors of the machine.
 set -eu
 top=$(cd "$(dirname "$0")/.." && pwd)
@@ -59,7 +59,7 @@ for case in "0 20000 probe" "4 20000 store, 4 octets" "4096 1200 store, 4,096 oc
     done
 done
 
-# Calls of the probe over one connection, behind more and more calls, and beside more and more connections that say
+# Calls of the probe over one connection, after more and more calls, and beside more and more connections that say
 # nothing: what one costs, and how it is to the one before.
 cost() { # WHAT ROUNDS IDLE
     local descriptor descriptors=()

@@ -50,8 +50,8 @@ def numbered(file):
         yield from enumerate(it, 1)
 
 
-def behind(part):
-    """The group behind a part's entries, or None where one of them isn't allowed."""
+def group_after(part):
+    """The group after a part's entries, or None where one of them isn't allowed."""
     try:
         group = part.begun()
         for line in part.lines:
@@ -64,9 +64,9 @@ def behind(part):
 
 
 def cut(part, number):
-    """Ends a part that is as long as a file may be, and answers the one that goes on behind it; or the part itself where a Shut is
+    """Ends a part that is as long as a file may be, and answers the one that goes on after it; or the part itself where a Shut is
     due, which stays with what it ends; or None where nothing that follows counts, since the journal has a breach or ended."""
-    group = behind(part)
+    group = group_after(part)
     if group is None or group.shut_at is not None:
         return None
     if group.is_due():
@@ -83,7 +83,7 @@ def unfit(line, before, part):
     if why is None and part is None and verb != "group":
         return "a journal begins with its heading, group G boot X"
     if why is None and (verb == "base" and before != "group" or verb == "base-call" and before not in ("base", "base-call")):
-        return "a base stands behind a heading alone, and its calls behind it"
+        return "a base stands after a heading alone, and its calls after it"
     return why
 
 
@@ -171,7 +171,7 @@ def audited(found):
 
 
 def reason(part, at):
-    """The line of a breach, if it isn't behind the last one, and why it is one, in words."""
+    """The line of a breach, if it isn't after the last one, and why it is one, in words."""
     group = part.begun()
     first = group.count
     for line in part.lines[:at - first]:

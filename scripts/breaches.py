@@ -1,4 +1,4 @@
-"""Why an entry isn't allowed behind those before it, in words."""
+"""Why an entry isn't allowed after those before it, in words."""
 import journal
 
 

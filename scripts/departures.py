@@ -17,7 +17,7 @@ REPLAY_FORMS = {
 }
 CALL_FORMS = {
     "bind": ("bind C new, or bind C with D", f"bind {NUMBER} (?:new|with {NUMBER})"),
-    "start": ("start C OPERATION (v, v), and behind it heap [v, v] where there is one", rf"start {NUMBER} [A-Za-z_]\w* \(.*\).*"),
+    "start": ("start C OPERATION (v, v), and after it heap [v, v] where there is one", rf"start {NUMBER} [A-Za-z_]\w* \(.*\).*"),
     "cancel": ("cancel C", f"cancel {NUMBER}"),
     "wait": ("wait C", f"wait {NUMBER}"),
     "close": ("close C", f"close {NUMBER}"),
@@ -55,7 +55,7 @@ def of_form(line, forms):
     if line.startswith("#") or line.startswith("//"):
         return "there are no comments"
     if line != line.strip() or "  " in line or "\t" in line or "\r" in line:
-        return "one space stands between two words, and none before the first or behind the last"
+        return "one space stands between two words, and none before the first or after the last"
     if verb not in forms:
         return f"`{plain(verb)}` begins no line; one begins with {', '.join(forms)}"
     says, pattern = forms[verb]
@@ -136,9 +136,9 @@ def of_journal(lines, number):
     if number == 1 and verb != "group":
         return "a journal begins with its heading, group G boot X"
     if verb == "base" and before != "group":
-        return "a base stands behind a heading alone"
+        return "a base stands after a heading alone"
     if verb == "base-call" and before not in ("base", "base-call"):
-        return "a call of a base stands behind its base alone"
+        return "a call of a base stands after its base alone"
     return None
 
 

@@ -30,7 +30,7 @@ def wrong_words(given):
 
 
 def sorted_words(command, given):
-    """The operands and the options among the words behind a command, and what departs there."""
+    """The operands and the options among the words after a command, and what departs there."""
     operands, options, wrong, given = [], {}, [], list(given)
     while given:
         word = given.pop(0)
@@ -139,7 +139,7 @@ LINES = (
         "; the call didn't run" if it[3] == "not-run" else "; the call may have begun, so a second try may run it twice")),
     (re.compile(r"(\d+) refused (\d+)"), lambda it: f"the bind was refused: {faults.REFUSALS.get(int(it[2]), 'unknown reason')}"),
     (re.compile(r"(\d+) lost"), lambda it: "the connection was lost with a call out: whether it ran isn't known"),
-    (re.compile(r"connection (\d+) cut (\d+)"), lambda it: f"its client ended it within a PDU, {it[2]} octets behind the last whole one"),
+    (re.compile(r"connection (\d+) cut (\d+)"), lambda it: f"its client ended it within a PDU, {it[2]} octets after the last whole one"),
     (re.compile(r"connection (\d+) link"), lambda it: "its socket failed, or took nothing for a minute"),
     (re.compile(r"connection (\d+) refused"), lambda it: "the server closed it: its bind was refused, or it broke the protocol"),
     (re.compile(r"connection (\d+) memory"), lambda it: "memory ran out on it"),
@@ -199,7 +199,7 @@ SAID = {
 
 
 def ended(given, status, said):
-    """What a person is told behind the program's end: by the words, the status and the last of what it put."""
+    """What a person is told after the program's end: by the words, the status and the last of what it put."""
     lines = [it for it in said.split("\n") if it]
     try:
         if status == 1:

@@ -11,7 +11,7 @@ ESCAPES = {"n": "\n", "t": "\t", '"': '"', "\\": "\\"}
 
 
 def spelled(inside):
-    """The text of a literal: an escaped line feed and the spaces behind it are none of it."""
+    """The text of a literal: an escaped line feed and the spaces after it are none of it."""
     inside = re.sub(r"\\\n\s*", "", inside)
     return re.sub(r"\\(.)", lambda it: ESCAPES[it[1]], inside)
 

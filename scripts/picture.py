@@ -87,7 +87,7 @@ class Panel:
         group = self.told.group
         said = f"group {group.id}, boot {group.boot}: {len(self.told.entries)} entries"
         if self.told.first:
-            said += f" behind a base of {self.told.first}"
+            said += f" after a base of {self.told.first}"
         yield text(8, self.top + 18, said, class_="title")
 
     def grid(self):

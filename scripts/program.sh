@@ -9,7 +9,7 @@ readonly unproved=$top/out/unproved/dcerpc-unproved
 # About how many minutes of one processor the proofs below the program take from nothing.
 readonly proof_minutes=60
 
-# The lines of crates.txt of the crates that the program stands on, each behind those that it stands on itself, and
+# The lines of crates.txt of the crates that the program stands on, each after those that it stands on itself, and
 # the program's last.
 program_lines() {
     awk '

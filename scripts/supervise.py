@@ -2,7 +2,7 @@
 
 usage: supervise.py PROGRAM WORD..
 
-Where a person reads standard error, it says once a server listens, and explains behind the program's end. A server is asked
+Where a person reads standard error, it says once a server listens, and explains after the program's end. A server is asked
 to stop by SIGINT and SIGTERM: at the first nobody else is let in, at the second its connections end, at the third it is
 killed."""
 import ctypes

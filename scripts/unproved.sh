@@ -1,4 +1,4 @@
-# Compiles the program with run-time checks and without a proof, as `rt try` does. To be sourced behind program.sh.
+# Compiles the program with run-time checks and without a proof, as `rt try` does. To be sourced after program.sh.
 # shellcheck shell=bash
 
 # What the checks may use: no freed memory is kept back for long, and no second stack stands beside that of each

@@ -81,7 +81,7 @@ STATUSES = {
     5: "memory ran out",
     6: "of call: a bind was refused or a call failed",
     7: "of serve: it can't listen there, or can let nobody in; of call: nobody listens at the address",
-    8: "of serve: a connection didn't end behind a whole PDU, or was refused; of call: a connection was lost",
+    8: "of serve: a connection didn't end after a whole PDU, or was refused; of call: a connection was lost",
     124: "of a build that isn't proved: a check that is made as it runs failed",
     125: "of the launcher: the program isn't built, and can't be",
 }

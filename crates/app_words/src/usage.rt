@@ -57,6 +57,10 @@ fn call<'a>(alloc: Global) -> Result<Command<'a>, AllocError>
 }
 
 /// The program and its commands. No word asks for help or for a version.
+///
+/// # Errors
+///
+/// `AllocError` where there is no memory for the commands.
 pub fn program<'a>(alloc: Global) -> Result<Command<'a>, AllocError>
     ensures app { IfOk result (λ c. app_of c ≡ spec.program) }
 {

@@ -112,6 +112,10 @@ fn found<'a>(matches: &ArgMatches<'a>) -> Option<Asked<'a>>
 
 /// What the words ask for, or `None` where they ask for nothing; `NoMemory` where memory ends while
 /// they are read.
+///
+/// # Errors
+///
+/// `NoMemory` where there is no memory for reading the words.
 pub fn asked(alloc: Global, words: &[String]) -> Result<Option<Asked<'_>>, NoMemory>
     ensures asked { IfOk result (λ o. IfSome o (AsksFor (map string_bytes words.now))) }
     ensures alone { IfOk result (λ o. IfSome o (λ a. (other : Asked) → AsksFor (map string_bytes words.now) other → line_of other ≡ line_of a)) }

@@ -14,6 +14,9 @@ use rpc_base::NoMemory;
 
 impl AuditTables {
     /// The same with an entry that may come next and stands at that place.
+    ///
+    /// # Errors
+    /// `NoMemory` where memory runs out.
     pub fn enter(self, entry: &Entry, place: u128) -> Result<AuditTables, NoMemory>
         requires { spec.Admits self entry.now }
         ensures { IfOk result (λ t. t ≡ spec.entered self place entry.now) }

@@ -45,6 +45,9 @@ impl Model for AuditTables {
 
 impl AuditTables {
     /// The tables of a base.
+    ///
+    /// # Errors
+    /// `NoMemory` where memory runs out.
     pub fn of(alloc: Global, home: Home, base: &Base) -> Result<AuditTables, NoMemory>
         requires { IsSoundBase home base.now }
         ensures { IfOk result (λ t. t ≡ base_tables home base.now) }

@@ -25,6 +25,10 @@ pub fn cut_line(text: &[u8]) -> Option<(&[u8], &[u8])>
 
 /// The words of a line: what stands before, between and behind its spaces. The list takes
 /// memory for each word, so a caller who knows how many there may be cuts them off one by one.
+///
+/// # Errors
+///
+/// `NoMemory` where there is no memory for the list.
 pub fn split_words(alloc: Global, line: &[u8]) -> Result<Vec<&[u8]>, NoMemory>
     ensures { IfOk result (λ words. map (λ x. x.now) words.items ≡ slice_split (λ b. b == 32) line.now) }
 {

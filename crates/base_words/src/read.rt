@@ -88,6 +88,10 @@ fn unless_memory(error: FromHexError) -> Result<(), NoMemory>
 }
 
 /// Octets in hexadecimal, two small digits each. The empty text has no octets.
+///
+/// # Errors
+///
+/// `NoMemory` where there is no memory for the octets.
 pub fn read_hex(alloc: Global, text: &[u8]) -> Result<Option<Octets>, NoMemory>
     ensures { IfOk result (Reads IsBytes encode_lower text.now) }
 {
@@ -104,6 +108,10 @@ pub fn read_hex(alloc: Global, text: &[u8]) -> Result<Option<Octets>, NoMemory>
 }
 
 /// Octets as a word: in hexadecimal, and `-` where there are none.
+///
+/// # Errors
+///
+/// `NoMemory` where there is no memory for the octets.
 #[tactic(auto, unfolding(crate::specs::Words::octets_text))]
 pub fn read_octets(alloc: Global, text: &[u8]) -> Result<Option<Octets>, NoMemory>
     ensures { IfOk result (Reads IsBytes octets_text text.now) }

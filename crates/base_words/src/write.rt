@@ -7,6 +7,10 @@ use rpc_base::NoMemory;
 use std::alloc::Global;
 
 /// Adds octets as they are.
+///
+/// # Errors
+///
+/// `NoMemory` where there is no memory for the octets; nothing is added then.
 pub fn put(text: &[u8], into: &mut Vec<u8>) -> Result<(), NoMemory>
     ensures ok { OnOk result (into.new.items ≡ into.old.items ++ text.now) }
     ensures err { OnErr result (into.new.items ≡ into.old.items) }
@@ -16,6 +20,10 @@ pub fn put(text: &[u8], into: &mut Vec<u8>) -> Result<(), NoMemory>
 }
 
 /// Adds a number in decimal, without leading zeros.
+///
+/// # Errors
+///
+/// `NoMemory` where there is no memory for the text; nothing is added then.
 pub fn put_decimal(alloc: Global, number: u64, into: &mut Vec<u8>) -> Result<(), NoMemory>
     ensures ok { OnOk result (into.new.items ≡ into.old.items ++ decimal number) }
     ensures err { OnErr result (into.new.items ≡ into.old.items) }
@@ -25,6 +33,10 @@ pub fn put_decimal(alloc: Global, number: u64, into: &mut Vec<u8>) -> Result<(),
 }
 
 /// Adds octets in hexadecimal, two small digits each. No octets have the empty text.
+///
+/// # Errors
+///
+/// `NoMemory` where there is no memory for the text; nothing is added then.
 pub fn put_hex(alloc: Global, octets: &[u8], into: &mut Vec<u8>) -> Result<(), NoMemory>
     ensures ok { OnOk result (into.new.items ≡ into.old.items ++ encode_lower octets.now) }
     ensures err { OnErr result (into.new.items ≡ into.old.items) }
@@ -34,6 +46,10 @@ pub fn put_hex(alloc: Global, octets: &[u8], into: &mut Vec<u8>) -> Result<(), N
 }
 
 /// Adds octets as a word: in hexadecimal, and `-` where there are none.
+///
+/// # Errors
+///
+/// `NoMemory` where there is no memory for the text; nothing is added then.
 #[tactic(auto, unfolding(crate::specs::Words::octets_text))]
 pub fn put_octets(alloc: Global, octets: &[u8], into: &mut Vec<u8>) -> Result<(), NoMemory>
     ensures ok { OnOk result (into.new.items ≡ into.old.items ++ octets_text octets.now) }
@@ -46,6 +62,10 @@ pub fn put_octets(alloc: Global, octets: &[u8], into: &mut Vec<u8>) -> Result<()
 }
 
 /// Adds a number in 8 hexadecimal digits.
+///
+/// # Errors
+///
+/// `NoMemory` where there is no memory for the text; nothing is added then.
 #[tactic(auto, unfolding(crate::specs::Words::hex_u32))]
 pub fn put_hex_u32(alloc: Global, number: u32, into: &mut Vec<u8>) -> Result<(), NoMemory>
     ensures ok { OnOk result (into.new.items ≡ into.old.items ++ hex_u32 number) }
@@ -56,6 +76,10 @@ pub fn put_hex_u32(alloc: Global, number: u32, into: &mut Vec<u8>) -> Result<(),
 }
 
 /// Adds a number in 16 hexadecimal digits.
+///
+/// # Errors
+///
+/// `NoMemory` where there is no memory for the text; nothing is added then.
 #[tactic(auto, unfolding(crate::specs::Words::hex_u64))]
 pub fn put_hex_u64(alloc: Global, number: u64, into: &mut Vec<u8>) -> Result<(), NoMemory>
     ensures ok { OnOk result (into.new.items ≡ into.old.items ++ hex_u64 number) }
@@ -66,6 +90,10 @@ pub fn put_hex_u64(alloc: Global, number: u64, into: &mut Vec<u8>) -> Result<(),
 }
 
 /// Adds a number in 32 hexadecimal digits.
+///
+/// # Errors
+///
+/// `NoMemory` where there is no memory for the text; nothing is added then.
 #[tactic(auto, unfolding(crate::specs::Words::hex_u128))]
 pub fn put_hex_u128(alloc: Global, number: u128, into: &mut Vec<u8>) -> Result<(), NoMemory>
     ensures ok { OnOk result (into.new.items ≡ into.old.items ++ hex_u128 number) }

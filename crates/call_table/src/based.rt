@@ -14,6 +14,9 @@ use std::alloc::Global;
 
 /// The calls of these rows with what they asked: those of the base, and of the others by their Accepts
 /// among the entries since then.
+///
+/// # Errors
+/// `NoMemory` where memory runs out.
 #[tactic(auto, using(handle_model::proofs::Rest::resting))]
 pub fn stored_calls(
     alloc: Global,

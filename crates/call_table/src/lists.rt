@@ -8,6 +8,9 @@ use rpc_base::{Items, NoMemory};
 use std::alloc::Global;
 
 /// Adds lists until there are as many as are wanted.
+///
+/// # Errors
+/// `NoMemory` where memory runs out; what was added by then stays.
 pub fn fill(alloc: Global, lists: &mut Vec<Cookies>, wanted: usize) -> Result<(), NoMemory>
     requires { All (λ b. b ≡ blank) lists.old.items }
     ensures ok { OnOk result (wanted ≤ vec_len lists.new) }

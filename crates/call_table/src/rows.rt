@@ -12,6 +12,9 @@ use rpc_base::NoMemory;
 use std::alloc::Global;
 
 /// The rows of a base's calls.
+///
+/// # Errors
+/// `NoMemory` where memory runs out.
 #[tactic(auto, using(handle_model::proofs::Rest::resting))]
 pub fn rows_of(alloc: Global, base: &Base) -> Result<Vec<Row>, NoMemory>
     requires { list_all (is_within base.now) base.now.calls ≡ true }

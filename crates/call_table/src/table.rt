@@ -80,6 +80,9 @@ impl CallTable {
     }
 
     /// The calls of a base. For no further call there is room.
+    ///
+    /// # Errors
+    /// `NoMemory` where memory runs out.
     pub fn of(alloc: Global, base: &Base) -> Result<CallTable, NoMemory>
         requires rise { rise (numbers_of base.now.calls) ≡ true }
         requires counted { at_most base.now.accepts (numbers_of base.now.calls) ≡ true }
@@ -101,6 +104,9 @@ impl CallTable {
     }
 
     /// Makes room for `n` calls more, and for the cookies that they will be given.
+    ///
+    /// # Errors
+    /// `NoMemory` where memory runs out; the table is then as before.
     pub fn reserve(&mut self, n: usize) -> Result<(), NoMemory>
         ensures ok { OnOk result (n ≤ self.new.room) }
         ensures more { self.old.room ≤ self.new.room }
@@ -178,6 +184,9 @@ impl CallTable {
 
     /// The calls as a base has them: what they asked stands in that base, or in their Accepts among the
     /// entries since then.
+    ///
+    /// # Errors
+    /// `NoMemory` where memory runs out.
     pub fn calls(
         &self,
         alloc: Global,

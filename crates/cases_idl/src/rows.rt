@@ -15,6 +15,10 @@ use std::fmt::Display;
 /// a text, `tree` for its whole tree, `check` for what the reader or else the rules say of it, `declare` and `table` for the same
 /// and for whether there is a table, of declarations that stand in an interface of a UUID; and `memory` for how faults of memory
 /// are told.
+///
+/// # Errors
+///
+/// `CasesFault::Line` where a line is no row of that form, by its number from 1; `Memory` where memory runs out.
 pub fn texts(alloc: Global, text: &str) -> Result<Told, CasesFault> {
     answered(alloc, &mut Rows, text)
 }
@@ -57,6 +61,10 @@ impl Answers for Rows {
 }
 
 /// An interface of these declarations.
+///
+/// # Errors
+///
+/// `NoMemory` where there is no memory for it.
 pub fn declared(alloc: Global, declarations: &[u8]) -> Result<Vec<u8>, NoMemory> {
     let mut text = Vec::new(alloc);
     put(HEAD.as_bytes(), &mut text)?;

@@ -6,6 +6,10 @@ use std::alloc::Global;
 
 /// The octets of a text in which `%XX` is the octet of two hexadecimal digits, and `<COUNT*PIECE>` so many pieces, in each of
 /// which `%n` is the number of pieces before it, and `%s` one more. None where a `%` or a `<` begins nothing of the kind.
+///
+/// # Errors
+///
+/// `NoMemory` where there is no memory for it.
 pub fn spelled(alloc: Global, text: &str) -> Result<Option<Vec<u8>>, NoMemory> {
     let mut octets = Vec::new(alloc);
     let mut is_first = true;

@@ -14,6 +14,10 @@ use std::alloc::Global;
 /// What is told of stories of interface texts. A line `text` has the next line of the text, and `declare` declarations that stand
 /// in an interface of a UUID; `printed` has the next line of the canonical text that is wanted, and `table` that of the table. Each
 /// may stand between quotation marks. The canonical text is its own, and has the same table.
+///
+/// # Errors
+///
+/// `CasesFault::Line` where a line is none of a story, by its number from 1; `Memory` where memory runs out.
 pub fn interfaces(alloc: Global, text: &str) -> Result<Told, CasesFault> {
     let mut story = Story {
         text: Vec::new(alloc),

@@ -90,6 +90,10 @@ fn put_numbered(
 }
 
 /// Puts the table of an interface text; `none` stands behind its operations.
+///
+/// # Errors
+///
+/// `NoMemory` where there is no memory for it.
 pub fn put_table(alloc: Global, text: &[u8], into: &mut Vec<u8>) -> Result<(), NoMemory> {
     let Some(table) = table_of(alloc, text) else {
         return put(b"no table", into);

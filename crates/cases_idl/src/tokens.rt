@@ -34,6 +34,10 @@ fn put_within(word: &[u8], text: &[u8], into: &mut Vec<u8>) -> Result<(), NoMemo
 }
 
 /// Puts the tokens of a text, each behind its place.
+///
+/// # Errors
+///
+/// `NoMemory` where there is no memory for it.
 pub fn put_tokens(alloc: Global, text: &[u8], into: &mut Vec<u8>) -> Result<(), NoMemory> {
     for token in &tokens(alloc, text)? {
         if !into.is_empty() {

@@ -1,7 +1,8 @@
 -- What is found of a call or a PDU in parts, before all of it is.
-use Rattle.std.specs.Prelude.{◌≡◌, ◌≢◌, ℕ, ◌<◌, Option, Some, None, Result, Ok, Err, List, length, slice_get, IfSome, ⊤}
+use Rattle.std.specs.Prelude.{◌≡◌, ◌≢◌, ℕ, ◌<◌, Option, Some, None, Result, Ok, Err, List, length, slice_get, IfSome, IfOk, ⊤}
 use Rattle.std.specs.Option.{option_map}
 use Rattle.rpc_base.specs.declared.fault.NoMemory.{NoMemory}
+use Rattle.rpc_base.specs.declared.identifiers.Order.TheVariants.{Little}
 use Rattle.pdu_stream.specs.declared.joined.Joined.{Joined}
 use Rattle.pdu_stream.specs.declared.joined.JoinFault.{JoinFault}
 use Rattle.pdu_stream.specs.Fragments.{Fragment, Joining, AddsFragment}
@@ -11,7 +12,7 @@ use Rattle.ndr_table.specs.Tables.{OpForm, TableForm}
 use Rattle.ndr_codec.specs.declared.written.EncodeFault.{EncodeFault}
 use Rattle.ndr_codec.specs.Encoded.{Encodes}
 use Rattle.ndr_model.specs.Faults.{IsFault}
-use Rattle.ndr_model.specs.declared.way.Way.TheVariants.{Response}
+use Rattle.ndr_model.specs.declared.way.Way.TheVariants.{Request, Response}
 use Rattle.ndr_model.specs.Message.{IsStub, read_stub}
 use Rattle.ndr_model.specs.declared.fault.NdrFault.{NdrFault}
 use Rattle.ndr_model.specs.declared.fault.NdrFault.TheVariants as faults
@@ -47,6 +48,11 @@ Finds s op m result =
 -- the same of every operation that has the number
 abbrev pub CallsEach : ClientState → ℕ → Msg → Result (List ℕ) EncodeFault → ClientState → Type 0
 CallsEach s op m result n = (o : OpForm) → slice_get s.interface.ops op ≡ Some o → CallsOp s o op m result n
+
+-- the message is read whose stub data these octets are, as a request of the operation
+abbrev pub ReadsRequest : TableForm → ℕ → List ℕ → Result Message NoMemory → Type 0
+ReadsRequest interface op stub result =
+    (o : OpForm) (m : Msg) → slice_get interface.ops op ≡ Some o → IsStub interface.types o Request Little None m stub → IfOk result (λ asked. msg asked ≡ m)
 
 -- ---- responses
 

@@ -12,7 +12,7 @@ ghost use Rattle.client_core.specs.Octets.{IsRequest};
 ghost use Rattle.client_core.specs.States.{calling, next_id};
 ghost use Rattle.std.specs.Option.{option_map};
 ghost use Rattle.client_core.specs.State.{state};
-ghost use Rattle.client_core.specs.Parts.{HasOp, Finds, CallsEach};
+ghost use Rattle.client_core.specs.Parts.{HasOp, Finds, CallsEach, ReadsRequest};
 
 use crate::{CallOut, Client, Request};
 use ndr_codec::{EncodeFault, NdrFault, Way, decode, encode, fits};
@@ -194,7 +194,7 @@ impl Client {
     fn asked(&self, op: u16, stub: &[u8]) -> Result<Message, NoMemory>
         requires op { op < length (state self.now).interface.ops }
         requires is { (o : OpForm) → slice_get (state self.now).interface.ops op ≡ Some o → (m : Msg) × IsStub (state self.now).interface.types o ways.Request Little None m stub.now }
-        ensures { (o : OpForm) (m : Msg) → slice_get (state self.now).interface.ops op ≡ Some o → IsStub (state self.now).interface.types o ways.Request Little None m stub.now → IfOk result (λ asked. msg asked ≡ m) }
+        ensures { ReadsRequest (state self.now).interface op stub.now result }
     {
         match decode(
             self.alloc,

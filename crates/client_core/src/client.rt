@@ -75,6 +75,10 @@ impl Client {
     /// Begins to bind the connection to the group of that id, 0 for a new one: the octets of the bind, which
     /// offers the interface as context 0. Whatever bind was out before is so no more. At `NoMemory` nothing
     /// changes.
+    ///
+    /// # Errors
+    ///
+    /// `NoMemory` where there is no memory for the octets.
     pub fn bind(&mut self, group: u32) -> Result<Octets, NoMemory>
         requires { states.is_bound (state self.old) ≡ false }
         ensures { spec.Binds (state self.old) group result (state self.new) }
@@ -97,6 +101,11 @@ impl Client {
 
     /// Begins to offer the interface as that presentation context too: the octets of the alter_context. Calls
     /// go on in context 0. At `NoMemory` nothing changes.
+    ///
+    /// # Errors
+    ///
+    /// `NoMemory` where there is no memory for the octets or for the list of offers; nothing
+    /// changes then.
     pub fn alter(&mut self, context: u16) -> Result<Octets, NoMemory>
         requires bound { states.is_bound (state self.old) ≡ true }
         requires free { states.is_calling (state self.old) ≡ false }
@@ -125,6 +134,10 @@ impl Client {
     }
 
     /// Asks for the cancelling of the call that is out: the octets of the co_cancel.
+    ///
+    /// # Errors
+    ///
+    /// `NoMemory` where there is no memory for the octets; the call stays as it was.
     pub fn cancel(&mut self) -> Result<Octets, NoMemory>
         requires { states.is_calling (state self.old) ≡ true }
         ensures { spec.Cancels (state self.old) result (state self.new) }

@@ -58,6 +58,10 @@ fn is_syntax(syntax: SyntaxId)
 }
 
 /// The octets of a bind to the group of that id, 0 for a new one, which offers the interface as context 0.
+///
+/// # Errors
+///
+/// `NoMemory` where there is no memory for the octets.
 #[tactic(auto, using(crate::proofs::Writable::bind_writable))]
 pub fn bind(alloc: Global, syntax: SyntaxId, group: u32) -> Result<Octets, NoMemory>
     ensures { IfOk result (λ octets. octets ≡ pdu_octets (spec.bind_pdu syntax group)) }
@@ -73,6 +77,10 @@ pub fn bind(alloc: Global, syntax: SyntaxId, group: u32) -> Result<Octets, NoMem
 }
 
 /// The octets of an alter_context, which offers the interface as that context.
+///
+/// # Errors
+///
+/// `NoMemory` where there is no memory for the octets.
 #[tactic(auto, using(crate::proofs::Writable::alter_writable))]
 pub fn alter(
     alloc: Global,
@@ -93,6 +101,10 @@ pub fn alter(
 }
 
 /// The octets of a co_cancel of the call with that id.
+///
+/// # Errors
+///
+/// `NoMemory` where there is no memory for the octets.
 #[tactic(auto, using(crate::proofs::Writable::cancel_writable))]
 pub fn co_cancel(alloc: Global, call_id: u32) -> Result<Octets, NoMemory>
     ensures { IfOk result (λ octets. octets ≡ pdu_octets (spec.co_cancel call_id)) }

@@ -57,6 +57,10 @@ impl Request {
     }
 
     /// The octets of the request with the stub, in fragments of at most so many octets.
+    ///
+    /// # Errors
+    ///
+    /// `NoMemory` where there is no memory for the octets.
     pub fn octets(self, alloc: Global, most: u16, stub: &[u8]) -> Result<Octets, NoMemory>
         requires most { (least_fragment ≤ most) × (most ≤ most_fragment) }
         requires stub { length stub.now ≤ most_stub }

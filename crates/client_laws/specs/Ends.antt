@@ -71,9 +71,9 @@ pub record IsWaiting (s : ClientState) (c : Calling) : Type 0 where
   pub fresh : c.joining ≡ Ok None
 
 -- what is told of what the server says: of a fault whether the call was executed, and the message whose stub data were said
-abbrev pub Tells : ClientState → Calling → OpForm → Caller → Bool → Said → Outcome → Type 0
-Tells s c o caller executed (Fault status) told = told ≡ TFault status (not executed)
-Tells s c o caller executed (Out stub) told = (m : Msg) → IsStub s.interface.types o Response caller.order (Some c.message) m stub → told ≡ TDone m
+abbrev pub TellsSaid : ClientState → Calling → OpForm → Caller → Bool → Said → Outcome → Type 0
+TellsSaid s c o caller executed (Fault status) told = told ≡ TFault status (not executed)
+TellsSaid s c o caller executed (Out stub) told = (m : Msg) → IsStub s.interface.types o Response caller.order (Some c.message) m stub → told ≡ TDone m
 
 -- what fits a PDU's fields
 abbrev pub FitsCaller : Caller → Type 0
@@ -88,7 +88,7 @@ AnswersAreTold =
     (s n : ClientState) (c : Calling) (o : OpForm) (caller : Caller) (most : ℕ) (executed : Bool) (said : Said) (octets : List ℕ) (cut : Cut) (told : List Outcome)
     → IsWaiting s c → slice_get s.interface.ops c.op ≡ Some o → IsOp s.interface.types o → caller.call_id ≡ c.id → FitsCaller caller → IsLawful most
     → SaysSome o s c caller said → Replies caller most false executed (Some said) octets → IsCut octets cut → HearsAll s cut.pdus told n
-    → (one : Outcome) × (told ≡ one ∷ []) × Tells s c o caller executed said one × (n ≡ record s { call = None }) × (cut.rest ≡ []) × (cut.fault ≡ None)
+    → (one : Outcome) × (told ≡ one ∷ []) × TellsSaid s c o caller executed said one × (n ≡ record s { call = None }) × (cut.rest ≡ []) × (cut.fault ≡ None)
 
 -- ---- a call and its response
 

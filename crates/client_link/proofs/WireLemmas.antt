@@ -238,7 +238,7 @@ module _ {K : Type 0} (shows : K → Shown) (interface : TableForm) where
       )
 
   pub tells : (w : Wire K) (c : Client) (f : Fed) (events : List ClientEvent) (m : ClientState) (p : Pdu) (t : Told) → Lived shows interface w events m [] → GivesNext w.feed (Ok (Some p)) f
-      → HearsBody (state w.client) p p.body (Some (told t)) (state c) → Looks shows interface events m w (Ok (look.Tells t)) (with_heard w c f)
+      → HearsBody (state w.client) p p.body (Some (told t)) (state c) → Looks shows interface events m w (Ok (look.Outcome t)) (with_heard w c f)
   tells w c f events m p t l next h = let x = heard w c f events m p (Some (told t)) l next h in (p, state c, x.0, x.1)
 
   pub tells_nothing : (w : Wire K) (c : Client) (f : Fed) (events : List ClientEvent) (m : ClientState) (p : Pdu) → Lived shows interface w events m [] → GivesNext w.feed (Ok (Some p)) f
@@ -300,9 +300,9 @@ module _ {K : Type 0} (shows : K → Shown) (interface : TableForm) where
           subst (λ (es : List ClientEvent). Lived shows interface w es h.1 []) (append_assoc events so_far.0 (Received h.0 None ∷ [])) h.3,
         )
 
-    pub goes_told : (old : Wire K) (m : ClientState) (t : Told) → r ≡ Ok (look.Tells t) → Waits shows interface events m old (Ok t) w
+    pub goes_told : (old : Wire K) (m : ClientState) (t : Told) → r ≡ Ok (look.Outcome t) → Waits shows interface events m old (Ok t) w
     goes_told old m t is =
-        let h : Looks shows interface (events ++ so_far.0) so_far.1 v (Ok (look.Tells t)) w = subst (λ (x : Result Look Stop). Looks shows interface (events ++ so_far.0) so_far.1 v x w) is looked in (
+        let h : Looks shows interface (events ++ so_far.0) so_far.1 v (Ok (look.Outcome t)) w = subst (λ (x : Result Look Stop). Looks shows interface (events ++ so_far.0) so_far.1 v x w) is looked in (
           so_far.0,
           h.0,
           h.1,

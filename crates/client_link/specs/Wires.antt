@@ -72,7 +72,7 @@ abbrev pub MayBeTold : Outcome → Type 0
 MayBeTold t = (s : ClientState) × AnswersOut s (Some t)
 
 abbrev pub LooksRightly : Look → Type 0
-LooksRightly (look.Tells t) = MayBeTold (told t)
+LooksRightly (look.Outcome t) = MayBeTold (told t)
 LooksRightly _ = ⊤
 
 -- where nothing came, the quiets rose
@@ -125,7 +125,7 @@ module _ {K : Type 0} (shows : K → Shown) where
 
       -- A PDU was received, or octets came, or nothing did.
       abbrev pub Looks : Wire K → Result Look Stop → Wire K → Type 0
-      Looks old (Ok (look.Tells t)) w = (p : Pdu) × (n : ClientState) × HearsBody m p p.body (Some (told t)) n × Lived w (events ++ Received p (Some (told t)) ∷ []) n []
+      Looks old (Ok (look.Outcome t)) w = (p : Pdu) × (n : ClientState) × HearsBody m p p.body (Some (told t)) n × Lived w (events ++ Received p (Some (told t)) ∷ []) n []
       Looks old (Ok look.Nothing) w = ((p : Pdu) × (n : ClientState) × HearsBody m p p.body None n × Lived w (events ++ Received p None ∷ []) n []) ⊎ Lived w events m []
       Looks old (Ok look.Quiet) w = IsPartial w.feed.rest × Lived w events m []
       Looks old (Err stop.Memory) w = Stopped w events

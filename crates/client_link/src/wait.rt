@@ -32,7 +32,7 @@ pub enum Stop {
 #[derive(Drop)]
 enum Look {
     /// A PDU told this.
-    Tells(Told),
+    Outcome(Told),
     /// A PDU told nothing, or octets came.
     Nothing,
     /// Nothing came yet.
@@ -93,7 +93,7 @@ impl<K: Link> Wire<K> {
     {
         match self.feed.next() {
             Ok(Some(pdu)) => match self.client.on_pdu(pdu) {
-                Ok(Some(told)) => Ok(Look::Tells(told)),
+                Ok(Some(told)) => Ok(Look::Outcome(told)),
                 Ok(None) => Ok(Look::Nothing),
                 Err(_) => Err(Stop::Memory),
             },
@@ -119,7 +119,7 @@ impl<K: Link> Wire<K> {
         let mut quiets = 0;
         for _ in 0..u64::MAX {
             match self.look()? {
-                Look::Tells(told) => return Ok(told),
+                Look::Outcome(told) => return Ok(told),
                 Look::Nothing => {}
                 Look::Quiet => {
                     quiets += 1;

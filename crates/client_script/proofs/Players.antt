@@ -23,7 +23,7 @@ use Rattle.client_script.specs.Steps.{Steps, IsBarred, Prints, Begins, known_wit
 use Rattle.client_script.specs.Losses.{IsCutOff, Loses, EndsAt, lost_text}
 use Rattle.client_script.specs.Shows.{Holds, HoldsLost, Stands, IsBoundAs, IsNowhere, IsIndex}
 use Rattle.client_script.specs.Channels.{BeginsOn, FromEach}
-use Rattle.client_script.specs.Players.{Touches, AsksOf, TellsLost, Tells, Begun}
+use Rattle.client_script.specs.Players.{Touches, AsksOf, TellsLost, TellsOutcome, Begun}
 use Rattle.client_script.specs.Plays.{Opened, Runs, HasLost, LineEnds}
 use Rattle.client_script.proofs.Index.{index_set, same_index}
 use Rattle.client_script.proofs.Lists.{one_there, set_there, set_itself, set_long, zip_at, zip_from, zip_set}
@@ -65,7 +65,7 @@ module _ {K : Type 0} (shows : K → Shown) (interface : TableForm) where
   pub touched : {R : Channel K → Channel K → Type 0} (p q : Player K) (at : ℕ) (w : World) → Touches p at R q → Agrees p w → Agrees q w
   touched p q at w t s = subst (λ (x : Player K). Agrees x w) (sym t.others) (record { known = s.known; out = s.out; failed = s.failed })
 
-  pub told_line : (q r : Player K) (w : World) (name : ℕ) (o : Outcome) (A : List Association) → AllZip (Holds shows interface) q.channels.items A → Agrees q w → IsIndex q.places q.channels.items → Tells q name o r → (v : World) × Prints w name o A v × Stands shows interface r v
+  pub told_line : (q r : Player K) (w : World) (name : ℕ) (o : Outcome) (A : List Association) → AllZip (Holds shows interface) q.channels.items A → Agrees q w → IsIndex q.places q.channels.items → TellsOutcome q name o r → (v : World) × Prints w name o A v × Stands shows interface r v
   told_line q r w name o A z s i t =
       let v : World = record { associations = A; known = known_with w.known o; out = w.out ++ t.line; failed = w.failed || is_failure o } in (
         v,

@@ -3,7 +3,7 @@ use Rattle.std.proofs.Common.{◌≡◌, ℕ, Bool, true, false, List, ◌++◌,
 use Rattle.rpc_base.specs.declared.identifiers.WireHandle.{WireHandle}
 use Rattle.client_core.specs.States.{Outcome}
 use Rattle.client_core.specs.States.Outcome.{TBound, TNotBound, TDone, TFault, TBroken}
-use Rattle.client_texts.specs.Answers.{Says, IsLine, Tells, bound_text, refused_text, fault_text}
+use Rattle.client_texts.specs.Answers.{Says, IsLine, WritesLine, bound_text, refused_text, fault_text}
 use Rattle.client_texts.proofs.Texts.{has_line}
 use Rattle.client_script.specs.Steps.{known_with}
 use Rattle.client_script.specs.Channels.{IsTellable}
@@ -27,6 +27,6 @@ pub line_now : (known now : List WireHandle) (name : ℕ) (outcome : Outcome) �
 line_now known now name outcome h e = let l = line_of known name outcome h in (l.0, subst (λ (k : List WireHandle). IsLine k name outcome l.0) (sym e) l.1)
 
 -- so it isn't that none was added
-pub was_added : (known : List WireHandle) (name : ℕ) (outcome : Outcome) (done : Bool) (before after : List ℕ) → ((line : List ℕ) × IsLine known name outcome line) → done ≡ false → Tells done known name outcome before after → ⊥
+pub was_added : (known : List WireHandle) (name : ℕ) (outcome : Outcome) (done : Bool) (before after : List ℕ) → ((line : List ℕ) × IsLine known name outcome line) → done ≡ false → WritesLine done known name outcome before after → ⊥
 was_added known name outcome true before after l e t = absurd (cc (e))
 was_added known name outcome false before after l e t = t l.0 l.1

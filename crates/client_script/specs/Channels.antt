@@ -1,17 +1,21 @@
 -- What comes of one thing that is done on a connection.
 use Rattle.std.specs.Prelude.{◌≡◌, ◌≢◌, ℕ, true, false, Result, Ok, Err, List, ⊤, ◌⊎◌}
+use Rattle.ndr_value.specs.declared.value.Message.{Message}
+use Rattle.ndr_value.specs.Values.{msg}
 use Rattle.rpc_outside.specs.Links.{Shown}
 use Rattle.ndr_table.specs.Tables.{TableForm}
 use Rattle.client_core.specs.declared.told.Told.{Told}
-use Rattle.client_core.specs.States.{Outcome, ClientState, told}
+use Rattle.client_core.specs.Calls.{IsMessage}
+use Rattle.client_core.specs.State.{state}
+use Rattle.client_core.specs.States.{Outcome, ClientState, told, is_bound, is_calling}
 use Rattle.client_core.specs.States.Outcome.{TBroken}
 use Rattle.client_core.specs.Histories.{ClientEvent, Happens}
-use Rattle.client_core.specs.Histories.ClientEvent.{DidBind}
+use Rattle.client_core.specs.Histories.ClientEvent.{DidBind, DidCall}
 use Rattle.client_link.specs.declared.wire.BeginFault.{BeginFault}
 use Rattle.client_link.specs.declared.wire.BeginFault.TheVariants as begin
 use Rattle.client_link.specs.declared.wait.Stop.{Stop as Deaf}
 use Rattle.client_link.specs.declared.wait.Stop.TheVariants as deaf
-use Rattle.client_link.specs.Wires.{MayBeTold}
+use Rattle.client_link.specs.Wires.{IsOpen, IsTooLong, MayBeTold}
 use Rattle.client_script.specs.declared.channel.Channel.{Channel}
 use Rattle.client_script.specs.declared.channel.Halt.{Halt}
 use Rattle.client_script.specs.declared.channel.Halt.TheVariants as halts
@@ -77,3 +81,12 @@ module _ {K : Type 0} (shows : K → Shown) where
   -- from each connection that the channel is and that is open
   abbrev pub FromEach : Channel K → (TableForm → Association → Type 0) → Type 0
   FromEach c P = (interface : TableForm) (a : Association) → Holds shows interface c a → a.is_open ≡ true → P interface a
+
+  -- a call of that message may be begun on the channel, and it is
+  abbrev pub MayStartOn : ℕ → Message → Channel K → Type 0
+  MayStartOn op message c =
+      IsOpen shows c.wire.link × (is_bound (state c.wire.client) ≡ true) × (is_calling (state c.wire.client) ≡ false) × IsMessage (state c.wire.client).interface op (msg message)
+
+  abbrev pub StartsOn : Channel K → ℕ → Message → Result Unit Halt → Channel K → Type 0
+  StartsOn old op message result new =
+      FromEach old (λ interface a. BeginsOn interface a (DidCall op (msg message)) (IsTooLong (state old.wire.client).interface op (msg message)) result new)

@@ -72,7 +72,7 @@ module _ {K : Type 0} where
     pub others : new ≡ record old { out = new.out }
 
   -- an outcome is told
-  pub record Tells (old : Player K) (name : ℕ) (outcome : Outcome) (new : Player K) : Type 0 where
+  pub record TellsOutcome (old : Player K) (name : ℕ) (outcome : Outcome) (new : Player K) : Type 0 where
     pub line : List ℕ
     pub is_line : IsLine (known_with old.known outcome) name outcome line
     pub known : new.known ≡ known_with old.known outcome
@@ -100,7 +100,7 @@ module _ {K : Type 0} where
 
   -- what came of a wait is told
   abbrev pub Answered : Player K → ℕ → ℕ → Result Told Halt → Result Unit Stop → Player K → Type 0
-  Answered old name at answer (Ok _) new = (t : Told) × (answer ≡ Ok t) × Tells old name (told t) new
+  Answered old name at answer (Ok _) new = (t : Told) × (answer ≡ Ok t) × TellsOutcome old name (told t) new
   Answered old name at answer (Err stops.Lost) new = (answer ≡ Err halts.Lost) × TellsLost old name at new
   Answered old name at answer (Err stops.Memory) new = new.channels ≡ old.channels
   Answered old name at answer (Err stops.Dial) new = ⊥

@@ -1,5 +1,5 @@
 -- What a player comes to by a line, and by the lines of a text.
-use Rattle.std.specs.Prelude.{◌≡◌, ℕ, ◌+◌, ◌≤◌, ◌<◌, ◌++◌, Bool, true, false, Option, Some, None, Result, Ok, Err, List, length, replicate, slice_get, vec_len, vec_capacity, IfSome, ◌⊎◌}
+use Rattle.std.specs.Prelude.{◌≡◌, ℕ, ◌+◌, ◌≤◌, ◌<◌, ◌++◌, Bool, true, false, Option, Some, None, Result, Ok, Err, List, length, replicate, slice_get, vec_len, vec_capacity, IfSome, MatchOption, ◌⊎◌}
 use Rattle.std.specs.Option.{option_map}
 use Rattle.std.specs.Ordering.{nat_cmp}
 use Rattle.std.specs.BTreeMap.{Updates}
@@ -115,6 +115,11 @@ module _ {K : Type 0} (shows : K → Shown) where
   abbrev pub PlaysNext : TableForm → Address → List ℕ → Player K → DialShown K → Result (Option (List ℕ)) Stop → Player K → DialShown K → Type 0
   PlaysNext interface at text old before result new now =
       (first : DialShown K) (w : World) → Runs interface at first old before w → NextEnds interface at first w text result before new now
+
+  -- the same of what is found: None, or a rest
+  abbrev pub PlaysOn : {R : Type 0} → Option R → (R → List ℕ) → TableForm → Address → List ℕ → Player K → DialShown K → Player K → DialShown K → Type 0
+  PlaysOn found octets_of interface at text old before new now =
+      MatchOption found (PlaysNext interface at text old before (Ok None) new now) (λ rest. PlaysNext interface at text old before (Ok (Some (octets_of rest))) new now)
 
   -- what the lines of a text come to
   abbrev pub AllEnds : TableForm → Address → List ℕ → DialShown K → CallEnd → Player K → DialShown K → Type 0

@@ -6,13 +6,13 @@ ghost use Rattle.ndr_table.specs.Shown.{shown};
 ghost use Rattle.client_core.specs.Calls.{IsMessage};
 ghost use Rattle.client_core.specs.States.{is_bound, is_calling};
 ghost use Rattle.client_core.specs.States as states;
-ghost use Rattle.client_core.specs.Histories.ClientEvent.{DidBind, DidCall, DidCancel};
+ghost use Rattle.client_core.specs.Histories.ClientEvent.{DidBind, DidCancel};
 ghost use Rattle.client_core.specs.State.{state};
-ghost use Rattle.client_link.specs.Wires.{IsOpen, IsTooLong};
+ghost use Rattle.client_link.specs.Wires.{IsOpen};
 ghost use Rattle.client_script.specs.Worlds.{fresh};
 ghost use Rattle.client_script.specs.Shows.{Holds};
 ghost use Rattle.client_script.specs.Steps as spec;
-ghost use Rattle.client_script.specs.Channels.{BeginsOn, HearsOn, BindsOn, FromEach, Halts, Silences, IsWaited, IsTellable};
+ghost use Rattle.client_script.specs.Channels.{BeginsOn, StartsOn, HearsOn, BindsOn, FromEach, Halts, Silences, IsWaited, IsTellable};
 
 use client_link::{BeginFault, Stop as Deaf, Told, Wire};
 use ndr_table::Table;
@@ -94,6 +94,10 @@ impl<K: Link> Channel<K> {
     }
 
     /// Binds it to the group of that id, 0 for a new one, and waits for the answer.
+    ///
+    /// # Errors
+    ///
+    /// `Halt::Lost` where the connection is lost, and `Halt::Memory` where memory runs out.
     pub fn bind(&mut self, group: u32) -> Result<Told, Halt>
         requires open { IsOpen K.shows self.old.wire.link }
         requires free { is_bound (state self.old.wire.client) ≡ false }
@@ -108,13 +112,18 @@ impl<K: Link> Channel<K> {
     }
 
     /// Begins a call.
+    ///
+    /// # Errors
+    ///
+    /// `Halt::TooLong` where the stub would pass the most octets of a stub, `Halt::Lost` where the
+    /// link fails, and `Halt::Memory` where memory runs out.
     pub fn start(&mut self, op: u16, message: &Message) -> Result<(), Halt>
         requires open { IsOpen K.shows self.old.wire.link }
         requires bound { is_bound (state self.old.wire.client) ≡ true }
         requires free { is_calling (state self.old.wire.client) ≡ false }
         requires message { IsMessage (state self.old.wire.client).interface op (msg message.now) }
         ensures name { self.new.name ≡ self.old.name }
-        ensures begins { FromEach K.shows self.old (λ interface a. BeginsOn K.shows interface a (DidCall op (msg message.now)) (IsTooLong (state self.old.wire.client).interface op (msg message.now)) result self.new) }
+        ensures begins { StartsOn K.shows self.old op message.now result self.new }
     {
         match self.wire.call(op, message) {
             Ok(()) => Ok(()),
@@ -123,6 +132,10 @@ impl<K: Link> Channel<K> {
     }
 
     /// Asks for the cancelling of the call that is out.
+    ///
+    /// # Errors
+    ///
+    /// `Halt::Lost` where the link fails, and `Halt::Memory` where memory runs out.
     pub fn cancel(&mut self) -> Result<(), Halt>
         requires open { IsOpen K.shows self.old.wire.link }
         requires calling { is_calling (state self.old.wire.client) ≡ true }
@@ -149,6 +162,11 @@ impl<K: Link> Channel<K> {
     }
 
     /// Waits for the outcome of what is out.
+    ///
+    /// # Errors
+    ///
+    /// `Halt::Lost` where the link fails or ends, was quiet for too long, or its peer breaks the
+    /// protocol, and `Halt::Memory` where memory runs out.
     pub fn wait(&mut self) -> Result<Told, Halt>
         requires { IsOpen K.shows self.old.wire.link }
         ensures hears { FromEach K.shows self.old (λ interface a. HearsOn K.shows interface a result self.new) }

@@ -1,15 +1,13 @@
 //! The lines of a script, each played over the links of a dial.
 ghost use Rattle.std.specs.Prelude.{◌≡◌, ◌≢◌, ◌<◌, true, false, length, Ok, Some, MatchOption};
-ghost use Rattle.ndr_value.specs.Values.{msg};
 ghost use Rattle.ndr_table.specs.Shown.{shown};
-ghost use Rattle.client_core.specs.Calls.{IsMessage};
-ghost use Rattle.client_core.specs.Histories.ClientEvent.{DidCall, DidCancel};
-ghost use Rattle.client_core.specs.States.{is_bound, is_calling};
+ghost use Rattle.client_core.specs.Histories.ClientEvent.{DidCancel};
+ghost use Rattle.client_core.specs.States.{is_calling};
 ghost use Rattle.client_core.specs.State.{state};
-ghost use Rattle.client_link.specs.Wires.{IsOpen, IsTooLong};
+ghost use Rattle.client_link.specs.Wires.{IsOpen};
 ghost use Rattle.client_script.specs.declared.line.CallLine.TheVariants as lines;
 ghost use Rattle.client_script.specs.Shows.{Holds, HasWorld, IsThere, IsNowhere, IsIndex};
-ghost use Rattle.client_script.specs.Channels.{FromEach, BeginsOn, HearsOn, IsWaited};
+ghost use Rattle.client_script.specs.Channels.{FromEach, BeginsOn, MayStartOn, StartsOn, HearsOn, IsWaited};
 ghost use Rattle.client_script.specs.Players.{HasAt, Touches, Answered, Begun, Unbegun, StopsBy, LosesAt, AsksOf, AsksNone, IsCalling, IsIdle};
 ghost use Rattle.client_script.specs.Plays.{DialsNew, Adds, PlaysLine, PlaysAnywhere, BindsTo};
 
@@ -196,8 +194,8 @@ impl<K: Link> Player<K> {
     }
 
     fn start_at(&mut self, at: usize, op: u16, message: &Message) -> Result<(), Halt>
-        requires { HasAt self.old at (λ c. IsOpen K.shows c.wire.link × (is_bound (state c.wire.client) ≡ true) × (is_calling (state c.wire.client) ≡ false) × IsMessage (state c.wire.client).interface op (msg message.now)) }
-        ensures { Touches self.old at (λ c d. FromEach K.shows c (λ interface a. BeginsOn K.shows interface a (DidCall op (msg message.now)) (IsTooLong (state c.wire.client).interface op (msg message.now)) result d)) self.new }
+        requires { HasAt self.old at (MayStartOn K.shows op message.now) }
+        ensures { Touches self.old at (λ c d. StartsOn K.shows c op message.now result d) self.new }
     {
         self.channels[at].start(op, message)
     }

@@ -11,7 +11,7 @@ ghost use Rattle.client_script.specs.Steps.{HasOp, IsRequestOf, IsNoMessage};
 ghost use Rattle.client_script.specs.Shows.{IsThere, IsNowhere, IsIndex};
 ghost use Rattle.client_script.specs.Channels.{IsTellable};
 ghost use Rattle.client_script.specs.Losses.{lost_text};
-ghost use Rattle.client_script.specs.Players.{Tells, CanStart, BarsAt};
+ghost use Rattle.client_script.specs.Players.{TellsOutcome, CanStart, BarsAt};
 
 use crate::channel::Channel;
 use base_words::put;
@@ -190,6 +190,10 @@ impl<K: Link> Player<K> {
 
     /// The operation and the message that a call on the connection at that place asks for: None where it has a call out, where
     /// there is no such operation, and where the text isn't read as the values of a message of it.
+    ///
+    /// # Errors
+    ///
+    /// `NoMemory` where there is no memory for the message.
     pub fn message(
         &self,
         at: usize,
@@ -213,9 +217,13 @@ impl<K: Link> Player<K> {
     }
 
     /// An outcome is told: the handles that come with it get their numbers, and its line is printed.
+    ///
+    /// # Errors
+    ///
+    /// `NoMemory` where there is no memory for the line or for the handles that come.
     pub fn tell(&mut self, name: u32, told: &Told) -> Result<(), NoMemory>
         requires { IsTellable (states.told told.now) }
-        ensures tells { OnOk result (Tells self.old name (states.told told.now) self.new) }
+        ensures tells { OnOk result (TellsOutcome self.old name (states.told told.now) self.new) }
         ensures channels { self.new.channels ≡ self.old.channels }
     {
         learn_of(&mut self.known, told)?;
@@ -226,6 +234,10 @@ impl<K: Link> Player<K> {
     }
 
     /// The line of a connection that is lost, where a call is out there.
+    ///
+    /// # Errors
+    ///
+    /// `NoMemory` where there is no memory for the line.
     pub fn tell_lost(&mut self, name: u32, called: bool) -> Result<(), NoMemory>
         ensures tells { OnOk result ((self.new.out.items ≡ self.old.out.items ++ lost_text name called) × (self.new ≡ record self.old { out = self.new.out })) }
         ensures channels { self.new.channels ≡ self.old.channels }

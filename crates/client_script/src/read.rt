@@ -97,6 +97,10 @@ fn read_line(alloc: Global, body: &[u8]) -> Result<Option<CallLine>, NoMemory>
 }
 
 /// The first line of a text, and what follows it: None where no line of a call script begins the text.
+///
+/// # Errors
+///
+/// `NoMemory` where there is no memory for the line.
 pub fn next_line(alloc: Global, text: &[u8]) -> Result<Option<(CallLine, &[u8])>, NoMemory>
     ensures { IfOk result (λ found. MatchOption found (BeginsWithNoLine text.now) (λ x. BeginsWith x.0 x.1.now text.now)) }
 {

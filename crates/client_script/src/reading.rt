@@ -1,9 +1,9 @@
 //! The lines of a text, one after the other.
-ghost use Rattle.std.specs.Prelude.{◌≡◌, Some, None, Ok, Err, IfOk, IfErr, MatchOption};
+ghost use Rattle.std.specs.Prelude.{◌≡◌, Some, None, Ok, Err, IfOk, IfErr};
 ghost use Rattle.ndr_table.specs.Shown.{shown};
 ghost use Rattle.client_script.specs.Worlds.{nothing_yet};
 ghost use Rattle.client_script.specs.Shows.{HasWorld};
-ghost use Rattle.client_script.specs.Plays.{Runs, PlaysNext, AllEnds, stopped_as};
+ghost use Rattle.client_script.specs.Plays.{Runs, PlaysNext, PlaysOn, AllEnds, stopped_as};
 
 use crate::calling::CallEnd;
 use crate::lines::play_line;
@@ -21,7 +21,7 @@ fn play_next<'a, Q: Dial>(
     text: &'a [u8],
 ) -> Result<Option<&'a [u8]>, Stop>
     requires { HasWorld Q.Link.shows player.old }
-    ensures next { IfOk result (λ found. MatchOption found (PlaysNext Q.Link.shows (shown table.now) at text.now player.old (Q.shows dial.old) (Ok None) player.new (Q.shows dial.new)) (λ rest. PlaysNext Q.Link.shows (shown table.now) at text.now player.old (Q.shows dial.old) (Ok (Some rest.now)) player.new (Q.shows dial.new))) }
+    ensures next { IfOk result (λ found. PlaysOn Q.Link.shows found (λ rest. rest.now) (shown table.now) at text.now player.old (Q.shows dial.old) player.new (Q.shows dial.new)) }
     ensures stop { IfErr result (λ why. PlaysNext Q.Link.shows (shown table.now) at text.now player.old (Q.shows dial.old) (Err why) player.new (Q.shows dial.new)) }
 {
     let Some((line, rest)) = next_line(player.alloc, text)? else {

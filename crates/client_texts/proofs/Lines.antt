@@ -6,7 +6,7 @@ use Rattle.ndr_value.specs.Values.{Msg}
 use Rattle.client_core.specs.States.{Outcome}
 use Rattle.client_core.specs.States.Outcome.{TDone}
 use Rattle.client_texts.specs.Texts.{Writes}
-use Rattle.client_texts.specs.Answers.{Said, Tells}
+use Rattle.client_texts.specs.Answers.{Said, WritesLine}
 
 done_said : (b : Bool) (known : List WireHandle) (m : Msg) (old mid new : List ℕ) → mid ≡ old ++ codes " done " → Writes b known m mid new → Said b known (TDone m) old new
 done_said true known m old mid new e w = (codes " done " ++ w.0, (w.0, w.1, refl), w.2 ∙ (ap (λ (x : List ℕ). x ++ w.0) e ∙ append_assoc old (codes " done ") w.0))
@@ -18,7 +18,7 @@ done_result (Err f) known m old mid new e w = tt
 
 -- the number in front, and the line feed behind
 pub tells : (b : Bool) (known : List WireHandle) (connection : ℕ) (outcome : Outcome) (old first second new : List ℕ) → first ≡ old ++ decimal connection → Said b known outcome first second → new ≡ second ++ 10 ∷ []
-    → Tells b known connection outcome old new
+    → WritesLine b known connection outcome old new
 tells true known connection outcome old first second new e s f = (
   decimal connection ++ (s.0 ++ codes "\n"),
   (s.0, s.1, refl),

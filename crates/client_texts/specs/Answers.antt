@@ -37,9 +37,9 @@ unfoldable pub lost_line : ℕ → List ℕ
 lost_line connection = decimal connection ++ codes " lost\n"
 
 -- whether the line of an outcome was added; it wasn't where there is none
-abbrev pub Tells : Bool → List WireHandle → ℕ → Outcome → List ℕ → List ℕ → Type 0
-Tells true known connection outcome before now = (line : List ℕ) × IsLine known connection outcome line × (now ≡ before ++ line)
-Tells false known connection outcome before now = (line : List ℕ) → IsLine known connection outcome line → ⊥
+abbrev pub WritesLine : Bool → List WireHandle → ℕ → Outcome → List ℕ → List ℕ → Type 0
+WritesLine true known connection outcome before now = (line : List ℕ) × IsLine known connection outcome line × (now ≡ before ++ line)
+WritesLine false known connection outcome before now = (line : List ℕ) → IsLine known connection outcome line → ⊥
 
 -- the same of what is said. Only private clauses speak of this
 abbrev pub Said : Bool → List WireHandle → Outcome → List ℕ → List ℕ → Type 0

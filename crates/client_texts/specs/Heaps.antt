@@ -36,6 +36,10 @@ abbrev mutual
   all_aims types s no_val = []
   all_aims types s (then_val v vs) = aims types s v ++ all_aims types s vs
 
+-- those in the value of a union's arm, where one is held
+abbrev pub arm_aims : List Form → Option Form → Val → Aims
+arm_aims types arm v = if is_held arm then aims types (held arm) v else []
+
 -- the shape that the first of these points to that leads to item n
 abbrev pub first_aim : Aims → ℕ → Option Form
 first_aim [] n = None

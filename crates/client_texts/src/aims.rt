@@ -1,5 +1,5 @@
 //! Full pointers in values.
-ghost use Rattle.std.specs.Prelude.{◌≡◌, ◌++◌, ◌∷◌, [], map, true, false, OnOk, MatchOption, Some, None, if◌then◌else◌};
+ghost use Rattle.std.specs.Prelude.{◌≡◌, ◌++◌, ◌∷◌, [], map, true, false, OnOk, MatchOption, Some, None};
 ghost use Rattle.ndr_value.specs.Forms.{form, forms, arms_of, body, OfUnion};
 ghost use Rattle.ndr_value.specs.Values.{val, vals};
 ghost use Rattle.ndr_value.specs.Fits.{arm_of};
@@ -163,7 +163,7 @@ fn add_arm<'a>(
     tag: i64,
     into: &mut Vec<Aim<'a>>,
 ) -> Result<(), NoMemory>
-    ensures { let arm = arm_of (form shape.now) tag in OnOk result (map aim_of into.new.items ≡ map aim_of into.old.items ++ (if judged.is_held arm then spec.aims (map form types.now) (judged.held arm) (val value.now) else [])) }
+    ensures { OnOk result (map aim_of into.new.items ≡ map aim_of into.old.items ++ spec.arm_aims (map form types.now) (arm_of (form shape.now) tag) (val value.now)) }
 {
     match held(shape, tag) {
         Some(inner) => add_aims(value, types, inner, into),

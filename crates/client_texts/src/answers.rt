@@ -79,6 +79,10 @@ fn put_said(
 
 /// Adds the line of a connection's outcome, where these handles have come. False where it has none: it is a breach of the protocol,
 /// or a handle of its message has no place among its wires, or no name; what is added then means nothing.
+///
+/// # Errors
+///
+/// `NoMemory` where there is no memory for the line; what is added then means nothing.
 #[tactic(auto, using(crate::proofs::Lines::tells))]
 pub fn put_answer(
     alloc: Global,
@@ -87,7 +91,7 @@ pub fn put_answer(
     told: &Told,
     into: &mut Vec<u8>,
 ) -> Result<bool, NoMemory>
-    ensures { IfOk result (λ done. spec.Tells done known.now connection (states.told told.now) into.old.items into.new.items) }
+    ensures { IfOk result (λ done. spec.WritesLine done known.now connection (states.told told.now) into.old.items into.new.items) }
 {
     put_decimal(alloc, u64::from(connection), into)?;
     let done = put_said(alloc, known, told, into)?;
@@ -96,6 +100,10 @@ pub fn put_answer(
 }
 
 /// Adds the line of a connection that is lost with a call out.
+///
+/// # Errors
+///
+/// `NoMemory` where there is no memory for the line; what is added then means nothing.
 #[tactic(auto, unfolding(crate::specs::Answers::lost_line))]
 pub fn put_lost(alloc: Global, connection: u32, into: &mut Vec<u8>) -> Result<(), NoMemory>
     ensures { OnOk result (into.new.items ≡ into.old.items ++ spec.lost_line connection) }

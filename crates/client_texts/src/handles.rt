@@ -105,6 +105,10 @@ impl Handles {
     }
 
     /// Handles come, in this order: those that aren't null and didn't come before are the next ones.
+    ///
+    /// # Errors
+    ///
+    /// `NoMemory` where there is no memory for the handles; some of them may have been learnt.
     pub fn learn(&mut self, wires: &[WireHandle]) -> Result<(), NoMemory>
         ensures { OnOk result (self.new ≡ spec.with_handles self.old wires.now) }
     {

@@ -55,6 +55,10 @@ fn put_plain(alloc: Global, values: &[Value], into: &mut Vec<u8>) -> Result<(), 
 
 /// Adds the text of a message's values, in which handles have their names among those that came. False where they have no such
 /// text: a handle of the message has no place among its wires, or no name; what is added then means nothing.
+///
+/// # Errors
+///
+/// `NoMemory` where there is no memory for the text; what is added then means nothing.
 pub fn put_row(
     alloc: Global,
     known: &Handles,
@@ -106,6 +110,10 @@ fn read_values<'a>(
 /// ` heap ` and the items of its heap in square brackets, where it has any. Each item is of the shape that the first full pointer to
 /// it points to, of those that stand before it. Handles stand by their names among those that came, and are the message's in the
 /// order in which they stand. `None` where the text is that of no such message.
+///
+/// # Errors
+///
+/// `NoMemory` where there is no memory for the message.
 pub fn read_row(
     alloc: Global,
     types: &Shapes,

@@ -46,6 +46,10 @@ pub fn agreement(max_xmit: u16, max_recv: u16) -> Agreement
 }
 
 /// The octets of an alter_context_resp.
+///
+/// # Errors
+///
+/// `NoMemory` where there is no memory for the octets.
 pub fn alter_resp(
     alloc: Global,
     caller: Caller,
@@ -69,6 +73,10 @@ pub fn alter_resp(
 }
 
 /// The octets of a bind_nak.
+///
+/// # Errors
+///
+/// `NoMemory` where there is no memory for the octets.
 pub fn bind_nak(alloc: Global, caller: Caller, reason: u16) -> Result<Octets, NoMemory>
     ensures { IfOk result (λ octets. octets ≡ pdu_octets (spec.bind_nak caller reason)) }
 {
@@ -85,6 +93,10 @@ pub fn bind_nak(alloc: Global, caller: Caller, reason: u16) -> Result<Octets, No
 }
 
 /// The octets of a fault, of a call that was executed or of one that wasn't.
+///
+/// # Errors
+///
+/// `NoMemory` where there is no memory for the octets.
 pub fn fault(
     alloc: Global,
     caller: Caller,
@@ -108,6 +120,10 @@ pub fn fault(
 }
 
 /// The last octets to a caller, once the protocol is broken.
+///
+/// # Errors
+///
+/// `NoMemory` where there is no memory for the octets.
 pub fn closing(alloc: Global, caller: Caller, why: ConnFault) -> Result<Octets, NoMemory>
     ensures { IfOk result (λ octets. octets ≡ pdu_octets (spec.closing caller why)) }
 {
@@ -119,6 +135,10 @@ pub fn closing(alloc: Global, caller: Caller, why: ConnFault) -> Result<Octets, 
 
 /// The octets of the answer to a request whose presentation context isn't accepted: none where no
 /// answer is wanted.
+///
+/// # Errors
+///
+/// `NoMemory` where there is no memory for the octets.
 pub fn refusal(alloc: Global, caller: Caller, maybe: bool) -> Result<Octets, NoMemory>
     ensures { IfOk result (λ octets. octets ≡ spec.refusal caller maybe) }
 {
@@ -130,6 +150,10 @@ pub fn refusal(alloc: Global, caller: Caller, maybe: bool) -> Result<Octets, NoM
 }
 
 /// The octets of a bind_ack for the group, with these flags; where there is no memory the body is as before.
+///
+/// # Errors
+///
+/// The body as it was, where there is no memory for the octets.
 pub fn bind_ack(
     alloc: Global,
     caller: Caller,

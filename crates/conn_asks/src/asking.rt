@@ -68,6 +68,10 @@ fn is_called(id: u32, called: Option<u32>) -> bool
 
 /// What the PDU asks: given whether a bind came, and the call that was asked last, where only cancels
 /// and orphanings were asked since.
+///
+/// # Errors
+///
+/// `NoMemory` where there is no memory to join a fragment, or for what is asked.
 pub fn ask(
     bound: bool,
     called: Option<u32>,

@@ -70,6 +70,10 @@ fn respond(alloc: Global, caller: Caller, most: u16, stub: &[u8]) -> Result<Octe
 
 /// The octets of a call's answer, in fragments of at most so many octets. There are none where
 /// nothing is said, or no answer is wanted.
+///
+/// # Errors
+///
+/// `NoMemory` where there is no memory for the octets.
 pub fn reply(
     alloc: Global,
     caller: Caller,

@@ -46,6 +46,10 @@ impl Conn {
     ghost use Rattle.pdu_stream.specs.Cuts.{LeavesUncut};
 
     /// A new connection to a server of these interfaces, which are numbered from 0.
+    ///
+    /// # Errors
+    ///
+    /// `NoMemory` where there is no memory for the identifiers.
     pub fn new(alloc: Global, ids: &[SyntaxId]) -> Result<Conn, NoMemory>
         requires { length ids.now ≤ 2 ^ 16 }
         ensures { IfOk result (λ conn. IsAt conn (at_start ids.now)) }
@@ -66,6 +70,10 @@ impl Conn {
     }
 
     /// Octets come, which may end anywhere. At `NoMemory` none came.
+    ///
+    /// # Errors
+    ///
+    /// `NoMemory` where there is no memory for the octets: none came then.
     pub fn feed(&mut self, piece: &[u8]) -> Result<(), NoMemory>
         ensures ok { OnOk result (Leads (λ m n. n ≡ with_octets m piece.now) self.old self.new) }
         ensures err { OnErr result (self.new ≡ self.old) }
@@ -76,6 +84,10 @@ impl Conn {
     /// The next act. `None` where the octets of the next PDU haven't come, or it has to wait: while a group is
     /// waited for every PDU does, and while a call is unanswered every one but a co_cancel or an orphaned.
     /// After a `Close`, and after `nak`, it is `None` for good; after `NoMemory` it is that for good.
+    ///
+    /// # Errors
+    ///
+    /// `NoMemory` where there is no memory for the act or the fragments: it is that for good then.
     pub fn next(&mut self) -> Result<Option<Act>, NoMemory>
         ensures goes { Leads (λ m n. Goes m result n) self.old self.new }
         ensures waits { IfOk result (λ done. IfSome done (λ act. WaitsBehind act self.new.waits)) }
@@ -118,6 +130,10 @@ impl Conn {
 
     /// Joins the connection to the group: the octets of its bind_ack. PDUs may then come again. At `NoMemory`
     /// nothing changes.
+    ///
+    /// # Errors
+    ///
+    /// `NoMemory` where there is no memory for the octets.
     pub fn bound(&mut self, group: u32) -> Result<Octets, NoMemory>
         requires { IsGrouping self.old.waits }
         ensures { Leads (λ m n. Bound m group result n) self.old self.new }
@@ -146,6 +162,10 @@ impl Conn {
 
     /// Refuses the bind for a reason: the octets of the bind_nak. The connection is then closed. At `NoMemory`
     /// nothing changes.
+    ///
+    /// # Errors
+    ///
+    /// `NoMemory` where there is no memory for the octets.
     pub fn nak(&mut self, reason: u16) -> Result<Octets, NoMemory>
         requires { IsGrouping self.old.waits }
         ensures { Leads (λ m n. Refused m reason result n) self.old self.new }
@@ -162,6 +182,10 @@ impl Conn {
     /// Answers the call: the octets of what its end says, or of a fault before it was executed. There are
     /// none for `None`, and where the client wants no answer. PDUs may then come again. At `NoMemory` nothing
     /// changes.
+    ///
+    /// # Errors
+    ///
+    /// `NoMemory` where there is no memory for the octets.
     pub fn reply(&mut self, said: Option<&Said>, executed: bool) -> Result<Octets, NoMemory>
         requires calling { IsCalling self.old.waits }
         requires stub { FitsStub (option_copied said) }
@@ -178,6 +202,10 @@ impl Conn {
     }
 
     /// The number of octets that are left of all that came, once the whole PDUs at their front are taken.
+    ///
+    /// # Errors
+    ///
+    /// `NoMemory` where there is no memory to cut them.
     pub fn rest(self) -> Result<usize, NoMemory>
         ensures { (m : AState) → IsAt self m → IfOk result (LeavesUncut m.rest) }
     {

@@ -19,6 +19,10 @@ pub fn used(kind: u16, inward: bool, outward: bool, serialised: bool) -> HandleU
 }
 
 /// The uses of an operation that has one.
+///
+/// # Errors
+///
+/// `NoMemory` where there is no memory for them.
 pub fn one_use(alloc: Global, handle: HandleUse) -> Result<HandleUses, NoMemory>
     ensures { IfOk result (λ uses. uses ≡ handle ∷ []) }
 {

@@ -47,6 +47,10 @@ pub fn both_ways(shape: Shape) -> Param
 }
 
 /// A number of 32 bits that comes out, as a status does.
+///
+/// # Errors
+///
+/// `NoMemory` where there is no memory for its shape.
 pub fn number_out(alloc: Global) -> Result<Param, NoMemory>
     ensures { IfOk result (λ p. param_form p ≡ spec.number_out) }
 {
@@ -54,6 +58,10 @@ pub fn number_out(alloc: Global) -> Result<Param, NoMemory>
 }
 
 /// An operation whose result is an `error_status_t`.
+///
+/// # Errors
+///
+/// `NoMemory` where there is no memory for its name or result.
 pub fn operation(alloc: Global, name: &[u8], params: Params) -> Result<Op, NoMemory>
     ensures { IfOk result (λ o. op_form o ≡ spec.operation name.now (map param_form params.items)) }
 {
@@ -67,6 +75,10 @@ pub fn operation(alloc: Global, name: &[u8], params: Params) -> Result<Op, NoMem
 }
 
 /// An operation with another result, or none.
+///
+/// # Errors
+///
+/// `NoMemory` where there is no memory for its name.
 pub fn procedure(
     alloc: Global,
     name: &[u8],

@@ -15,6 +15,10 @@ pub fn named(number: usize) -> Shape
 }
 
 /// A reference to what is of a shape.
+///
+/// # Errors
+///
+/// `NoMemory` where there is no memory for it.
 pub fn behind(alloc: Global, shape: Shape) -> Result<Shape, NoMemory>
     ensures { IfOk result (λ s. form s ≡ OfRef (form shape)) }
 {
@@ -22,6 +26,10 @@ pub fn behind(alloc: Global, shape: Shape) -> Result<Shape, NoMemory>
 }
 
 /// A full pointer to what is of a shape.
+///
+/// # Errors
+///
+/// `NoMemory` where there is no memory for it.
 pub fn pointer_to(alloc: Global, shape: Shape) -> Result<Shape, NoMemory>
     ensures { IfOk result (λ s. form s ≡ OfFull (form shape)) }
 {
@@ -29,6 +37,10 @@ pub fn pointer_to(alloc: Global, shape: Shape) -> Result<Shape, NoMemory>
 }
 
 /// An array.
+///
+/// # Errors
+///
+/// `NoMemory` where there is no memory for it.
 pub fn array_of(alloc: Global, kind: ArrayKind, shape: Shape) -> Result<Shape, NoMemory>
     ensures { IfOk result (λ s. form s ≡ OfArray kind (form shape)) }
 {
@@ -43,6 +55,10 @@ pub fn structure_of(members: Shapes) -> Shape
 }
 
 /// A UUID (C706, appendix "Universal Unique Identifier").
+///
+/// # Errors
+///
+/// `NoMemory` where there is no memory for it.
 pub fn uuid_shape(alloc: Global) -> Result<Shape, NoMemory>
     ensures { IfOk result (λ s. form s ≡ spec.uuid_form) }
 {
@@ -55,6 +71,10 @@ pub fn uuid_shape(alloc: Global) -> Result<Shape, NoMemory>
 }
 
 /// The identifier of an interface, in a table whose type 0 is a UUID.
+///
+/// # Errors
+///
+/// `NoMemory` where there is no memory for it.
 pub fn syntax_shape(alloc: Global) -> Result<Shape, NoMemory>
     ensures { IfOk result (λ s. form s ≡ spec.syntax_form) }
 {

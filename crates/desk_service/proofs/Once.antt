@@ -6,7 +6,7 @@ use Rattle.ndr_value.specs.Values.{Msg}
 use Rattle.manager_api.specs.Answers.{Ans, Step, Does, no_memory, AOut}
 use Rattle.manager_api.specs.Calls.{Call}
 use Rattle.manager_api.specs.Messages.{ForOp}
-use Rattle.mgmt_manager.specs.Steps.{Says as Tells, message_of}
+use Rattle.mgmt_manager.specs.Steps.{Says as SaysOfServing, message_of}
 use Rattle.rpc_base.specs.declared.identifiers.SyntaxId.{SyntaxId}
 use Rattle.echo_manager.specs.Steps.{Says, echoed, no_response, Echoes, says, not_echoed, Answers}
 use Rattle.echo_manager.specs.ProbeSteps.{probe_step}
@@ -29,7 +29,7 @@ does_once step before one other a b (inl p) (inr q) na nb = absurd (nb q.0)
 
 -- ---- management
 
-tells_once : (ids : List SyntaxId) (numbers : List ℕ) (c : Call) (a b : Ans) → Tells ids (λ (ns : List ℕ). ns ≡ numbers) c a → Tells ids (λ (ns : List ℕ). ns ≡ numbers) c b
+tells_once : (ids : List SyntaxId) (numbers : List ℕ) (c : Call) (a b : Ans) → SaysOfServing ids (λ (ns : List ℕ). ns ≡ numbers) c a → SaysOfServing ids (λ (ns : List ℕ). ns ≡ numbers) c b
     → (a ≡ no_memory → ⊥) → (b ≡ no_memory → ⊥) → a ≡ b
 tells_once ids numbers c a b (inl p) (inl q) na nb =
     p.2 ∙ ap (λ (ns : List ℕ). AOut (message_of ids ns c.op c.message) []) (p.1 ∙ sym q.1) ∙ sym q.2

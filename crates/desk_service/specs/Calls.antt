@@ -28,8 +28,8 @@ abbrev pub with_endpoints : Services → EndpointMap → Services
 with_endpoints s endpoints = record { probes = s.probes; store = s.store; endpoints = endpoints; echo = s.echo }
 
 -- the answer of the management interface, with these numbers of calls and packets
-abbrev pub Tells : Services → Numbers → Call → Ans → Type 0
-Tells s numbers c answer = Says (ids_in (tables_of s)) (λ ns. ns ≡ listed numbers) c answer
+abbrev pub TellsOfServing : Services → Numbers → Call → Ans → Type 0
+TellsOfServing s numbers c answer = Says (ids_in (tables_of s)) (λ ns. ns ≡ listed numbers) c answer
 
 -- The services before a call, the numbers of calls and packets so far, the call, whether its probe told of a cancel, the answer, and
 -- the services behind it.
@@ -40,6 +40,6 @@ pub data May (before : Services) (numbers : Numbers) (c : Call) (told : Bool) (a
       → May before numbers c told answer after
   by_endpoints : (next : EndpointMap) → c.iface ≡ 2 → Does (epm_step before.endpoints c) before.endpoints answer next
       → after ≡ with_endpoints before next → May before numbers c told answer after
-  by_management : c.iface ≡ 3 → Tells before numbers c answer → after ≡ before → May before numbers c told answer after
+  by_management : c.iface ≡ 3 → TellsOfServing before numbers c answer → after ≡ before → May before numbers c told answer after
   by_echo : (t : TableForm) → c.iface ≡ 4 → before.echo ≡ Some t → Answers t c.op c.message answer → after ≡ before
       → May before numbers c told answer after

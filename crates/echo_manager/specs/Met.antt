@@ -1,6 +1,6 @@
 -- Which items of the heap values lead to, in the order in which they are met in a stub (C706, "Transfer Syntax NDR", full pointers):
 -- those of a flat part first, then those of what its pointers point to, one pointer behind the other.
-use Rattle.std.specs.Prelude.{ℕ, zero, suc, ◌+◌, ◌==◌, Bool, true, false, List, [], ◌∷◌, ◌++◌, slice_get, Option, Some, None, is_some, if◌then◌else◌}
+use Rattle.std.specs.Prelude.{ℕ, zero, suc, ◌+◌, ◌==◌, ℤ, Bool, true, false, List, [], ◌∷◌, ◌++◌, slice_get, Option, Some, None, is_some, if◌then◌else◌}
 use Rattle.ndr_value.specs.Forms.{Form, OfByte, OfNamed, OfStruct, OfUnion, OfArray, OfRef, OfUnique, OfFull, Forms, no_form, then_form, Body, holds}
 use Rattle.ndr_value.specs.Fits.{arm_of}
 use Rattle.ndr_value.specs.Values.{Val, VStruct, VUnion, VArray, VPtr, VFull, Vals, no_val, then_val}
@@ -103,6 +103,27 @@ module _ (types : List Form) where
   flat zero s v f = f
   flat (suc n) s v f = flat_at (flat n) s v f
 
+  -- the parts of a construct, each at most n constructs deep
+
+  abbrev pub deep_struct : ℕ → Forms → Val → Flat → Flat
+  deep_struct n ss v f = flat_struct (flat n) ss v f
+
+  abbrev pub deep_members : ℕ → Forms → Vals → Flat → Flat
+  deep_members n ss vs f = flat_members (flat n) ss vs f
+
+  -- the arm of a tag
+  abbrev pub deep_arm : ℕ → Form → ℤ → Val → Flat → Flat
+  deep_arm n u z v f = flat_arm (flat n) (arm_of u z) v f
+
+  abbrev pub deep_union : ℕ → Form → Val → Flat → Flat
+  deep_union n u v f = flat_union (flat n) u v f
+
+  abbrev pub deep_items : ℕ → Form → Vals → Flat → Flat
+  deep_items n s vs f = flat_items (flat n) s vs f
+
+  abbrev pub deep_array : ℕ → Form → Val → Flat → Flat
+  deep_array n s v f = flat_array (flat n) s v f
+
   -- ---- what pointers point to
 
   abbrev pub start : List ℕ → Flat
@@ -128,6 +149,10 @@ module _ (types : List Form) where
   unfoldable pub whole : Vals → ℕ → Lead → List ℕ → List ℕ
   whole heap zero l met = met
   whole heap (suc levels) l met = whole_lead heap (whole heap levels) l met
+
+  -- the items that a value leads to, on at most so many levels of pointers behind it
+  abbrev pub met_at : Vals → ℕ → Form → Option Val → List ℕ → List ℕ
+  met_at heap levels s v met = whole_value (whole heap levels) s v met
 
   -- ---- the parameters that come out, of those that go in: each has 256 levels below it
 

@@ -107,6 +107,10 @@ fn items(alloc: Global, met: &Met, heap: &[Value]) -> Result<Values, NoMemory>
 }
 
 /// The echo of a request: the parameters that come out as they came in, and success.
+///
+/// # Errors
+///
+/// `NoMemory` where there is no memory for it.
 pub fn echo(alloc: Global, types: &[Shape], op: &Op, asked: &Message) -> Result<Message, NoMemory>
     ensures { IfOk result (λ m. msg m ≡ spec.echo (types_of types.now) (op_form op.now) (msg asked.now)) }
 {

@@ -19,6 +19,10 @@ fn item(number: &Option<u32>, met: &Met) -> Result<Option<u32>, NoMemory>
 }
 
 /// A copy of a value, with the numbers of what was met.
+///
+/// # Errors
+///
+/// `NoMemory` where there is no memory for the copy.
 #[tactic(auto, using(crate::proofs::Anew::copies))]
 #[cycle(numbered)]
 pub fn numbered(value: &Value, met: &Met, alloc: Global) -> Result<Value, NoMemory>

@@ -92,6 +92,10 @@ fn full<'a>(
 }
 
 /// The pointers in the flat part of a value, at most `fuel` constructs deep.
+///
+/// # Errors
+///
+/// `NoMemory` where there is no memory to note a pointer.
 #[tactic(auto, using(crate::proofs::Walks::flats), unfolding(crate::specs::Met::flat))]
 #[cycle(flat)]
 pub fn flat_value<'a>(
@@ -154,7 +158,7 @@ fn flat_struct<'a>(
     met: &mut Met,
     behind: &mut Vec<Lead<'a>>,
 ) -> Result<(), NoMemory>
-    ensures { OnOk result (flat_of met.new behind.new.items ≡ spec.flat_struct (types_of types.now) (spec.flat (types_of types.now) fuel) (forms members.now) (val value.now) (flat_of met.old behind.old.items)) }
+    ensures { OnOk result (flat_of met.new behind.new.items ≡ spec.deep_struct (types_of types.now) fuel (forms members.now) (val value.now) (flat_of met.old behind.old.items)) }
 {
     match value {
         Value::Struct(values) => flat_members(fuel, types, members, values, met, behind),
@@ -171,7 +175,7 @@ fn flat_members<'a>(
     met: &mut Met,
     behind: &mut Vec<Lead<'a>>,
 ) -> Result<(), NoMemory>
-    ensures { OnOk result (flat_of met.new behind.new.items ≡ spec.flat_members (types_of types.now) (spec.flat (types_of types.now) fuel) (forms members.now) (vals values.now) (flat_of met.old behind.old.items)) }
+    ensures { OnOk result (flat_of met.new behind.new.items ≡ spec.deep_members (types_of types.now) fuel (forms members.now) (vals values.now) (flat_of met.old behind.old.items)) }
 {
     let mut rest = values;
     for member in members {
@@ -208,7 +212,7 @@ fn flat_arm<'a>(
     met: &mut Met,
     behind: &mut Vec<Lead<'a>>,
 ) -> Result<(), NoMemory>
-    ensures { OnOk result (flat_of met.new behind.new.items ≡ spec.flat_arm (types_of types.now) (spec.flat (types_of types.now) fuel) (arm_of (OfUnion (form kind.now) (arms_of arms.now)) tag) (val value.now) (flat_of met.old behind.old.items)) }
+    ensures { OnOk result (flat_of met.new behind.new.items ≡ spec.deep_arm (types_of types.now) fuel (OfUnion (form kind.now) (arms_of arms.now)) tag (val value.now) (flat_of met.old behind.old.items)) }
 {
     match arm_for(kind, arms, tag) {
         None => Ok(()),
@@ -229,7 +233,7 @@ fn flat_union<'a>(
     met: &mut Met,
     behind: &mut Vec<Lead<'a>>,
 ) -> Result<(), NoMemory>
-    ensures { OnOk result (flat_of met.new behind.new.items ≡ spec.flat_union (types_of types.now) (spec.flat (types_of types.now) fuel) (OfUnion (form kind.now) (arms_of arms.now)) (val value.now) (flat_of met.old behind.old.items)) }
+    ensures { OnOk result (flat_of met.new behind.new.items ≡ spec.deep_union (types_of types.now) fuel (OfUnion (form kind.now) (arms_of arms.now)) (val value.now) (flat_of met.old behind.old.items)) }
 {
     match value {
         Value::Union { tag, arm } => match arm {
@@ -249,7 +253,7 @@ fn flat_items<'a>(
     met: &mut Met,
     behind: &mut Vec<Lead<'a>>,
 ) -> Result<(), NoMemory>
-    ensures { OnOk result (flat_of met.new behind.new.items ≡ spec.flat_items (types_of types.now) (spec.flat (types_of types.now) fuel) (form inner.now) (vals values.now) (flat_of met.old behind.old.items)) }
+    ensures { OnOk result (flat_of met.new behind.new.items ≡ spec.deep_items (types_of types.now) fuel (form inner.now) (vals values.now) (flat_of met.old behind.old.items)) }
 {
     for value in values {
         flat_value(fuel, types, inner, value, met, behind)?;
@@ -267,7 +271,7 @@ fn flat_array<'a>(
     met: &mut Met,
     behind: &mut Vec<Lead<'a>>,
 ) -> Result<(), NoMemory>
-    ensures { OnOk result (flat_of met.new behind.new.items ≡ spec.flat_array (types_of types.now) (spec.flat (types_of types.now) fuel) (form inner.now) (val value.now) (flat_of met.old behind.old.items)) }
+    ensures { OnOk result (flat_of met.new behind.new.items ≡ spec.deep_array (types_of types.now) fuel (form inner.now) (val value.now) (flat_of met.old behind.old.items)) }
 {
     if is_byte(inner) {
         return Ok(());

@@ -28,6 +28,10 @@ impl Model for Met {
 
 impl Met {
     /// None yet, in a heap of so many items.
+    ///
+    /// # Errors
+    ///
+    /// `NoMemory` where there is no memory for a mark of each item.
     #[tactic(auto, using(crate::proofs::Placed::placed))]
     pub fn new(alloc: Global, count: usize) -> Result<Met, NoMemory>
         ensures { IfOk result (λ m. m ≡ []) }
@@ -57,6 +61,10 @@ impl Met {
     }
 
     /// Meets the item of that number, and tells whether it wasn't met before.
+    ///
+    /// # Errors
+    ///
+    /// `NoMemory` where there is no memory to note it.
     #[tactic(auto, using(crate::proofs::Placed::placed))]
     pub fn meet(&mut self, number: u32) -> Result<bool, NoMemory>
         ensures met { OnOk result (self.new ≡ spec.with_met self.old number) }
@@ -79,6 +87,10 @@ impl Met {
     }
 
     /// The item's new number: its place, or the number of no item.
+    ///
+    /// # Errors
+    ///
+    /// `NoMemory` where its place or the count of items met doesn't fit in 32 bits, or the number is that of no item of the heap.
     pub fn number(&self, number: u32) -> Result<u32, NoMemory>
         ensures { IfOk result (λ n. n ≡ new_number self.now number) }
     {

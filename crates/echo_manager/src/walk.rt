@@ -50,7 +50,7 @@ fn whole_value<'a>(
     value: &'a Value,
     met: &mut Met,
 ) -> Result<(), NoMemory>
-    ensures { OnOk result (met.new ≡ spec.whole_value (types_of walk.now.types.now) (spec.whole (types_of walk.now.types.now) (vals walk.now.heap.now) levels) (form shape.now) (Some (val value.now)) met.old) }
+    ensures { OnOk result (met.new ≡ spec.met_at (types_of walk.now.types.now) (vals walk.now.heap.now) levels (form shape.now) (Some (val value.now)) met.old) }
 {
     let mut behind = Vec::new(walk.alloc);
     flat_value(DEEP, walk.types, shape, value, met, &mut behind)?;
@@ -80,7 +80,7 @@ fn whole_item<'a>(
     number: u32,
     met: &mut Met,
 ) -> Result<(), NoMemory>
-    ensures { OnOk result (met.new ≡ spec.whole_value (types_of walk.now.types.now) (spec.whole (types_of walk.now.types.now) (vals walk.now.heap.now) levels) (form shape.now) (nth (vals walk.now.heap.now) number) met.old) }
+    ensures { OnOk result (met.new ≡ spec.met_at (types_of walk.now.types.now) (vals walk.now.heap.now) levels (form shape.now) (nth (vals walk.now.heap.now) number) met.old) }
 {
     match value_at(walk.heap, number as usize) {
         None => Ok(()),
@@ -126,6 +126,10 @@ fn meet_value<'a>(
 }
 
 /// The items that the parameters that come out lead to, of the values that go in.
+///
+/// # Errors
+///
+/// `NoMemory` where there is no memory to note what is met.
 pub fn met_in<'a>(
     walk: &Walk<'a>,
     params: &'a [Param],

@@ -71,6 +71,9 @@ pub fn are_there(others: &[MapEntry], entries: &[Numbered]) -> bool
     others.iter().all(|other| is_there(other, entries))
 }
 
+/// # Errors
+///
+/// `NoMemory` where there is no memory for the copy.
 pub fn copied(alloc: Global, numbered: &Numbered) -> Result<Numbered, NoMemory>
     ensures { IfOk result (λ n. n ≡ numbered.now) }
 {
@@ -86,6 +89,10 @@ pub fn copied(alloc: Global, numbered: &Numbered) -> Result<Numbered, NoMemory>
 }
 
 /// Copies of the entries that are like none of the others.
+///
+/// # Errors
+///
+/// `NoMemory` where there is no memory for the copies.
 pub fn unlike(
     alloc: Global,
     how: Likeness,

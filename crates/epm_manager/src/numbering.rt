@@ -28,6 +28,10 @@ pub fn note_types(entry: &MapEntry)
 }
 
 /// The entries with the numbers that follow the last one.
+///
+/// # Errors
+///
+/// `NoMemory` where there is no memory for the list.
 pub fn numbered_from(
     alloc: Global,
     last: u64,

@@ -46,6 +46,10 @@ pub fn text_in(values: &[Value], at: usize) -> &[u8]
 }
 
 /// Adds the octets of the array of bytes at a place.
+///
+/// # Errors
+///
+/// `NoMemory` where there is no memory for them: the octets are as before then.
 pub fn append_in(
     alloc: Global,
     values: &[Value],
@@ -95,6 +99,10 @@ pub fn pointed_to<'a>(heap: &'a [Value], values: &[Value], at: usize) -> Option<
 }
 
 /// Adds the lower four octets of a number, most significant first.
+///
+/// # Errors
+///
+/// `NoMemory` where there is no memory for them: the octets are as before then.
 pub fn append_u32(number: u64, into: &mut Octets) -> Result<(), NoMemory>
     ensures ok { OnOk result (into.new ≡ into.old ++ to_be_bytes w32 number) }
     ensures err { OnErr result (into.new ≡ into.old) }
@@ -103,6 +111,10 @@ pub fn append_u32(number: u64, into: &mut Octets) -> Result<(), NoMemory>
 }
 
 /// Adds the lower two octets of a number, most significant first.
+///
+/// # Errors
+///
+/// `NoMemory` where there is no memory for them: the octets are as before then.
 pub fn append_u16(number: u64, into: &mut Octets) -> Result<(), NoMemory>
     ensures ok { OnOk result (into.new ≡ into.old ++ to_be_bytes w16 number) }
     ensures err { OnErr result (into.new ≡ into.old) }

@@ -15,7 +15,7 @@ use Rattle.handle_model.specs.Journal.{any_since, count_since, takes, is_accept}
 use Rattle.handle_model.proofs.Reversed.{reverse-snoc}
 use Rattle.group_core.specs.Kept.{Logged, Came, accepted_in}
 use Rattle.group_core.specs.Stages.{is_asked_since}
-use Rattle.group_core.specs.Marks.{Marked, is_marked, with_call, with_mark, later_with, marked_of, is_quiet_since, Tells}
+use Rattle.group_core.specs.Marks.{Marked, is_marked, with_call, with_mark, later_with, marked_of, is_quiet_since, MarksTell}
 use Rattle.group_core.specs.Folds.{MarksLeft}
 
 -- WHAT IS MARKED
@@ -72,7 +72,7 @@ later_mark m k n t known =
 marked_mark : (m : Marked) (k n : ℕ) → k ≤ m.first + length m.later → is_marked (with_mark k m) n ≡ (k == n || is_marked m n)
 marked_mark m k n known = elim (cases_Bool (nat_le k m.first)) [ inl t ↦ early_mark m k n t | inr t ↦ later_mark m k n t known ]
 
-pub tells_none : (room : ℕ) → Tells (record { first = 0; early = []; later = []; room = room }) empty_base []
+pub tells_none : (room : ℕ) → MarksTell (record { first = 0; early = []; later = []; room = room }) empty_base []
 tells_none room =
     record { first_is = refl; counts = refl; marked = λ k. elim (cases_Bool (nat_le k 0)) [ inl t ↦ rw t refl | inr t ↦ rw t refl ] }
 
@@ -106,7 +106,7 @@ quiet_counts base past (Leave c) q = refl
 quiet_counts base past (Shut items) q = refl
 
 -- an entry that says nothing of it
-pub tells_quiet : (m : Marked) (base : Base) (past : List Entry) (e : Entry) → is_quiet_since base past e ≡ true → Tells m base past → Tells m base (e ∷ past)
+pub tells_quiet : (m : Marked) (base : Base) (past : List Entry) (e : Entry) → is_quiet_since base past e ≡ true → MarksTell m base past → MarksTell m base (e ∷ past)
 tells_quiet m base past e q t =
     record {
       first_is = t.first_is;
@@ -115,7 +115,7 @@ tells_quiet m base past e q t =
     }
 
 -- a call is accepted
-pub tells_accept : (m : Marked) (base : Base) (past : List Entry) (k : ℕ) (a : Asked) → Tells m base past → Tells (with_call m) base (Accept k a ∷ past)
+pub tells_accept : (m : Marked) (base : Base) (past : List Entry) (k : ℕ) (a : Asked) → MarksTell m base past → MarksTell (with_call m) base (Accept k a ∷ past)
 tells_accept m base past k a t =
     record {
       first_is = t.first_is;
@@ -134,7 +134,7 @@ length_mark : (k : ℕ) (m : Marked) → length (later_with k m) ≡ length m.la
 length_mark k m = elim (cases_Bool (nat_le k m.first)) [ inl t ↦ rw t refl | inr t ↦ rw t (length-set m.later (k - m.first - 1) true) ]
 
 -- one is asked to end
-pub tells_mark : (m : Marked) (base : Base) (past : List Entry) (k : ℕ) → any_since (taken_before base k) (takes k) past ≡ true → k ≤ count_since base.accepts is_accept past → Tells m base past → Tells (with_mark k m) base (Cancel k ∷ past)
+pub tells_mark : (m : Marked) (base : Base) (past : List Entry) (k : ℕ) → any_since (taken_before base k) (takes k) past ≡ true → k ≤ count_since base.accepts is_accept past → MarksTell m base past → MarksTell (with_mark k m) base (Cancel k ∷ past)
 tells_mark m base past k taken known t =
     let low : k ≤ m.first + length m.later = let before = t.counts in omega (arith, before, known) in
     record {
@@ -144,10 +144,10 @@ tells_mark m base past k taken known t =
     }
 
 -- in a journal
-pub tells_came : (log new : Logged) (e : Entry) (m : Marked) → Came log e new → Tells m log.base (e ∷ reverse log.entries) → Tells m new.base (reverse new.entries)
+pub tells_came : (log new : Logged) (e : Entry) (m : Marked) → Came log e new → MarksTell m log.base (e ∷ reverse log.entries) → MarksTell m new.base (reverse new.entries)
 tells_came log new e m c t =
     let past : reverse new.entries ≡ e ∷ reverse log.entries = ap reverse c.1 ∙ reverse-snoc log.entries e in
-    subst (λ b. Tells m b (reverse new.entries)) (sym c.0) (subst (λ p. Tells m log.base p) (sym past) t)
+    subst (λ b. MarksTell m b (reverse new.entries)) (sym c.0) (subst (λ p. MarksTell m log.base p) (sym past) t)
 
 -- WHAT IS LEFT AT A BASE
 
@@ -171,7 +171,7 @@ any_marked : (m : Marked) (k : ℕ) (cs : List BaseCall) → list_any (is_number
 any_marked m k [] = refl
 any_marked m k (c ∷ cs) = any_marked_as m k c cs (is_marked m c.call) refl (any_marked m k cs)
 
-pub left_marks : (m made : Marked) (log : Logged) (base : Base) (more : ℕ) → Tells m log.base (reverse log.entries) → log.base.accepts ≤ base.accepts → base.accepts ≤ accepted_in log → (made.first ≡ base.accepts) × (made.early ≡ marked_of m base.calls) × (made.later ≡ drop (base.accepts - m.first) m.later) → log.spare + more ≤ made.room → MarksLeft log base more made
+pub left_marks : (m made : Marked) (log : Logged) (base : Base) (more : ℕ) → MarksTell m log.base (reverse log.entries) → log.base.accepts ≤ base.accepts → base.accepts ≤ accepted_in log → (made.first ≡ base.accepts) × (made.early ≡ marked_of m base.calls) × (made.later ≡ drop (base.accepts - m.first) m.later) → log.spare + more ≤ made.room → MarksLeft log base more made
 left_marks m made log base more t low high s room =
     record {
       first_is = s.0;

@@ -19,7 +19,7 @@ use Rattle.group_core.specs.declared.counts.Counts.{Counts}
 use Rattle.group_core.specs.Adds.{Adds}
 use Rattle.group_core.specs.Owed.{owed}
 use Rattle.group_core.specs.Kept.{IsKept, Logged, Came, Same, logged, Shows}
-use Rattle.group_core.specs.Marks.{Marked, Tells}
+use Rattle.group_core.specs.Marks.{Marked, MarksTell}
 use Rattle.group_core.specs.Folds.{older_count, base_after, rest_after, MarksLeft, IsReady, IsUnready}
 use Rattle.group_core.proofs.Owing.{join_owed}
 use Rattle.group_core.proofs.Limits.{join_numbers}
@@ -86,9 +86,9 @@ ready_fold home log mid new n base handles calls counts conns kept u nis lt bis 
     }
 
 -- the marks are those of what is left
-pub fold_tells : (home : Home) (log mid : Logged) (n : ℕ) (base : Base) (m : Marked) (handles : Handles) (calls : OpenCalls) (counts : Counts) → IsKept home log handles calls counts → list_any is_shut (logged home log).past ≡ false → base ≡ base_after home log n → MarksLeft log base 2 m → Same log mid → Tells m base (reverse (drop n mid.entries))
+pub fold_tells : (home : Home) (log mid : Logged) (n : ℕ) (base : Base) (m : Marked) (handles : Handles) (calls : OpenCalls) (counts : Counts) → IsKept home log handles calls counts → list_any is_shut (logged home log).past ≡ false → base ≡ base_after home log n → MarksLeft log base 2 m → Same log mid → MarksTell m base (reverse (drop n mid.entries))
 fold_tells home log mid n base m handles calls counts kept u e left same =
-    subst (λ (es : List Entry). Tells m base (reverse (drop n es))) (sym same.1) (rest_tells home log n 2 base m kept.sound kept.begun u e left)
+    subst (λ (es : List Entry). MarksTell m base (reverse (drop n es))) (sym same.1) (rest_tells home log n 2 base m kept.sound kept.begun u e left)
 
 -- nothing is changed
 pub unready_kept : (home : Home) (log new : Logged) (handles : Handles) (calls : OpenCalls) (counts counts' : Counts) → IsKept home log handles calls counts → IsUnready log new counts counts' → IsKept home new handles calls counts'

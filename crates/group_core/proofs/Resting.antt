@@ -23,7 +23,7 @@ use Rattle.journal_tables.specs.Folding.{BaseBegun}
 use Rattle.journal_tables.proofs.Stood.{stands}
 use Rattle.group_core.specs.Owed.{owed, shut_owed}
 use Rattle.group_core.specs.Stages.{is_asked_since}
-use Rattle.group_core.specs.Marks.{Marked, Tells}
+use Rattle.group_core.specs.Marks.{Marked, MarksTell}
 use Rattle.group_core.specs.Kept.{Logged, logged, accepted_in}
 use Rattle.group_core.specs.Folds.{older_count, base_after, rest_after, MarksLeft}
 use Rattle.group_core.proofs.Folding.{parts, front_of, older_unshut, newer_unshut, rest_moved, base_is, base_sound, whole_legal}
@@ -82,7 +82,7 @@ rest_owed home log n s b u st =
 
 -- THE MARKS
 
-tells_at : (home : Home) (log : Logged) (n more : ℕ) (m : Marked) → IsSound (logged home log) → BaseBegun log.base → list_any is_shut (reverse log.entries) ≡ false → MarksLeft log (base_of (front_of home log n)) more m → Tells m (base_of (front_of home log n)) (reverse (drop n log.entries))
+tells_at : (home : Home) (log : Logged) (n more : ℕ) (m : Marked) → IsSound (logged home log) → BaseBegun log.base → list_any is_shut (reverse log.entries) ≡ false → MarksLeft log (base_of (front_of home log n)) more m → MarksTell m (base_of (front_of home log n)) (reverse (drop n log.entries))
 tells_at home log n more m s b u left =
     let j : History = front_of home log n in
     let newer : List Entry = reverse (drop n log.entries) in
@@ -108,10 +108,10 @@ tells_at home log n more m s b u left =
           ];
     }
 
-pub rest_tells : (home : Home) (log : Logged) (n more : ℕ) (base : Base) (m : Marked) → IsSound (logged home log) → BaseBegun log.base → list_any is_shut (reverse log.entries) ≡ false → base ≡ base_after home log n → MarksLeft log base more m → Tells m base (reverse (drop n log.entries))
+pub rest_tells : (home : Home) (log : Logged) (n more : ℕ) (base : Base) (m : Marked) → IsSound (logged home log) → BaseBegun log.base → list_any is_shut (reverse log.entries) ≡ false → base ≡ base_after home log n → MarksLeft log base more m → MarksTell m base (reverse (drop n log.entries))
 rest_tells home log n more base m s b u e left =
     let same : base ≡ base_of (front_of home log n) = e ∙ base_is home log n s b u in
-    subst (λ (x : Base). Tells m x (reverse (drop n log.entries))) (sym same) (tells_at home log n more m s b u (subst (λ (x : Base). MarksLeft log x more m) same left))
+    subst (λ (x : Base). MarksTell m x (reverse (drop n log.entries))) (sym same) (tells_at home log n more m s b u (subst (λ (x : Base). MarksLeft log x more m) same left))
 
 at_least : (n m : ℕ) → n ≤ m → n ≤ suc m
 at_least n m h = omega (arith, h)

@@ -52,7 +52,7 @@ is_quiet_since base past (Accept k a) = false
 is_quiet_since base past _ = true
 
 -- the marks are those of the calls that were asked to end, and there is one for each later call
-pub record Tells (m : Marked) (base : Base) (past : List Entry) : Type 0 where
+pub record MarksTell (m : Marked) (base : Base) (past : List Entry) : Type 0 where
   pub first_is : m.first ≡ base.accepts
   pub counts : m.first + length m.later ≡ count_since base.accepts is_accept past
   pub marked : (k : ℕ) → is_marked m k ≡ is_asked_since base past k

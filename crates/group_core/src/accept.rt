@@ -20,6 +20,10 @@ impl Group {
     /// Accepts a call of an open connection, and gives its number; they count from 1. The slots that
     /// may issue a handle get their serials, which count from 1 over the group. There is then room for
     /// all that the call may still bring. What is refused comes back as it was.
+    ///
+    /// # Errors
+    /// What was asked, with `Calls` or `Handles` at the limit of what is open, `Numbers` where every number
+    /// is given, `Memory` where memory runs out. No entry is then added.
     pub fn accept(&mut self, asked: Asked) -> Result<u32, (Asked, AcceptRefusal)>
         requires open { spec.is_open self.old asked.conn ≡ true }
         requires few { length asked.slots ≤ 4 }

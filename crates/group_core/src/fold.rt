@@ -18,6 +18,9 @@ use std::alloc::Global;
 
 /// Makes room for a further connection. The entries that stand before the Join of each open connection
 /// and the Accept of each running call move into the base, unless memory fails.
+///
+/// # Errors
+/// `NoMemory` where memory runs out; no entry has then moved.
 pub fn make_way(
     alloc: Global,
     home: Home,

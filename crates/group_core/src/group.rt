@@ -53,6 +53,9 @@ impl Group {
     ghost use Rattle.group_core.specs.Calls.{Takes, Cancels, Orphans};
 
     /// A group without a connection: the boot word of its server, and its id.
+    ///
+    /// # Errors
+    /// `NoMemory` where memory runs out.
     pub fn begin(alloc: Global, boot: u64, id: u32) -> Result<Group, NoMemory>
         ensures { IfOk result (λ group. group ≡ since (record { boot = boot; group = id }) empty_base []) }
     {
@@ -106,6 +109,10 @@ impl Group {
     /// Before it joins, the entries that nothing open needs move into the base: those before the Join
     /// of each open connection and the Accept of each running call. No other call folds the journal,
     /// and where the connection is refused it stays as it was.
+    ///
+    /// # Errors
+    /// `TooMany` at the limit of open connections, `Numbers` where every number is given, `Memory` where
+    /// memory runs out. No entry is then added.
     pub fn join(&mut self) -> Result<u32, JoinRefusal>
         requires unshut { list_any journal.is_shut self.old.past ≡ false }
         ensures { Joins self.old result self.new }

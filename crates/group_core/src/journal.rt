@@ -84,6 +84,9 @@ impl Journal {
     }
 
     /// An equal journal. For no further entry there is room.
+    ///
+    /// # Errors
+    /// `NoMemory` where memory runs out.
     pub fn copy(&self, alloc: Global) -> Result<Journal, NoMemory>
         ensures { IfOk result (λ copy. (copy.base ≡ self.now.base) × (copy.entries ≡ self.now.entries)) }
     {
@@ -97,6 +100,9 @@ impl Journal {
     }
 
     /// Adds an entry, in memory of its own: the room stays.
+    ///
+    /// # Errors
+    /// `NoMemory` where memory runs out; the journal is then as before.
     pub fn push(&mut self, entry: Entry) -> Result<(), NoMemory>
         ensures base { self.new.base ≡ self.old.base }
         ensures ok { OnOk result (self.new.entries ≡ self.old.entries ++ entry ∷ []) }

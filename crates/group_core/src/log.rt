@@ -3,7 +3,7 @@ ghost use Rattle.std.specs.Prelude.{◌≡◌, ◌+◌, ◌≤◌, true, [], dro
 ghost use Rattle.handle_model.specs.Bases.{empty_base};
 ghost use Rattle.group_core.specs.Kept.{Came, Same};
 ghost use Rattle.group_core.specs.Kept as kept;
-ghost use Rattle.group_core.specs.Marks.{Tells};
+ghost use Rattle.group_core.specs.Marks.{MarksTell};
 ghost use Rattle.group_core.specs.Folds.{MarksLeft};
 
 use crate::journal::Journal;
@@ -23,13 +23,13 @@ pub struct Log {
 impl Model for Log {
     ghost use Rattle.std.specs.Prelude.{◌≤◌, reverse};
     ghost use Rattle.group_core.specs.Kept.{Logged};
-    ghost use Rattle.group_core.specs.Marks.{Tells};
+    ghost use Rattle.group_core.specs.Marks.{MarksTell};
 
     ghost Value = { Logged };
 
     ghost view = { λ l. l.journal };
 
-    ghost invariant = { λ l. (l.journal.spare ≤ l.marks.room) × Tells l.marks l.journal.base (reverse l.journal.entries) };
+    ghost invariant = { λ l. (l.journal.spare ≤ l.marks.room) × MarksTell l.marks l.journal.base (reverse l.journal.entries) };
 }
 
 impl Log {
@@ -44,6 +44,9 @@ impl Log {
     }
 
     /// Makes room for so many more.
+    ///
+    /// # Errors
+    /// `NoMemory` where memory runs out; there is then room for as many as before.
     pub fn reserve(&mut self, more: usize) -> Result<(), NoMemory>
         ensures entries { Same self.old self.new }
         ensures ok { OnOk result (self.new.spare ≡ self.old.spare + more) }
@@ -89,6 +92,9 @@ impl Log {
     }
 
     /// The marks of what is left once the older entries are in that base, with room for so many more.
+    ///
+    /// # Errors
+    /// `NoMemory` where memory runs out.
     pub fn marks_after(&self, alloc: Global, base: &Base, more: usize) -> Result<Marks, NoMemory>
         requires { (self.now.base.accepts ≤ base.now.accepts) × (base.now.accepts ≤ kept.accepted_in self.now) }
         ensures { IfOk result (λ marks. MarksLeft self.now base.now more marks) }
@@ -105,7 +111,7 @@ impl Log {
     pub fn fold(&mut self, base: Base, count: usize, marks: Marks)
         requires few { count ≤ length self.old.entries }
         requires room { self.old.spare ≤ marks.room }
-        requires tells { Tells marks base (reverse (drop count self.old.entries)) }
+        requires tells { MarksTell marks base (reverse (drop count self.old.entries)) }
         ensures base { self.new.base ≡ base }
         ensures entries { self.new.entries ≡ drop count self.old.entries }
         ensures spare { self.new.spare ≡ self.old.spare }

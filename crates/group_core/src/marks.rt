@@ -44,6 +44,9 @@ impl Marks {
     }
 
     /// What is left of them at a base that stands for the older entries. There is room for none more.
+    ///
+    /// # Errors
+    /// `NoMemory` where memory runs out.
     pub fn after(&self, alloc: Global, base: &Base) -> Result<Marks, NoMemory>
         requires { (self.now.first ≤ base.now.accepts) × (base.now.accepts ≤ self.now.first + length self.now.later) }
         ensures { IfOk result (λ marks. marks ≡ spec.marks_after self.now base.now) }
@@ -58,6 +61,9 @@ impl Marks {
     }
 
     /// Makes room for so many.
+    ///
+    /// # Errors
+    /// `NoMemory` where memory runs out; the marks are then as before.
     pub fn reserve(&mut self, wanted: usize) -> Result<(), NoMemory>
         ensures same { (self.new.first ≡ self.old.first) × (self.new.early ≡ self.old.early) × (self.new.later ≡ self.old.later) }
         ensures ok { OnOk result (wanted ≤ self.new.room) }

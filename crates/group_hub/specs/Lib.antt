@@ -1,3 +1,5 @@
+pub mod Asks
+pub mod Finds
 pub mod Locks
 pub mod Making
 pub mod Openings

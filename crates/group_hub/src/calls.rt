@@ -1,19 +1,18 @@
 //! Calls on a group.
-ghost use Rattle.std.specs.Prelude.{◌≡◌, ◌≤◌, ℕ, true, false, ◌&&◌, not, IfOk, [], ◌∷◌, length};
+ghost use Rattle.std.specs.Prelude.{◌≡◌, ◌≤◌, ℕ, true, IfOk, [], ◌∷◌, length};
 ghost use Rattle.handle_model.specs.declared.entry.Entry.TheVariants as entry;
-ghost use Rattle.handle_model.specs.Journal.{runs};
 ghost use Rattle.group_core.specs.Calls.{Accepts, Takes, Cancels, Orphans};
 ghost use Rattle.group_core.specs.declared.answer.Stage.TheVariants.{Over};
 ghost use Rattle.group_core.specs.Stages.{stage_of, is_asked};
 ghost use Rattle.hub_story.specs.declared.item.Item.TheVariants.{Of};
 ghost use Rattle.hub_story.specs.Directories.{is_retired_id};
 ghost use Rattle.hub_story.specs.Histories.{marks_in, journal_in};
-ghost use Rattle.hub_story.specs.Folded.{kept};
 ghost use Rattle.hub_story.specs.Passes.{Serves, HasCall, Knows, Runs};
 ghost use Rattle.hub_story.specs.Calls.{IsNewCall};
 ghost use Rattle.hub_story.specs.Still.{StillHas, IsAccepted, IfTaken};
 ghost use Rattle.hub_shard.specs.Answers.{SettlesWith};
 ghost use Rattle.group_hub.specs.Shards.{shard_of};
+ghost use Rattle.group_hub.specs.Asks.{is_asked_by_kept, IsToldWhileItRuns};
 ghost use Rattle.group_hub.specs.Passes.{IsPassOf, at_shard, CallsAt, LooksAt, HasItsShut};
 
 use crate::hub::{Hub, shard_of};
@@ -26,6 +25,12 @@ use std::sync::Wait;
 impl Hub {
     /// Accepts a call of a connection that is this pass's, as `Group::accept`. Nothing was entered of a call
     /// of that number before.
+    ///
+    /// # Errors
+    ///
+    /// What was asked, given back, beside why: `Calls` where 256 calls wait or run, `Handles` where there would
+    /// be more than 65,536 handles, `Numbers` where a number would pass 32 bits, and `Memory` for want of
+    /// memory.
     pub fn accept<R: Wait>(
         &self,
         rt: &R,
@@ -143,10 +148,10 @@ impl Hub {
         requires pass { IsPassOf self.now pass.old }
         requires known { Knows (at_shard pass.old (shard_of group)) group call }
         ensures pass { IsPassOf self.now pass.new }
-        ensures call { LooksAt self.now.boot group pass.old pass.new (λ log. result ≡ (not (is_retired_id (marks_in log) group) && is_asked (kept (journal_in self.now.boot group log)) call)) }
+        ensures call { LooksAt self.now.boot group pass.old pass.new (λ log. result ≡ is_asked_by_kept self.now.boot group log call) }
         ensures still { StillHas (at_shard pass.old (shard_of group)) (at_shard pass.new (shard_of group)) [] }
         ensures told { result ≡ true → is_asked (journal_in self.now.boot group (at_shard pass.new (shard_of group)).log) call ≡ true }
-        ensures running { is_retired_id (marks_in (at_shard pass.new (shard_of group)).log) group ≡ false → runs (journal_in self.now.boot group (at_shard pass.new (shard_of group)).log) call ≡ true → result ≡ is_asked (journal_in self.now.boot group (at_shard pass.new (shard_of group)).log) call }
+        ensures running { IsToldWhileItRuns self.now.boot group (at_shard pass.new (shard_of group)).log call result }
     {
         let number = shard_of(group);
         self.shard(number)

@@ -1,13 +1,11 @@
 //! A connection joins the group of an id, and a group's journal is copied.
 ghost use Rattle.std.specs.Prelude.{◌≤◌, IfOk, []};
-ghost use Rattle.hub_story.specs.Histories.{journal_in};
 ghost use Rattle.hub_story.specs.Passes.{Serves};
-ghost use Rattle.hub_story.specs.Calls.{IsNewConn};
 ghost use Rattle.hub_story.specs.Still.{StillHas};
-ghost use Rattle.hub_shard.specs.Finds.{gives_find};
 ghost use Rattle.hub_shard.specs.Copies.{gives_copy};
 ghost use Rattle.group_hub.specs.Passes.{IsPassOf, at_shard, EntersAt};
 ghost use Rattle.group_hub.specs.Shards.{shard_of};
+ghost use Rattle.group_hub.specs.Finds.{FindsGroup};
 
 use crate::hub::{Hub, shard_of};
 use crate::pass::Pass;
@@ -28,7 +26,7 @@ impl Hub {
         requires pass { IsPassOf self.now pass.old }
         requires id { 1 ≤ id }
         ensures pass { IsPassOf self.now pass.new }
-        ensures call { EntersAt self.now.boot id pass.old pass.new (λ log more. gives_find (record { id = id }) self.now.boot (shard_of id) log result more × IfOk result (λ conn. IsNewConn conn (journal_in self.now.boot id log))) }
+        ensures call { EntersAt self.now.boot id pass.old pass.new (λ log more. FindsGroup self.now.boot (shard_of id) id result log more) }
         ensures still { StillHas (at_shard pass.old (shard_of id)) (at_shard pass.new (shard_of id)) [] }
         ensures serves { IfOk result (λ conn. Serves (at_shard pass.new (shard_of id)) id conn) }
     {

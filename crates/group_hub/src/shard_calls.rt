@@ -1,21 +1,20 @@
 //! Calls on a group of one shard.
-ghost use Rattle.std.specs.Prelude.{◌≡◌, ◌≤◌, ℕ, true, false, IfOk, List, [], ◌∷◌, ◌++◌, ◌&&◌, not, length};
+ghost use Rattle.std.specs.Prelude.{◌≡◌, ◌≤◌, ℕ, true, IfOk, [], ◌∷◌, length};
 ghost use Rattle.handle_model.specs.declared.entry.Entry.TheVariants as entry;
-ghost use Rattle.handle_model.specs.Journal.{runs};
 ghost use Rattle.group_core.specs.Calls.{Accepts, Takes, Cancels, Orphans};
 ghost use Rattle.group_core.specs.declared.answer.Stage.TheVariants.{Over};
 ghost use Rattle.group_core.specs.Stages.{stage_of, is_asked};
-ghost use Rattle.hub_story.specs.declared.item.Item.{Item};
 ghost use Rattle.hub_story.specs.declared.item.Item.TheVariants.{Of};
 ghost use Rattle.hub_story.specs.Directories.{is_retired_id};
 ghost use Rattle.hub_story.specs.Histories.{marks_in, journal_in};
-ghost use Rattle.hub_story.specs.Folded.{kept};
 ghost use Rattle.hub_story.specs.Passes.{Serves, HasCall, Knows, Runs};
-ghost use Rattle.hub_story.specs.Calls.{IsNewCall, Enters, Calls};
+ghost use Rattle.hub_story.specs.Calls.{IsNewCall, Calls};
 ghost use Rattle.hub_story.specs.Still.{StillHas, IsAccepted, IfTaken};
 ghost use Rattle.hub_shard.specs.Answers.{SettlesWith};
 ghost use Rattle.group_hub.specs.ShardPasses.{HasItsShut};
 ghost use Rattle.group_hub.specs.Locks.{IsPassOf};
+ghost use Rattle.group_hub.specs.Asks.{is_asked_by_kept, IsToldWhileItRuns};
+ghost use Rattle.group_hub.specs.Turns.{LooksWhere};
 
 use crate::lock::ShardLock;
 use crate::shard_pass::ShardPass;
@@ -27,6 +26,10 @@ use std::sync::Wait;
 impl ShardLock {
     /// Accepts a call of a connection that is this pass's, as `Group::accept`. Nothing was entered of a call
     /// of that number before.
+    ///
+    /// # Errors
+    ///
+    /// As of `Hub::accept`.
     pub fn accept<R: Wait>(
         &self,
         rt: &R,
@@ -125,8 +128,7 @@ impl ShardLock {
         requires pass { IsPassOf self.now pass.old }
         requires known { Knows pass.old group call }
         ensures pass { IsPassOf self.now pass.new }
-        ensures call { (between : List Item) × Enters self.now.boot self.now.number pass.old pass.new between []
-            × (result ≡ stage_of (journal_in self.now.boot group (pass.old.log ++ between)) call) }
+        ensures call { LooksWhere self.now.boot self.now.number pass.old pass.new (λ log. result ≡ stage_of (journal_in self.now.boot group log) call) }
         ensures over { is_retired_id (marks_in pass.new.log) group ≡ true → result ≡ Over }
         ensures still { StillHas pass.old pass.new [] }
     {
@@ -140,11 +142,10 @@ impl ShardLock {
         requires pass { IsPassOf self.now pass.old }
         requires known { Knows pass.old group call }
         ensures pass { IsPassOf self.now pass.new }
-        ensures call { (between : List Item) × Enters self.now.boot self.now.number pass.old pass.new between []
-            × (result ≡ (not (is_retired_id (marks_in (pass.old.log ++ between)) group) && is_asked (kept (journal_in self.now.boot group (pass.old.log ++ between))) call)) }
+        ensures call { LooksWhere self.now.boot self.now.number pass.old pass.new (λ log. result ≡ is_asked_by_kept self.now.boot group log call) }
         ensures still { StillHas pass.old pass.new [] }
         ensures told { result ≡ true → is_asked (journal_in self.now.boot group pass.new.log) call ≡ true }
-        ensures running { is_retired_id (marks_in pass.new.log) group ≡ false → runs (journal_in self.now.boot group pass.new.log) call ≡ true → result ≡ is_asked (journal_in self.now.boot group pass.new.log) call }
+        ensures running { IsToldWhileItRuns self.now.boot group pass.new.log call result }
     {
         self.run::<Ask, R>(rt, pass, Ask { group, call })
     }

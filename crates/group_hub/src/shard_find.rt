@@ -1,13 +1,10 @@
 //! A connection joins the group of an id.
-ghost use Rattle.std.specs.Prelude.{◌≡◌, List, [], ◌++◌, IfOk};
-ghost use Rattle.hub_story.specs.declared.item.Item.{Item};
-ghost use Rattle.hub_story.specs.Histories.{journal_in};
+ghost use Rattle.std.specs.Prelude.{[], IfOk};
 ghost use Rattle.hub_story.specs.Passes.{Serves};
-ghost use Rattle.hub_story.specs.Calls.{IsNewConn, Enters};
 ghost use Rattle.hub_story.specs.Still.{StillHas};
-ghost use Rattle.hub_shard.specs.declared.find.Find.{Find};
-ghost use Rattle.hub_shard.specs.Finds.{gives_find};
 ghost use Rattle.group_hub.specs.Locks.{IsPassOf};
+ghost use Rattle.group_hub.specs.Finds.{FindsGroup};
+ghost use Rattle.group_hub.specs.Turns.{EntersWhere};
 
 use crate::lock::ShardLock;
 use crate::shard_pass::ShardPass;
@@ -17,6 +14,10 @@ use std::sync::Wait;
 impl ShardLock {
     /// A connection joins the group of an id, or the id is marked as missed, where the group isn't open.
     /// Nothing was entered of a connection of that number before.
+    ///
+    /// # Errors
+    ///
+    /// As of `Hub::find_join`.
     pub fn find_join<R: Wait>(
         &self,
         rt: &R,
@@ -25,9 +26,7 @@ impl ShardLock {
     ) -> Result<u32, FindRefusal>
         requires pass { IsPassOf self.now pass.old }
         ensures pass { IsPassOf self.now pass.new }
-        ensures call { (between : List Item) × (more : List Item) × Enters self.now.boot self.now.number pass.old pass.new between more
-            × (gives_find (record { id = id }) self.now.boot self.now.number (pass.old.log ++ between) result more
-            × IfOk result (λ conn. IsNewConn conn (journal_in self.now.boot id (pass.old.log ++ between)))) }
+        ensures call { EntersWhere self.now.boot self.now.number pass.old pass.new (λ log more. FindsGroup self.now.boot self.now.number id result log more) }
         ensures still { StillHas pass.old pass.new [] }
         ensures serves { IfOk result (λ conn. Serves pass.new id conn) }
     {

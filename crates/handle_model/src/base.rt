@@ -44,6 +44,9 @@ pub struct Base {
 
 impl BaseCall {
     /// An equal one.
+    ///
+    /// # Errors
+    /// `NoMemory` where memory runs out.
     pub fn copy(&self, alloc: Global) -> Result<BaseCall, NoMemory>
         ensures { IfOk result (λ copy. copy ≡ self.now) }
     {
@@ -74,6 +77,9 @@ impl Base {
     }
 
     /// An equal one.
+    ///
+    /// # Errors
+    /// `NoMemory` where memory runs out.
     pub fn copy(&self, alloc: Global) -> Result<Base, NoMemory>
         ensures { IfOk result (λ copy. copy ≡ self.now) }
     {

@@ -62,6 +62,9 @@ pub enum Said {
 
 impl Said {
     /// An equal one.
+    ///
+    /// # Errors
+    /// `NoMemory` where memory runs out.
     pub fn copy(&self, alloc: Global) -> Result<Said, NoMemory>
         ensures { IfOk result (λ copy. copy ≡ self.now) }
     {
@@ -92,6 +95,9 @@ pub struct Asked {
 
 impl Asked {
     /// An equal one.
+    ///
+    /// # Errors
+    /// `NoMemory` where memory runs out.
     pub fn copy(&self, alloc: Global) -> Result<Asked, NoMemory>
         ensures { IfOk result (λ copy. copy ≡ self.now) }
     {
@@ -166,6 +172,9 @@ pub enum Entry {
 
 impl Entry {
     /// An equal one.
+    ///
+    /// # Errors
+    /// `NoMemory` where memory runs out.
     pub fn copy(&self, alloc: Global) -> Result<Entry, NoMemory>
         ensures { IfOk result (λ copy. copy ≡ self.now) }
     {

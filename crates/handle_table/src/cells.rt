@@ -17,6 +17,9 @@ pub struct Cell {
 }
 
 /// The place of the serial, or else the place where it would stand.
+///
+/// # Errors
+/// The place where it would stand, where no cell has it.
 pub fn seek(cells: &[Cell], serial: u32) -> Result<usize, usize>
     requires { Climb 0 cells.now }
     ensures { Sought cells.now serial result }
@@ -78,6 +81,9 @@ pub fn item_of(home: Home, cells: &[Cell], wire: &WireHandle) -> Option<DueItem>
 }
 
 /// Cells of these handles, which are live.
+///
+/// # Errors
+/// `NoMemory` where memory runs out.
 #[tactic(auto, using(handle_model::proofs::Rest::resting))]
 pub fn cells_of(alloc: Global, items: &[DueItem]) -> Result<Vec<Cell>, NoMemory>
     ensures { IfOk result (λ cells. cells.items ≡ spec.fresh items.now) }

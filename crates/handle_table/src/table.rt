@@ -73,6 +73,9 @@ impl HandleTable {
     }
 
     /// The handles of a base. For no further one there is room.
+    ///
+    /// # Errors
+    /// `NoMemory` where memory runs out.
     #[tactic(auto, using(crate::proofs::Found::beginning))]
     pub fn of(alloc: Global, home: Home, base: &Base) -> Result<HandleTable, NoMemory>
         requires rise { rise_above 0 (serials_of base.now.handles) ≡ true }
@@ -98,6 +101,9 @@ impl HandleTable {
     }
 
     /// Makes room for `n` handles more, and for their places in the lists of `drain`.
+    ///
+    /// # Errors
+    /// `NoMemory` where memory runs out; the table is then as before.
     pub fn reserve(&mut self, n: usize) -> Result<(), NoMemory>
         ensures ok { OnOk result (n ≤ self.new.room) }
         ensures more { self.old.room ≤ self.new.room }
@@ -152,6 +158,9 @@ impl HandleTable {
     }
 
     /// A list of the live handles, by rising serial.
+    ///
+    /// # Errors
+    /// `NoMemory` where memory runs out.
     pub fn copy(&self, alloc: Global) -> Result<DueItems, NoMemory>
         ensures { IfOk result (λ items. items ≡ self.now.items) }
     {

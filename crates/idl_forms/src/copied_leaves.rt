@@ -5,6 +5,9 @@ use idl_tree::{ArraySize, Dtor, Ident, Label, LabelKind, SizeRef};
 use rpc_base::{NoMemory, Octets};
 use std::alloc::Global;
 
+/// # Errors
+///
+/// `NoMemory` where there is no memory for its text.
 pub fn ident(name: &Ident, alloc: Global) -> Result<Ident, NoMemory>
     ensures { IfOk result (λ copy. copy ≡ name.now) }
 {
@@ -14,6 +17,9 @@ pub fn ident(name: &Ident, alloc: Global) -> Result<Ident, NoMemory>
     })
 }
 
+/// # Errors
+///
+/// `NoMemory` where there is no memory for it.
 pub fn ident_or_none(name: &Option<Ident>, alloc: Global) -> Result<Option<Ident>, NoMemory>
     ensures { IfOk result (λ copy. copy ≡ name.now) }
 {
@@ -23,6 +29,9 @@ pub fn ident_or_none(name: &Option<Ident>, alloc: Global) -> Result<Option<Ident
     }
 }
 
+/// # Errors
+///
+/// `NoMemory` where there is no memory for it.
 pub fn idents(names: &[Ident], alloc: Global) -> Result<Vec<Ident>, NoMemory>
     ensures { IfOk result (λ copy. copy.items ≡ names.now) }
 {
@@ -33,6 +42,9 @@ pub fn idents(names: &[Ident], alloc: Global) -> Result<Vec<Ident>, NoMemory>
     Ok(copies)
 }
 
+/// # Errors
+///
+/// `NoMemory` where there is no memory for it.
 pub fn size_ref(size: &SizeRef, alloc: Global) -> Result<SizeRef, NoMemory>
     ensures { IfOk result (λ copy. copy ≡ size.now) }
 {
@@ -45,6 +57,9 @@ pub fn size_ref(size: &SizeRef, alloc: Global) -> Result<SizeRef, NoMemory>
     }
 }
 
+/// # Errors
+///
+/// `NoMemory` where there is no memory for it.
 pub fn array_size(size: &ArraySize, alloc: Global) -> Result<ArraySize, NoMemory>
     ensures { IfOk result (λ copy. copy ≡ size.now) }
 {
@@ -56,6 +71,9 @@ pub fn array_size(size: &ArraySize, alloc: Global) -> Result<ArraySize, NoMemory
     }
 }
 
+/// # Errors
+///
+/// `NoMemory` where there is no memory for it.
 pub fn dtor(dtor: &Dtor, alloc: Global) -> Result<Dtor, NoMemory>
     ensures { IfOk result (λ copy. copy ≡ dtor.now) }
 {
@@ -71,6 +89,9 @@ pub fn dtor(dtor: &Dtor, alloc: Global) -> Result<Dtor, NoMemory>
     })
 }
 
+/// # Errors
+///
+/// `NoMemory` where there is no memory for it.
 pub fn dtors(list: &[Dtor], alloc: Global) -> Result<Vec<Dtor>, NoMemory>
     ensures { IfOk result (λ copy. copy.items ≡ list.now) }
 {
@@ -81,6 +102,9 @@ pub fn dtors(list: &[Dtor], alloc: Global) -> Result<Vec<Dtor>, NoMemory>
     Ok(copies)
 }
 
+/// # Errors
+///
+/// `NoMemory` where there is no memory for it.
 pub fn label(label: &Label, alloc: Global) -> Result<Label, NoMemory>
     ensures { IfOk result (λ copy. copy ≡ label.now) }
 {
@@ -92,6 +116,9 @@ pub fn label(label: &Label, alloc: Global) -> Result<Label, NoMemory>
     Ok(Label { at: label.at, what })
 }
 
+/// # Errors
+///
+/// `NoMemory` where there is no memory for it.
 pub fn labels(list: &[Label], alloc: Global) -> Result<Vec<Label>, NoMemory>
     ensures { IfOk result (λ copy. copy.items ≡ list.now) }
 {
@@ -102,6 +129,9 @@ pub fn labels(list: &[Label], alloc: Global) -> Result<Vec<Label>, NoMemory>
     Ok(copies)
 }
 
+/// # Errors
+///
+/// `NoMemory` where there is no memory for it.
 pub fn texts(list: &[Octets], alloc: Global) -> Result<Vec<Octets>, NoMemory>
     ensures { IfOk result (λ copy. copy.items ≡ list.now) }
 {

@@ -107,6 +107,10 @@ fn decls(list: &[Decl], alloc: Global) -> Result<Vec<Decl>, NoMemory>
 }
 
 /// A tree that is the same in every item.
+///
+/// # Errors
+///
+/// `NoMemory` where there is no memory for the copy.
 pub fn copy_tree(alloc: Global, tree: &Ast) -> Result<Ast, NoMemory>
     ensures { IfOk result (λ copy. Same copy tree.now) }
 {

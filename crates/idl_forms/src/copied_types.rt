@@ -8,6 +8,9 @@ use idl_tree::{ArmNode, Attr, AttrKind, Ident, Member, Spec, SpecKind, Switch};
 use rpc_base::NoMemory;
 use std::alloc::Global;
 
+/// # Errors
+///
+/// `NoMemory` where there is no memory for it.
 #[cycle(copy)]
 pub fn spec_copied(spec: &Spec, alloc: Global) -> Result<Spec, NoMemory>
     ensures { IfOk result (λ copy. spec_form copy ≡ spec_form spec.now) }
@@ -130,6 +133,9 @@ fn arm_copied(arm: &ArmNode, alloc: Global) -> Result<ArmNode, NoMemory>
     Ok(ArmNode { labels, member })
 }
 
+/// # Errors
+///
+/// `NoMemory` where there is no memory for it.
 #[cycle(copy)]
 pub fn attrs_copied(list: &[Attr], alloc: Global) -> Result<Vec<Attr>, NoMemory>
     ensures { IfOk result (λ copy. map attr_form copy.items ≡ map attr_form list.now) }

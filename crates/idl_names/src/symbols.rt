@@ -98,6 +98,10 @@ impl<T: Drop, G: Copy + Drop> SymbolTable<T, G> {
     }
 
     /// Declares the name of a constant.
+    ///
+    /// # Errors
+    ///
+    /// `NoMemory` where there is no memory for it.
     pub fn with_constant(&mut self, alloc: Global, name: &Ident, value: Num) -> Result<(), NoMemory>
         ensures declared { OnOk result (symbols self.new ≡ spec.with_constant name.now value (symbols self.old)) }
         ensures unchanged { OnErr result (symbols self.new ≡ symbols self.old) }
@@ -106,6 +110,10 @@ impl<T: Drop, G: Copy + Drop> SymbolTable<T, G> {
     }
 
     /// Declares the tag of a structure.
+    ///
+    /// # Errors
+    ///
+    /// `NoMemory` where there is no memory for it.
     pub fn with_tag(&mut self, alloc: Global, name: &Ident, tag: Tag<G>) -> Result<(), NoMemory>
         ensures declared { OnOk result (symbols self.new ≡ spec.with_tag name.now tag (symbols self.old)) }
         ensures unchanged { OnErr result (symbols self.new ≡ symbols self.old) }
@@ -114,6 +122,10 @@ impl<T: Drop, G: Copy + Drop> SymbolTable<T, G> {
     }
 
     /// Declares the names of an enumeration.
+    ///
+    /// # Errors
+    ///
+    /// `NoMemory` where there is no memory for it.
     pub fn with_names(&mut self, alloc: Global, names: &[Ident]) -> Result<(), NoMemory>
         ensures { OnOk result (symbols self.new ≡ spec.with_names 0 names.now (symbols self.old)) }
     {

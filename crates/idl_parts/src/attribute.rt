@@ -61,6 +61,10 @@ fn size_in_brackets(alloc: Global, tokens: &[Token]) -> Result<(SizeRef, &[Token
 }
 
 /// Reads an attribute of one word.
+///
+/// # Errors
+///
+/// `Stop::At` where the tokens depart.
 #[tactic(auto, using(crate::proofs::Parts::plain_attrs), unfolding(crate::specs::Along::plain_attr_at, idl_tree::specs::Pieces::pk_pieces, idl_tree::specs::Pieces::pk_word))]
 pub fn plain_attr(tokens: &[Token]) -> Result<(AttrKind, &[Token]), Stop<'_>>
     ensures along { Gives (λ p. p.1.now) result (plain_attr_at (terminals tokens.now)) }
@@ -100,6 +104,10 @@ pub fn plain_attr(tokens: &[Token]) -> Result<(AttrKind, &[Token]), Stop<'_>>
 }
 
 /// Reads `size_is`, `max_is` or `length_is`, with its size.
+///
+/// # Errors
+///
+/// `Stop::At` where the tokens depart; `Stop::Memory` where memory runs out.
 #[tactic(auto, using(crate::proofs::Parts::size_attrs), unfolding(crate::specs::Along::size_attr_at))]
 pub fn size_attr(alloc: Global, tokens: &[Token]) -> Result<(AttrKind, &[Token]), Stop<'_>>
     ensures along { Gives (λ p. p.1.now) result (size_attr_at (terminals tokens.now)) }
@@ -117,6 +125,10 @@ pub fn size_attr(alloc: Global, tokens: &[Token]) -> Result<(AttrKind, &[Token])
 }
 
 /// Reads `switch_is`, with its name.
+///
+/// # Errors
+///
+/// `Stop::At` where the tokens depart; `Stop::Memory` where memory runs out.
 #[tactic(auto, using(crate::proofs::Parts::size_attrs), unfolding(crate::specs::Along::switch_is_at))]
 pub fn switch_is(alloc: Global, tokens: &[Token]) -> Result<(AttrKind, &[Token]), Stop<'_>>
     ensures along { Gives (λ p. p.1.now) result (switch_is_at (terminals tokens.now)) }
@@ -144,6 +156,10 @@ fn bounds(tokens: &[Token]) -> Result<(Num, Num, &[Token]), Stop<'_>>
 }
 
 /// Reads `range`, with its bounds.
+///
+/// # Errors
+///
+/// `Stop::At` where the tokens depart.
 #[tactic(auto, using(crate::proofs::Parts::size_attrs), unfolding(crate::specs::Along::range_attr_at))]
 pub fn range(tokens: &[Token]) -> Result<(AttrKind, &[Token]), Stop<'_>>
     ensures along { Gives (λ p. p.1.now) result (range_attr_at (terminals tokens.now)) }
@@ -201,6 +217,10 @@ fn label(alloc: Global, tokens: &[Token]) -> Result<(Label, &[Token]), Stop<'_>>
 }
 
 /// Reads the labels of an arm.
+///
+/// # Errors
+///
+/// `Stop::At` where the tokens depart; `Stop::Memory` where memory runs out.
 #[tactic(auto, using(crate::proofs::Loops::labels), unfolding(crate::specs::Along::labels_at))]
 pub fn labels(alloc: Global, tokens: &[Token]) -> Result<(Vec<Label>, &[Token]), Stop<'_>>
     ensures along { Gives (λ p. p.1.now) result (labels_at (terminals tokens.now)) }

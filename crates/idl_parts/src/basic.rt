@@ -13,6 +13,10 @@ use idl_tokens::{Mark, Token, Word};
 use idl_tree::{Base, Num, Pk};
 
 /// Reads a number that may have a minus.
+///
+/// # Errors
+///
+/// `Stop::At` where the tokens depart.
 #[tactic(auto, using(crate::proofs::Taking::signed_written), unfolding(crate::specs::Along::signed_at))]
 pub fn signed(tokens: &[Token]) -> Result<(Num, &[Token]), Stop<'_>>
     ensures along { Gives (λ p. p.1.now) result (signed_at (terminals tokens.now)) }
@@ -37,6 +41,10 @@ pub fn signed(tokens: &[Token]) -> Result<(Num, &[Token]), Stop<'_>>
 }
 
 /// Reads a pointer class.
+///
+/// # Errors
+///
+/// `Stop::At` where the tokens depart.
 #[tactic(auto, using(crate::proofs::Parts::pk_told), unfolding(crate::specs::Along::pk_at, idl_tree::specs::Pieces::pk_pieces, idl_tree::specs::Pieces::pk_word))]
 pub fn pk(tokens: &[Token]) -> Result<(Pk, &[Token]), Stop<'_>>
     ensures along { Gives (λ p. p.1.now) result (pk_at (terminals tokens.now)) }
@@ -94,6 +102,10 @@ fn sizeable(tokens: &[Token], unsigned: bool) -> Result<(Base, &[Token]), Stop<'
 }
 
 /// Reads a base type.
+///
+/// # Errors
+///
+/// `Stop::At` where the tokens depart.
 #[tactic(auto, using(crate::proofs::Parts::writing), unfolding(crate::specs::Along::base_at, idl_tree::specs::Pieces::base_pieces))]
 pub fn base(tokens: &[Token]) -> Result<(Base, &[Token]), Stop<'_>>
     ensures along { Gives (λ p. p.1.now) result (base_at (terminals tokens.now)) }

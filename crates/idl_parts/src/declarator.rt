@@ -72,6 +72,10 @@ fn stars(tokens: &[Token]) -> Result<(usize, &[Token]), Stop<'_>>
 }
 
 /// Reads a declarator.
+///
+/// # Errors
+///
+/// `Stop::At` where the tokens depart; `Stop::Memory` where memory runs out.
 #[tactic(auto, using(crate::proofs::Parts::writing), unfolding(crate::specs::Along::dtor_at, idl_tree::specs::Pieces::dtor_pieces))]
 pub fn dtor(alloc: Global, tokens: &[Token]) -> Result<(Dtor, &[Token]), Stop<'_>>
     ensures along { Gives (λ p. p.1.now) result (dtor_at (terminals tokens.now)) }
@@ -97,6 +101,10 @@ fn comma_dtor(alloc: Global, tokens: &[Token]) -> Result<(Dtor, &[Token]), Stop<
 }
 
 /// Reads declarators with commas between them.
+///
+/// # Errors
+///
+/// `Stop::At` where the tokens depart; `Stop::Memory` where memory runs out.
 #[tactic(auto, using(crate::proofs::Loops::dtors), unfolding(crate::specs::Along::dtors_at))]
 pub fn dtors(alloc: Global, tokens: &[Token]) -> Result<(Vec<Dtor>, &[Token]), Stop<'_>>
     ensures along { Gives (λ p. p.1.now) result (dtors_at (terminals tokens.now)) }
@@ -147,6 +155,10 @@ fn names(alloc: Global, tokens: &[Token]) -> Result<(Vec<Ident>, &[Token]), Stop
 }
 
 /// Reads the names of an enum, in their brackets.
+///
+/// # Errors
+///
+/// `Stop::At` where the tokens depart; `Stop::Memory` where memory runs out.
 #[tactic(auto, using(crate::proofs::Parts::writing), unfolding(crate::specs::Along::enum_body_at))]
 pub fn enum_body(alloc: Global, tokens: &[Token]) -> Result<(Vec<Ident>, &[Token]), Stop<'_>>
     ensures along { Gives (λ p. p.1.now) result (enum_body_at (terminals tokens.now)) }

@@ -101,6 +101,10 @@ pub fn is_number(tokens: &[Token]) -> bool
 }
 
 /// Reads a word.
+///
+/// # Errors
+///
+/// `Stop::At` these tokens where the word isn't next.
 #[tactic(auto, using(crate::proofs::Taking::shorter))]
 pub fn word(tokens: &[Token], word: Word) -> Result<&[Token], Stop<'_>>
     ensures along { Gives (λ p. p.now) result (word_at word (terminals tokens.now)) }
@@ -112,6 +116,10 @@ pub fn word(tokens: &[Token], word: Word) -> Result<&[Token], Stop<'_>>
 }
 
 /// Reads a mark.
+///
+/// # Errors
+///
+/// `Stop::At` these tokens where the mark isn't next.
 #[tactic(auto, using(crate::proofs::Taking::shorter))]
 pub fn mark(tokens: &[Token], mark: Mark) -> Result<&[Token], Stop<'_>>
     ensures along { Gives (λ p. p.now) result (mark_at mark (terminals tokens.now)) }
@@ -123,6 +131,11 @@ pub fn mark(tokens: &[Token], mark: Mark) -> Result<&[Token], Stop<'_>>
 }
 
 /// Opens a bracket, to level 64.
+///
+/// # Errors
+///
+/// `Stop::At` these tokens where the bracket isn't next, or it opens level 65, and the flag then says that its size
+/// alone is at fault.
 #[tactic(auto, using(crate::proofs::Taking::shorter))]
 pub fn open(tokens: &[Token], bracket: Bracket) -> Result<&[Token], Stop<'_>>
     ensures along { Gives (λ p. p.now) result (open_at bracket (terminals tokens.now)) }
@@ -134,6 +147,10 @@ pub fn open(tokens: &[Token], bracket: Bracket) -> Result<&[Token], Stop<'_>>
 }
 
 /// Shuts a bracket.
+///
+/// # Errors
+///
+/// `Stop::At` these tokens where the bracket isn't next.
 #[tactic(auto, using(crate::proofs::Taking::shorter))]
 pub fn shut(tokens: &[Token], bracket: Bracket) -> Result<&[Token], Stop<'_>>
     ensures along { Gives (λ p. p.now) result (shut_at bracket (terminals tokens.now)) }
@@ -145,6 +162,10 @@ pub fn shut(tokens: &[Token], bracket: Bracket) -> Result<&[Token], Stop<'_>>
 }
 
 /// Reads the end of a text.
+///
+/// # Errors
+///
+/// `Stop::At` these tokens where the text's end isn't next.
 pub fn end(tokens: &[Token]) -> Result<&[Token], Stop<'_>>
     ensures along { Gives (λ p. p.now) result (end_at (terminals tokens.now)) }
     ensures written { IfOk result (λ p. Written end_pieces tokens.now p.now) }
@@ -154,6 +175,10 @@ pub fn end(tokens: &[Token]) -> Result<&[Token], Stop<'_>>
 }
 
 /// Reads a name.
+///
+/// # Errors
+///
+/// `Stop::At` these tokens where no name is next; `Stop::Memory` where there is no memory for its text.
 #[tactic(auto, using(crate::proofs::Taking::names))]
 pub fn name(alloc: Global, tokens: &[Token]) -> Result<(Ident, &[Token]), Stop<'_>>
     ensures along { Gives (λ p. p.1.now) result (name_at (terminals tokens.now)) }
@@ -178,6 +203,10 @@ pub fn name(alloc: Global, tokens: &[Token]) -> Result<(Ident, &[Token]), Stop<'
 }
 
 /// Reads the word `range`, which is a name elsewhere.
+///
+/// # Errors
+///
+/// `Stop::At` these tokens where the word isn't next.
 #[tactic(auto, using(crate::proofs::Taking::shorter))]
 pub fn range_word(tokens: &[Token]) -> Result<&[Token], Stop<'_>>
     ensures along { Gives (λ p. p.now) result (range_at (terminals tokens.now)) }
@@ -189,6 +218,11 @@ pub fn range_word(tokens: &[Token]) -> Result<&[Token], Stop<'_>>
 }
 
 /// Reads a number of at most this.
+///
+/// # Errors
+///
+/// `Stop::At` these tokens where no number is next, or it is larger, and the flag then says that its size alone is
+/// at fault.
 #[tactic(auto, using(crate::proofs::Taking::numbers))]
 pub fn number(tokens: &[Token], most: u64) -> Result<(Num, &[Token]), Stop<'_>>
     ensures along { Gives (λ p. p.1.now) result (token (number_class ∷ []) (most + 1) (terminals tokens.now)) }
@@ -211,6 +245,10 @@ pub fn number(tokens: &[Token], most: u64) -> Result<(Num, &[Token]), Stop<'_>>
 }
 
 /// Reads a string.
+///
+/// # Errors
+///
+/// `Stop::At` these tokens where no string is next; `Stop::Memory` where there is no memory for it.
 #[tactic(auto, using(crate::proofs::Taking::texts))]
 pub fn text(alloc: Global, tokens: &[Token]) -> Result<(Octets, &[Token]), Stop<'_>>
     ensures along { Gives (λ p. p.1.now) result (text_at (terminals tokens.now)) }
@@ -225,6 +263,10 @@ pub fn text(alloc: Global, tokens: &[Token]) -> Result<(Octets, &[Token]), Stop<
 }
 
 /// Reads a UUID.
+///
+/// # Errors
+///
+/// `Stop::At` these tokens where no UUID is next.
 #[tactic(auto, using(crate::proofs::Taking::uuids))]
 pub fn uuid(tokens: &[Token]) -> Result<(Uuid, &[Token]), Stop<'_>>
     ensures along { Gives (λ p. p.1.now) result (uuid_at (terminals tokens.now)) }
@@ -246,6 +288,10 @@ fn has_word(words: &[Word], class: u8) -> bool
 }
 
 /// Reads one of these words.
+///
+/// # Errors
+///
+/// `Stop::At` these tokens where none of the words is next.
 #[tactic(auto, using(crate::proofs::Taking::among))]
 pub fn word_among<'a>(tokens: &'a [Token], words: &[Word]) -> Result<(Word, &'a [Token]), Stop<'a>>
     ensures along { Gives (λ p. p.1.now) result (token (map of_word words.now) 1 (terminals tokens.now)) }
@@ -269,6 +315,10 @@ pub fn word_among<'a>(tokens: &'a [Token], words: &[Word]) -> Result<(Word, &'a 
 }
 
 /// Reads a word that may be left out.
+///
+/// # Errors
+///
+/// None comes: what isn't the word is left.
 #[tactic(auto, using(idl_tree::proofs::Writing::writing), unfolding(idl_tree::specs::Pieces::if_word))]
 pub fn word_or_none(tokens: &[Token], word: Word) -> Result<(bool, &[Token]), Stop<'_>>
     ensures along { Gives (λ p. p.1.now) result (if_next (of_word word) (word_at word) (terminals tokens.now)) }
@@ -283,6 +333,10 @@ pub fn word_or_none(tokens: &[Token], word: Word) -> Result<(bool, &[Token]), St
 }
 
 /// Reads a mark that may be left out.
+///
+/// # Errors
+///
+/// None comes: what isn't the mark is left.
 #[tactic(auto, using(idl_tree::proofs::Writing::writing), unfolding(idl_tree::specs::Pieces::if_mark))]
 pub fn mark_or_none(tokens: &[Token], mark: Mark) -> Result<(bool, &[Token]), Stop<'_>>
     ensures along { Gives (λ p. p.1.now) result (if_next (of_mark mark) (mark_at mark) (terminals tokens.now)) }
@@ -297,6 +351,10 @@ pub fn mark_or_none(tokens: &[Token], mark: Mark) -> Result<(bool, &[Token]), St
 }
 
 /// Reads a name that may be left out.
+///
+/// # Errors
+///
+/// `Stop::Memory` where there is no memory for the name's text.
 #[tactic(auto, using(idl_tree::proofs::Writing::writing), unfolding(idl_tree::specs::Pieces::if_ident))]
 pub fn name_or_none(alloc: Global, tokens: &[Token]) -> Result<(Option<Ident>, &[Token]), Stop<'_>>
     ensures along { Gives (λ p. p.1.now) result (if_among name_classes name_at (terminals tokens.now)) }

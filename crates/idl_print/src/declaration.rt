@@ -7,7 +7,7 @@ ghost use Rattle.idl_tokens.specs.declared.marks.Bracket.TheVariants as brackets
 ghost use Rattle.idl_tree.specs.Pieces.{within, commas, word_pieces, mark_pieces, ident_pieces, num_pieces, base_pieces, text_pieces};
 ghost use Rattle.idl_tree.specs.Trees.{attrs_pieces, spec_pieces, dtors_pieces};
 ghost use Rattle.idl_tree.specs.Files.{minor_pieces, file_attr_kind_pieces, file_attr_pieces, param_pieces, params_pieces, decl_kind_pieces, decl_pieces, ast_pieces};
-ghost use Rattle.idl_print.specs.Prints.{Prints};
+ghost use Rattle.idl_print.specs.Prints.{Prints, constant_pieces};
 
 use crate::Page;
 use crate::attribute::dtors;
@@ -113,7 +113,7 @@ fn params(page: &mut Page, void_word: bool, list: &[ParamNode]) -> Result<(), No
 
 #[tactic(auto, using(crate::proofs::Printing::printing), unfolding(idl_tree::specs::Files::decl_kind_pieces))]
 fn constant(page: &mut Page, of: Base, of_name: &Ident, value: Num) -> Result<(), NoMemory>
-    ensures { OnOk result (Prints (word_pieces words.Const ++ (base_pieces of ++ (ident_pieces of_name.now ++ (mark_pieces marks.Equals ++ (num_pieces value ++ mark_pieces marks.Semicolon))))) page.old page.new) }
+    ensures { OnOk result (Prints (constant_pieces of of_name.now value) page.old page.new) }
 {
     word(page, Word::Const)?;
     base(page, of)?;

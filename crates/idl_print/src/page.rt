@@ -38,12 +38,18 @@ impl Page {
         }
     }
 
+    /// # Errors
+    ///
+    /// `NoMemory` where there is no memory for it.
     pub fn word(&mut self, word: Word) -> Result<(), NoMemory>
         ensures { OnOk result (Puts (kinds.Word word ∷ []) self.old self.new) }
     {
         self.put(Sort::Word(word), word.text())
     }
 
+    /// # Errors
+    ///
+    /// `NoMemory` where there is no memory for it.
     pub fn name(&mut self, name: &[u8]) -> Result<(), NoMemory>
         ensures { OnOk result (Puts (kinds.Name name.now ∷ []) self.old self.new) }
     {
@@ -51,6 +57,10 @@ impl Page {
     }
 
     /// A number, in decimal.
+    ///
+    /// # Errors
+    ///
+    /// `NoMemory` where there is no memory for it.
     pub fn number(&mut self, value: u64) -> Result<(), NoMemory>
         ensures { OnOk result (Puts (kinds.Number (Some value) ∷ []) self.old self.new) }
     {
@@ -59,6 +69,10 @@ impl Page {
     }
 
     /// A string, given without its quotes.
+    ///
+    /// # Errors
+    ///
+    /// `NoMemory` where there is no memory for it.
     pub fn text(&mut self, inside: &[u8]) -> Result<(), NoMemory>
         ensures { OnOk result (Puts (kinds.Text inside.now ∷ []) self.old self.new) }
     {
@@ -68,6 +82,10 @@ impl Page {
     }
 
     /// A UUID, in small letters.
+    ///
+    /// # Errors
+    ///
+    /// `NoMemory` where there is no memory for it.
     pub fn uuid(&mut self, id: Uuid) -> Result<(), NoMemory>
         ensures { OnOk result (Puts (kinds.Uuid id ∷ []) self.old self.new) }
     {
@@ -76,6 +94,9 @@ impl Page {
         self.put(Sort::Uuid, text.as_bytes())
     }
 
+    /// # Errors
+    ///
+    /// `NoMemory` where there is no memory for it.
     pub fn mark(&mut self, mark: Mark) -> Result<(), NoMemory>
         ensures { OnOk result (Puts (kinds.Mark mark ∷ []) self.old self.new) }
     {
@@ -83,12 +104,19 @@ impl Page {
     }
 
     /// An opening bracket. Its level isn't printed.
+    ///
+    /// # Errors
+    ///
+    /// `NoMemory` where there is no memory for it.
     pub fn open(&mut self, bracket: Bracket) -> Result<(), NoMemory>
         ensures { OnOk result (Puts (kinds.Open bracket 0 ∷ []) self.old self.new) }
     {
         self.put(Sort::Open(bracket), &[bracket.open_octet()])
     }
 
+    /// # Errors
+    ///
+    /// `NoMemory` where there is no memory for it.
     pub fn shut(&mut self, bracket: Bracket) -> Result<(), NoMemory>
         ensures { OnOk result (Puts (kinds.Shut bracket ∷ []) self.old self.new) }
     {
@@ -96,6 +124,10 @@ impl Page {
     }
 
     /// The end of the text.
+    ///
+    /// # Errors
+    ///
+    /// `NoMemory` where there is no memory for it.
     pub fn end(&mut self) -> Result<(), NoMemory>
         ensures { OnOk result (Puts (kinds.End ∷ []) self.old self.new) }
     {
@@ -103,6 +135,10 @@ impl Page {
     }
 
     /// What is no token. It has no spelling, and ends the text as its end does.
+    ///
+    /// # Errors
+    ///
+    /// `NoMemory` where there is no memory for it.
     pub fn bad(&mut self) -> Result<(), NoMemory>
         ensures { OnOk result (Puts (kinds.Bad ∷ []) self.old self.new) }
     {

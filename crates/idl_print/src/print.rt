@@ -17,6 +17,10 @@ use std::alloc::Global;
 /// The text of a tree that a text of the grammar has is of the grammar too, with the same tokens.
 /// It goes down the tree by recursion, and such a tree has at most 64 levels. In place of a part
 /// that no text has, as an integer of three octets, a line ends.
+///
+/// # Errors
+///
+/// `NoMemory` where there is no memory for the text; nothing is then added.
 #[tactic(auto, unfolding(crate::specs::Prints::Prints))]
 pub fn print_idl(alloc: Global, tree: &Ast, into: &mut Vec<u8>) -> Result<(), NoMemory>
     ensures ok { OnOk result (into.new.items ≡ into.old.items ++ canonical_text tree.now) }

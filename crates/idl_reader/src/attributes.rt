@@ -178,6 +178,10 @@ fn comma_file_attr(alloc: Global, tokens: &[Token]) -> Result<(FileAttr, &[Token
 }
 
 /// Reads the attributes of the interface, in their brackets.
+///
+/// # Errors
+///
+/// `Stop::At` where the tokens depart; `Stop::Memory` where memory runs out.
 #[tactic(auto, using(crate::proofs::Loops::file_attrs), unfolding(crate::specs::Along::file_attrs_at, crate::specs::Along::file_attr_list_at))]
 pub fn file_attrs(alloc: Global, tokens: &[Token]) -> Result<(Vec<FileAttr>, &[Token]), Stop<'_>>
     ensures along { Gives (λ p. p.1.now) result (file_attrs_at (terminals tokens.now)) }

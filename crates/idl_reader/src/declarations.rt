@@ -154,6 +154,10 @@ fn starts_decl(tokens: &[Token]) -> bool
 }
 
 /// Reads the declarations of the interface, in their brackets.
+///
+/// # Errors
+///
+/// `Stop::At` where the tokens depart; `Stop::Memory` where memory runs out.
 #[tactic(auto, using(crate::proofs::Loops::decls), unfolding(crate::specs::Along::decl_body_at))]
 pub fn decls(alloc: Global, tokens: &[Token]) -> Result<(Vec<Decl>, &[Token]), Stop<'_>>
     ensures along { Gives (λ p. p.1.now) result (decl_body_at (terminals tokens.now)) }

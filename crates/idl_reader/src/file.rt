@@ -15,6 +15,10 @@ use idl_tree::Ast;
 use std::alloc::Global;
 
 /// Reads the tokens of a whole text.
+///
+/// # Errors
+///
+/// `Stop::At` where the tokens depart; `Stop::Memory` where memory runs out.
 #[tactic(auto, using(crate::proofs::Loops::whole), unfolding(crate::specs::Along::file_at, idl_tree::specs::Files::ast_pieces))]
 pub fn file(alloc: Global, tokens: &[Token]) -> Result<(Ast, &[Token]), Stop<'_>>
     ensures along { Gives (λ p. p.1.now) result (parse rule file_part (terminals tokens.now)) }

@@ -140,6 +140,10 @@ fn params(alloc: Global, tokens: &[Token]) -> Result<(bool, Vec<ParamNode>, &[To
 
 /// Reads an operation behind its spec: its name, whether its brackets have `void` alone, and its
 /// parameters.
+///
+/// # Errors
+///
+/// `Stop::At` where the tokens depart; `Stop::Memory` where memory runs out.
 #[tactic(auto, using(idl_tree::proofs::Writing::writing), unfolding(crate::specs::Along::op_rest_at))]
 pub fn op_rest(
     alloc: Global,

@@ -55,6 +55,12 @@ fn read_tokens(alloc: Global, tokens: &[Token]) -> Result<Ast, IdlFault>
 /// refused with the fault at its first departure, the end of its longest prefix, counted in
 /// tokens, that begins some text of the grammar (C706, chapter "Interface Definition Language").
 /// Brackets nest to level 64, and so does the recursion.
+///
+/// # Errors
+///
+/// The fault at the first departure, counted in octets from 0, by what stands there: `BadToken` where octets begin no
+/// token, `Expected` where the token may not stand there, `TooLarge` where the number passes its type, `TooDeep`
+/// where the bracket opens level 65. `Memory` where memory runs out.
 #[tactic(auto, using(crate::proofs::Causes::texts))]
 pub fn read_idl(alloc: Global, text: &[u8]) -> Result<Ast, IdlFault>
     ensures tree { IfOk result (IsIdl text.now) }

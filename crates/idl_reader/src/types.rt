@@ -112,6 +112,10 @@ fn starts_member(tokens: &[Token]) -> bool
 }
 
 /// Reads a type spec.
+///
+/// # Errors
+///
+/// `Stop::At` where the tokens depart; `Stop::Memory` where memory runs out.
 #[cycle(specs)]
 #[tactic(auto, using(crate::proofs::TypesLoops::cycle), unfolding(crate::specs::TypesAlong::spec_at))]
 pub fn spec(alloc: Global, tokens: &[Token]) -> Result<(Spec, &[Token]), Stop<'_>>
@@ -216,6 +220,10 @@ fn member(alloc: Global, tokens: &[Token]) -> Result<(Member, &[Token]), Stop<'_
 }
 
 /// Reads attributes in their brackets, if they stand there.
+///
+/// # Errors
+///
+/// `Stop::At` where the tokens depart; `Stop::Memory` where memory runs out.
 #[cycle(specs)]
 #[tactic(auto, using(crate::proofs::TypesLoops::attrs), unfolding(crate::specs::TypesAlong::attrs_at, crate::specs::TypesAlong::attr_list_at, crate::specs::TypesAlong::comma_attr_at))]
 pub fn attrs(alloc: Global, tokens: &[Token]) -> Result<(Vec<Attr>, &[Token]), Stop<'_>>

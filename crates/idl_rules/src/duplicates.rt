@@ -113,6 +113,10 @@ fn listed_again(alloc: Global, event: &Event) -> Result<Option<usize>, NoMemory>
 }
 
 /// The least place of a name that the event declares and that was declared before.
+///
+/// # Errors
+///
+/// `NoMemory` where there is no memory for the names of a list.
 #[tactic(auto, using(crate::proofs::Leasts::leasts))]
 pub fn duplicate(alloc: Global, past: &Outline, event: &Event) -> Result<Option<usize>, NoMemory>
     ensures { IfOk result (λ at. at ≡ least (spec.duplicate past.now event.now)) }

@@ -25,6 +25,10 @@ pub fn in_16(number: u64) -> Result<u16, NoMemory>
 }
 
 /// The number in 32 bits.
+///
+/// # Errors
+///
+/// `NoMemory` where it has no room there.
 pub fn in_32(number: u64) -> Result<u32, NoMemory>
     ensures { IfOk result (λ n. n ≡ number) }
 {
@@ -36,6 +40,10 @@ pub fn in_32(number: u64) -> Result<u32, NoMemory>
 }
 
 /// The number in 64 bits, with its sign.
+///
+/// # Errors
+///
+/// `NoMemory` where it has no room there.
 pub fn signed_64(number: Num) -> Result<i64, NoMemory>
     ensures { IfOk result (λ n. n ≡ value_of number) }
 {
@@ -70,6 +78,10 @@ fn index_of(name: &[u8], names: &[Ident]) -> usize
 
 /// The count that a name stands for, as a parameter or a member. A name that isn't among the others is
 /// refused too.
+///
+/// # Errors
+///
+/// `NoMemory` where none of the names is that one, or its index has no room in 8 bits.
 pub fn named_count(
     place: Place,
     names: &[Ident],
@@ -107,6 +119,10 @@ fn sum(number: u64, plus: u8) -> Result<u32, NoMemory>
 }
 
 /// What a size gives, and so much more.
+///
+/// # Errors
+///
+/// `NoMemory` where it names none of the names, or the number has no room in its field.
 pub fn count(place: Place, names: &[Ident], plus: u8, size: &SizeRef) -> Result<Count, NoMemory>
     ensures { IfOk result (λ c. c ≡ spec.count place names.now plus size.now) }
 {

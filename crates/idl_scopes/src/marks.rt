@@ -105,6 +105,10 @@ fn range_of(kind: &AttrKind) -> Result<Option<Bounds>, NoMemory>
 }
 
 /// How many elements there may be.
+///
+/// # Errors
+///
+/// `NoMemory` where a name is none of the others, or a number has no room in its field.
 pub fn most(attrs: &[Attr], place: Place, names: &[Ident]) -> Result<Option<Count>, NoMemory>
     ensures { IfOk result (λ c. c ≡ given (most_in place names.now) (attrs_form attrs.now)) }
 {
@@ -118,6 +122,10 @@ pub fn most(attrs: &[Attr], place: Place, names: &[Ident]) -> Result<Option<Coun
 }
 
 /// How many elements travel.
+///
+/// # Errors
+///
+/// `NoMemory` where a name is none of the others, or a number has no room in its field.
 pub fn travel(attrs: &[Attr], place: Place, names: &[Ident]) -> Result<Option<Count>, NoMemory>
     ensures { IfOk result (λ c. c ≡ given (travel_in place names.now) (attrs_form attrs.now)) }
 {
@@ -131,6 +139,10 @@ pub fn travel(attrs: &[Attr], place: Place, names: &[Ident]) -> Result<Option<Co
 }
 
 /// What selects a union's arm.
+///
+/// # Errors
+///
+/// `NoMemory` where a name is none of the others, or a number has no room in its field.
 pub fn switch(attrs: &[Attr], place: Place, names: &[Ident]) -> Result<Option<Count>, NoMemory>
     ensures { IfOk result (λ c. c ≡ given (switch_in place names.now) (attrs_form attrs.now)) }
 {

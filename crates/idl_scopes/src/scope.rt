@@ -79,6 +79,10 @@ fn handle_meaning(kinds: usize, serialised: bool) -> Result<Meaning, NoMemory>
 }
 
 /// The name of a type of context handles.
+///
+/// # Errors
+///
+/// `NoMemory` where there is no memory for it.
 pub fn with_handle(
     known: &mut Known,
     alloc: Global,
@@ -95,6 +99,10 @@ pub fn with_handle(
 }
 
 /// The name of a constant.
+///
+/// # Errors
+///
+/// `NoMemory` where there is no memory for it.
 pub fn with_constant(
     known: &mut Known,
     alloc: Global,
@@ -108,6 +116,10 @@ pub fn with_constant(
 }
 
 /// The names of an enumeration.
+///
+/// # Errors
+///
+/// `NoMemory` where there is no memory for it.
 #[tactic(auto, using(crate::proofs::Senses::behind))]
 pub fn with_names(known: &mut Known, alloc: Global, names: &[Ident]) -> Result<(), NoMemory>
     ensures { OnOk result (scope known.new ≡ spec.with_names names.now (scope known.old)) }
@@ -131,6 +143,10 @@ fn next_number(known: &Known) -> usize
 }
 
 /// The tag of a structure whose body begins, with so many structures and unions within.
+///
+/// # Errors
+///
+/// `NoMemory` where there is no memory for it.
 pub fn begun(
     known: &mut Known,
     alloc: Global,
@@ -161,6 +177,10 @@ fn with_entry(known: &mut Known, entry: Shape) -> Result<(), NoMemory>
 }
 
 /// A structure or union whose body has ended.
+///
+/// # Errors
+///
+/// `NoMemory` where there is no memory for it.
 pub fn ended(
     known: &mut Known,
     alloc: Global,

@@ -247,3 +247,11 @@ arm_at default names a p = (face_in default names (walk.arm_at table_reader defa
 
 abbrev pub arms_at : Pk → List Ident → idl.ArmForms → Scope → List Face × Scope
 arms_at default names arms p = faces default names (walk.arms_at table_reader default arms p)
+
+-- the shapes of a member's declarators
+abbrev pub member_row : Pk → Place → List Ident → idl.MemberForm → Scope → List Form
+member_row default place names m p = shapes_of default place names m (sense_at default m p)
+
+-- a structure with a body
+abbrev pub whole_struct : Pk → Option Ident → idl.MemberForms → Scope → Sense × Scope
+whole_struct default tag ms p = struct_at tag (members_at default (member_names ms) ms (begun tag (members_within ms) p))

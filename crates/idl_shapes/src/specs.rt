@@ -191,8 +191,8 @@ fn structure(
     default: Pk,
     tag: &Option<Ident>,
 ) -> Result<Meaning, NoMemory>
-    ensures value { IfOk result (λ m. sense m ≡ (spec.struct_at tag.now (spec.members_at default (spec.member_names (members_form list.now)) (members_form list.now) (begun tag.now (spec.members_within (members_form list.now)) (scope known.old)))).0) }
-    ensures past { OnOk result (scope known.new ≡ (spec.struct_at tag.now (spec.members_at default (spec.member_names (members_form list.now)) (members_form list.now) (begun tag.now (spec.members_within (members_form list.now)) (scope known.old)))).1) }
+    ensures value { IfOk result (λ m. sense m ≡ (spec.whole_struct default tag.now (members_form list.now) (scope known.old)).0) }
+    ensures past { OnOk result (scope known.new ≡ (spec.whole_struct default tag.now (members_form list.now) (scope known.old)).1) }
 {
     let names = member_names(list, alloc)?;
     let within = members_within(list)?;
@@ -313,7 +313,7 @@ fn member_shapes(
     names: &[Ident],
     into: &mut Shapes,
 ) -> Result<(), NoMemory>
-    ensures value { OnOk result (map form into.new.items ≡ map form into.old.items ++ spec.shapes_of default place names.now (member_form member.now) (spec.sense_at default (member_form member.now) (scope known.old))) }
+    ensures value { OnOk result (map form into.new.items ≡ map form into.old.items ++ spec.member_row default place names.now (member_form member.now) (scope known.old)) }
     ensures past { OnOk result (scope known.new ≡ (spec.sense_at default (member_form member.now) (scope known.old)).1) }
 {
     let meaning = member_meaning(member, alloc, known, default)?;

@@ -11,7 +11,7 @@ use Rattle.idl_tree.specs.declared.leaf.ArraySize.{ArraySize}
 use Rattle.idl_tree.specs.declared.leaf.Dtor.{Dtor}
 use Rattle.idl_tree.specs.declared.declaration.Ast.{Ast}
 use Rattle.idl_names.specs.declared.place.Place.TheVariants as places
-use Rattle.idl_names.specs.Members.{attrs_of, spec_of, dtors_of, param_member}
+use Rattle.idl_names.specs.Members.{attrs_of, spec_of, dtors_of, result_member, param_member}
 use Rattle.idl_names.specs.Walk.{ReadMember, TextReader}
 use Rattle.idl_names.specs.Walk as walk
 use Rattle.idl_names.specs.Attributes.{pointer_default, given, says, says_in, says_out, says_maybe, says_handle, is_serialised}
@@ -56,9 +56,13 @@ Listed = List ParamForm × List HandleUse
 abbrev pub joined : Listed → Listed → Listed
 joined a b = (a.0 ++ b.0, a.1 ++ b.1)
 
+-- of that shape before its declarator
+abbrev pub shaped_param : Pk → List Ident → idl.AttrForms → ByName Num → Form → Dtor → ParamForm
+shaped_param default names as' constants s d =
+    record { shape = declared (terms default places.Parameter names as') constants s d; inward = says says_in as'; outward = says says_out as'; range = given range_in as' }
+
 abbrev pub one_param : Pk → List Ident → idl.AttrForms → Sense × Scope → Dtor → ParamForm
-one_param default names as' behind d =
-    record { shape = declared (terms default places.Parameter names as') behind.1.symbols.constants behind.0.shape d; inward = says says_in as'; outward = says says_out as'; range = given range_in as' }
+one_param default names as' behind d = shaped_param default names as' behind.1.symbols.constants behind.0.shape d
 
 -- behind: what its spec stands for, and what is known behind it
 abbrev pub listed_as : Pk → List Ident → idl.MemberForm → Sense × Scope → Listed
@@ -157,6 +161,9 @@ params_at default names ns p = (listings_of default names (walk.params_at table_
 
 abbrev pub op_at : Pk → idl.MemberForm → Ident → List idl.ParamForm → Draft → Draft
 op_at default r name ns d = walk.op_at table_text default r name ns d
+
+abbrev pub op_read : Pk → idl.AttrForms → idl.SpecForm → Ident → List idl.ParamForm → Draft → Draft
+op_read default as' s name ns d = op_at default (result_member as' s name) name ns d
 
 abbrev pub decl_at : Pk → idl.DeclKindForm → Draft → Draft
 decl_at default x d = walk.decl_at table_text default x d

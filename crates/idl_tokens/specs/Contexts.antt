@@ -12,7 +12,7 @@ ends_in_uuid [] = false
 ends_in_uuid (kind ∷ before) = is_uuid_word kind
 
 -- The context is that behind tokens of these kinds, the last one first.
-pub record Tells (context : Context) (before : List Kind) : Type 0 where
+pub record TellsContext (context : Context) (before : List Kind) : Type 0 where
   pub depth : context.depth ≡ depth_of before
   pub after_uuid : context.after_uuid ≡ ends_in_uuid before
   pub wants : context.wants_uuid ≡ wants_uuid before

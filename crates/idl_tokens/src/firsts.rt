@@ -69,6 +69,10 @@ fn is_letter(octet: u8) -> bool
 }
 
 /// The token at the front where so many brackets are open, and what is behind it.
+///
+/// # Errors
+///
+/// `NoMemory` where there is no memory for its text.
 pub fn first_token(
     alloc: Global,
     depth: usize,

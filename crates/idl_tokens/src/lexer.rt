@@ -1,7 +1,7 @@
 //! The tokens of a text.
 ghost use Rattle.std.specs.Prelude.{◌≡◌, ◌+◌, ◌<◌, ◌≤◌, ◌^◌, ℕ, List, [], ◌∷◌, MatchOption, IfOk, length};
 ghost use Rattle.idl_tokens.specs.Tokens.{AreTokens, BeginsWith, depth_behind as depth_test, is_uuid_word as uuid_word_test, opens_round as round_test};
-ghost use Rattle.idl_tokens.specs.Contexts.{IsStep, Tells};
+ghost use Rattle.idl_tokens.specs.Contexts.{IsStep, TellsContext};
 ghost use Rattle.idl_tokens.specs.declared.kinds.Kind.{Kind};
 
 use crate::firsts::{first_token, uuid};
@@ -54,7 +54,7 @@ fn opens_round(kind: &Kind) -> bool
 impl Context {
     /// At the text's begin.
     fn start() -> Self
-        ensures tells { Tells result [] }
+        ensures tells { TellsContext result [] }
         ensures none { result.depth ≡ 0 }
     {
         Context {
@@ -67,7 +67,7 @@ impl Context {
     /// Behind one token more.
     fn behind(self, kind: &Kind) -> Self
         requires { self.depth + 1 < 2 ^ 64 }
-        ensures tells { (before : List Kind) → Tells self before → Tells result (kind.now ∷ before) }
+        ensures tells { (before : List Kind) → TellsContext self before → TellsContext result (kind.now ∷ before) }
         ensures most { result.depth ≤ self.depth + 1 }
     {
         Context {
@@ -81,7 +81,7 @@ impl Context {
 /// The token at the front, and what is behind it.
 fn token(alloc: Global, context: Context, text: &[u8]) -> Result<Option<(Kind, &[u8])>, NoMemory>
     requires { context.depth + 1 < 2 ^ 64 }
-    ensures { IfOk result (λ found. (before : List Kind) → Tells context before → MatchOption found
+    ensures { IfOk result (λ found. (before : List Kind) → TellsContext context before → MatchOption found
         ((kind : Kind) (rest : List ℕ) → BeginsWith before text.now kind rest → ⊥)
         (λ p. BeginsWith before text.now p.0 p.1.now)) }
 {
@@ -103,7 +103,7 @@ fn next_step<'a>(
 ) -> Result<Step<'a>, NoMemory>
     requires left { length text.now ≤ total }
     requires depth { context.depth + 1 < 2 ^ 64 }
-    ensures { IfOk result (λ step. (before : List Kind) → Tells context before → IsStep total before text.now step) }
+    ensures { IfOk result (λ step. (before : List Kind) → TellsContext context before → IsStep total before text.now step) }
 {
     let here = behind_gap(text);
     let at = total - here.len();
@@ -125,6 +125,10 @@ fn next_step<'a>(
 /// The tokens of a text. The last one is `End` at the text's length, or `Bad` at the first octet
 /// that begins no token, or of an unfinished token or comment (C706, "Interface Definition
 /// Language").
+///
+/// # Errors
+///
+/// `NoMemory` where there is no memory for the tokens.
 pub fn tokens(alloc: Global, text: &[u8]) -> Result<Vec<Token>, NoMemory>
     ensures { IfOk result (λ tokens. AreTokens text.now tokens.items) }
 {

@@ -71,3 +71,17 @@ offers_as name w g d = bytes_eq d.name.text name && meets (offer_of g d) w
 
 abbrev pub IsOffers : List Field → BTreeMap Key Offer → Type 0
 IsOffers list offers = (name : List ℕ) (w : Want) → meets (found offers name) w ≡ list_any (λ g. list_any (offers_as name w g) g.declared) list
+
+-- ---- offers more
+
+-- the declarator has that name, and the offer suits
+abbrev pub meets_as : Declared → Offer → List ℕ → Want → Bool
+meets_as d o name w = bytes_eq d.name.text name && meets o w
+
+-- some declarator of the field has that name, and may stand there
+abbrev pub any_meets : Field → List ℕ → Want → Bool
+any_meets g name w = list_any (offers_as name w g) g.declared
+
+-- each name has what more says of it beside what it had
+abbrev pub Gains : (List ℕ → Want → Bool) → BTreeMap Key Offer → BTreeMap Key Offer → Type 0
+Gains more old new = (name : List ℕ) (w : Want) → meets (found new name) w ≡ (more name w || meets (found old name) w)

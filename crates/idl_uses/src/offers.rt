@@ -1,14 +1,12 @@
 //! What the names of a list may stand for in attributes.
-ghost use Rattle.std.specs.Prelude.{◌≡◌, ◌||◌, ◌&&◌, List, ℕ, IfOk, OnOk, bytes_eq};
-ghost use Rattle.std.specs.List.{list_any};
+ghost use Rattle.std.specs.Prelude.{◌≡◌, IfOk, OnOk};
 ghost use Rattle.idl_rules.specs.SizeName as rule;
 ghost use Rattle.idl_rules.specs.Types.{has, says_in};
-ghost use Rattle.idl_uses.specs.declared.offers.Want.{Want};
 ghost use Rattle.idl_uses.specs.Offers as spec;
 
 use idl_outline::{Declared, Field};
 use idl_rules::{Asked, Saying, by_value, has, is_asked, is_one_pointer, is_parameter, is_unknown};
-use rpc_base::{Names, NoMemory, named, put};
+use rpc_base::{Names, NoMemory, named, put_at_name};
 use std::alloc::Global;
 use std::collections::BTreeMap;
 
@@ -163,16 +161,16 @@ fn add(
     declared: &Declared,
     offer: Offer,
 ) -> Result<(), NoMemory>
-    ensures { OnOk result ((name : List ℕ) (want : Want) → spec.meets (spec.found offers.new name) want ≡ ((bytes_eq declared.now.name.text name && spec.meets offer want) || spec.meets (spec.found offers.old name) want)) }
+    ensures { OnOk result (spec.Gains (spec.meets_as declared.now offer) offers.old offers.new) }
 {
     let text = declared.name.text.as_slice();
     let all = joined(offer, found(offers, text));
     let key = declared.name.text.copy(alloc)?.into_vec();
-    put(offers, key, all)
+    put_at_name(offers, key, all)
 }
 
 fn add_field(alloc: Global, offers: &mut Offers, field: &Field) -> Result<(), NoMemory>
-    ensures { OnOk result ((name : List ℕ) (want : Want) → spec.meets (spec.found offers.new name) want ≡ (list_any (spec.offers_as name want field.now) field.now.declared || spec.meets (spec.found offers.old name) want)) }
+    ensures { OnOk result (spec.Gains (spec.any_meets field.now) offers.old offers.new) }
 {
     let inward = has(field, Saying::In);
     for declared in field.declared.as_slice() {

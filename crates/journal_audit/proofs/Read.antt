@@ -15,7 +15,7 @@ use Rattle.journal_reader.specs.Fits.{FitsCall, FitsEntry}
 use Rattle.journal_reader.specs.Lines.{BeginsWithGroup, BeginsWithNoGroup, BeginsWithBase, BeginsWithNoBase, BeginsWithCall, BeginsWithNoCall, BeginsWithEntry, BeginsWithNoEntry}
 use Rattle.journal_reader.proofs.Heads.{group_fed, base_fed, call_fed, entry_fed}
 use Rattle.journal_reader.proofs.Listing.{fit_more}
-use Rattle.journal_audit.specs.Verdicts.{Tells}
+use Rattle.journal_audit.specs.Verdicts.{TellsVerdict}
 use Rattle.journal_audit.specs.declared.verdict.GroupVerdict.{GroupVerdict}
 use Rattle.journal_audit.specs.declared.verdict.AuditFault.{AuditFault}
 use Rattle.journal_audit.specs.declared.verdict.AuditFault.TheVariants as faults
@@ -192,7 +192,7 @@ pub journal_told : (home : Home) (line now last : ℕ) (base : Base) (text headl
 journal_told home line now last base text headless bare rest w v g b e group verdict =
     let journal : Journal = record { home = home; base = base; entries = e.0 } in
     let seen = seen_all home base [] e.0 (started home base) w (seen_start home base (read_sound home (line + 1) base now bare headless b)) e.2 in
-    let told : Tells home base e.0 v.verdict = subst (λ x. Tells home base e.0 x) (sym verdict) (seen_told home base e.0 w seen) in
+    let told : TellsVerdict home base e.0 v.verdict = subst (λ x. TellsVerdict home base e.0 x) (sym verdict) (seen_told home base e.0 w seen) in
     let first = b.1 in
     let behind = e.3 in
     (journal, (headless, bare, g, b.0, e.1), (group, told), omega arith)

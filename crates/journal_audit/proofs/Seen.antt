@@ -11,7 +11,7 @@ use Rattle.handle_model.specs.Sound.{IsSoundBase}
 use Rattle.handle_model.specs.History.{History, since, with_entry, history_of, size}
 use Rattle.handle_model.specs.Journal.{Legal, Allowed, due}
 use Rattle.handle_model.proofs.Reversed.{reverse-snoc}
-use Rattle.journal_audit.specs.Verdicts.{IsBreach, BreachAt, Tells}
+use Rattle.journal_audit.specs.Verdicts.{IsBreach, BreachAt, TellsVerdict}
 use Rattle.journal_tables.specs.Tables.{Tables, Admits, entered, is_due}
 use Rattle.journal_tables.specs.Shown.{tables_of}
 use Rattle.journal_tables.proofs.Shown.{base_shown, admits_shown, follows, due_shown}
@@ -104,7 +104,7 @@ seen_all home base es (e ∷ later) old new s w =
 
 -- WHAT IS THEN SAID
 
-said_none : (home : Home) (base : Base) (es : List Entry) (t : Tables) (place : ℕ) → place ≡ base.count + length es → Legal (history_of home base es) → t ≡ tables_of (history_of home base es) → (b : Bool) → is_due t ≡ b → Tells home base es (said_by None b place)
+said_none : (home : Home) (base : Base) (es : List Entry) (t : Tables) (place : ℕ) → place ≡ base.count + length es → Legal (history_of home base es) → t ≡ tables_of (history_of home base es) → (b : Bool) → is_due t ≡ b → TellsVerdict home base es (said_by None b place)
 said_none home base es t place at l q false d =
     let j : History = history_of home base es in
     (at ∙ sym (size_is home base es), l, sym (due_shown j l) ∙ (ap is_due (sym q) ∙ d))
@@ -118,9 +118,9 @@ said_none home base es t place at l q true d =
     (omega arith, subst (λ xs. Legal (history_of home base xs)) (sym whole) l, subst (λ xs. IsBreach (history_of home base xs) (slice_get es (length es))) (sym whole) (subst (λ o. IsBreach j o) (sym none) now)) in
     (omega arith, subst (λ n. BreachAt home base es n) (sym index) breach)
 
-said : (home : Home) (base : Base) (es : List Entry) (w : Watched) (o : Option ℕ) → w.place ≡ base.count + length es → SeenAs home base es w.tables o → Tells home base es (said_by o (is_due w.tables) w.place)
+said : (home : Home) (base : Base) (es : List Entry) (w : Watched) (o : Option ℕ) → w.place ≡ base.count + length es → SeenAs home base es w.tables o → TellsVerdict home base es (said_by o (is_due w.tables) w.place)
 said home base es w None at s = said_none home base es w.tables w.place at s.0 s.1 (is_due w.tables) refl
 said home base es w (Some p) at s = (s.0, s.2)
 
-pub seen_told : (home : Home) (base : Base) (es : List Entry) (w : Watched) → Seen home base es w → Tells home base es (said_of w)
+pub seen_told : (home : Home) (base : Base) (es : List Entry) (w : Watched) → Seen home base es w → TellsVerdict home base es (said_of w)
 seen_told home base es w s = said home base es w w.breach s.at s.known

@@ -11,7 +11,7 @@ use Rattle.handle_model.specs.History.{IsSound, since, history_of, size}
 use Rattle.handle_model.specs.Journal.{Legal, Allowed, due}
 use Rattle.journal_audit.specs.declared.verdict.Verdict.{Verdict}
 use Rattle.journal_audit.specs.declared.verdict.Verdict.TheVariants as verdicts
-use Rattle.journal_audit.specs.Verdicts.{Tells, BreachAt, IsBreach}
+use Rattle.journal_audit.specs.Verdicts.{TellsVerdict, BreachAt, IsBreach}
 use Rattle.handle_model.proofs.Older.{older_since}
 
 -- each entry of a legal journal was allowed after those before it
@@ -41,7 +41,7 @@ no_breach home base entries n s b =
           absurd (cc)
     ]
 
-pub good_is_legal : (home : Home) (base : Base) (entries : List Entry) (verdict : Verdict) → IsSound (history_of home base entries) → Tells home base entries verdict → verdict ≡ verdicts.Legal (size (history_of home base entries))
+pub good_is_legal : (home : Home) (base : Base) (entries : List Entry) (verdict : Verdict) → IsSound (history_of home base entries) → TellsVerdict home base entries verdict → verdict ≡ verdicts.Legal (size (history_of home base entries))
 good_is_legal home base entries (verdicts.Legal n) s t = ap verdicts.Legal t.0
 good_is_legal home base entries (verdicts.Breach place) s t = absurd (no_breach home base entries (place - base.count) s t.1)
 
@@ -71,7 +71,7 @@ one_breach home base entries p q b c =
       | inr (inr lt) ↦ absurd (earlier_legal home base entries q p lt c b)
     ]
 
-pub one_verdict : (home : Home) (base : Base) (entries : List Entry) (some other : Verdict) → Tells home base entries some → Tells home base entries other → some ≡ other
+pub one_verdict : (home : Home) (base : Base) (entries : List Entry) (some other : Verdict) → TellsVerdict home base entries some → TellsVerdict home base entries other → some ≡ other
 one_verdict home base entries (verdicts.Legal n) (verdicts.Legal m) s t = ap verdicts.Legal (s.0 ∙ sym t.0)
 one_verdict home base entries (verdicts.Legal n) (verdicts.Breach q) s t =
     absurd (no_breach home base entries (q - base.count) (record { legal = s.1; settled = s.2 }) t.1)

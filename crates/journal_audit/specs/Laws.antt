@@ -6,7 +6,7 @@ use Rattle.handle_model.specs.declared.base.Base.{Base}
 use Rattle.handle_model.specs.History.{IsSound, history_of, size}
 use Rattle.journal_audit.specs.declared.verdict.Verdict.{Verdict}
 use Rattle.journal_audit.specs.declared.verdict.Verdict.TheVariants as verdicts
-use Rattle.journal_audit.specs.Verdicts.{Tells}
+use Rattle.journal_audit.specs.Verdicts.{TellsVerdict}
 use Rattle.journal_audit.specs.Files.{Journal, HasJournals, DepartsAt}
 
 -- a text is journals in one way
@@ -24,11 +24,11 @@ OneDeparture = (text : List ℕ) (n m : ℕ) → DepartsAt text n → DepartsAt 
 -- of a journal one thing is told
 abbrev pub OneVerdict : Type 0
 OneVerdict =
-    (home : Home) (base : Base) (entries : List Entry) (some other : Verdict) → Tells home base entries some
-    → Tells home base entries other → some ≡ other
+    (home : Home) (base : Base) (entries : List Entry) (some other : Verdict) → TellsVerdict home base entries some
+    → TellsVerdict home base entries other → some ≡ other
 
 -- of a journal that is legal and settled it is told that it is legal, with the number of its entries, and nothing else
 abbrev pub GoodIsLegal : Type 0
 GoodIsLegal =
     (home : Home) (base : Base) (entries : List Entry) (verdict : Verdict) → IsSound (history_of home base entries)
-    → Tells home base entries verdict → verdict ≡ verdicts.Legal (size (history_of home base entries))
+    → TellsVerdict home base entries verdict → verdict ≡ verdicts.Legal (size (history_of home base entries))

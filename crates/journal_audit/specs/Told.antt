@@ -2,7 +2,7 @@
 use Rattle.std.specs.Prelude.{◌≡◌, ℕ, ◌+◌, List, [], ◌∷◌}
 use Rattle.handle_model.specs.declared.entry.Home.{Home}
 use Rattle.handle_model.specs.declared.base.Base.{Base}
-use Rattle.journal_audit.specs.Verdicts.{Tells}
+use Rattle.journal_audit.specs.Verdicts.{TellsVerdict}
 use Rattle.journal_audit.specs.declared.verdict.GroupVerdict.{GroupVerdict}
 use Rattle.journal_audit.specs.declared.verdict.AuditFault.{AuditFault}
 use Rattle.journal_audit.specs.declared.verdict.AuditFault.TheVariants as faults
@@ -10,7 +10,7 @@ use Rattle.journal_audit.specs.Files.{Journal, GoesOnFrom, BaseDeparts, base_siz
 
 -- whether a journal is legal and settled, and the place of its first breach, with the id of its group
 abbrev pub TellsOf : Journal → GroupVerdict → Type 0
-TellsOf g v = (v.group ≡ g.home.group) × Tells g.home g.base g.entries v.verdict
+TellsOf g v = (v.group ≡ g.home.group) × TellsVerdict g.home g.base g.entries v.verdict
 
 -- one verdict for each journal, in their order
 abbrev pub TellsAll : List Journal → List GroupVerdict → Type 0

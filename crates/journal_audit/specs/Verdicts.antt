@@ -19,7 +19,7 @@ BreachAt home base entries n =
     let j = history_of home base (take n entries) in (n ≤ length entries) × Legal j × IsBreach j (slice_get entries n)
 
 -- a journal is legal and settled, or a place is the first at which it is neither; places count from the base's count
-abbrev pub Tells : Home → Base → List Entry → Verdict → Type 0
-Tells home base entries (verdicts.Legal n) =
+abbrev pub TellsVerdict : Home → Base → List Entry → Verdict → Type 0
+TellsVerdict home base entries (verdicts.Legal n) =
     let j = history_of home base entries in (n ≡ size j) × Legal j × (due j ≡ false)
-Tells home base entries (verdicts.Breach place) = (base.count ≤ place) × BreachAt home base entries (place - base.count)
+TellsVerdict home base entries (verdicts.Breach place) = (base.count ≤ place) × BreachAt home base entries (place - base.count)

@@ -9,6 +9,9 @@ use std::alloc::Global;
 
 /// Says of each journal of a text whether it is legal and settled, or where the first entry stands
 /// that isn't allowed. A text that isn't journals has no verdicts, but a first line that departs.
+///
+/// # Errors
+/// `BadText` with the number, from 1, of the first line that departs; `Memory` where memory runs out.
 pub fn audit(alloc: Global, text: &[u8]) -> Result<Verdicts, AuditFault>
     ensures { MatchResult result (Audited text.now) (Faulted text.now) }
 {

@@ -49,6 +49,9 @@ impl Model for Growing {
 
 impl Growing {
     /// A base whose own line was read.
+    ///
+    /// # Errors
+    /// `NoMemory` where memory runs out.
     pub fn of(alloc: Global, home: Home, base: Base) -> Result<Growing, NoMemory>
         requires sound { IsSoundSoFar home base }
         requires none { base.calls ≡ [] }
@@ -121,6 +124,9 @@ impl Growing {
     }
 
     /// The same with the call.
+    ///
+    /// # Errors
+    /// `NoMemory` where memory runs out.
     pub fn with(self, call: BaseCall) -> Result<Growing, NoMemory>
         requires { IsSoundSoFar self.home (with_call self.base call) }
         ensures { IfOk result (λ grown. grown ≡ record { home = self.home; base = with_call self.base call }) }

@@ -83,6 +83,9 @@ fn next<T: Lined>(alloc: Global, text: &[u8]) -> Result<Option<(T, &[u8])>, NoMe
 }
 
 /// The heading of a journal that begins a text, and what follows its line: None where none does.
+///
+/// # Errors
+/// `NoMemory` where memory runs out.
 #[tactic(auto, using(crate::proofs::Heads::group_fed))]
 pub fn next_group(alloc: Global, text: &[u8]) -> Result<Option<(Home, &[u8])>, NoMemory>
     ensures { IfOk result (λ found. MatchOption found (lines.BeginsWithNoGroup text.now)
@@ -92,6 +95,9 @@ pub fn next_group(alloc: Global, text: &[u8]) -> Result<Option<(Home, &[u8])>, N
 }
 
 /// The same of a base, without its calls.
+///
+/// # Errors
+/// `NoMemory` where memory runs out.
 #[tactic(auto, using(crate::proofs::Heads::base_fed))]
 pub fn next_base(alloc: Global, text: &[u8]) -> Result<Option<(Base, &[u8])>, NoMemory>
     ensures { IfOk result (λ found. MatchOption found (lines.BeginsWithNoBase text.now)
@@ -101,6 +107,9 @@ pub fn next_base(alloc: Global, text: &[u8]) -> Result<Option<(Base, &[u8])>, No
 }
 
 /// The same of a call of a base.
+///
+/// # Errors
+/// `NoMemory` where memory runs out.
 #[tactic(auto, using(crate::proofs::Heads::call_fed))]
 pub fn next_call(alloc: Global, text: &[u8]) -> Result<Option<(BaseCall, &[u8])>, NoMemory>
     ensures { IfOk result (λ found. MatchOption found (lines.BeginsWithNoCall text.now)
@@ -110,6 +119,9 @@ pub fn next_call(alloc: Global, text: &[u8]) -> Result<Option<(BaseCall, &[u8])>
 }
 
 /// The same of an entry.
+///
+/// # Errors
+/// `NoMemory` where memory runs out.
 #[tactic(auto, using(crate::proofs::Heads::entry_fed))]
 pub fn next_entry(alloc: Global, text: &[u8]) -> Result<Option<(Entry, &[u8])>, NoMemory>
     ensures { IfOk result (λ found. MatchOption found (lines.BeginsWithNoEntry text.now)

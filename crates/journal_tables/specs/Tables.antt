@@ -53,6 +53,19 @@ abbrev pub orphans_in : Option Row → Bool
 orphans_in None = false
 orphans_in (Some r) = not r.runs || not r.orphaned
 
+-- A WAITING CALL THAT NO OTHER STANDS IN THE WAY OF
+
+-- has a handle at each of its slots, with these cookies
+abbrev pub IsTakable : List Row → ℕ → Home → List DueItem → List (Option ℕ) → Type 0
+IsTakable rows k home items cookies =
+    IsTrue (waits_in (row_at rows k)) × (conflict_of rows k ≡ None) × (fault_at home items (slots_at rows k) ≡ None)
+    × (cookies ≡ cookies_at home items (slots_at rows k))
+
+-- has its first slot without its handle here
+abbrev pub IsDeniable : List Row → ℕ → Home → List DueItem → ℕ → Type 0
+IsDeniable rows k home items slot =
+    IsTrue (waits_in (row_at rows k)) × (conflict_of rows k ≡ None) × (fault_at home items (slots_at rows k) ≡ Some slot)
+
 -- WHICH ENTRY MAY COME
 
 -- a connection joined, none is open, no call runs, and the group has not ended

@@ -42,6 +42,9 @@ impl ConnTable {
     ghost use Rattle.journal_tables.specs.Conns as spec;
 
     /// The connections of a base. For no further one there is room.
+    ///
+    /// # Errors
+    /// `NoMemory` where memory runs out.
     pub fn of(alloc: Global, base: &Base) -> Result<ConnTable, NoMemory>
         ensures { IfOk result (λ table. table ≡ record { conns = map (base_conn base.now.count) base.now.conns; room = 0 }) }
     {
@@ -52,6 +55,9 @@ impl ConnTable {
     }
 
     /// Makes room for `n` connections more.
+    ///
+    /// # Errors
+    /// `NoMemory` where memory runs out; the table is then as before.
     pub fn reserve(&mut self, n: usize) -> Result<(), NoMemory>
         ensures ok { OnOk result (n ≤ self.new.room) }
         ensures more { self.old.room ≤ self.new.room }
@@ -88,6 +94,9 @@ impl ConnTable {
     }
 
     /// Their numbers.
+    ///
+    /// # Errors
+    /// `NoMemory` where memory runs out.
     pub fn numbers(&self, alloc: Global) -> Result<Conns, NoMemory>
         ensures { IfOk result (λ numbers. numbers ≡ map (λ (o : OpenConn). o.conn) self.now.conns) }
     {

@@ -1,9 +1,8 @@
 //! What each entry needs of the tables.
-ghost use Rattle.std.specs.Prelude.{◌≡◌, ◌+◌, ◌<◌, ◌≤◌, ◌^◌, ◌↔◌, true, None, Some, length, filter, IsTrue};
+ghost use Rattle.std.specs.Prelude.{◌≡◌, ◌+◌, ◌<◌, ◌≤◌, ◌^◌, ◌↔◌, true, length, filter, IsTrue};
 ghost use Rattle.handle_model.specs.Slots.{opens};
 ghost use Rattle.handle_model.specs.Journal as journal;
-ghost use Rattle.handle_table.specs.Uses.{fault_at, cookies_at};
-ghost use Rattle.call_table.specs.Rows.{row_at, slots_at, conflict_of};
+ghost use Rattle.call_table.specs.Rows.{row_at, slots_at};
 ghost use Rattle.journal_tables.specs.Tables as spec;
 
 use call_table::OpenRows;
@@ -34,7 +33,7 @@ pub fn fits_take<H: LiveHandles, C: OpenRows>(
     call: u32,
     cookies: &[Option<u64>],
 ) -> bool
-    ensures { IsTrue result ↔ (IsTrue (spec.waits_in (row_at (C.rows calls.now) call)) × (conflict_of (C.rows calls.now) call ≡ None) × (fault_at (H.home handles.now) (H.items handles.now) (slots_at (C.rows calls.now) call) ≡ None) × (cookies.now ≡ cookies_at (H.home handles.now) (H.items handles.now) (slots_at (C.rows calls.now) call))) }
+    ensures { IsTrue result ↔ spec.IsTakable (C.rows calls.now) call (H.home handles.now) (H.items handles.now) cookies.now }
 {
     let Some(row) = calls.row_of(call) else {
         return false;
@@ -48,7 +47,7 @@ pub fn fits_take<H: LiveHandles, C: OpenRows>(
 
 /// Whether a call waits, no other stands in its way, and that slot is the first at fault.
 pub fn fits_deny<H: LiveHandles, C: OpenRows>(handles: &H, calls: &C, call: u32, slot: u8) -> bool
-    ensures { IsTrue result ↔ (IsTrue (spec.waits_in (row_at (C.rows calls.now) call)) × (conflict_of (C.rows calls.now) call ≡ None) × (fault_at (H.home handles.now) (H.items handles.now) (slots_at (C.rows calls.now) call) ≡ Some slot)) }
+    ensures { IsTrue result ↔ spec.IsDeniable (C.rows calls.now) call (H.home handles.now) (H.items handles.now) slot }
 {
     let Some(row) = calls.row_of(call) else {
         return false;

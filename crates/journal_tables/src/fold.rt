@@ -22,6 +22,9 @@ impl Tables {
 
     /// The base that a further journal may go on from: that of the journal which these are the tables
     /// of, with its own base and entries.
+    ///
+    /// # Errors
+    /// `NoMemory` where memory runs out, or where the count of entries leaves 64 bits.
     pub fn base(&self, alloc: Global, base: &Base, entries: &[Entry]) -> Result<Base, NoMemory>
         requires shows { self.now.tables ≡ tables_of (history_of self.now.tables.home base.now entries.now) }
         requires legal { Legal (history_of self.now.tables.home base.now entries.now) }

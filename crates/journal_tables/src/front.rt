@@ -14,6 +14,9 @@ use std::alloc::Global;
 
 /// The base after these entries, where they are legal after that base and none ends the group: each
 /// entry changes it in turn. Beside the base it takes a table of what is open, and gives it back.
+///
+/// # Errors
+/// `NoMemory` where memory runs out, or where the count of entries leaves 64 bits.
 pub fn folded_base(
     alloc: Global,
     home: Home,
@@ -32,6 +35,9 @@ pub fn folded_base(
 
 /// The tables of the journal of these entries after that base, where they are legal. There is room for
 /// nothing more.
+///
+/// # Errors
+/// `NoMemory` where memory runs out.
 pub fn tables_after(
     alloc: Global,
     home: Home,

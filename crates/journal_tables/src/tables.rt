@@ -49,6 +49,9 @@ impl Model for Tables {
 
 impl Tables {
     /// The tables of a base. There is room for nothing more.
+    ///
+    /// # Errors
+    /// `NoMemory` where memory runs out.
     pub fn of(alloc: Global, home: Home, base: &Base) -> Result<Tables, NoMemory>
         requires { IsSoundBase home base.now }
         ensures { IfOk result (λ t. t.tables ≡ base_tables home base.now) }
@@ -130,6 +133,9 @@ impl Tables {
     }
 
     /// Makes room for what the entry adds.
+    ///
+    /// # Errors
+    /// `NoMemory` where memory runs out; what the tables hold is then as before.
     pub fn reserve(&mut self, entry: &Entry) -> Result<(), NoMemory>
         ensures ok { OnOk result (spec.HasRoom self.new entry.now) }
         ensures same { self.new.tables ≡ self.old.tables }
@@ -152,6 +158,9 @@ impl Tables {
     }
 
     /// Makes room for so many connections more.
+    ///
+    /// # Errors
+    /// `NoMemory` where memory runs out; the tables are then as before.
     pub fn reserve_conns(&mut self, n: usize) -> Result<(), NoMemory>
         ensures ok { OnOk result (n ≤ self.new.conn_room) }
         ensures more { (self.old.conn_room ≤ self.new.conn_room) × (self.new.call_room ≡ self.old.call_room) × (self.new.handle_room ≡ self.old.handle_room) }
@@ -162,6 +171,9 @@ impl Tables {
     }
 
     /// Makes room for so many calls more.
+    ///
+    /// # Errors
+    /// `NoMemory` where memory runs out; the tables are then as before.
     pub fn reserve_calls(&mut self, n: usize) -> Result<(), NoMemory>
         ensures ok { OnOk result (n ≤ self.new.call_room) }
         ensures more { (self.old.call_room ≤ self.new.call_room) × (self.new.conn_room ≡ self.old.conn_room) × (self.new.handle_room ≡ self.old.handle_room) }
@@ -172,6 +184,9 @@ impl Tables {
     }
 
     /// Makes room for so many handles more.
+    ///
+    /// # Errors
+    /// `NoMemory` where memory runs out; the tables are then as before.
     pub fn reserve_handles(&mut self, n: usize) -> Result<(), NoMemory>
         ensures ok { OnOk result (n ≤ self.new.handle_room) }
         ensures more { (self.old.handle_room ≤ self.new.handle_room) × (self.new.conn_room ≡ self.old.conn_room) × (self.new.call_room ≡ self.old.call_room) }

@@ -113,6 +113,9 @@ fn put_entries(alloc: Global, entries: &[Entry], into: &mut Vec<u8>) -> Result<(
 }
 
 /// Adds the line of an entry.
+///
+/// # Errors
+/// `NoMemory` where memory runs out; nothing is then added.
 pub fn entry_text(alloc: Global, entry: &Entry, into: &mut Vec<u8>) -> Result<(), NoMemory>
     ensures ok { OnOk result (into.new.items ≡ into.old.items ++ spec.entry_text entry.now) }
     ensures err { OnErr result (into.new.items ≡ into.old.items) }
@@ -123,6 +126,9 @@ pub fn entry_text(alloc: Global, entry: &Entry, into: &mut Vec<u8>) -> Result<()
 }
 
 /// Adds the heading line of a group's journal.
+///
+/// # Errors
+/// `NoMemory` where memory runs out; nothing is then added.
 pub fn group_text(alloc: Global, home: Home, into: &mut Vec<u8>) -> Result<(), NoMemory>
     ensures ok { OnOk result (into.new.items ≡ into.old.items ++ spec.group_text home) }
     ensures err { OnErr result (into.new.items ≡ into.old.items) }
@@ -134,6 +140,9 @@ pub fn group_text(alloc: Global, home: Home, into: &mut Vec<u8>) -> Result<(), N
 
 /// Adds the text of a group's journal: its heading, the lines of its base where there were entries
 /// before, and those of its entries, oldest first.
+///
+/// # Errors
+/// `NoMemory` where memory runs out; nothing is then added.
 pub fn journal_text(
     alloc: Global,
     home: Home,

@@ -10,6 +10,10 @@ use rpc_base::{NoMemory, WireHandle};
 use std::alloc::Global;
 
 /// A message of these values without full pointers, and with a null handle for each handle in it.
+///
+/// # Errors
+///
+/// `NoMemory` where there is no memory for it.
 pub fn response(alloc: Global, values: Values, handles: usize) -> Result<Message, NoMemory>
     ensures { IfOk result (λ m. msg m ≡ spec.response (vals values.items) handles) }
 {
@@ -22,6 +26,10 @@ pub fn response(alloc: Global, values: Values, handles: usize) -> Result<Message
 }
 
 /// A response of one handle, with what becomes of it, and a status.
+///
+/// # Errors
+///
+/// `NoMemory` where there is no memory for it.
 pub fn handle_and_status(alloc: Global, kept: Kept, status: u32) -> Result<Answer, NoMemory>
     ensures { IfOk result (λ a. ans a ≡ AOut (spec.handle_and_status status) (kept ∷ [])) }
 {

@@ -5,7 +5,6 @@ ghost use Rattle.ndr_table.specs.Tables.{result_form, param_form, op_form};
 ghost use Rattle.idl_forms.specs.Forms as idl;
 ghost use Rattle.idl_forms.specs.Forms.{spec_form, attrs_form};
 ghost use Rattle.idl_scopes.specs.Scopes.{sense, scope};
-ghost use Rattle.idl_names.specs.Members.{result_member};
 ghost use Rattle.idl_tables.specs.Interfaces as spec;
 ghost use Rattle.marshal_table.specs.Lists as lists;
 
@@ -127,7 +126,7 @@ pub fn operation(
     known: &mut Known,
     into: &mut Operations,
 ) -> Result<(), NoMemory>
-    ensures { OnOk result (lists.draft known.new into.new ≡ spec.op_at default (result_member (attrs_form attrs.now) (spec_form of.now) name.now) name.now (map idl.param_form nodes.now) (lists.draft known.old into.old)) }
+    ensures { OnOk result (lists.draft known.new into.new ≡ spec.op_read default (attrs_form attrs.now) (spec_form of.now) name.now (map idl.param_form nodes.now) (lists.draft known.old into.old)) }
 {
     let meaning = meaning_of(attrs, of, &[], alloc, known, default)?;
     let all = listed(nodes, alloc, known, default)?;

@@ -4,11 +4,8 @@ ghost use Rattle.ndr_value.specs.Forms.{form};
 ghost use Rattle.ndr_table.specs.Tables.{param_form};
 ghost use Rattle.idl_forms.specs.Forms as idl;
 ghost use Rattle.idl_forms.specs.Forms.{spec_form, kind_form, attrs_form};
-ghost use Rattle.idl_names.specs.declared.place.Place.TheVariants as places;
 ghost use Rattle.idl_names.specs.Members.{param_member};
 ghost use Rattle.idl_scopes.specs.Scopes.{sense, scope};
-ghost use Rattle.idl_scopes.specs.Declarators as declarators;
-ghost use Rattle.idl_names.specs.Attributes as attributes;
 ghost use Rattle.rpc_base.specs.Named.{at_name};
 ghost use Rattle.idl_tables.specs.Interfaces as spec;
 ghost use Rattle.marshal_table.specs.Lists as lists;
@@ -95,7 +92,7 @@ fn one_param(
     constants: &Names<Num>,
     shape: &Shape,
 ) -> Result<Param, NoMemory>
-    ensures { IfOk result (λ p. param_form p ≡ record { shape = declarators.declared (declarators.terms default places.Parameter names.now (attrs_form attrs.now)) (at_name constants.now) (form shape.now) dtor.now; inward = attributes.says attributes.says_in (attrs_form attrs.now); outward = attributes.says attributes.says_out (attrs_form attrs.now); range = attributes.given declarators.range_in (attrs_form attrs.now) }) }
+    ensures { IfOk result (λ p. param_form p ≡ spec.shaped_param default names.now (attrs_form attrs.now) (at_name constants.now) (form shape.now) dtor.now) }
 {
     let terms = terms(attrs, default, Place::Parameter, names)?;
     let shape = declared(alloc, &terms, constants, shape, dtor)?;

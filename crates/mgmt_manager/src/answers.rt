@@ -37,6 +37,10 @@ fn heap(alloc: Global, ids: &[SyntaxId]) -> Result<Values, NoMemory>
 }
 
 /// The served interfaces.
+///
+/// # Errors
+///
+/// `NoMemory` where there is no memory for the message.
 pub fn ids_message(alloc: Global, ids: &[SyntaxId]) -> Result<Message, NoMemory>
     requires { length ids.now < 2 ^ 31 }
     ensures values { IfOk result (λ m. msg m ≡ spec.ids_message ids.now) }
@@ -65,6 +69,10 @@ fn uints(alloc: Global, numbers: &[u32]) -> Result<Values, NoMemory>
 }
 
 /// The first of the numbers, as many as are asked for.
+///
+/// # Errors
+///
+/// `NoMemory` where there is no memory for the message.
 pub fn stats_message(alloc: Global, asked: u64, numbers: [u32; 4]) -> Result<Message, NoMemory>
     ensures values { IfOk result (λ m. msg m ≡ spec.stats_message (min asked 4) numbers) }
     ensures fits { AreWords (take (min asked 4) numbers) }
@@ -80,6 +88,10 @@ pub fn stats_message(alloc: Global, asked: u64, numbers: [u32; 4]) -> Result<Mes
 }
 
 /// That the server listens.
+///
+/// # Errors
+///
+/// `NoMemory` where there is no memory for the message.
 pub fn listening_message(alloc: Global) -> Result<Message, NoMemory>
     ensures { IfOk result (λ m. msg m ≡ spec.listening_message) }
 {

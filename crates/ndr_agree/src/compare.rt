@@ -7,7 +7,7 @@ ghost use Rattle.ndr_value.specs.Values.{val, vals, bytes, msg};
 ghost use Rattle.ndr_model.specs.Named.{nth};
 ghost use Rattle.ndr_model.specs.Agree as agree;
 ghost use Rattle.ndr_model.specs.Compare as spec;
-ghost use Rattle.ndr_agree.specs.Views.{types_in, call_of, check_of};
+ghost use Rattle.ndr_agree.specs.Views.{types_in, call_of, check_of, union_form, within, compare_in};
 
 use crate::call::Call;
 use crate::check::{Check, Stood};
@@ -35,7 +35,7 @@ fn is_plain(shape: &Shape) -> bool
 // The arm that a tag selects, where it is of the union's kind.
 #[inline(never)]
 fn arm_for<'a>(kind: &Shape, arms: &'a [Arm], tag: i64) -> Option<&'a Arm>
-    ensures { MatchOption result (arm_of (OfUnion (form kind.now) (arms_of arms.now)) tag ≡ None) (λ a. arm_of (OfUnion (form kind.now) (arms_of arms.now)) tag ≡ Some (body a.now.shape)) }
+    ensures { MatchOption result (arm_of (union_form kind.now arms.now) tag ≡ None) (λ a. arm_of (union_form kind.now arms.now) tag ≡ Some (body a.now.shape)) }
 {
     if tag_fits(kind, tag) {
         selected_arm(arms, tag)
@@ -59,7 +59,7 @@ pub(crate) fn compare_value(
     value: &Value,
     check: &mut Check<'_>,
 )
-    ensures { check_of check.new ≡ spec.compare (types_in call.now) (call_of call.now) fuel room (vals body.now) link moved (form shape.now) (val value.now) (check_of check.old) }
+    ensures { check_of check.new ≡ compare_in call.now fuel room (vals body.now) link moved (form shape.now) (val value.now) (check_of check.old) }
 {
     if fuel == 0 {
         return check.stray();
@@ -79,7 +79,7 @@ fn compare_one(
     value: &Value,
     check: &mut Check<'_>,
 )
-    ensures { check_of check.new ≡ spec.compare_at (types_in call.now) (call_of call.now) (spec.compare (types_in call.now) (call_of call.now) fuel) room (vals body.now) link moved (form shape.now) (val value.now) (check_of check.old) }
+    ensures { check_of check.new ≡ within call.now spec.compare_at (compare_in call.now fuel) room (vals body.now) link moved (form shape.now) (val value.now) (check_of check.old) }
 {
     match shape {
         Shape::Named(number, switch) => {
@@ -115,7 +115,7 @@ fn compare_named(
     value: &Value,
     check: &mut Check<'_>,
 )
-    ensures { check_of check.new ≡ spec.compare_type (spec.compare (types_in call.now) (call_of call.now) fuel room) (vals body.now) switch moved (slice_get (types_in call.now) number) (val value.now) (check_of check.old) }
+    ensures { check_of check.new ≡ spec.compare_type (compare_in call.now fuel room) (vals body.now) switch moved (slice_get (types_in call.now) number) (val value.now) (check_of check.old) }
 {
     match call.table.types().get(number) {
         None => check.stray(),
@@ -177,7 +177,7 @@ fn compare_struct(
     check: &mut Check<'_>,
 )
     requires { form shape.now ≡ OfStruct (forms members.now) }
-    ensures { check_of check.new ≡ spec.compare_struct (types_in call.now) (spec.compare (types_in call.now) (call_of call.now) fuel room) moved (forms members.now) (val value.now) (check_of check.old) }
+    ensures { check_of check.new ≡ spec.compare_struct (types_in call.now) (compare_in call.now fuel room) moved (forms members.now) (val value.now) (check_of check.old) }
 {
     match value {
         Value::Struct(values) => {
@@ -207,7 +207,7 @@ fn compare_each(
     values: &[Value],
     check: &mut Check<'_>,
 )
-    ensures { check_of check.new ≡ spec.compare_each (spec.compare (types_in call.now) (call_of call.now) fuel room) (vals values.now) own (forms members.now) (vals values.now) (check_of check.old) }
+    ensures { check_of check.new ≡ spec.compare_each (compare_in call.now fuel room) (vals values.now) own (forms members.now) (vals values.now) (check_of check.old) }
 {
     let mut rest = members;
     for value in values {
@@ -238,7 +238,7 @@ fn compare_union(
     value: &Value,
     check: &mut Check<'_>,
 )
-    ensures { check_of check.new ≡ spec.compare_union (spec.compare (types_in call.now) (call_of call.now) fuel room) (call_of call.now) (vals body.now) link (OfUnion (form kind.now) (arms_of arms.now)) (val value.now) (check_of check.old) }
+    ensures { check_of check.new ≡ spec.compare_union (compare_in call.now fuel room) (call_of call.now) (vals body.now) link (union_form kind.now arms.now) (val value.now) (check_of check.old) }
 {
     match value {
         Value::Union { tag, arm } => {
@@ -263,7 +263,7 @@ fn compare_arm(
     value: &Value,
     check: &mut Check<'_>,
 )
-    ensures { check_of check.new ≡ spec.compare_arm (spec.compare (types_in call.now) (call_of call.now) fuel room) (arm_of (OfUnion (form kind.now) (arms_of arms.now)) tag) (val value.now) (check_of check.old) }
+    ensures { check_of check.new ≡ spec.compare_arm (compare_in call.now fuel room) (arm_of (union_form kind.now arms.now) tag) (val value.now) (check_of check.old) }
 {
     match arm_for(kind, arms, tag) {
         None => check.stray(),
@@ -287,7 +287,7 @@ fn compare_array(
     value: &Value,
     check: &mut Check<'_>,
 )
-    ensures { check_of check.new ≡ spec.compare_array (spec.compare (types_in call.now) (call_of call.now) fuel room) (call_of call.now) (vals body.now) moved kind.now (form inner.now) (val value.now) (check_of check.old) }
+    ensures { check_of check.new ≡ spec.compare_array (compare_in call.now fuel room) (call_of call.now) (vals body.now) moved kind.now (form inner.now) (val value.now) (check_of check.old) }
 {
     match value {
         Value::Array(values) => {
@@ -312,7 +312,7 @@ fn compare_elements(
     values: &[Value],
     check: &mut Check<'_>,
 )
-    ensures { check_of check.new ≡ spec.compare_elements (spec.compare (types_in call.now) (call_of call.now) fuel room) (vals body.now) (form inner.now) (vals values.now) (check_of check.old) }
+    ensures { check_of check.new ≡ spec.compare_elements (compare_in call.now fuel room) (vals body.now) (form inner.now) (vals values.now) (check_of check.old) }
 {
     if is_plain(inner) {
         return;
@@ -333,7 +333,7 @@ fn compare_octets(
     octets: &[u8],
     check: &mut Check<'_>,
 )
-    ensures { check_of check.new ≡ spec.compare_elements (spec.compare (types_in call.now) (call_of call.now) fuel room) (vals body.now) (form inner.now) (bytes octets.now) (check_of check.old) }
+    ensures { check_of check.new ≡ spec.compare_elements (compare_in call.now fuel room) (vals body.now) (form inner.now) (bytes octets.now) (check_of check.old) }
 {
     if is_plain(inner) {
         return;
@@ -355,7 +355,7 @@ fn compare_referent(
     value: &Value,
     check: &mut Check<'_>,
 )
-    ensures { check_of check.new ≡ spec.compare_referent (spec.compare (types_in call.now) (call_of call.now) fuel) room (vals body.now) (form inner.now) (Some (val value.now)) (check_of check.old) }
+    ensures { check_of check.new ≡ spec.compare_referent (compare_in call.now fuel) room (vals body.now) (form inner.now) (Some (val value.now)) (check_of check.old) }
 {
     if room == 0 {
         return check.stray();
@@ -374,7 +374,7 @@ fn compare_unique(
     value: &Value,
     check: &mut Check<'_>,
 )
-    ensures { check_of check.new ≡ spec.compare_unique (spec.compare (types_in call.now) (call_of call.now) fuel) room (vals body.now) (form inner.now) (val value.now) (check_of check.old) }
+    ensures { check_of check.new ≡ spec.compare_unique (compare_in call.now fuel) room (vals body.now) (form inner.now) (val value.now) (check_of check.old) }
 {
     match value {
         Value::Ptr(pointed) => match pointed {
@@ -396,7 +396,7 @@ fn compare_full(
     value: &Value,
     check: &mut Check<'_>,
 )
-    ensures { check_of check.new ≡ spec.compare_full (spec.compare (types_in call.now) (call_of call.now) fuel) room (call_of call.now) (vals body.now) (form inner.now) (val value.now) (check_of check.old) }
+    ensures { check_of check.new ≡ spec.compare_full (compare_in call.now fuel) room (call_of call.now) (vals body.now) (form inner.now) (val value.now) (check_of check.old) }
 {
     match value {
         Value::Full(item) => match item {
@@ -418,7 +418,7 @@ fn compare_item(
     item: u32,
     check: &mut Check<'_>,
 )
-    ensures { check_of check.new ≡ spec.full_in (spec.compare (types_in call.now) (call_of call.now) fuel) room (call_of call.now) (vals body.now) (form inner.now) item check.old.left.now (check_of check.old) }
+    ensures { check_of check.new ≡ spec.full_in (compare_in call.now fuel) room (call_of call.now) (vals body.now) (form inner.now) item check.old.left.now (check_of check.old) }
 {
     match check.left.split_first() {
         None => check.stray(),
@@ -444,7 +444,7 @@ fn compare_known(
     item: u32,
     check: &mut Check<'_>,
 )
-    ensures { check_of check.new ≡ spec.compare_referent (spec.compare (types_in call.now) (call_of call.now) fuel) room (vals body.now) (form inner.now) (nth (msg call.now.said.now).heap item) (check_of check.old) }
+    ensures { check_of check.new ≡ spec.compare_referent (compare_in call.now fuel) room (vals body.now) (form inner.now) (nth (msg call.now.said.now).heap item) (check_of check.old) }
 {
     match value_at(call.said.heap.as_slice(), item as usize) {
         None => check.stray(),

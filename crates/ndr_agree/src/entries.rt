@@ -7,7 +7,7 @@ ghost use Rattle.ndr_model.specs.Named.{number};
 ghost use Rattle.ndr_model.specs.Stub as stub;
 ghost use Rattle.ndr_model.specs.Compare as spec;
 ghost use Rattle.ndr_model.specs.Message.{enough};
-ghost use Rattle.ndr_agree.specs.Views.{types_in, call_of, check_of};
+ghost use Rattle.ndr_agree.specs.Views.{check_of, within, compare_in, entries_from, all_left};
 
 use crate::call::Call;
 use crate::check::Check;
@@ -33,7 +33,7 @@ fn own_shape(shape: &Shape) -> &Shape
 
 // A number with a range, which stands at that index.
 fn range_off(call: &Call<'_>, bounds: Bounds, number: Option<i128>, at: usize) -> Option<Departure>
-    ensures { result ≡ spec.range_off (types_in call.now) (call_of call.now) bounds number at }
+    ensures { result ≡ within call.now spec.range_off bounds number at }
 {
     match number {
         None => Some(Departure::Bound(at)),
@@ -48,7 +48,7 @@ fn range_off(call: &Call<'_>, bounds: Bounds, number: Option<i128>, at: usize) -
 }
 
 fn compare_range(call: &Call<'_>, range: Option<Bounds>, value: &Value, check: &mut Check<'_>)
-    ensures { check_of check.new ≡ spec.compare_range (types_in call.now) (call_of call.now) range (val value.now) (check_of check.old) }
+    ensures { check_of check.new ≡ within call.now spec.compare_range range (val value.now) (check_of check.old) }
 {
     match range {
         None => {}
@@ -72,7 +72,7 @@ fn compare_entry(
     value: &Value,
     check: &mut Check<'_>,
 )
-    ensures { check_of check.new ≡ spec.compare_range (types_in call.now) (call_of call.now) range (val value.now) (spec.compare (types_in call.now) (call_of call.now) enough 256 no_val None None (form shape.now) (val value.now) (check_of check.old)) }
+    ensures { check_of check.new ≡ within call.now spec.compare_range range (val value.now) (compare_in call.now enough 256 no_val None None (form shape.now) (val value.now) (check_of check.old)) }
 {
     compare_value(ENOUGH, call, 256, &[], None, None, shape, value, check);
     compare_range(call, range, value, check);
@@ -80,7 +80,7 @@ fn compare_entry(
 
 // No value is left.
 fn ended(call: &Call<'_>, rest: &[Value], check: &mut Check<'_>)
-    ensures { check_of check.new ≡ spec.compare_entries (types_in call.now) (call_of call.now) enough [] (vals rest.now) (check_of check.old) }
+    ensures { check_of check.new ≡ within call.now spec.compare_entries enough [] (vals rest.now) (check_of check.old) }
 {
     if !rest.is_empty() {
         check.stray();
@@ -88,7 +88,7 @@ fn ended(call: &Call<'_>, rest: &[Value], check: &mut Check<'_>)
 }
 
 fn compare_result(call: &Call<'_>, rest: &[Value], check: &mut Check<'_>)
-    ensures { check_of check.new ≡ spec.compare_entries (types_in call.now) (call_of call.now) enough (stub.last_entry call.now.way (result_form call.now.op.now.result)) (vals rest.now) (check_of check.old) }
+    ensures { check_of check.new ≡ within call.now spec.compare_entries enough (stub.last_entry call.now.way (result_form call.now.op.now.result)) (vals rest.now) (check_of check.old) }
 {
     match call.way {
         Way::Request => ended(call, rest, check),
@@ -106,7 +106,7 @@ fn compare_result(call: &Call<'_>, rest: &[Value], check: &mut Check<'_>)
 }
 
 fn compare_params(call: &Call<'_>, params: &[Param], values: &[Value], check: &mut Check<'_>)
-    ensures { check_of check.new ≡ spec.compare_entries (types_in call.now) (call_of call.now) enough (stub.entries_of call.now.way (map param_form params.now) (result_form call.now.op.now.result)) (vals values.now) (check_of check.old) }
+    ensures { check_of check.new ≡ within call.now spec.compare_entries enough (entries_from call.now params.now) (vals values.now) (check_of check.old) }
 {
     let mut rest = values;
     for param in params {
@@ -126,7 +126,7 @@ fn compare_params(call: &Call<'_>, params: &[Param], values: &[Value], check: &m
 /// The first count, switch value or number with a range that disagrees with what names it, in the order
 /// of the octets. `marks` is what was noted while the message was read. It takes no memory.
 pub fn first_off(call: &Call<'_>, marks: &[Mark]) -> Option<Departure>
-    ensures { result ≡ (spec.compare_entries (types_in call.now) (call_of call.now) enough (stub.entries call.now.way (op_form call.now.op.now)) (vals call.now.said.now.values.items) (record { off = None; left = marks.now })).off }
+    ensures { result ≡ (within call.now spec.compare_entries enough (stub.entries call.now.way (op_form call.now.op.now)) (vals call.now.said.now.values.items) (all_left marks.now)).off }
 {
     let mut check = Check {
         off: None,

@@ -82,6 +82,11 @@ pub(crate) fn offset_and_count(
 /// The counts of an array of that kind, and the index after them, which is that of the elements
 /// before their gap. `moved` is a max_count that stood in front of the outermost structure. It takes
 /// no memory.
+///
+/// # Errors
+///
+/// `Short` where the octets end before a word's last: how many there are. `Bound` where an offset isn't 0
+/// or the actual_count is above the maximum: the index of that word.
 pub fn read_counts(
     kind: &ArrayKind,
     order: Order,

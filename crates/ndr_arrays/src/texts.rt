@@ -81,6 +81,12 @@ fn head(cells: &[u8], place: usize) -> Result<&[u8], TextFault>
 /// The octets of a text before its first NUL, and the index after the last that was counted. `size`
 /// is the size of its array where that is fixed, `moved` a max_count that stood in front of the
 /// outermost structure. It takes no memory.
+///
+/// # Errors
+///
+/// `Short` where the octets end before the last that is counted: how many there are. `Bound` where an
+/// offset isn't 0 or the actual_count is above the maximum: the index of that word. `Text` where no NUL
+/// stands among those that are counted: the index of their actual_count.
 pub fn read_text(
     size: Option<u32>,
     order: Order,

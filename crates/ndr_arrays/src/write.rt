@@ -60,6 +60,10 @@ fn put_both(
 
 /// Adds the counts of an array of that kind, each behind zeros up to the next multiple of four.
 /// `with_most`: the max_count doesn't stand in front of the outermost structure.
+///
+/// # Errors
+///
+/// `NoMemory` where memory runs out: then nothing is added.
 pub fn write_counts(
     kind: &ArrayKind,
     order: Order,
@@ -118,6 +122,10 @@ fn put_chars(text: &[u8], into: &mut Vec<u8>) -> Result<(), NoMemory>
 /// Adds a text: its counts, its octets and one NUL, which is counted. Its max_count is its
 /// actual_count. `size` is the size of its array where that is fixed. `with_most`: the max_count
 /// doesn't stand in front of the outermost structure.
+///
+/// # Errors
+///
+/// `NoMemory` where memory runs out: then nothing is added.
 pub fn write_text(
     size: Option<u32>,
     order: Order,

@@ -1,17 +1,13 @@
 //! Which messages are of an operation.
-ghost use Rattle.std.specs.Prelude.{◌≡◌, ◌<◌, ◌↔◌, IsTrue, false, List, ℕ, length, slice_get, IfOk, Some};
-ghost use Rattle.rpc_base.specs.Fields.{IsOctets};
-ghost use Rattle.rpc_base.specs.declared.identifiers.Order as orders;
+ghost use Rattle.std.specs.Prelude.{◌≡◌, ◌<◌, ◌↔◌, IsTrue, false, length, IfOk};
 ghost use Rattle.rpc_base.specs.declared.identifiers.Order.TheVariants.{Little};
 ghost use Rattle.ndr_value.specs.Values.{msg};
 ghost use Rattle.ndr_table.specs.Shown.{shown};
-ghost use Rattle.ndr_table.specs.Tables.{OpForm};
-ghost use Rattle.ndr_model.specs.Message.{IsStub};
 ghost use Rattle.ndr_laws.specs.Laws.{IsOp};
-ghost use Rattle.ndr_model.specs.Written.{stub};
 ghost use Rattle.ndr_model.specs.Fits.{IsOfOp};
 ghost use Rattle.ndr_agree.specs.Views.{asked_of, types_in, call_of};
 ghost use Rattle.ndr_model.specs.declared.fault.NdrFault.TheVariants.{Memory};
+ghost use Rattle.ndr_codec.specs.Messages.{WhereOp, WhereStub, HasStub, IsStubOf, IsSaidOf, stub_of};
 
 use crate::stub::decode_op;
 use ndr_agree::{Call, same_message};
@@ -43,8 +39,8 @@ fn no_message(fault: NdrFault) -> Result<bool, NoMemory>
 
 // Whether the octets are a stub of the message.
 fn is_stub_of(alloc: Global, call: &Call<'_>, octets: &[u8]) -> Result<bool, NoMemory>
-    ensures exact { IfOk result (λ b. IsOp (types_in call.now) (call_of call.now).op → IsTrue b ↔ IsStub (types_in call.now) (call_of call.now).op (call_of call.now).way Little (call_of call.now).asked (call_of call.now).said octets.now) }
-    ensures of_op { IsStub (types_in call.now) (call_of call.now).op (call_of call.now).way Little (call_of call.now).asked (call_of call.now).said octets.now → IsOfOp (types_in call.now) (call_of call.now).op (call_of call.now).way (call_of call.now).asked (call_of call.now).said }
+    ensures exact { IfOk result (λ b. IsOp (types_in call.now) (call_of call.now).op → IsTrue b ↔ IsStubOf call.now Little octets.now) }
+    ensures of_op { IsStubOf call.now Little octets.now → IsSaidOf call.now }
 {
     match decode_op(
         alloc,
@@ -62,8 +58,8 @@ fn is_stub_of(alloc: Global, call: &Call<'_>, octets: &[u8]) -> Result<bool, NoM
 
 // Whether the message has its canonical octets as a stub.
 fn fits_call(alloc: Global, call: &Call<'_>) -> Result<bool, NoMemory>
-    ensures found { IfOk result (λ b. IsOp (types_in call.now) (call_of call.now).op → IsTrue b ↔ IsStub (types_in call.now) (call_of call.now).op (call_of call.now).way Little (call_of call.now).asked (call_of call.now).said (stub (types_in call.now) (call_of call.now).op (call_of call.now).way Little (call_of call.now).asked (call_of call.now).said)) }
-    ensures exact { IfOk result (λ b. IsOp (types_in call.now) (call_of call.now).op → IsTrue b ↔ IsOfOp (types_in call.now) (call_of call.now).op (call_of call.now).way (call_of call.now).asked (call_of call.now).said) }
+    ensures found { IfOk result (λ b. IsOp (types_in call.now) (call_of call.now).op → IsTrue b ↔ IsStubOf call.now Little (stub_of call.now Little)) }
+    ensures exact { IfOk result (λ b. IsOp (types_in call.now) (call_of call.now).op → IsTrue b ↔ IsSaidOf call.now) }
 {
     let mut octets = Vec::new(alloc);
     write(call, Order::Little, &mut octets)?;
@@ -85,8 +81,8 @@ fn fits_at(
     message: &Message,
 ) -> Result<bool, NoMemory>
     requires { op < length (shown table.now).ops }
-    ensures found { IfOk result (λ b. (o : OpForm) → slice_get (shown table.now).ops op ≡ Some o → IsOp (shown table.now).types o → IsTrue b ↔ IsStub (shown table.now).types o way Little (asked_of (λ m. m.now) asked.entry) (msg message.now) (stub (shown table.now).types o way Little (asked_of (λ m. m.now) asked.entry) (msg message.now))) }
-    ensures exact { IfOk result (λ b. (o : OpForm) → slice_get (shown table.now).ops op ≡ Some o → IsOp (shown table.now).types o → IsTrue b ↔ IsOfOp (shown table.now).types o way (asked_of (λ m. m.now) asked.entry) (msg message.now)) }
+    ensures found { IfOk result (λ b. WhereOp table.now op (λ types o. IsOp types o → IsTrue b ↔ HasStub types o way (asked_of (λ m. m.now) asked.entry) (msg message.now))) }
+    ensures exact { IfOk result (λ b. WhereOp table.now op (λ types o. IsOp types o → IsTrue b ↔ IsOfOp types o way (asked_of (λ m. m.now) asked.entry) (msg message.now))) }
 {
     match table.op(op) {
         None => Err(NoMemory),
@@ -120,10 +116,10 @@ pub fn fits(
 ) -> Result<bool, NoMemory>
     requires { op < length (shown table.now).ops }
     // What fits has its canonical octets as a stub, and what has any stub fits.
-    ensures found { IfOk result (λ b. (o : OpForm) → slice_get (shown table.now).ops op ≡ Some o → IsTrue b ↔ IsStub (shown table.now).types o way Little (asked_of (λ m. m.now) asked.entry) (msg message.now) (stub (shown table.now).types o way Little (asked_of (λ m. m.now) asked.entry) (msg message.now))) }
-    ensures only { IfOk result (λ b. (o : OpForm) (order : orders.Order) (octets : List ℕ) → slice_get (shown table.now).ops op ≡ Some o → IsOctets octets → IsStub (shown table.now).types o way order (asked_of (λ m. m.now) asked.entry) (msg message.now) octets → IsTrue b) }
+    ensures found { IfOk result (λ b. WhereOp table.now op (λ types o. IsTrue b ↔ HasStub types o way (asked_of (λ m. m.now) asked.entry) (msg message.now))) }
+    ensures only { IfOk result (λ b. WhereStub table.now op way (asked_of (λ m. m.now) asked.entry) (msg message.now) (IsTrue b)) }
     // The same by values alone.
-    ensures exact { IfOk result (λ b. (o : OpForm) → slice_get (shown table.now).ops op ≡ Some o → IsTrue b ↔ IsOfOp (shown table.now).types o way (asked_of (λ m. m.now) asked.entry) (msg message.now)) }
+    ensures exact { IfOk result (λ b. WhereOp table.now op (λ types o. IsTrue b ↔ IsOfOp types o way (asked_of (λ m. m.now) asked.entry) (msg message.now))) }
 {
     // What holds of every table.
     table.is_whole();

@@ -6,6 +6,7 @@ ghost use Rattle.ndr_table.specs.Tables.{OpForm};
 ghost use Rattle.ndr_agree.specs.Views.{asked_of, types_in, call_of};
 ghost use Rattle.ndr_model.specs.Written.{stub};
 ghost use Rattle.ndr_codec.specs.Encoded.{Encodes};
+ghost use Rattle.ndr_codec.specs.Messages.{WhereOp};
 
 use ndr_agree::Call;
 use ndr_model::Way;
@@ -59,7 +60,7 @@ pub fn encode(
     into: &mut Vec<u8>,
 ) -> Result<(), EncodeFault>
     requires { op < length (shown table.now).ops }
-    ensures ok { (o : OpForm) → slice_get (shown table.now).ops op ≡ Some o → OnOk result (into.new.items ≡ into.old.items ++ stub (shown table.now).types o way order (asked_of (λ m. m.now) asked.entry) (msg message.now)) }
+    ensures ok { WhereOp table.now op (λ types o. OnOk result (into.new.items ≡ into.old.items ++ stub types o way order (asked_of (λ m. m.now) asked.entry) (msg message.now))) }
     // Which refusal it is.
     ensures exact { (o : OpForm) → slice_get (shown table.now).ops op ≡ Some o → Encodes result (length (stub (shown table.now).types o way order (asked_of (λ m. m.now) asked.entry) (msg message.now))) }
     ensures err { OnErr result (into.new.items ≡ into.old.items) }

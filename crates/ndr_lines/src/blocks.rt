@@ -16,6 +16,10 @@ use rpc_base::{NoMemory, Order};
 use std::alloc::Global;
 
 /// What is told of a text of stubs: each stub is a case.
+///
+/// # Errors
+///
+/// Where a line isn't in the form, or memory runs out.
 pub fn stubs(alloc: Global, text: &str) -> Result<Told, CasesFault> {
     let mut blocks = Blocks::new(alloc);
     for line in text.lines() {

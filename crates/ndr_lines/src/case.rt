@@ -56,6 +56,10 @@ pub fn case_of(line: &str) -> Option<Case<'_>> {
 }
 
 /// The octets of words; `-` are none. None where they aren't octets.
+///
+/// # Errors
+///
+/// `NoMemory` where memory runs out.
 pub fn octets_of_words(alloc: Global, words: &str) -> Result<Option<Vec<u8>>, NoMemory> {
     if words == "-" {
         return Ok(Some(Vec::new(alloc)));
@@ -64,6 +68,10 @@ pub fn octets_of_words(alloc: Global, words: &str) -> Result<Option<Vec<u8>>, No
 }
 
 /// The message of the first operation that has a stub.
+///
+/// # Errors
+///
+/// What the stub departs by, and `Memory` where memory runs out or the table has no operation.
 pub fn decoded(
     alloc: Global,
     table: &Table,
@@ -79,6 +87,10 @@ pub fn decoded(
 }
 
 /// Whether a message is of the first operation.
+///
+/// # Errors
+///
+/// `NoMemory` as `fits` of `ndr_codec` says.
 pub fn is_fit(
     alloc: Global,
     table: &Table,
@@ -194,6 +206,10 @@ impl Case<'_> {
     }
 
     /// The text of what the stub is. None where the line has no octets.
+    ///
+    /// # Errors
+    ///
+    /// `NoMemory` where memory runs out.
     pub fn answer(
         &self,
         alloc: Global,

@@ -10,6 +10,10 @@ use rpc_base::{NoMemory, Octets};
 use std::alloc::Global;
 
 /// Bytes, each for itself.
+///
+/// # Errors
+///
+/// `NoMemory` where memory runs out.
 pub fn apart(alloc: Global, octets: &Octets) -> Result<Value, NoMemory> {
     let mut values = Values::new(alloc);
     for octet in octets.as_slice() {
@@ -41,6 +45,10 @@ fn all_apart(alloc: Global, message: Message) -> Result<Message, NoMemory> {
 
 /// Puts whether the request of that text is of the first operation; behind `apart` its arrays have each byte for itself. False
 /// where it is no text of a request.
+///
+/// # Errors
+///
+/// `NoMemory` where memory runs out.
 pub fn put_fit(
     alloc: Global,
     table: &Table,

@@ -38,6 +38,10 @@ fn put_wires(wires: &[WireHandle], alloc: Global, into: &mut Vec<u8>) -> Result<
 }
 
 /// Adds a message: its values, its heap where it has items, and its handles where there are any.
+///
+/// # Errors
+///
+/// `NoMemory` where memory runs out.
 pub fn put_message(message: &Message, alloc: Global, into: &mut Vec<u8>) -> Result<(), NoMemory> {
     put_list(&message.values, alloc, b"(", b")", into)?;
     if !message.heap.is_empty() {
@@ -58,6 +62,10 @@ fn put_at(kind: &[u8], number: usize, alloc: Global, into: &mut Vec<u8>) -> Resu
 }
 
 /// Adds a fault.
+///
+/// # Errors
+///
+/// `NoMemory` where memory runs out.
 pub fn put_fault(fault: NdrFault, alloc: Global, into: &mut Vec<u8>) -> Result<(), NoMemory> {
     match fault {
         NdrFault::Short(count) => put_at(b"Short", count, alloc, into),

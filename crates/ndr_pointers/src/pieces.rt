@@ -62,6 +62,10 @@ impl<'a> Reader<'a> {
     ghost use Rattle.ndr_pointers.specs.Views.{types_in};
 
     /// A number without a sign, and the index after it.
+    ///
+    /// # Errors
+    ///
+    /// `Short` where the octets end before the number's last.
     pub fn number(&self, size: u8, at: usize) -> Result<(u64, usize), ReadError>
         ensures exact { Gives (λ (x : ℕ × ℕ). x) result (number self.now.order self.now.octets.now size at) }
         ensures place { IfOk result (λ x. x.1 ≡ up at (octets_of size) + octets_of size) }
@@ -73,6 +77,10 @@ impl<'a> Reader<'a> {
     }
 
     /// An octet, and the index after it.
+    ///
+    /// # Errors
+    ///
+    /// `Short` where no octet stands there.
     #[tactic(auto, unfolding(ndr_scalars::specs::Scalars::number_at), using(crate::proofs::Octets::octet_is))]
     pub fn octet(&self, at: usize) -> Result<(u8, usize), ReadError>
         ensures exact { Gives (λ (x : ℕ × ℕ). x) result (number self.now.order self.now.octets.now 1 at) }
@@ -86,6 +94,10 @@ impl<'a> Reader<'a> {
     }
 
     /// A number with a sign, and the index after it.
+    ///
+    /// # Errors
+    ///
+    /// `Short` where the octets end before the number's last.
     pub fn signed(&self, size: u8, at: usize) -> Result<(i64, usize), ReadError>
         ensures exact { Gives (λ (x : ℤ × ℕ). x) result (unless_short (length self.now.octets.now) (signed_at self.now.order size self.now.octets.now at)) }
         ensures place { IfOk result (λ x. x.1 ≡ up at (octets_of size) + octets_of size) }
@@ -97,6 +109,10 @@ impl<'a> Reader<'a> {
     }
 
     /// A number of four octets, and the index after it.
+    ///
+    /// # Errors
+    ///
+    /// `Short` where the octets end before the number's last.
     pub fn word(&self, at: usize) -> Result<(u32, usize), ReadError>
         ensures exact { Gives (λ (x : ℕ × ℕ). x) result (number self.now.order self.now.octets.now 4 at) }
         ensures place { IfOk result (λ x. x.1 ≡ up at 4 + 4) }
@@ -119,6 +135,10 @@ impl<'a> Reader<'a> {
     }
 
     /// A name of an enumeration of so many, and the index after it.
+    ///
+    /// # Errors
+    ///
+    /// `Short` where the octets end before the number's last, and `Text` where the number is no name.
     pub fn name(&self, count: u16, at: usize) -> Result<(u16, usize), ReadError>
         ensures exact { Gives (λ (x : ℕ × ℕ). x) result (name_at self.now.order self.now.octets.now count at) }
         ensures place { IfOk result (λ x. x.1 ≡ up at 2 + 2) }
@@ -131,6 +151,10 @@ impl<'a> Reader<'a> {
     }
 
     /// A context handle, and the index after it.
+    ///
+    /// # Errors
+    ///
+    /// `Short` where the octets end before the handle's last.
     pub fn wire(&self, at: usize) -> Result<(WireHandle, usize), ReadError>
         ensures { Gives (λ (x : WireHandle × ℕ). x) result (wire_at self.now.order self.now.octets.now at) }
     {
@@ -147,6 +171,10 @@ impl<'a> Reader<'a> {
 
     /// The octets of a text before its NUL, and the index after it. `size` is the most that it has where
     /// its shape says so, and `moved` its max_count where that stands in front of a structure.
+    ///
+    /// # Errors
+    ///
+    /// As `read_text` of `ndr_arrays` says.
     pub fn chars(
         &self,
         size: Option<u32>,
@@ -165,6 +193,10 @@ impl<'a> Reader<'a> {
 
     /// The counts of an array, and the index after them. `moved` is its max_count where that stands in
     /// front of a structure.
+    ///
+    /// # Errors
+    ///
+    /// As `read_counts` of `ndr_arrays` says.
     #[inline(never)]
     pub fn counts(
         &self,
@@ -231,6 +263,11 @@ impl<'a> Reader<'a> {
     }
 
     /// The tag of a union, and the index after it.
+    ///
+    /// # Errors
+    ///
+    /// `Short` where the octets end before the tag's last. `Tag` where it is no tag of the union's kind; a number
+    /// that is no name, and for which an arm stands, is a `Text` instead.
     #[inline(never)]
     pub fn union_tag(
         &self,
@@ -290,6 +327,10 @@ impl<'a> Reader<'a> {
     }
 
     /// The max_count in front of a structure, and where the structure begins.
+    ///
+    /// # Errors
+    ///
+    /// `Short` where the octets end before the count's last, or before the structure begins.
     #[inline(never)]
     pub fn begin(
         &self,

@@ -4,10 +4,9 @@ ghost use Rattle.ndr_value.specs.Forms.{form, forms, body, Body, OfByte};
 ghost use Rattle.ndr_scalars.specs.Scalars.{up};
 ghost use Rattle.ndr_pointers.specs.Shown.{known};
 ghost use Rattle.ndr_model.specs.Reading.{number};
-ghost use Rattle.ndr_model.specs.Scan.{scan, scan_at, each, times, arm_scan, past_number};
-ghost use Rattle.ndr_pointers.specs.Gives.{Gives};
+ghost use Rattle.ndr_model.specs.Scan.{scan_at, each, times, arm_scan, past_number};
 ghost use Rattle.ndr_pointers.specs.Pointing.{pointer_scan, wire_scan};
-ghost use Rattle.ndr_pointers.specs.Views.{types_in, place};
+ghost use Rattle.ndr_pointers.specs.Views.{place, over, scan_of, Scans};
 
 use crate::pieces::{arm_for, tag_octets};
 use crate::scan_fault::ReadError;
@@ -34,7 +33,7 @@ pub fn scan_flat<'a>(
     at: usize,
     seen: &mut Seen<'a>,
 ) -> Result<usize, ReadError>
-    ensures { Gives (λ (j : ℕ). place j seen.new) result (scan (types_in reader.now) reader.now.order reader.now.octets.now fuel room moved (form shape.now) (place at seen.old)) }
+    ensures { Scans result seen.new (scan_of reader.now fuel room moved (form shape.now) (place at seen.old)) }
 {
     if fuel == 0 {
         return Err(ReadError::Departs(Departure::TooDeep(at)));
@@ -52,7 +51,7 @@ fn scan_one<'a>(
     at: usize,
     seen: &mut Seen<'a>,
 ) -> Result<usize, ReadError>
-    ensures { Gives (λ (j : ℕ). place j seen.new) result (scan_at (types_in reader.now) reader.now.order reader.now.octets.now room moved (scan (types_in reader.now) reader.now.order reader.now.octets.now fuel room) (form shape.now) (place at seen.old)) }
+    ensures { Scans result seen.new (over reader.now scan_at room moved (scan_of reader.now fuel room) (form shape.now) (place at seen.old)) }
 {
     match shape {
         Shape::Bool => past(reader, 1, at),
@@ -95,14 +94,14 @@ fn scan_one<'a>(
 }
 
 fn past(reader: &Reader<'_>, size: u8, at: usize) -> Result<usize, ReadError>
-    ensures { (s : _) → Gives (λ (j : ℕ). place j s) result (past_number (types_in reader.now) reader.now.order reader.now.octets.now size (place at s)) }
+    ensures { (s : _) → Scans result s (over reader.now past_number size (place at s)) }
 {
     let (_, after) = reader.number(size, at)?;
     Ok(after)
 }
 
 fn scan_wire<'a>(reader: &Reader<'a>, at: usize, seen: &mut Seen<'a>) -> Result<usize, ReadError>
-    ensures { Gives (λ (j : ℕ). place j seen.new) result (wire_scan reader.now.order reader.now.octets.now (place at seen.old)) }
+    ensures { Scans result seen.new (wire_scan reader.now.order reader.now.octets.now (place at seen.old)) }
 {
     let (wire, after) = reader.wire(at)?;
     seen.wires.push(wire)?;
@@ -117,7 +116,7 @@ fn scan_pointer<'a>(
     at: usize,
     seen: &mut Seen<'a>,
 ) -> Result<usize, ReadError>
-    ensures { Gives (λ (j : ℕ). place j seen.new) result (pointer_scan reader.now.order reader.now.octets.now points room (form inner.now) (place at seen.old)) }
+    ensures { Scans result seen.new (pointer_scan reader.now.order reader.now.octets.now points room (form inner.now) (place at seen.old)) }
 {
     let (id, after) = reader.word(at)?;
     let level = 256_u16.saturating_sub(room);
@@ -146,7 +145,7 @@ fn scan_each<'a>(
     at: usize,
     seen: &mut Seen<'a>,
 ) -> Result<usize, ReadError>
-    ensures { Gives (λ (j : ℕ). place j seen.new) result (each (scan (types_in reader.now) reader.now.order reader.now.octets.now fuel room) own (forms shapes.now) (place at seen.old)) }
+    ensures { Scans result seen.new (each (scan_of reader.now fuel room) own (forms shapes.now) (place at seen.old)) }
 {
     let mut index = at;
     let mut left = shapes.len();
@@ -167,7 +166,7 @@ fn scan_arm<'a>(
     at: usize,
     seen: &mut Seen<'a>,
 ) -> Result<usize, ReadError>
-    ensures { (i : ℕ) → Gives (λ (j : ℕ). place j seen.new) result (arm_scan (Some (body arm.now.shape)) i (place at seen.old) (scan (types_in reader.now) reader.now.order reader.now.octets.now fuel room None)) }
+    ensures { (i : ℕ) → Scans result seen.new (arm_scan (Some (body arm.now.shape)) i (place at seen.old) (scan_of reader.now fuel room None)) }
 {
     match &arm.shape {
         None => Ok(at),
@@ -185,7 +184,7 @@ fn scan_items<'a>(
     at: usize,
     seen: &mut Seen<'a>,
 ) -> Result<usize, ReadError>
-    ensures { Gives (λ (j : ℕ). place j seen.new) result (times (scan (types_in reader.now) reader.now.order reader.now.octets.now fuel room None (form shape.now)) count (place at seen.old)) }
+    ensures { Scans result seen.new (times (scan_of reader.now fuel room None (form shape.now)) count (place at seen.old)) }
 {
     match shape {
         Shape::Byte => scan_bytes(fuel, reader, room, count, at),
@@ -203,7 +202,7 @@ fn scan_times<'a>(
     at: usize,
     seen: &mut Seen<'a>,
 ) -> Result<usize, ReadError>
-    ensures { Gives (λ (j : ℕ). place j seen.new) result (times (scan (types_in reader.now) reader.now.order reader.now.octets.now fuel room None (form shape.now)) count (place at seen.old)) }
+    ensures { Scans result seen.new (times (scan_of reader.now fuel room None (form shape.now)) count (place at seen.old)) }
 {
     let mut index = at;
     for _ in 0..count {
@@ -220,7 +219,7 @@ fn scan_bytes(
     count: u32,
     at: usize,
 ) -> Result<usize, ReadError>
-    ensures { (s : _) → Gives (λ (j : ℕ). place j s) result (times (scan (types_in reader.now) reader.now.order reader.now.octets.now fuel room None OfByte) count (place at s)) }
+    ensures { (s : _) → Scans result s (times (scan_of reader.now fuel room None OfByte) count (place at s)) }
 {
     if count == 0 {
         return Ok(at);

@@ -3,15 +3,12 @@ ghost use Rattle.std.specs.Prelude.{◌≡◌, ◌∷◌, [], ◌++◌, ◌+◌,
 ghost use Rattle.ndr_value.specs.Forms.{form, forms, arms_of, body, OfByte, OfStruct, OfUnion, OfArray, OfRef, OfUnique, OfFull};
 ghost use Rattle.ndr_value.specs.Values.{val, vals, bytes, VStruct, VArray, VUnion, VEmpty, VPtr, VNull, VFull};
 ghost use Rattle.ndr_scalars.specs.Scalars.{up};
-ghost use Rattle.ndr_model.specs.declared.mark.Mark.TheVariants.{Referent};
-ghost use Rattle.ndr_model.specs.Places.{Last, noting, look};
+ghost use Rattle.ndr_model.specs.Places.{Last, look};
 ghost use Rattle.ndr_model.specs.Reading.{number};
-ghost use Rattle.ndr_model.specs.Scan.{scan};
-ghost use Rattle.ndr_model.specs.Build.{cursor, ahead, ends, build, build_at, built_each, built_times, built_arm, whole, referent, behind_ref, behind_unique, behind_full, behind_known, in_struct, in_array};
-ghost use Rattle.ndr_pointers.specs.Gives.{Gives};
-ghost use Rattle.ndr_pointers.specs.Views.{types_in};
+ghost use Rattle.ndr_model.specs.Build.{cursor, ahead, built_each, built_times, built_arm, whole, behind_ref, behind_unique, behind_full, behind_known, in_struct, in_array};
 ghost use Rattle.ndr_read.specs.Alone.{ended};
-ghost use Rattle.ndr_read.specs.Views.{cursor_of, last_of};
+ghost use Rattle.ndr_pointers.specs.Views.{over};
+ghost use Rattle.ndr_read.specs.Views.{cursor_of, last_of, Builds, BuildsAll, BuildsApart, Finds, build_of, one_of, referent_of, first_met};
 
 use crate::alone::stands_alone;
 use crate::leaves::{
@@ -35,7 +32,7 @@ pub(crate) fn build_value<'a>(
     flat: &mut Flat,
     tail: &mut Tail<'a>,
 ) -> Result<Value, ReadError>
-    ensures { Gives (λ v. (val v, ends (cursor_of flat.new) (last_of tail.new))) result (build (types_in reader.now) reader.now.order reader.now.octets.now fuel room moved (form shape.now) (cursor_of flat.old) (last_of tail.old)) }
+    ensures { Builds result flat.new tail.new (build_of reader.now fuel room moved (form shape.now) (cursor_of flat.old) (last_of tail.old)) }
 {
     if fuel == 0 {
         return Err(ReadError::Departs(Departure::TooDeep(flat.at)));
@@ -53,7 +50,7 @@ fn build_one<'a>(
     flat: &mut Flat,
     tail: &mut Tail<'a>,
 ) -> Result<Value, ReadError>
-    ensures { Gives (λ v. (val v, ends (cursor_of flat.new) (last_of tail.new))) result (build_at (types_in reader.now) reader.now.order reader.now.octets.now (scan (types_in reader.now) reader.now.order reader.now.octets.now fuel) (build (types_in reader.now) reader.now.order reader.now.octets.now fuel) room moved (form shape.now) (cursor_of flat.old) (last_of tail.old)) }
+    ensures { Builds result flat.new tail.new (one_of reader.now fuel room moved (form shape.now) (cursor_of flat.old) (last_of tail.old)) }
 {
     match shape {
         Shape::Bool => build_bool(reader, flat),
@@ -117,7 +114,7 @@ fn build_struct<'a>(
     tail: &mut Tail<'a>,
 ) -> Result<Value, ReadError>
     requires { form shape.now ≡ OfStruct (forms members.now) }
-    ensures { Gives (λ v. (val v, ends (cursor_of flat.new) (last_of tail.new))) result (build_at (types_in reader.now) reader.now.order reader.now.octets.now (scan (types_in reader.now) reader.now.order reader.now.octets.now fuel) (build (types_in reader.now) reader.now.order reader.now.octets.now fuel) room moved (form shape.now) (cursor_of flat.old) (last_of tail.old)) }
+    ensures { Builds result flat.new tail.new (one_of reader.now fuel room moved (form shape.now) (cursor_of flat.old) (last_of tail.old)) }
 {
     let (own, begin) = reader.begin(shape, moved, flat.at)?;
     note_front(reader, moved, own, flat.at, tail)?;
@@ -135,7 +132,7 @@ fn build_members<'a>(
     flat: &mut Flat,
     tail: &mut Tail<'a>,
 ) -> Result<Value, ReadError>
-    ensures { Gives (λ v. (val v, ends (cursor_of flat.new) (last_of tail.new))) result (in_struct (built_each (build (types_in reader.now) reader.now.order reader.now.octets.now fuel room) own (forms shapes.now) (cursor_of flat.old) (last_of tail.old))) }
+    ensures { Builds result flat.new tail.new (in_struct (built_each (build_of reader.now fuel room) own (forms shapes.now) (cursor_of flat.old) (last_of tail.old))) }
 {
     let values = build_each(fuel, reader, room, own, shapes, flat, tail)?;
     Ok(made_struct(values))
@@ -151,7 +148,7 @@ fn build_each<'a>(
     flat: &mut Flat,
     tail: &mut Tail<'a>,
 ) -> Result<Vec<Value>, ReadError>
-    ensures { Gives (λ vs. (vals vs.items, ends (cursor_of flat.new) (last_of tail.new))) result (built_each (build (types_in reader.now) reader.now.order reader.now.octets.now fuel room) own (forms shapes.now) (cursor_of flat.old) (last_of tail.old)) }
+    ensures { BuildsAll result flat.new tail.new (built_each (build_of reader.now fuel room) own (forms shapes.now) (cursor_of flat.old) (last_of tail.old)) }
 {
     let mut values = Vec::new(reader.alloc);
     let mut left = shapes.len();
@@ -177,7 +174,7 @@ fn build_union<'a>(
     tail: &mut Tail<'a>,
 ) -> Result<Value, ReadError>
     requires { form shape.now ≡ OfUnion (form kind.now) (arms_of arms.now) }
-    ensures { (moved : Option ℕ) → Gives (λ v. (val v, ends (cursor_of flat.new) (last_of tail.new))) result (build_at (types_in reader.now) reader.now.order reader.now.octets.now (scan (types_in reader.now) reader.now.order reader.now.octets.now fuel) (build (types_in reader.now) reader.now.order reader.now.octets.now fuel) room moved (form shape.now) (cursor_of flat.old) (last_of tail.old)) }
+    ensures { (moved : Option ℕ) → Builds result flat.new tail.new (one_of reader.now fuel room moved (form shape.now) (cursor_of flat.old) (last_of tail.old)) }
 {
     let (tag, after) = reader.union_tag(shape, kind, arms, flat.at)?;
     let place = after - tag_octets(kind) as usize;
@@ -201,7 +198,7 @@ fn build_arm<'a>(
     flat: &mut Flat,
     tail: &mut Tail<'a>,
 ) -> Result<Value, ReadError>
-    ensures { (i : ℕ) → Gives (λ v. (val v, ends (cursor_of flat.new) (last_of tail.new))) result (built_arm (Some (body arm.now.shape)) i tag (cursor_of flat.old) (last_of tail.old) (build (types_in reader.now) reader.now.order reader.now.octets.now fuel room None)) }
+    ensures { (i : ℕ) → Builds result flat.new tail.new (built_arm (Some (body arm.now.shape)) i tag (cursor_of flat.old) (last_of tail.old) (build_of reader.now fuel room None)) }
 {
     match &arm.shape {
         None => Ok(Value::Union { tag, arm: None }),
@@ -225,7 +222,7 @@ fn build_array<'a>(
     flat: &mut Flat,
     tail: &mut Tail<'a>,
 ) -> Result<Value, ReadError>
-    ensures { Gives (λ v. (val v, ends (cursor_of flat.new) (last_of tail.new))) result (build_at (types_in reader.now) reader.now.order reader.now.octets.now (scan (types_in reader.now) reader.now.order reader.now.octets.now fuel) (build (types_in reader.now) reader.now.order reader.now.octets.now fuel) room moved (OfArray kind.now (form inner.now)) (cursor_of flat.old) (last_of tail.old)) }
+    ensures { Builds result flat.new tail.new (one_of reader.now fuel room moved (OfArray kind.now (form inner.now)) (cursor_of flat.old) (last_of tail.old)) }
 {
     let (counts, after) = reader.counts(kind, moved, flat.at)?;
     note_counts(reader, kind, moved, counts, flat.at, after, tail)?;
@@ -243,7 +240,7 @@ fn build_items<'a>(
     flat: &mut Flat,
     tail: &mut Tail<'a>,
 ) -> Result<Value, ReadError>
-    ensures { Gives (λ v. (val v, ends (cursor_of flat.new) (last_of tail.new))) result (in_array (built_times (build (types_in reader.now) reader.now.order reader.now.octets.now fuel room None (form shape.now)) count (cursor_of flat.old) (last_of tail.old))) }
+    ensures { Builds result flat.new tail.new (in_array (built_times (build_of reader.now fuel room None (form shape.now)) count (cursor_of flat.old) (last_of tail.old))) }
 {
     match shape {
         Shape::Byte => build_bytes(fuel, reader, room, count, flat),
@@ -261,7 +258,7 @@ fn build_each_item<'a>(
     flat: &mut Flat,
     tail: &mut Tail<'a>,
 ) -> Result<Value, ReadError>
-    ensures { Gives (λ v. (val v, ends (cursor_of flat.new) (last_of tail.new))) result (in_array (built_times (build (types_in reader.now) reader.now.order reader.now.octets.now fuel room None (form shape.now)) count (cursor_of flat.old) (last_of tail.old))) }
+    ensures { Builds result flat.new tail.new (in_array (built_times (build_of reader.now fuel room None (form shape.now)) count (cursor_of flat.old) (last_of tail.old))) }
 {
     let values = build_times(fuel, reader, room, shape, count, flat, tail)?;
     Ok(made_array(values))
@@ -277,7 +274,7 @@ fn build_times<'a>(
     flat: &mut Flat,
     tail: &mut Tail<'a>,
 ) -> Result<Vec<Value>, ReadError>
-    ensures { Gives (λ vs. (vals vs.items, ends (cursor_of flat.new) (last_of tail.new))) result (built_times (build (types_in reader.now) reader.now.order reader.now.octets.now fuel room None (form shape.now)) count (cursor_of flat.old) (last_of tail.old)) }
+    ensures { BuildsAll result flat.new tail.new (built_times (build_of reader.now fuel room None (form shape.now)) count (cursor_of flat.old) (last_of tail.old)) }
 {
     let mut values = Vec::new(reader.alloc);
     for _ in 0..count {
@@ -296,7 +293,7 @@ fn build_bytes(
     count: u32,
     flat: &mut Flat,
 ) -> Result<Value, ReadError>
-    ensures { (q : Last) → Gives (λ v. (val v, ends (cursor_of flat.new) q)) result (in_array (built_times (build (types_in reader.now) reader.now.order reader.now.octets.now fuel room None OfByte) count (cursor_of flat.old) q)) }
+    ensures { (q : Last) → BuildsApart result flat.new q (in_array (built_times (build_of reader.now fuel room None OfByte) count (cursor_of flat.old) q)) }
 {
     if count == 0 {
         return Ok(Value::Octets(Octets::new(reader.alloc)));
@@ -327,7 +324,7 @@ fn build_ref<'a>(
     flat: &mut Flat,
     tail: &mut Tail<'a>,
 ) -> Result<Value, ReadError>
-    ensures { Gives (λ v. (val v, ends (cursor_of flat.new) (last_of tail.new))) result (build_at (types_in reader.now) reader.now.order reader.now.octets.now (scan (types_in reader.now) reader.now.order reader.now.octets.now fuel) (build (types_in reader.now) reader.now.order reader.now.octets.now fuel) room None (OfRef (form inner.now)) (cursor_of flat.old) (last_of tail.old)) }
+    ensures { Builds result flat.new tail.new (one_of reader.now fuel room None (OfRef (form inner.now)) (cursor_of flat.old) (last_of tail.old)) }
 {
     let (_, after) = reader.word(flat.at)?;
     flat.at = after;
@@ -344,7 +341,7 @@ fn build_unique<'a>(
     flat: &mut Flat,
     tail: &mut Tail<'a>,
 ) -> Result<Value, ReadError>
-    ensures { Gives (λ v. (val v, ends (cursor_of flat.new) (last_of tail.new))) result (build_at (types_in reader.now) reader.now.order reader.now.octets.now (scan (types_in reader.now) reader.now.order reader.now.octets.now fuel) (build (types_in reader.now) reader.now.order reader.now.octets.now fuel) room None (OfUnique (form inner.now)) (cursor_of flat.old) (last_of tail.old)) }
+    ensures { Builds result flat.new tail.new (one_of reader.now fuel room None (OfUnique (form inner.now)) (cursor_of flat.old) (last_of tail.old)) }
 {
     let (id, after) = reader.word(flat.at)?;
     flat.at = after;
@@ -366,7 +363,7 @@ fn build_full<'a>(
     flat: &mut Flat,
     tail: &mut Tail<'a>,
 ) -> Result<Value, ReadError>
-    ensures { Gives (λ v. (val v, ends (cursor_of flat.new) (last_of tail.new))) result (build_at (types_in reader.now) reader.now.order reader.now.octets.now (scan (types_in reader.now) reader.now.order reader.now.octets.now fuel) (build (types_in reader.now) reader.now.order reader.now.octets.now fuel) room None (OfFull (form inner.now)) (cursor_of flat.old) (last_of tail.old)) }
+    ensures { Builds result flat.new tail.new (one_of reader.now fuel room None (OfFull (form inner.now)) (cursor_of flat.old) (last_of tail.old)) }
 {
     let (id, after) = reader.word(flat.at)?;
     flat.at = after;
@@ -385,7 +382,7 @@ fn build_known<'a>(
     flat: &mut Flat,
     tail: &mut Tail<'a>,
 ) -> Result<Value, ReadError>
-    ensures { Gives (λ v. (val v, ends (cursor_of flat.new) (last_of tail.new))) result (behind_full id place (cursor_of flat.old) (last_of tail.old) (referent (scan (types_in reader.now) reader.now.order reader.now.octets.now fuel) (build (types_in reader.now) reader.now.order reader.now.octets.now fuel) room place (form inner.now) (noting (Referent true ∷ []) (last_of tail.old)))) }
+    ensures { Builds result flat.new tail.new (behind_full id place (cursor_of flat.old) (last_of tail.old) (referent_of reader.now fuel room place (form inner.now) (first_met tail.old))) }
 {
     if id == 0 {
         return Ok(Value::Full(None));
@@ -415,7 +412,7 @@ fn build_new<'a>(
     tail: &mut Tail<'a>,
 ) -> Result<Value, ReadError>
     requires { flat.old.ids ≡ number }
-    ensures { Gives (λ v. (val v, ends (cursor_of flat.new) (last_of tail.new))) result (behind_known number true (cursor_of flat.old) (last_of tail.old) (referent (scan (types_in reader.now) reader.now.order reader.now.octets.now fuel) (build (types_in reader.now) reader.now.order reader.now.octets.now fuel) room place (form inner.now) (noting (Referent true ∷ []) (last_of tail.old)))) }
+    ensures { Builds result flat.new tail.new (behind_known number true (cursor_of flat.old) (last_of tail.old) (referent_of reader.now fuel room place (form inner.now) (first_met tail.old))) }
 {
     note(Mark::Referent(true), tail)?;
     let value = build_referent(fuel, reader, room, place, inner, tail)?;
@@ -433,7 +430,7 @@ fn build_referent<'a>(
     inner: &'a Shape,
     tail: &mut Tail<'a>,
 ) -> Result<Value, ReadError>
-    ensures { Gives (λ v. (val v, last_of tail.new)) result (referent (scan (types_in reader.now) reader.now.order reader.now.octets.now fuel) (build (types_in reader.now) reader.now.order reader.now.octets.now fuel) room place (form inner.now) (last_of tail.old)) }
+    ensures { Finds result tail.new (referent_of reader.now fuel room place (form inner.now) (last_of tail.old)) }
 {
     if room == 0 {
         return Err(ReadError::Departs(Departure::TooDeep(place)));
@@ -451,7 +448,7 @@ fn build_alone<'a>(
     shape: &'a Shape,
     tail: &mut Tail<'a>,
 ) -> Result<Value, ReadError>
-    ensures { Gives (λ v. (val v, last_of tail.new)) result (ended (build (types_in reader.now) reader.now.order reader.now.octets.now fuel room None (form shape.now) (cursor (last_of tail.old).here) (last_of tail.old))) }
+    ensures { Finds result tail.new (ended (build_of reader.now fuel room None (form shape.now) (cursor (last_of tail.old).here) (last_of tail.old))) }
 {
     let mut flat = Flat {
         at: tail.at,
@@ -472,7 +469,7 @@ pub(crate) fn build_whole<'a>(
     shape: &'a Shape,
     tail: &mut Tail<'a>,
 ) -> Result<Value, ReadError>
-    ensures { Gives (λ v. (val v, last_of tail.new)) result (whole (types_in reader.now) reader.now.order reader.now.octets.now fuel room (form shape.now) (last_of tail.old)) }
+    ensures { Finds result tail.new (over reader.now whole fuel room (form shape.now) (last_of tail.old)) }
 {
     if stands_alone(shape) {
         return build_alone(fuel, reader, room, shape, tail);

@@ -3,7 +3,7 @@ ghost use Rattle.std.specs.Prelude.{◌≡◌, ◌<◌, ◌==◌, ℕ, List, Opt
 ghost use Rattle.ndr_value.specs.Values.{Val, val, vals};
 ghost use Rattle.ndr_model.specs.Stub.{item};
 ghost use Rattle.ndr_model.specs.Message.{heap_from};
-ghost use Rattle.ndr_read.specs.Slots.{slot, or_then};
+ghost use Rattle.ndr_read.specs.Slots.{slot, or_then, AreItems};
 ghost use Rattle.ndr_read.specs.Views.{items_of};
 
 use crate::state::Kept;
@@ -54,7 +54,7 @@ fn fill(items: Vec<Kept>, slots: &mut Vec<Option<Value>>)
 
 // What stands in the places, if there is something in each.
 fn gather(alloc: Global, slots: Vec<Option<Value>>) -> Result<Option<Values>, NoMemory>
-    ensures { IfOk result (λ o. (items : List (ℕ × Val)) → ((m : ℕ) → m < length slots.items → slot slots.items m ≡ item items m) → option_map (λ h. vals h.items) o ≡ heap_from items 0 (length slots.items)) }
+    ensures { IfOk result (λ o. (items : List (ℕ × Val)) → AreItems slots.items items → option_map (λ h. vals h.items) o ≡ heap_from items 0 (length slots.items)) }
 {
     let mut left = slots;
     let mut heap = Vec::new(alloc);

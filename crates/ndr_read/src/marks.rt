@@ -54,6 +54,10 @@ impl Marks {
     }
 
     /// One more.
+    ///
+    /// # Errors
+    ///
+    /// `NoMemory` where memory runs out.
     pub fn push(&mut self, mark: Mark) -> Result<(), NoMemory>
         ensures { OnOk result (self.new ≡ self.old ++ mark ∷ []) }
     {

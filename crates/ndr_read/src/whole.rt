@@ -1,20 +1,20 @@
 //! The message that stands in a stub.
 ghost use Rattle.std.specs.Prelude.{◌≡◌, ◌+◌, ◌∷◌, [], ℕ, List, Option, Some, None, map, OnOk, MatchOption};
 ghost use Rattle.ndr_value.specs.Forms.{form};
-ghost use Rattle.ndr_value.specs.Values.{val, vals, msg};
+ghost use Rattle.ndr_value.specs.Values.{vals, msg};
 ghost use Rattle.ndr_table.specs.Shown.{shown};
 ghost use Rattle.ndr_table.specs.Tables.{param_form, result_form, op_form};
 ghost use Rattle.ndr_scalars.specs.Scalars.{up};
 ghost use Rattle.ndr_model.specs.Part.{tag_size};
 ghost use Rattle.ndr_model.specs.Places.{noting};
-ghost use Rattle.ndr_model.specs.Stub.{Entry, param_entry, entries, entries_of, last_entry, ranged, start};
+ghost use Rattle.ndr_model.specs.Stub.{Entry, entries, entries_of, last_entry, ranged, start};
 ghost use Rattle.ndr_model.specs.Stub as stub;
 ghost use Rattle.ndr_model.specs.Build.{follows, no_more, read_values};
 ghost use Rattle.ndr_model.specs.Message.{enough, message_of};
 ghost use Rattle.ndr_pointers.specs.Gives.{Gives};
-ghost use Rattle.ndr_pointers.specs.Views.{types_in, place};
-ghost use Rattle.ndr_read.specs.Readings.{entry_at, before, param_at, reading_of, reading};
-ghost use Rattle.ndr_read.specs.Views.{last_of, items_of};
+ghost use Rattle.ndr_pointers.specs.Views.{place, over};
+ghost use Rattle.ndr_read.specs.Readings.{entry_at, before, reading_of, reading};
+ghost use Rattle.ndr_read.specs.Views.{last_of, items_of, Finds, param_of};
 
 use crate::build::build_whole;
 use crate::heap::in_order;
@@ -78,7 +78,7 @@ fn read_entry<'a>(
     range: Option<Bounds>,
     tail: &mut Tail<'a>,
 ) -> Result<Value, ReadError>
-    ensures { Gives (λ v. (val v, last_of tail.new)) result (entry_at (types_in reader.now) reader.now.order reader.now.octets.now enough (record { shape = form shape.now; range = range }) (last_of tail.old)) }
+    ensures { Finds result tail.new (over reader.now entry_at enough (record { shape = form shape.now; range = range }) (last_of tail.old)) }
 {
     let at = tail.at;
     let value = build_whole(ENOUGH, reader, 256, shape, tail)?;
@@ -107,7 +107,7 @@ fn read_param<'a>(
     values: &mut Values,
     tail: &mut Tail<'a>,
 ) -> Result<(), ReadError>
-    ensures { Gives (λ _. (vals values.new.items, last_of tail.new)) result (param_at (types_in reader.now) reader.now.order reader.now.octets.now enough (stub.goes way (param_form param.now)) (param_entry (param_form param.now)) (vals values.old.items) (last_of tail.old)) }
+    ensures { Gives (λ _. (vals values.new.items, last_of tail.new)) result (param_of reader.now way param.now (vals values.old.items) (last_of tail.old)) }
 {
     if !goes(way, param) {
         return Ok(());
@@ -125,7 +125,7 @@ fn read_result<'a>(
     values: Values,
     tail: &mut Tail<'a>,
 ) -> Result<Values, ReadError>
-    ensures { Gives (λ vs. (vals vs.items, last_of tail.new)) result (before (vals values.items) (follows (types_in reader.now) reader.now.order reader.now.octets.now enough (last_entry way (result_form result_shape.now)) (last_of tail.old))) }
+    ensures { Gives (λ vs. (vals vs.items, last_of tail.new)) result (before (vals values.items) (over reader.now follows enough (last_entry way (result_form result_shape.now)) (last_of tail.old))) }
 {
     match last_shape(way, result_shape) {
         None => Ok(values),
@@ -146,7 +146,7 @@ fn read_params<'a>(
     way: Way,
     tail: &mut Tail<'a>,
 ) -> Result<Values, ReadError>
-    ensures { Gives (λ vs. (vals vs.items, last_of tail.new)) result (follows (types_in reader.now) reader.now.order reader.now.octets.now enough (entries_of way (map param_form params.now) (result_form result_shape.now)) (last_of tail.old)) }
+    ensures { Gives (λ vs. (vals vs.items, last_of tail.new)) result (over reader.now follows enough (entries_of way (map param_form params.now) (result_form result_shape.now)) (last_of tail.old)) }
 {
     let mut values = Vec::new(reader.alloc);
     for param in params {
@@ -157,7 +157,7 @@ fn read_params<'a>(
 
 // At most seven octets more.
 fn end(reader: &Reader<'_>, values: Values, tail: &Tail<'_>) -> Result<Values, ReadError>
-    ensures { Gives (λ vs. (vals vs.items, last_of tail.now)) result (no_more (types_in reader.now) reader.now.order reader.now.octets.now (vals values.items, last_of tail.now)) }
+    ensures { Gives (λ vs. (vals vs.items, last_of tail.now)) result (over reader.now no_more (vals values.items, last_of tail.now)) }
 {
     let len = reader.octets.len();
     if tail.at < len && len - tail.at > 7 {
@@ -174,7 +174,7 @@ fn read_to_end<'a>(
     tail: &mut Tail<'a>,
 ) -> Result<Values, ReadError>
     requires { last_of tail.old ≡ start }
-    ensures { Gives (λ vs. (vals vs.items, last_of tail.new)) result (read_values (types_in reader.now) reader.now.order reader.now.octets.now enough (entries way (op_form op.now))) }
+    ensures { Gives (λ vs. (vals vs.items, last_of tail.new)) result (over reader.now read_values enough (entries way (op_form op.now))) }
 {
     let values = read_params(reader, op.params.as_slice(), &op.result, way, tail)?;
     end(reader, values, tail)
@@ -202,6 +202,10 @@ fn message(alloc: Global, values: Values, tail: &mut Tail<'_>) -> Result<Message
 /// The message of the operation that stands in a stub of that way, before counts, tags and ranges are
 /// compared with what names them; the marks of what was read are then in the tail. Unless memory runs
 /// out, its first departure where none stands there.
+///
+/// # Errors
+///
+/// `Departs` with the first departure where no message stands there, and `Memory` where memory runs out.
 pub fn read<'a>(
     alloc: Global,
     table: &'a Table,

@@ -63,3 +63,7 @@ holds_signed size z = FitsSigned (width_of size) z
 -- the octets of a signed number as one without a sign
 abbrev pub unsigned : ℕ → ℤ → ℕ
 unsigned size z = cast_unsigned (width_of size) z
+
+-- the octets of a number at the next multiple of its size, and the index after them
+abbrev pub AreCells : ℕ → List ℕ → ℕ → List ℕ → ℕ → Type 0
+AreCells size octets i cells after = (cells ≡ take (octets_of size) (drop (up i (octets_of size)) octets)) × (after ≡ up i (octets_of size) + octets_of size) × (after ≤ length octets)

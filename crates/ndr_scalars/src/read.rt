@@ -1,8 +1,8 @@
 //! Numbers that are read.
-ghost use Rattle.std.specs.Prelude.{◌≡◌, ◌<◌, ◌≤◌, ◌+◌, ℕ, ℤ, length, take, drop, MatchOption, MatchResult, IfOk, IfSome, IsOkAnd, None, Some};
+ghost use Rattle.std.specs.Prelude.{◌≡◌, ◌<◌, ◌≤◌, ◌+◌, ℕ, ℤ, length, MatchOption, MatchResult, IfOk, IfSome, IsOkAnd, None, Some};
 ghost use Rattle.std.specs.Int.{w16, w32, w64};
 ghost use Rattle.rpc_base.specs.Fields.{number_of};
-ghost use Rattle.ndr_scalars.specs.Scalars.{up, octets_of, number_in, number_at, signed, signed_at, Scalar};
+ghost use Rattle.ndr_scalars.specs.Scalars.{up, octets_of, number_in, number_at, signed, signed_at, Scalar, AreCells};
 
 use rpc_base::Order;
 
@@ -97,7 +97,7 @@ fn signed_number(order: Order, size: u8, cells: &[u8]) -> i64
 
 // The octets of the number at the next multiple of its size, and the index after them.
 fn cells(size: u8, octets: &[u8], at: usize) -> Option<(&[u8], usize)>
-    ensures is { MatchOption result (length octets.now < up at (octets_of size) + octets_of size) (λ x. (x.0.now ≡ take (octets_of size) (drop (up at (octets_of size)) octets.now)) × (x.1 ≡ up at (octets_of size) + octets_of size) × (x.1 ≤ length octets.now)) }
+    ensures is { MatchOption result (length octets.now < up at (octets_of size) + octets_of size) (λ x. AreCells size octets.now at x.0.now x.1) }
     ensures many { IfSome result (λ x. length x.0.now ≡ octets_of size) }
 {
     match start(size, octets, at) {
@@ -116,6 +116,10 @@ fn cells(size: u8, octets: &[u8], at: usize) -> Option<(&[u8], usize)>
 
 /// The number at the next multiple of its size, which is 1, 2, 4 or 8 octets, and the index after
 /// it. It takes no memory.
+///
+/// # Errors
+///
+/// `Short` where the octets end before the number's last.
 pub fn read_uint(order: Order, size: u8, octets: &[u8], at: usize) -> Result<(u64, usize), Short>
     // What is read stands there, and what stands there is read.
     ensures found { IfOk result (λ x. Scalar order octets.now size x.0 at x.1) }
@@ -139,6 +143,10 @@ fn uint_at(order: Order, size: u8, octets: &[u8], at: usize) -> Result<(u64, usi
 }
 
 /// The number of two octets at the next multiple of two, and the index after it. It takes no memory.
+///
+/// # Errors
+///
+/// `Short` where the octets end before the number's last.
 #[tactic(auto, unfolding(crate::specs::Scalars::number_at))]
 pub fn read_half_word(order: Order, octets: &[u8], at: usize) -> Result<(u16, usize), Short>
     ensures exact { MatchResult result (λ x. number_at order 2 octets.now at ≡ Some x) (λ _. number_at order 2 octets.now at ≡ None) }
@@ -152,6 +160,10 @@ pub fn read_half_word(order: Order, octets: &[u8], at: usize) -> Result<(u16, us
 
 /// The number of four octets at the next multiple of four, and the index after it: a count, an
 /// offset or a pointer's id. It takes no memory.
+///
+/// # Errors
+///
+/// `Short` where the octets end before the number's last.
 #[tactic(auto, unfolding(crate::specs::Scalars::number_at))]
 pub fn read_word(order: Order, octets: &[u8], at: usize) -> Result<(u32, usize), Short>
     ensures exact { MatchResult result (λ x. number_at order 4 octets.now at ≡ Some x) (λ _. number_at order 4 octets.now at ≡ None) }
@@ -165,6 +177,10 @@ pub fn read_word(order: Order, octets: &[u8], at: usize) -> Result<(u32, usize),
 
 /// The signed number, in two's complement, at the next multiple of its size, which is 1, 2, 4 or 8
 /// octets, and the index after it. It takes no memory.
+///
+/// # Errors
+///
+/// `Short` where the octets end before the number's last.
 #[tactic(auto, unfolding(crate::specs::Scalars::number_at))]
 pub fn read_int(order: Order, size: u8, octets: &[u8], at: usize) -> Result<(i64, usize), Short>
     ensures exact { MatchResult result (λ x. signed_at order size octets.now at ≡ Some x) (λ _. signed_at order size octets.now at ≡ None) }

@@ -61,6 +61,10 @@ fn eight(order: Order, number: u64) -> [u8; 8]
 }
 
 /// Adds the number, behind zeros up to the next multiple of its size, which is 1, 2, 4 or 8 octets.
+///
+/// # Errors
+///
+/// `NoMemory` where memory runs out: then nothing is added.
 #[tactic(auto, unfolding(crate::specs::Scalars::written))]
 pub fn write_uint(order: Order, size: u8, value: u64, into: &mut Vec<u8>) -> Result<(), NoMemory>
     requires { holds_number size value }
@@ -78,6 +82,10 @@ pub fn write_uint(order: Order, size: u8, value: u64, into: &mut Vec<u8>) -> Res
 
 /// Adds the signed number in two's complement, behind zeros up to the next multiple of its size,
 /// which is 1, 2, 4 or 8 octets.
+///
+/// # Errors
+///
+/// `NoMemory` where memory runs out: then nothing is added.
 #[tactic(auto, unfolding(crate::specs::Scalars::written))]
 pub fn write_int(order: Order, size: u8, value: i64, into: &mut Vec<u8>) -> Result<(), NoMemory>
     requires { holds_signed size value }

@@ -7,6 +7,10 @@ use rpc_base::NoMemory;
 use std::alloc::Global;
 
 /// A shape that is the same in every item.
+///
+/// # Errors
+///
+/// `NoMemory` where memory runs out.
 pub fn copy_shape(alloc: Global, shape: &Shape) -> Result<Shape, NoMemory>
     ensures { IfOk result (λ copy. form copy ≡ form shape.now) }
 {
@@ -14,6 +18,10 @@ pub fn copy_shape(alloc: Global, shape: &Shape) -> Result<Shape, NoMemory>
 }
 
 /// A list of shapes that are the same in every item.
+///
+/// # Errors
+///
+/// `NoMemory` where memory runs out.
 pub fn copy_shapes(alloc: Global, shapes: &[Shape]) -> Result<Shapes, NoMemory>
     ensures { IfOk result (λ copy. types_of copy.items ≡ types_of shapes.now) }
 {

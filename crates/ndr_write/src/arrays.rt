@@ -1,8 +1,8 @@
 //! The counts of arrays.
-ghost use Rattle.std.specs.Prelude.{◌≡◌, ◌++◌, ◌<◌, ◌^◌, length, OnOk};
+ghost use Rattle.std.specs.Prelude.{◌≡◌, ◌<◌, ◌^◌};
 ghost use Rattle.ndr_value.specs.Values.{vals};
-ghost use Rattle.ndr_agree.specs.Views.{types_in, call_of};
 ghost use Rattle.ndr_model.specs.Fronts as spec;
+ghost use Rattle.ndr_write.specs.Views.{under, Puts};
 
 use crate::numbers::{count_of, counted};
 use crate::state::Writer;
@@ -12,7 +12,7 @@ use rpc_base::NoMemory;
 
 /// The size of an array of so many elements, in a body of those members.
 pub(crate) fn size_of(writer: &Writer<'_>, body: &[Value], kind: &ArrayKind, count: u64) -> u32
-    ensures { result ≡ spec.size_of (types_in writer.now.call) writer.now.order (call_of writer.now.call) (vals body.now) kind.now count }
+    ensures { result ≡ under writer.now spec.size_of (vals body.now) kind.now count }
 {
     match kind {
         ArrayKind::ConformantVarying(most, _) => counted(writer.call.wanted(body, *most)),
@@ -29,7 +29,7 @@ pub(crate) fn put_counts(
     count: u64,
     into: &mut Vec<u8>,
 ) -> Result<(), NoMemory>
-    ensures { OnOk result (into.new.items ≡ into.old.items ++ spec.array_counts (types_in writer.now.call) writer.now.order (call_of writer.now.call) (vals body.now) moved kind.now count (length into.old.items)) }
+    ensures { Puts result into.old.items into.new.items (under writer.now spec.array_counts (vals body.now) moved kind.now count) }
 {
     let counts = Counts {
         most: size_of(writer, body, kind, count),

@@ -1,11 +1,9 @@
 //! Arrays of octets.
-ghost use Rattle.std.specs.Prelude.{◌≡◌, OnOk};
 ghost use Rattle.ndr_value.specs.Forms.{form, OfByte};
 ghost use Rattle.ndr_value.specs.Values.{VByte, vals, bytes};
-ghost use Rattle.ndr_agree.specs.Views.{types_in, call_of};
 ghost use Rattle.ndr_model.specs.Pieces as pieces;
 ghost use Rattle.ndr_model.specs.Written as spec;
-ghost use Rattle.ndr_write.specs.Views.{followed, octets_only, piece_of};
+ghost use Rattle.ndr_write.specs.Views.{octets_only, under, Adds, flat_of};
 
 use crate::numbers::number;
 use crate::pointers::point;
@@ -14,7 +12,7 @@ use ndr_value::{Shape, Value};
 use rpc_base::NoMemory;
 
 fn put_octet(writer: &Writer<'_>, octet: u8, out: &mut Out) -> Result<(), NoMemory>
-    ensures { (b : _) → OnOk result (piece_of out.new b ≡ followed (piece_of out.old b) (octets_only (pieces.number writer.now.order 1 octet))) }
+    ensures { (b : _) → Adds result out.old b out.new b (octets_only (pieces.number writer.now.order 1 octet)) }
 {
     number(writer.order, 1, u64::from(octet), &mut out.octets)
 }
@@ -30,7 +28,7 @@ pub(crate) fn flat_byte<'a>(
     out: &mut Out,
     behind: &mut Vec<Pending<'a>>,
 ) -> Result<(), NoMemory>
-    ensures { (moved : _) → OnOk result (piece_of out.new behind.new.items ≡ followed (piece_of out.old behind.old.items) (spec.flat (types_in writer.now.call) writer.now.order (call_of writer.now.call) fuel (vals body.now) moved (form shape.now) (VByte octet))) }
+    ensures { (moved : _) → Adds result out.old behind.old.items out.new behind.new.items (flat_of writer.now fuel (vals body.now) moved (form shape.now) (VByte octet)) }
 {
     if fuel == 0 {
         return Ok(());
@@ -63,7 +61,7 @@ fn put_each<'a>(
     out: &mut Out,
     behind: &mut Vec<Pending<'a>>,
 ) -> Result<(), NoMemory>
-    ensures { OnOk result (piece_of out.new behind.new.items ≡ followed (piece_of out.old behind.old.items) (spec.elements (types_in writer.now.call) writer.now.order (call_of writer.now.call) (spec.flat (types_in writer.now.call) writer.now.order (call_of writer.now.call) fuel) (vals body.now) (form inner.now) (bytes octets.now))) }
+    ensures { Adds result out.old behind.old.items out.new behind.new.items (under writer.now spec.elements (flat_of writer.now fuel) (vals body.now) (form inner.now) (bytes octets.now)) }
 {
     for octet in octets {
         flat_byte(fuel, writer, body, inner, *octet, out, behind)?;
@@ -73,7 +71,7 @@ fn put_each<'a>(
 
 // All at once.
 fn put_all(fuel: u32, octets: &[u8], out: &mut Out) -> Result<(), NoMemory>
-    ensures { (types : _) (order : _) (call : _) (body : _) (b : _) → OnOk result (piece_of out.new b ≡ followed (piece_of out.old b) (spec.elements types order call (spec.flat types order call fuel) body OfByte (bytes octets.now))) }
+    ensures { (types : _) (order : _) (call : _) (body : _) (b : _) → Adds result out.old b out.new b (spec.elements types order call (spec.flat types order call fuel) body OfByte (bytes octets.now)) }
 {
     if fuel == 0 {
         return Ok(());
@@ -92,7 +90,7 @@ pub(crate) fn flat_octets<'a>(
     out: &mut Out,
     behind: &mut Vec<Pending<'a>>,
 ) -> Result<(), NoMemory>
-    ensures { OnOk result (piece_of out.new behind.new.items ≡ followed (piece_of out.old behind.old.items) (spec.elements (types_in writer.now.call) writer.now.order (call_of writer.now.call) (spec.flat (types_in writer.now.call) writer.now.order (call_of writer.now.call) fuel) (vals body.now) (form inner.now) (bytes octets.now))) }
+    ensures { Adds result out.old behind.old.items out.new behind.new.items (under writer.now spec.elements (flat_of writer.now fuel) (vals body.now) (form inner.now) (bytes octets.now)) }
 {
     match inner {
         Shape::Byte => put_all(fuel, octets, out),

@@ -2,11 +2,11 @@
 ghost use Rattle.std.specs.Prelude.{◌≡◌, ◌++◌, [], map, OnOk, OnErr, IfOk};
 ghost use Rattle.ndr_value.specs.Forms.{form};
 ghost use Rattle.ndr_value.specs.Values.{val, vals, no_val, msg};
-ghost use Rattle.ndr_table.specs.Tables.{param_form, result_form};
+ghost use Rattle.ndr_table.specs.Tables.{param_form};
 ghost use Rattle.ndr_model.specs.Stub as stub;
 ghost use Rattle.ndr_agree.specs.Views.{types_in, call_of};
 ghost use Rattle.ndr_model.specs.Written as spec;
-ghost use Rattle.ndr_write.specs.Views.{followed, piece_of};
+ghost use Rattle.ndr_write.specs.Views.{result_in, under, Adds};
 
 use crate::state::{Out, Pending, Pointed, Writer};
 use crate::whole::put_whole;
@@ -45,7 +45,7 @@ fn put_entry<'a>(
     value: &'a Value,
     out: &mut Out,
 ) -> Result<(), NoMemory>
-    ensures { OnOk result (piece_of out.new [] ≡ followed (piece_of out.old []) (spec.whole (types_in writer.now.call) writer.now.order (call_of writer.now.call) 257 (record { body = no_val; shape = form shape.now; value = val value.now }))) }
+    ensures { Adds result out.old [] out.new [] (under writer.now spec.whole 257 (record { body = no_val; shape = form shape.now; value = val value.now })) }
 {
     let pending = Pending {
         body: &[],
@@ -56,7 +56,7 @@ fn put_entry<'a>(
 }
 
 fn put_result<'a>(writer: &Writer<'a>, rest: &'a [Value], out: &mut Out) -> Result<(), NoMemory>
-    ensures { OnOk result (piece_of out.new [] ≡ followed (piece_of out.old []) (spec.each_entry (types_in writer.now.call) writer.now.order (call_of writer.now.call) (stub.last_entry writer.now.call.way (result_form writer.now.call.op.now.result)) (vals rest.now))) }
+    ensures { Adds result out.old [] out.new [] (under writer.now spec.each_entry (stub.last_entry writer.now.call.way (result_in writer.now)) (vals rest.now)) }
 {
     match writer.call.way {
         Way::Request => Ok(()),
@@ -76,7 +76,7 @@ fn put_params<'a>(
     values: &'a [Value],
     out: &mut Out,
 ) -> Result<(), NoMemory>
-    ensures { OnOk result (piece_of out.new [] ≡ followed (piece_of out.old []) (spec.each_entry (types_in writer.now.call) writer.now.order (call_of writer.now.call) (stub.entries_of writer.now.call.way (map param_form params.now) (result_form writer.now.call.op.now.result)) (vals values.now))) }
+    ensures { Adds result out.old [] out.new [] (under writer.now spec.each_entry (stub.entries_of writer.now.call.way (map param_form params.now) (result_in writer.now)) (vals values.now)) }
 {
     let mut rest = values;
     for param in params {

@@ -1,15 +1,12 @@
 //! The flat part of a value.
-ghost use Rattle.std.specs.Prelude.{◌≡◌, ◌&&◌, ◌||◌, true, Some, None, OnOk, MatchOption};
-ghost use Rattle.ndr_value.specs.Forms.{form, forms, arms_of, body, OfStruct, OfUnion};
+ghost use Rattle.std.specs.Prelude.{◌≡◌, ◌&&◌, ◌||◌, true, Some, None, MatchOption};
+ghost use Rattle.ndr_value.specs.Forms.{form, forms, body};
 ghost use Rattle.ndr_value.specs.Fits.{arm_of};
 ghost use Rattle.ndr_value.specs.Values.{val, vals};
-ghost use Rattle.ndr_table.specs.Aligned.{is_last, align_of, alignments};
+ghost use Rattle.ndr_table.specs.Aligned.{is_last};
 ghost use Rattle.ndr_table.specs.Ordered.{is_size};
-ghost use Rattle.ndr_model.specs.Part.{opens_with};
-ghost use Rattle.ndr_agree.specs.Views.{types_in, call_of};
-ghost use Rattle.ndr_model.specs.Fronts.{front};
 ghost use Rattle.ndr_model.specs.Written as spec;
-ghost use Rattle.ndr_write.specs.Views.{followed, octets_only, piece_of};
+ghost use Rattle.ndr_write.specs.Views.{octets_only, under, Adds, flat_of, one_of, struct_of, union_of, LaidOut, IsAligned, union_form};
 
 use crate::arrays::put_counts;
 use crate::bytes::flat_octets;
@@ -34,7 +31,7 @@ pub(crate) fn flat_value<'a>(
     out: &mut Out,
     behind: &mut Vec<Pending<'a>>,
 ) -> Result<(), NoMemory>
-    ensures { OnOk result (piece_of out.new behind.new.items ≡ followed (piece_of out.old behind.old.items) (spec.flat (types_in writer.now.call) writer.now.order (call_of writer.now.call) fuel (vals body.now) moved (form shape.now) (val value.now))) }
+    ensures { Adds result out.old behind.old.items out.new behind.new.items (flat_of writer.now fuel (vals body.now) moved (form shape.now) (val value.now)) }
 {
     if fuel == 0 {
         return Ok(());
@@ -53,7 +50,7 @@ fn flat_one<'a>(
     out: &mut Out,
     behind: &mut Vec<Pending<'a>>,
 ) -> Result<(), NoMemory>
-    ensures { OnOk result (piece_of out.new behind.new.items ≡ followed (piece_of out.old behind.old.items) (spec.flat_at (types_in writer.now.call) writer.now.order (call_of writer.now.call) (front (types_in writer.now.call) writer.now.order (call_of writer.now.call) fuel) (spec.flat (types_in writer.now.call) writer.now.order (call_of writer.now.call) fuel) (vals body.now) moved (form shape.now) (val value.now))) }
+    ensures { Adds result out.old behind.old.items out.new behind.new.items (one_of writer.now fuel (vals body.now) moved (form shape.now) (val value.now)) }
 {
     match shape {
         Shape::Named(number, _) => match writer.named(*number) {
@@ -102,7 +99,7 @@ fn flat_leaf(
     value: &Value,
     out: &mut Out,
 ) -> Result<(), NoMemory>
-    ensures { (b : _) → OnOk result (piece_of out.new b ≡ followed (piece_of out.old b) (octets_only (spec.leaf (types_in writer.now.call) writer.now.order (call_of writer.now.call) moved (form shape.now) (val value.now)))) }
+    ensures { (b : _) → Adds result out.old b out.new b (octets_only (under writer.now spec.leaf moved (form shape.now) (val value.now))) }
 {
     put_leaf(writer, moved, shape, value, &mut out.octets)
 }
@@ -127,7 +124,7 @@ fn flat_struct<'a>(
     behind: &mut Vec<Pending<'a>>,
 ) -> Result<(), NoMemory>
     requires { is_size align ≡ true }
-    ensures { opens ≡ opens_with (types_in writer.now.call) (forms members.now) → align ≡ align_of (alignments (types_in writer.now.call)) (OfStruct (forms members.now)) → OnOk result (piece_of out.new behind.new.items ≡ followed (piece_of out.old behind.old.items) (spec.struct_piece (types_in writer.now.call) writer.now.order (call_of writer.now.call) (front (types_in writer.now.call) writer.now.order (call_of writer.now.call) fuel) (spec.flat (types_in writer.now.call) writer.now.order (call_of writer.now.call) fuel) moved (forms members.now) (val value.now))) }
+    ensures { LaidOut writer.now opens align (forms members.now) (Adds result out.old behind.old.items out.new behind.new.items (struct_of writer.now fuel moved (forms members.now) (val value.now))) }
 {
     match value {
         Value::Struct(values) => {
@@ -167,7 +164,7 @@ fn flat_members<'a>(
     out: &mut Out,
     behind: &mut Vec<Pending<'a>>,
 ) -> Result<(), NoMemory>
-    ensures { OnOk result (piece_of out.new behind.new.items ≡ followed (piece_of out.old behind.old.items) (spec.members (types_in writer.now.call) writer.now.order (call_of writer.now.call) (spec.flat (types_in writer.now.call) writer.now.order (call_of writer.now.call) fuel) (vals values.now) moved (forms members.now) (vals values.now))) }
+    ensures { Adds result out.old behind.old.items out.new behind.new.items (under writer.now spec.members (flat_of writer.now fuel) (vals values.now) moved (forms members.now) (vals values.now)) }
 {
     let mut rest = members;
     for value in values {
@@ -185,7 +182,7 @@ fn flat_members<'a>(
 
 // The arm that a tag selects, where it is of the union's kind.
 fn arm_for<'a>(kind: &Shape, arms: &'a [Arm], tag: i64) -> Option<&'a Arm>
-    ensures { MatchOption result (arm_of (OfUnion (form kind.now) (arms_of arms.now)) tag ≡ None) (λ a. arm_of (OfUnion (form kind.now) (arms_of arms.now)) tag ≡ Some (body a.now.shape)) }
+    ensures { MatchOption result (arm_of (union_form kind.now arms.now) tag ≡ None) (λ a. arm_of (union_form kind.now arms.now) tag ≡ Some (body a.now.shape)) }
 {
     if tag_fits(kind, tag) {
         selected_arm(arms, tag)
@@ -205,7 +202,7 @@ fn flat_arm<'a>(
     out: &mut Out,
     behind: &mut Vec<Pending<'a>>,
 ) -> Result<(), NoMemory>
-    ensures { OnOk result (piece_of out.new behind.new.items ≡ followed (piece_of out.old behind.old.items) (spec.arm_piece (types_in writer.now.call) writer.now.order (call_of writer.now.call) (spec.flat (types_in writer.now.call) writer.now.order (call_of writer.now.call) fuel) (arm_of (OfUnion (form kind.now) (arms_of arms.now)) tag) (val value.now))) }
+    ensures { Adds result out.old behind.old.items out.new behind.new.items (under writer.now spec.arm_piece (flat_of writer.now fuel) (arm_of (union_form kind.now arms.now) tag) (val value.now)) }
 {
     match arm_for(kind, arms, tag) {
         None => Ok(()),
@@ -228,7 +225,7 @@ fn flat_union<'a>(
     behind: &mut Vec<Pending<'a>>,
 ) -> Result<(), NoMemory>
     requires { is_size align ≡ true }
-    ensures { align ≡ align_of (alignments (types_in writer.now.call)) (OfUnion (form kind.now) (arms_of arms.now)) → OnOk result (piece_of out.new behind.new.items ≡ followed (piece_of out.old behind.old.items) (spec.union_piece (types_in writer.now.call) writer.now.order (call_of writer.now.call) (spec.flat (types_in writer.now.call) writer.now.order (call_of writer.now.call) fuel) (OfUnion (form kind.now) (arms_of arms.now)) (form kind.now) (val value.now))) }
+    ensures { IsAligned writer.now align (union_form kind.now arms.now) → Adds result out.old behind.old.items out.new behind.new.items (union_of writer.now fuel kind.now arms.now (val value.now)) }
 {
     match value {
         Value::Union { tag, arm } => {
@@ -252,7 +249,7 @@ fn flat_elements<'a>(
     out: &mut Out,
     behind: &mut Vec<Pending<'a>>,
 ) -> Result<(), NoMemory>
-    ensures { OnOk result (piece_of out.new behind.new.items ≡ followed (piece_of out.old behind.old.items) (spec.elements (types_in writer.now.call) writer.now.order (call_of writer.now.call) (spec.flat (types_in writer.now.call) writer.now.order (call_of writer.now.call) fuel) (vals body.now) (form inner.now) (vals values.now))) }
+    ensures { Adds result out.old behind.old.items out.new behind.new.items (under writer.now spec.elements (flat_of writer.now fuel) (vals body.now) (form inner.now) (vals values.now)) }
 {
     for value in values {
         flat_value(fuel, writer, body, false, inner, value, out, behind)?;
@@ -272,7 +269,7 @@ fn flat_array<'a>(
     out: &mut Out,
     behind: &mut Vec<Pending<'a>>,
 ) -> Result<(), NoMemory>
-    ensures { OnOk result (piece_of out.new behind.new.items ≡ followed (piece_of out.old behind.old.items) (spec.array_piece (types_in writer.now.call) writer.now.order (call_of writer.now.call) (spec.flat (types_in writer.now.call) writer.now.order (call_of writer.now.call) fuel) (vals body.now) moved kind.now (form inner.now) (val value.now))) }
+    ensures { Adds result out.old behind.old.items out.new behind.new.items (under writer.now spec.array_piece (flat_of writer.now fuel) (vals body.now) moved kind.now (form inner.now) (val value.now)) }
 {
     match value {
         Value::Array(values) => {

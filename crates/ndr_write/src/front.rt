@@ -1,14 +1,10 @@
 //! The max_count that stands in front of a structure.
-ghost use Rattle.std.specs.Prelude.{◌≡◌, ◌++◌, true, length, OnOk};
-ghost use Rattle.ndr_value.specs.Forms.{form, forms, OfStruct};
+ghost use Rattle.std.specs.Prelude.{◌≡◌, true};
+ghost use Rattle.ndr_value.specs.Forms.{form, forms};
 ghost use Rattle.ndr_value.specs.Values.{val, vals};
-ghost use Rattle.ndr_table.specs.Aligned.{align_of, alignments};
 ghost use Rattle.ndr_table.specs.Ordered.{is_size};
-ghost use Rattle.ndr_model.specs.Part.{opens_with};
-ghost use Rattle.ndr_agree.specs.Views.{types_in, call_of};
 ghost use Rattle.ndr_model.specs.Fronts as spec;
-ghost use Rattle.ndr_model.specs.Written as written;
-ghost use Rattle.ndr_write.specs.Views.{front_octets};
+ghost use Rattle.ndr_write.specs.Views.{front_octets, under, Puts, front_of, last_front, opening_of, LaidOut};
 
 use crate::arrays::size_of;
 use crate::numbers::{gap, number};
@@ -17,7 +13,7 @@ use ndr_value::{ArrayKind, Shape, Value};
 use rpc_base::NoMemory;
 
 fn front_array(writer: &Writer<'_>, body: &[Value], kind: &ArrayKind, value: &Value) -> u64
-    ensures { result ≡ spec.front_array (types_in writer.now.call) writer.now.order (call_of writer.now.call) (vals body.now) kind.now (val value.now) }
+    ensures { result ≡ under writer.now spec.front_array (vals body.now) kind.now (val value.now) }
 {
     match value {
         Value::Array(values) => {
@@ -33,7 +29,7 @@ fn front_array(writer: &Writer<'_>, body: &[Value], kind: &ArrayKind, value: &Va
 }
 
 fn front_text(writer: &Writer<'_>, value: &Value) -> u64
-    ensures { result ≡ spec.front_text (types_in writer.now.call) writer.now.order (call_of writer.now.call) (val value.now) }
+    ensures { result ≡ under writer.now spec.front_text (val value.now) }
 {
     match value {
         Value::Text(octets) => octets.as_slice().len() as u64 + 1,
@@ -44,7 +40,7 @@ fn front_text(writer: &Writer<'_>, value: &Value) -> u64
 #[tactic(auto, unfolding(ndr_model::specs::Fronts::front))]
 #[cycle(front)]
 fn front_count(fuel: u32, writer: &Writer<'_>, body: &[Value], shape: &Shape, value: &Value) -> u64
-    ensures { result ≡ spec.front (types_in writer.now.call) writer.now.order (call_of writer.now.call) fuel (vals body.now) (form shape.now) (val value.now) }
+    ensures { result ≡ front_of writer.now fuel (vals body.now) (form shape.now) (val value.now) }
 {
     if fuel == 0 {
         return 0;
@@ -54,7 +50,7 @@ fn front_count(fuel: u32, writer: &Writer<'_>, body: &[Value], shape: &Shape, va
 
 #[cycle(front)]
 fn front_one(fuel: u32, writer: &Writer<'_>, body: &[Value], shape: &Shape, value: &Value) -> u64
-    ensures { result ≡ spec.front_at (types_in writer.now.call) writer.now.order (call_of writer.now.call) (spec.front (types_in writer.now.call) writer.now.order (call_of writer.now.call) fuel) (vals body.now) (form shape.now) (val value.now) }
+    ensures { result ≡ under writer.now spec.front_at (front_of writer.now fuel) (vals body.now) (form shape.now) (val value.now) }
 {
     match shape {
         Shape::Named(number, _) => match writer.named(*number) {
@@ -70,7 +66,7 @@ fn front_one(fuel: u32, writer: &Writer<'_>, body: &[Value], shape: &Shape, valu
 
 #[cycle(front)]
 fn front_struct(fuel: u32, writer: &Writer<'_>, members: &[Shape], value: &Value) -> u64
-    ensures { result ≡ spec.front_struct (types_in writer.now.call) writer.now.order (call_of writer.now.call) (spec.front (types_in writer.now.call) writer.now.order (call_of writer.now.call) fuel) (forms members.now) (val value.now) }
+    ensures { result ≡ under writer.now spec.front_struct (front_of writer.now fuel) (forms members.now) (val value.now) }
 {
     match value {
         Value::Struct(values) => front_last(fuel, writer, members, values),
@@ -81,7 +77,7 @@ fn front_struct(fuel: u32, writer: &Writer<'_>, members: &[Shape], value: &Value
 // That of the last member.
 #[cycle(front)]
 fn front_last(fuel: u32, writer: &Writer<'_>, members: &[Shape], values: &[Value]) -> u64
-    ensures { result ≡ spec.front_last (types_in writer.now.call) writer.now.order (call_of writer.now.call) (spec.front (types_in writer.now.call) writer.now.order (call_of writer.now.call) fuel) (vals values.now) (forms members.now) (vals values.now) }
+    ensures { result ≡ last_front writer.now fuel (vals values.now) (forms members.now) }
 {
     if members.is_empty() {
         return 0;
@@ -102,7 +98,7 @@ fn put_front(
     values: &[Value],
     into: &mut Vec<u8>,
 ) -> Result<(), NoMemory>
-    ensures { OnOk result (into.new.items ≡ into.old.items ++ front_octets writer.now.order stands (spec.front_last (types_in writer.now.call) writer.now.order (call_of writer.now.call) (spec.front (types_in writer.now.call) writer.now.order (call_of writer.now.call) fuel) (vals values.now) (forms members.now) (vals values.now)) (length into.old.items)) }
+    ensures { Puts result into.old.items into.new.items (front_octets writer.now.order stands (last_front writer.now fuel (vals values.now) (forms members.now))) }
 {
     if !stands {
         return Ok(());
@@ -128,7 +124,7 @@ pub(crate) fn put_opening(
     into: &mut Vec<u8>,
 ) -> Result<(), NoMemory>
     requires { is_size align ≡ true }
-    ensures { opens ≡ opens_with (types_in writer.now.call) (forms members.now) → align ≡ align_of (alignments (types_in writer.now.call)) (OfStruct (forms members.now)) → OnOk result (into.new.items ≡ into.old.items ++ written.opening (types_in writer.now.call) writer.now.order (call_of writer.now.call) (spec.front (types_in writer.now.call) writer.now.order (call_of writer.now.call) fuel) moved (forms members.now) (vals values.now) (length into.old.items)) }
+    ensures { LaidOut writer.now opens align (forms members.now) (Puts result into.old.items into.new.items (opening_of writer.now fuel moved (forms members.now) (vals values.now))) }
 {
     put_front(fuel, writer, !moved && opens, members, values, into)?;
     gap(align, into)

@@ -1,12 +1,13 @@
 //! Parts without parts and pointers.
-ghost use Rattle.std.specs.Prelude.{◌≡◌, ◌++◌, ◌<◌, ◌^◌, true, length, OnOk, slice_get};
+ghost use Rattle.std.specs.Prelude.{◌≡◌, ◌<◌, ◌^◌, true, slice_get};
 ghost use Rattle.ndr_value.specs.Forms.{form};
 ghost use Rattle.ndr_value.specs.Values.{val};
-ghost use Rattle.ndr_agree.specs.Views.{types_in, call_of};
+ghost use Rattle.ndr_agree.specs.Views.{call_of};
 ghost use Rattle.ndr_table.specs.Ordered.{is_size};
 ghost use Rattle.ndr_arrays.specs.Written.{both};
 ghost use Rattle.ndr_model.specs.Pieces as pieces;
 ghost use Rattle.ndr_model.specs.Written as spec;
+ghost use Rattle.ndr_write.specs.Views.{under, Puts};
 
 use crate::numbers::{gap, natural, number, signed};
 use crate::state::Writer;
@@ -24,7 +25,7 @@ fn wire_at(writer: &Writer<'_>, slot: u8) -> Option<WireHandle>
 }
 
 fn put_wire(writer: &Writer<'_>, slot: u8, into: &mut Vec<u8>) -> Result<(), NoMemory>
-    ensures { OnOk result (into.new.items ≡ into.old.items ++ spec.wire (types_in writer.now.call) writer.now.order (call_of writer.now.call) (slice_get (call_of writer.now.call).said.wires slot) (length into.old.items)) }
+    ensures { Puts result into.old.items into.new.items (under writer.now spec.wire (slice_get (call_of writer.now.call).said.wires slot)) }
 {
     match wire_at(writer, slot) {
         None => Ok(()),
@@ -43,7 +44,7 @@ fn put_text(
     moved: bool,
     into: &mut Vec<u8>,
 ) -> Result<(), NoMemory>
-    ensures { OnOk result (into.new.items ≡ into.old.items ++ spec.text (types_in writer.now.call) writer.now.order (call_of writer.now.call) size octets.now moved (length into.old.items)) }
+    ensures { Puts result into.old.items into.new.items (under writer.now spec.text size octets.now moved) }
 {
     if octets.len() < (1 << 32) - 1 {
         write_text(size, writer.order, octets, !moved, into)
@@ -60,7 +61,7 @@ pub(crate) fn put_leaf(
     value: &Value,
     into: &mut Vec<u8>,
 ) -> Result<(), NoMemory>
-    ensures { OnOk result (into.new.items ≡ into.old.items ++ spec.leaf (types_in writer.now.call) writer.now.order (call_of writer.now.call) moved (form shape.now) (val value.now) (length into.old.items)) }
+    ensures { Puts result into.old.items into.new.items (under writer.now spec.leaf moved (form shape.now) (val value.now)) }
 {
     match shape {
         Shape::Bool => match value {
@@ -106,7 +107,7 @@ fn put_number(
     tag: i64,
     into: &mut Vec<u8>,
 ) -> Result<(), NoMemory>
-    ensures { OnOk result (into.new.items ≡ into.old.items ++ spec.tag (types_in writer.now.call) writer.now.order (call_of writer.now.call) (form kind.now) tag (length into.old.items)) }
+    ensures { Puts result into.old.items into.new.items (under writer.now spec.tag (form kind.now) tag) }
 {
     match kind {
         Shape::Int(size) => signed(writer.order, *size, tag, into),
@@ -125,7 +126,7 @@ pub(crate) fn put_tag(
     into: &mut Vec<u8>,
 ) -> Result<(), NoMemory>
     requires { is_size align ≡ true }
-    ensures { OnOk result (into.new.items ≡ into.old.items ++ both (pieces.gap align) (spec.tag (types_in writer.now.call) writer.now.order (call_of writer.now.call) (form kind.now) tag) (length into.old.items)) }
+    ensures { Puts result into.old.items into.new.items (both (pieces.gap align) (under writer.now spec.tag (form kind.now) tag)) }
 {
     gap(align, into)?;
     put_number(writer, kind, tag, into)

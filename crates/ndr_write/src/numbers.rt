@@ -1,9 +1,10 @@
 //! Numbers and gaps.
-ghost use Rattle.std.specs.Prelude.{◌≡◌, ◌<◌, ◌≤◌, ◌-◌, ◌^◌, ◌++◌, true, length, OnOk};
+ghost use Rattle.std.specs.Prelude.{◌≡◌, ◌<◌, ◌≤◌, ◌-◌, ◌^◌, true};
 ghost use Rattle.ndr_table.specs.Ordered.{is_size};
 ghost use Rattle.ndr_scalars.specs.Scalars.{up, holds_number, holds_signed};
 ghost use Rattle.ndr_value.specs.Fits.{within};
 ghost use Rattle.ndr_model.specs.Pieces as spec;
+ghost use Rattle.ndr_write.specs.Views.{Puts};
 
 use ndr_scalars::{write_int, write_uint};
 use rpc_base::{NoMemory, Order};
@@ -45,14 +46,14 @@ fn fitting_int(size: u8, value: i64) -> i64
 
 /// Adds a number at the next multiple of its size.
 pub(crate) fn number(order: Order, size: u8, value: u64, into: &mut Vec<u8>) -> Result<(), NoMemory>
-    ensures { OnOk result (into.new.items ≡ into.old.items ++ spec.number order size value (length into.old.items)) }
+    ensures { Puts result into.old.items into.new.items (spec.number order size value) }
 {
     write_uint(order, size, fitting(size, value), into)
 }
 
 /// Adds a signed number at the next multiple of its size.
 pub(crate) fn signed(order: Order, size: u8, value: i64, into: &mut Vec<u8>) -> Result<(), NoMemory>
-    ensures { OnOk result (into.new.items ≡ into.old.items ++ spec.signed_number order size value (length into.old.items)) }
+    ensures { Puts result into.old.items into.new.items (spec.signed_number order size value) }
 {
     write_int(order, size, fitting_int(size, value), into)
 }
@@ -76,7 +77,7 @@ fn gap_len(align: u8, len: usize) -> usize
 #[tactic(auto, using(ndr_scalars::proofs::Gaps::gap_is))]
 pub(crate) fn gap(align: u8, into: &mut Vec<u8>) -> Result<(), NoMemory>
     requires { is_size align ≡ true }
-    ensures { OnOk result (into.new.items ≡ into.old.items ++ spec.gap align (length into.old.items)) }
+    ensures { Puts result into.old.items into.new.items (spec.gap align) }
 {
     let len = gap_len(align, into.len());
     into.extend_from_slice(&[0; 7][..len])?;

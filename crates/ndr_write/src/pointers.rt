@@ -3,10 +3,9 @@ ghost use Rattle.std.specs.Prelude.{◌≡◌, ◌++◌, OnOk, map, true, false,
 ghost use Rattle.ndr_value.specs.Forms.{form};
 ghost use Rattle.ndr_value.specs.Values.{val, vals, VFull};
 ghost use Rattle.ndr_model.specs.Named.{nth};
-ghost use Rattle.ndr_agree.specs.Views.{types_in, call_of};
 ghost use Rattle.ndr_model.specs.Written as spec;
 ghost use Rattle.ndr_model.specs.Pieces as pieces;
-ghost use Rattle.ndr_write.specs.Views.{behind_of, pointed_of, followed, octets_only, piece_of};
+ghost use Rattle.ndr_write.specs.Views.{behind_of, pointed_of, octets_only, under, Adds, item_in};
 
 use crate::numbers::{next_id, number as word};
 use crate::state::{Out, Pending, Pointed, Writer};
@@ -20,7 +19,7 @@ pub(crate) fn point<'a>(
     out: &mut Out,
     behind: &mut Vec<Pending<'a>>,
 ) -> Result<(), NoMemory>
-    ensures { OnOk result (piece_of out.new behind.new.items ≡ followed (piece_of out.old behind.old.items) (spec.pointing (types_in writer.now.call) writer.now.order (call_of writer.now.call) (vals pending.entry.body.now) (form pending.entry.shape.now) (pointed_of pending.entry.what))) }
+    ensures { Adds result out.old behind.old.items out.new behind.new.items (under writer.now spec.pointing (vals pending.entry.body.now) (form pending.entry.shape.now) (pointed_of pending.entry.what)) }
 {
     if out.count == u32::MAX {
         return Err(NoMemory);
@@ -37,7 +36,7 @@ pub(crate) fn point<'a>(
 }
 
 fn null(writer: &Writer<'_>, out: &mut Out) -> Result<(), NoMemory>
-    ensures { (b : _) → OnOk result (piece_of out.new b ≡ followed (piece_of out.old b) (octets_only (pieces.number writer.now.order 4 0))) }
+    ensures { (b : _) → Adds result out.old b out.new b (octets_only (pieces.number writer.now.order 4 0)) }
 {
     word(writer.order, 4, 0, &mut out.octets)
 }
@@ -50,7 +49,7 @@ pub(crate) fn put_unique<'a>(
     out: &mut Out,
     behind: &mut Vec<Pending<'a>>,
 ) -> Result<(), NoMemory>
-    ensures { OnOk result (piece_of out.new behind.new.items ≡ followed (piece_of out.old behind.old.items) (spec.unique_piece (types_in writer.now.call) writer.now.order (call_of writer.now.call) (vals body.now) (form inner.now) (val value.now))) }
+    ensures { Adds result out.old behind.old.items out.new behind.new.items (under writer.now spec.unique_piece (vals body.now) (form inner.now) (val value.now)) }
 {
     match value {
         Value::Ptr(held) => match held {
@@ -80,7 +79,7 @@ fn value_at(values: &[Value], index: usize) -> Option<&Value>
 
 // The item of the heap of that number.
 fn item_at<'a>(writer: &Writer<'a>, number: u32) -> Option<&'a Value>
-    ensures { MatchOption result (nth (call_of writer.now.call).said.heap number ≡ None) (λ v. nth (call_of writer.now.call).said.heap number ≡ Some (val v.now)) }
+    ensures { MatchOption result (item_in writer.now number ≡ None) (λ v. item_in writer.now number ≡ Some (val v.now)) }
 {
     value_at(writer.call.said.heap.as_slice(), number as usize)
 }
@@ -93,7 +92,7 @@ fn put_behind<'a>(
     number: u32,
     behind: &mut Vec<Pending<'a>>,
 ) -> Result<(), NoMemory>
-    ensures { OnOk result (map behind_of behind.new.items ≡ map behind_of behind.old.items ++ spec.item_behind (types_in writer.now.call) writer.now.order (call_of writer.now.call) (vals body.now) (form inner.now) (nth (call_of writer.now.call).said.heap number)) }
+    ensures { OnOk result (map behind_of behind.new.items ≡ map behind_of behind.old.items ++ under writer.now spec.item_behind (vals body.now) (form inner.now) (item_in writer.now number)) }
 {
     match item_at(writer, number) {
         None => Ok(()),
@@ -118,7 +117,7 @@ fn put_new<'a>(
     out: &mut Out,
     behind: &mut Vec<Pending<'a>>,
 ) -> Result<(), NoMemory>
-    ensures { OnOk result (piece_of out.new behind.new.items ≡ followed (piece_of out.old behind.old.items) (spec.item_piece (types_in writer.now.call) writer.now.order (call_of writer.now.call) true (vals body.now) (form inner.now) number)) }
+    ensures { Adds result out.old behind.old.items out.new behind.new.items (under writer.now spec.item_piece true (vals body.now) (form inner.now) number) }
 {
     if out.count == u32::MAX {
         return Err(NoMemory);
@@ -143,7 +142,7 @@ fn id_of(out: &Out, number: u32) -> u32
 
 // A full pointer to an item that another one leads to.
 fn put_again(writer: &Writer<'_>, number: u32, out: &mut Out) -> Result<(), NoMemory>
-    ensures { (b : _) (body : _) (s : _) → OnOk result (piece_of out.new b ≡ followed (piece_of out.old b) (spec.item_piece (types_in writer.now.call) writer.now.order (call_of writer.now.call) false body s number)) }
+    ensures { (b : _) (body : _) (s : _) → Adds result out.old b out.new b (under writer.now spec.item_piece false body s number) }
 {
     let id = id_of(out, number);
     word(writer.order, 4, u64::from(id), &mut out.octets)
@@ -157,7 +156,7 @@ fn put_item<'a>(
     out: &mut Out,
     behind: &mut Vec<Pending<'a>>,
 ) -> Result<(), NoMemory>
-    ensures { OnOk result (piece_of out.new behind.new.items ≡ followed (piece_of out.old behind.old.items) (spec.full_piece (types_in writer.now.call) writer.now.order (call_of writer.now.call) (vals body.now) (form inner.now) (VFull (Some number)))) }
+    ensures { Adds result out.old behind.old.items out.new behind.new.items (under writer.now spec.full_piece (vals body.now) (form inner.now) (VFull (Some number))) }
 {
     if number as usize == out.items.len() {
         return put_new(writer, body, inner, number, out, behind);
@@ -173,7 +172,7 @@ pub(crate) fn put_full<'a>(
     out: &mut Out,
     behind: &mut Vec<Pending<'a>>,
 ) -> Result<(), NoMemory>
-    ensures { OnOk result (piece_of out.new behind.new.items ≡ followed (piece_of out.old behind.old.items) (spec.full_piece (types_in writer.now.call) writer.now.order (call_of writer.now.call) (vals body.now) (form inner.now) (val value.now))) }
+    ensures { Adds result out.old behind.old.items out.new behind.new.items (under writer.now spec.full_piece (vals body.now) (form inner.now) (val value.now)) }
 {
     match value {
         Value::Full(item) => match item {

@@ -1,10 +1,7 @@
 //! A value with its referents.
-ghost use Rattle.std.specs.Prelude.{◌≡◌, [], map, false, OnOk};
-ghost use Rattle.ndr_value.specs.Forms.{form};
-ghost use Rattle.ndr_value.specs.Values.{vals};
-ghost use Rattle.ndr_agree.specs.Views.{types_in, call_of};
+ghost use Rattle.std.specs.Prelude.{[], map};
 ghost use Rattle.ndr_model.specs.Written as spec;
-ghost use Rattle.ndr_write.specs.Views.{behind_of, pointed_of, followed, piece_of};
+ghost use Rattle.ndr_write.specs.Views.{behind_of, pending_flat, under, Adds};
 
 use crate::bytes::flat_byte;
 use crate::flat::flat_value;
@@ -21,7 +18,7 @@ fn flat_pending<'a>(
     out: &mut Out,
     behind: &mut Vec<Pending<'a>>,
 ) -> Result<(), NoMemory>
-    ensures { OnOk result (piece_of out.new behind.new.items ≡ followed (piece_of out.old behind.old.items) (spec.flat (types_in writer.now.call) writer.now.order (call_of writer.now.call) spec.deep (vals pending.entry.body.now) false (form pending.entry.shape.now) (pointed_of pending.entry.what))) }
+    ensures { Adds result out.old behind.old.items out.new behind.new.items (pending_flat writer.now (behind_of pending.entry)) }
 {
     match pending.what {
         Pointed::Value(value) => flat_value(
@@ -55,7 +52,7 @@ pub(crate) fn put_whole<'a>(
     pending: Pending<'a>,
     out: &mut Out,
 ) -> Result<(), NoMemory>
-    ensures { OnOk result (piece_of out.new [] ≡ followed (piece_of out.old []) (spec.whole (types_in writer.now.call) writer.now.order (call_of writer.now.call) levels (behind_of pending.entry))) }
+    ensures { Adds result out.old [] out.new [] (under writer.now spec.whole levels (behind_of pending.entry)) }
 {
     if levels == 0 {
         return Ok(());
@@ -73,7 +70,7 @@ fn put_behind<'a>(
     behind: &[Pending<'a>],
     out: &mut Out,
 ) -> Result<(), NoMemory>
-    ensures { OnOk result (piece_of out.new [] ≡ followed (piece_of out.old []) (spec.each_behind (types_in writer.now.call) writer.now.order (call_of writer.now.call) (spec.whole (types_in writer.now.call) writer.now.order (call_of writer.now.call) levels) (map behind_of behind.now))) }
+    ensures { Adds result out.old [] out.new [] (under writer.now spec.each_behind (under writer.now spec.whole levels) (map behind_of behind.now)) }
 {
     for pending in behind {
         put_whole(levels, writer, *pending, out)?;

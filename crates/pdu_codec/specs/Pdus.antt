@@ -284,6 +284,10 @@ written_bind order b = bind_octets order zeros_3 (flat_map (element_octets order
 abbrev pub written_bind_ack : Order → BindAckBody → List ℕ
 written_bind_ack order b = bind_ack_octets order (replicate (gap (10 + length b.address)) 0) zeros_3 [] b
 
+abbrev pub acked_octets : Order → ℕ → ℕ → ℕ → List ℕ → List ContextResult → List ℕ
+acked_octets order max_xmit max_recv group address results =
+    written_bind_ack order (record { max_xmit = max_xmit; max_recv = max_recv; group = group; address = address; results = results })
+
 -- the body with zero reserved octets and nothing behind its last field
 abbrev pub body_octets : Order → Body → List ℕ
 body_octets order (Request b) = request_octets order b

@@ -61,6 +61,13 @@ fn take_address(order: Order, octets: &[u8]) -> Result<(&[u8], &[u8]), PduFault>
     Ok((address, rest))
 }
 
+/// The body of a bind_ack, from the octets behind its header (C706, "Connection-oriented RPC
+/// PDUs").
+///
+/// # Errors
+///
+/// `Body` where the octets end before the last field, and `Memory` where there is no memory for the
+/// body.
 #[tactic(auto, unfolding(crate::specs::Reading::bind_ack_at))]
 pub fn read_bind_ack(alloc: Global, order: Order, octets: &[u8]) -> Result<BindAckBody, PduFault>
     ensures { Gives (λ b. b) result (bind_ack_at order octets.now) }
@@ -86,6 +93,11 @@ pub fn read_bind_ack(alloc: Global, order: Order, octets: &[u8]) -> Result<BindA
 }
 
 /// An alter_context_resp has the fields of a bind_ack.
+///
+/// # Errors
+///
+/// `Body` where the octets end before the last field, and `Memory` where there is no memory for the
+/// body.
 #[tactic(auto, unfolding(crate::specs::Reading::alter_resp_at))]
 pub fn read_alter_resp(
     alloc: Global,
@@ -128,6 +140,12 @@ fn take_versions(alloc: Global, count: u8, octets: &[u8]) -> Result<(Versions, &
     Ok((versions, rest))
 }
 
+/// The body of a bind_nak, from the octets behind its header.
+///
+/// # Errors
+///
+/// `Body` where the octets end before the last field, and `Memory` where there is no memory for the
+/// body.
 #[tactic(auto, unfolding(crate::specs::Reading::bind_nak_at))]
 pub fn read_bind_nak(alloc: Global, order: Order, octets: &[u8]) -> Result<BindNakBody, PduFault>
     ensures { Gives (λ b. b) result (bind_nak_at order octets.now) }

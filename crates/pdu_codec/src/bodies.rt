@@ -33,6 +33,13 @@ fn take_object(order: Order, flags: u8, octets: &[u8]) -> Result<(Option<Uuid>, 
     }
 }
 
+/// The body of a request, from the octets behind its header. The octets of the stub are copied
+/// once.
+///
+/// # Errors
+///
+/// `Body` where the octets end before the last field, and `Memory` where there is no memory for the
+/// body.
 #[tactic(auto, unfolding(crate::specs::Reading::request_at))]
 pub fn read_request(
     alloc: Global,
@@ -59,6 +66,13 @@ pub fn read_request(
     })
 }
 
+/// The body of a response, from the octets behind its header. The octets of the stub are copied
+/// once.
+///
+/// # Errors
+///
+/// `Body` where the octets end before the last field, and `Memory` where there is no memory for the
+/// body.
 #[tactic(auto, unfolding(crate::specs::Reading::response_at))]
 pub fn read_response(alloc: Global, order: Order, octets: &[u8]) -> Result<ResponseBody, PduFault>
     ensures { Gives (λ b. b) result (response_at order octets.now) }
@@ -76,6 +90,11 @@ pub fn read_response(alloc: Global, order: Order, octets: &[u8]) -> Result<Respo
     })
 }
 
+/// The body of a fault, from the octets behind its header.
+///
+/// # Errors
+///
+/// `Body` where the octets end before the last field.
 #[tactic(auto, unfolding(crate::specs::Reading::fault_at))]
 pub fn read_fault(order: Order, octets: &[u8]) -> Result<FaultBody, PduFault>
     ensures { Gives (λ b. b) result (fault_at order octets.now) }
@@ -161,6 +180,12 @@ fn take_elements(
     Ok((elements, rest))
 }
 
+/// The body of a bind, from the octets behind its header.
+///
+/// # Errors
+///
+/// `Body` where the octets end before the last field, and `Memory` where there is no memory for the
+/// body.
 #[tactic(auto, unfolding(crate::specs::Reading::bind_at))]
 pub fn read_bind(alloc: Global, order: Order, octets: &[u8]) -> Result<BindBody, PduFault>
     ensures { Gives (λ b. b) result (bind_at order octets.now) }
@@ -183,6 +208,11 @@ pub fn read_bind(alloc: Global, order: Order, octets: &[u8]) -> Result<BindBody,
 }
 
 /// An alter_context has the fields of a bind.
+///
+/// # Errors
+///
+/// `Body` where the octets end before the last field, and `Memory` where there is no memory for the
+/// body.
 #[tactic(auto, unfolding(crate::specs::Reading::alter_at))]
 pub fn read_alter(alloc: Global, order: Order, octets: &[u8]) -> Result<AlterBody, PduFault>
     ensures { Gives (λ b. b) result (alter_at order octets.now) }

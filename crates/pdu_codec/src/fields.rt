@@ -7,6 +7,11 @@ use crate::PduFault;
 use rpc_base::{Order, SyntaxId, get_syntax, get_u16, get_u32, get_uuid};
 use uuid::Uuid;
 
+/// An octet, and what follows it.
+///
+/// # Errors
+///
+/// `Body` where there are fewer octets.
 pub fn take_u8(octets: &[u8]) -> Result<(u8, &[u8]), PduFault>
     ensures { Gives (λ x. (x.0, x.1.now)) result (octet_at octets.now) }
 {
@@ -16,6 +21,11 @@ pub fn take_u8(octets: &[u8]) -> Result<(u8, &[u8]), PduFault>
     }
 }
 
+/// A number of two octets, and what follows it.
+///
+/// # Errors
+///
+/// `Body` where there are fewer octets.
 #[tactic(auto, unfolding(crate::specs::Reading::u16_at))]
 pub fn take_u16(order: Order, octets: &[u8]) -> Result<(u16, &[u8]), PduFault>
     ensures { Gives (λ x. (x.0, x.1.now)) result (u16_at order octets.now) }
@@ -27,6 +37,11 @@ pub fn take_u16(order: Order, octets: &[u8]) -> Result<(u16, &[u8]), PduFault>
     Ok((get_u16(order, octets, 0), rest))
 }
 
+/// A number of four octets, and what follows it.
+///
+/// # Errors
+///
+/// `Body` where there are fewer octets.
 #[tactic(auto, unfolding(crate::specs::Reading::u32_at))]
 pub fn take_u32(order: Order, octets: &[u8]) -> Result<(u32, &[u8]), PduFault>
     ensures { Gives (λ x. (x.0, x.1.now)) result (u32_at order octets.now) }
@@ -38,6 +53,11 @@ pub fn take_u32(order: Order, octets: &[u8]) -> Result<(u32, &[u8]), PduFault>
     Ok((get_u32(order, octets, 0), rest))
 }
 
+/// A UUID of 16 octets, and what follows it.
+///
+/// # Errors
+///
+/// `Body` where there are fewer octets.
 #[tactic(auto, unfolding(crate::specs::Reading::uuid_at))]
 pub fn take_uuid(order: Order, octets: &[u8]) -> Result<(Uuid, &[u8]), PduFault>
     ensures { Gives (λ x. (x.0, x.1.now)) result (uuid_at order octets.now) }
@@ -49,6 +69,11 @@ pub fn take_uuid(order: Order, octets: &[u8]) -> Result<(Uuid, &[u8]), PduFault>
     Ok((get_uuid(order, octets, 0), rest))
 }
 
+/// A syntax of 20 octets, and what follows it.
+///
+/// # Errors
+///
+/// `Body` where there are fewer octets.
 #[tactic(auto, unfolding(crate::specs::Reading::syntax_at))]
 pub fn take_syntax(order: Order, octets: &[u8]) -> Result<(SyntaxId, &[u8]), PduFault>
     ensures { Gives (λ x. (x.0, x.1.now)) result (syntax_at order octets.now) }
@@ -61,6 +86,10 @@ pub fn take_syntax(order: Order, octets: &[u8]) -> Result<(SyntaxId, &[u8]), Pdu
 }
 
 /// So many octets.
+///
+/// # Errors
+///
+/// `Body` where there are fewer octets.
 #[tactic(auto, unfolding(crate::specs::Reading::piece_at))]
 pub fn take_piece(size: usize, octets: &[u8]) -> Result<(&[u8], &[u8]), PduFault>
     ensures { Gives (λ x. (x.0.now, x.1.now)) result (piece_at size octets.now) }

@@ -67,6 +67,10 @@ impl FragmentHead {
 
     /// Adds a request's fragment at the end, without an object. The octets of the stub are copied once. Where
     /// there is no memory, nothing is added.
+    ///
+    /// # Errors
+    ///
+    /// `NoMemory` where there is no memory for the octets; nothing is added then.
     pub fn write_request(self, op: u16, stub: &[u8], into: &mut Vec<u8>) -> Result<(), NoMemory>
         requires object { has_object self.flags ≡ false }
         requires short { stub_offset + length stub.now < 2 ^ 16 }
@@ -83,6 +87,10 @@ impl FragmentHead {
 
     /// Adds a response's fragment at the end, with no cancels. The octets of the stub are copied once. Where
     /// there is no memory, nothing is added.
+    ///
+    /// # Errors
+    ///
+    /// `NoMemory` where there is no memory for the octets; nothing is added then.
     pub fn write_response(self, stub: &[u8], into: &mut Vec<u8>) -> Result<(), NoMemory>
         requires { stub_offset + length stub.now < 2 ^ 16 }
         ensures ok { OnOk result (into.new.items ≡ into.old.items ++ pdu_octets (response_pdu self stub.now)) }

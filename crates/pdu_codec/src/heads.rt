@@ -52,6 +52,10 @@ pub fn raw_head(octets: &[u8]) -> RawHead
 }
 
 /// The header at the front of octets, given, where all of the PDU's octets are at hand, how many they are.
+///
+/// # Errors
+///
+/// The first of `Version`, `Kind`, `Length`, `Auth` and `Characters` whose test the header fails.
 pub fn front_head(octets: &[u8], size: Option<usize>) -> Result<Head, PduFault>
     requires { header_size ≤ length octets.now }
     ensures head { IfOk result (λ h. PassesHead size h.order octets.now) }
@@ -97,6 +101,10 @@ fn whole_head(octets: &[u8]) -> Result<Head, PduFault>
 /// What a PDU's common header says (C706, "Connection-oriented RPC PDUs", common fields). The tests
 /// are those of the faults `Version`, `Kind`, `Length`, `Auth` and `Characters`, in this order; the
 /// length must be at least a header's. It takes no memory.
+///
+/// # Errors
+///
+/// The first of `Version`, `Kind`, `Length`, `Auth` and `Characters` whose test the header fails.
 pub fn read_head(octets: [u8; HEADER_SIZE]) -> Result<Head, PduFault>
     // What is read is what the octets say.
     ensures head { IfOk result (λ h. IsHead h octets) }

@@ -37,6 +37,12 @@ fn read_body(alloc: Global, head: &Head, octets: &[u8]) -> Result<Body, PduFault
 
 /// The PDU that the octets spell, all of them (C706, "Connection-oriented RPC PDUs"). The octets of
 /// a stub are copied once.
+///
+/// # Errors
+///
+/// `Length` where there are fewer octets than a header has; then the fault of the header; then
+/// `Body` where the octets end before the body's last field; `Memory` where there is no memory for
+/// the body.
 pub fn read_pdu(alloc: Global, octets: &[u8]) -> Result<Pdu, PduFault>
     // What is read is spelled so.
     ensures found { IfOk result (λ p. IsPdu p octets.now) }

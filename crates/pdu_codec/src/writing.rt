@@ -1,7 +1,7 @@
 //! Writing PDUs.
 ghost use Rattle.std.specs.Prelude.{◌≡◌, ◌+◌, ◌<◌, ◌≤◌, ◌^◌, [], ◌∷◌, ◌++◌, length, take, drop, replicate, OnOk, OnErr};
 ghost use Rattle.std.specs.List.{AllByRecursion, flat_map};
-ghost use Rattle.pdu_codec.specs.Pdus.{kind_of, drep_octet, zeros_3, head_octets, head_of, object_octets, request_octets, response_octets, fault_octets, maxima_octets, syntaxes_octets, element_octets, gap, result_octets, results_octets, version_octets, versions_octets, bind_nak_octets, written_bind, written_bind_ack, body_octets, pdu_octets, HasSpelling, IsWritable};
+ghost use Rattle.pdu_codec.specs.Pdus.{kind_of, drep_octet, zeros_3, head_octets, head_of, object_octets, request_octets, response_octets, fault_octets, maxima_octets, syntaxes_octets, element_octets, gap, result_octets, results_octets, version_octets, versions_octets, bind_nak_octets, written_bind, acked_octets, body_octets, pdu_octets, HasSpelling, IsWritable};
 ghost use Rattle.rpc_base.specs.Fields.{u16_octets};
 ghost use Rattle.pdu_codec.specs.Writing.{KeepsFront};
 
@@ -268,7 +268,7 @@ fn put_bind_ack(
 ) -> Result<(), NoMemory>
     requires short { length address.now < 2 ^ 16 }
     requires few { length results.now < 256 }
-    ensures ok { OnOk result (into.new.items ≡ into.old.items ++ written_bind_ack order (record { max_xmit = max_xmit; max_recv = max_recv; group = group; address = address.now; results = results.now })) }
+    ensures ok { OnOk result (into.new.items ≡ into.old.items ++ acked_octets order max_xmit max_recv group address.now results.now) }
     ensures err { OnErr result (KeepsFront into.old.items into.new.items) }
 {
     put_maxima(order, max_xmit, max_recv, group, into)?;
@@ -407,6 +407,10 @@ fn put_pdu(pdu: &Pdu, into: &mut Vec<u8>) -> Result<(), NoMemory>
 
 /// Adds the PDU's octets at the end, with zero reserved octets and nothing behind its last field
 /// (C706, "Connection-oriented RPC PDUs"). Where there is no memory, nothing is added.
+///
+/// # Errors
+///
+/// `NoMemory` where there is no memory for the octets; nothing is added then.
 pub fn write_pdu(pdu: &Pdu, into: &mut Vec<u8>) -> Result<(), NoMemory>
     requires { IsWritable pdu.now }
     ensures ok { OnOk result (into.new.items ≡ into.old.items ++ pdu_octets pdu.now) }

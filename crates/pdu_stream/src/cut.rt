@@ -24,6 +24,10 @@ pub struct Cut {
 
 /// The cut of the stream that comes in these pieces: its PDUs, and what follows them, up to the first fault.
 /// Which pieces they are doesn't matter.
+///
+/// # Errors
+///
+/// `NoMemory` where there is no memory for the octets or for their PDUs.
 pub fn cut_stream(alloc: Global, pieces: &[Octets]) -> Result<Cut, NoMemory>
     ensures { IfOk result (IsCut (flat_map (λ piece. piece) pieces.now)) }
 {

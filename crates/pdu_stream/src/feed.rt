@@ -44,6 +44,10 @@ impl Feed {
     }
 
     /// Octets come, which may end anywhere. At `NoMemory` none came.
+    ///
+    /// # Errors
+    ///
+    /// `NoMemory` where there is no memory for the octets; none came then.
     pub fn push(&mut self, piece: &[u8]) -> Result<(), NoMemory>
         ensures ok { OnOk result (self.new ≡ record { rest = self.old.rest ++ piece.now; fault = self.old.fault }) }
         ensures err { OnErr result (self.new ≡ self.old) }
@@ -59,6 +63,11 @@ impl Feed {
     /// The next PDU of the octets pushed. `None` where they end within a header, or within a PDU whose header has
     /// no fault. A header's fault is answered as soon as the header came, that of a body once its PDU's octets
     /// did. A fault is answered for good. The octets of a stub are copied once.
+    ///
+    /// # Errors
+    ///
+    /// The fault of the header or of the body that comes next, `Memory` among them; the same one is
+    /// answered from then on.
     pub fn next(&mut self) -> Result<Option<Pdu>, PduFault>
         ensures { GivesNext self.old result self.new }
     {

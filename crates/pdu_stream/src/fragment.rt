@@ -17,6 +17,11 @@ pub fn has_flag(flags: u8, flag: u8) -> bool
 }
 
 /// The request so far with a further fragment.
+///
+/// # Errors
+///
+/// The first of `FragOrder`, `FragDrep` and `TooLong` that is so; `Memory` where there is no memory
+/// for the stub.
 pub fn with_fragment(
     run: Option<Joined>,
     order: Order,

@@ -6,6 +6,10 @@ use std::alloc::Global;
 
 /// The PDU at the front and how many octets it has, or none where the octets end within a header, or within a
 /// PDU whose header has no fault.
+///
+/// # Errors
+///
+/// The fault of the header, as soon as its octets are there, or of the body, once the PDU's are.
 pub fn front(alloc: Global, octets: &[u8]) -> Result<Option<(Pdu, usize)>, PduFault>
     ensures { IsFront octets.now result }
 {

@@ -37,6 +37,11 @@ impl Joiner {
     /// The next fragment, a request PDU's flags, call id and body. The request is whole at its last one. A fault
     /// is answered for good, and then no request is being joined. The octets of a stub are moved where they are
     /// the first fragment's, and else copied once.
+    ///
+    /// # Errors
+    ///
+    /// The first of `FragOrder`, `FragDrep` and `TooLong` that is so; `Memory` where there is no
+    /// memory for the stub. The same one is answered from then on.
     pub fn add(
         &mut self,
         order: Order,

@@ -31,6 +31,10 @@ impl Model for Contexts {
 
 impl Contexts {
     /// No context, for a server of these interfaces, which are numbered from 0.
+    ///
+    /// # Errors
+    ///
+    /// `NoMemory` where there is no memory for the list.
     pub fn new(alloc: Global, ids: &[SyntaxId]) -> Result<Contexts, NoMemory>
         requires { length ids.now ≤ 2 ^ 16 }
         ensures { IfOk result (λ contexts. contexts ≡ record { ids = ids.now; accepted = [] }) }
@@ -52,6 +56,11 @@ impl Contexts {
     /// Takes the elements of a bind or an alter_context, one after the other, and gives the answer to
     /// each (C706, "Connection-oriented RPC PDUs", presentation context negotiation). Where there is
     /// no memory, nothing is accepted.
+    ///
+    /// # Errors
+    ///
+    /// `NoMemory` where there is no memory for the answers or for the contexts; nothing is accepted
+    /// then.
     pub fn offer(&mut self, elements: &Elements) -> Result<Results, NoMemory>
         ensures ids { self.new.ids ≡ self.old.ids }
         ensures results { IfOk result (λ results. results ≡ spec.results_after self.old.ids self.old.accepted elements.now) }

@@ -17,7 +17,7 @@ use Rattle.replay_events.proofs.Happening.{text_more}
 use Rattle.replay.specs.Lines.{HasWorld, PlaysLine}
 use Rattle.replay.specs.Closing.{AllEnded}
 use Rattle.replay_script.specs.declared.counts.Counts.{Counts}
-use Rattle.replay_script.specs.Counting.{Tells, counts_of}
+use Rattle.replay_script.specs.Counting.{TellsJournals, counts_of}
 use Rattle.replay_script.specs.Summary.{Told, summary_text}
 use Rattle.replay_script.specs.declared.deed.Step.{Step}
 use Rattle.replay_script.specs.declared.load.Load.{Load}
@@ -124,7 +124,7 @@ pub played_world : (number steps : ℕ) (x : Player) → HasPlayed number steps 
 played_world number steps x h = (None, h.2.world, h.2.stands)
 
 pub summed : (number steps : ℕ) (x y : Player) (counts : Counts) (old new : List ℕ) → HasPlayed number steps x → Plays AllEnded x y
-    → ((echo : Option TableForm) (w : World Services) → Stands echo y w → Tells counts w.groups) → old ≡ [] → Told steps counts old new → IsSummary (service_of None) number steps new
+    → ((echo : Option TableForm) (w : World Services) → Stands echo y w → TellsJournals counts w.groups) → old ≡ [] → Told steps counts old new → IsSummary (service_of None) number steps new
 summed number steps x y counts old new h ends tells none told =
     let t = ends None h.2.world h.2.stands in (
       t.0,

@@ -48,6 +48,10 @@ fn end_call(
 }
 
 /// The call of the one in hand ends, if it has one and that runs.
+///
+/// # Errors
+///
+/// `NoMemory` where there is no memory for what is said or printed.
 pub fn end(player: &mut Player, played: &mut Played) -> Result<bool, NoMemory>
     requires { IsInHand player.old played.old }
     ensures { IfOk result (λ ended. MayEnd ended player.old played.old player.new played.new) }
@@ -72,6 +76,10 @@ fn finish_it(player: &mut Player, played: &mut Played) -> Result<(), NoMemory>
 
 /// The running call of the connection of that name ends, if it has one, and what waited behind it goes on. Answers false where
 /// there is none of that name.
+///
+/// # Errors
+///
+/// `NoMemory` where there is no memory for what is said or printed.
 pub fn finish(player: &mut Player, name: u32) -> Result<bool, NoMemory>
     requires { HasWorld player.old }
     ensures { IfOk result (λ taken. Comes player.old (lines.Finish name) taken player.new) }

@@ -25,6 +25,10 @@ fn lose_it(player: &mut Player, played: &mut Played) -> Result<bool, NoMemory>
 }
 
 /// The one in hand is lost, if it is there.
+///
+/// # Errors
+///
+/// `NoMemory` where there is no memory for what is said or printed.
 pub fn lose_if_there(player: &mut Player, played: &mut Played) -> Result<(), NoMemory>
     requires { IsInHand player.old played.old }
     ensures { OnOk result (Leads (LosesIfThere played.old.name) player.old played.old player.new played.new) }
@@ -40,6 +44,10 @@ pub fn lose_if_there(player: &mut Player, played: &mut Played) -> Result<(), NoM
 }
 
 /// The connection of that name is lost. Answers false where there is none of that name, or it was lost already.
+///
+/// # Errors
+///
+/// `NoMemory` where there is no memory for what is said or printed.
 pub fn lose(player: &mut Player, name: u32) -> Result<bool, NoMemory>
     requires { HasWorld player.old }
     ensures { IfOk result (λ taken. Comes player.old (lines.Lose name) taken player.new) }

@@ -36,6 +36,10 @@ fn boot_in(line: &Line) -> Option<u64>
 }
 
 /// The boot word with which a text begins, and what follows its line.
+///
+/// # Errors
+///
+/// `ReplayFault::Memory` where there is no memory for the line.
 pub fn first_boot(alloc: Global, text: &[u8]) -> Result<Option<(u64, &[u8])>, ReplayFault>
     ensures boot { IfOk result (λ found. MatchOption found (BeginsWithNoBoot text.now) (λ x. BeginsWith (lines.Boot x.0) x.1.now text.now)) }
     ensures fault { IfErr result (λ e. e ≡ faults.Memory) }
@@ -84,6 +88,11 @@ fn play_next<'a>(
 }
 
 /// Plays the lines behind the first one.
+///
+/// # Errors
+///
+/// `ReplayFault::Line` with the number of the first line, from 1, that departs from the scripts,
+/// and `ReplayFault::Memory` where memory runs out.
 pub fn play_rest(alloc: Global, player: &mut Player, text: &[u8]) -> Result<(), ReplayFault>
     requires { HasWorld player.old }
     ensures played { OnOk result (Played player.old text.now player.new) }

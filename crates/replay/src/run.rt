@@ -68,6 +68,10 @@ fn run_it(player: &mut Player, played: &mut Played) -> Result<(), NoMemory>
 
 /// The call of the connection of that name is taken, denied, or said to wait for another. Answers false where there is none of
 /// that name.
+///
+/// # Errors
+///
+/// `NoMemory` where there is no memory for what is said or printed.
 pub fn run(player: &mut Player, name: u32) -> Result<bool, NoMemory>
     requires { HasWorld player.old }
     ensures { IfOk result (λ taken. Comes player.old (lines.Run name) taken player.new) }

@@ -33,6 +33,10 @@ fn put_waits(alloc: Global, name: u32, call: u32, out: &mut Vec<u8>) -> Result<(
 }
 
 /// The connection in hand has no call to take, or to end.
+///
+/// # Errors
+///
+/// `NoMemory` where there is no memory for the line.
 pub fn say_idle(player: &mut Player, played: &Played) -> Result<(), NoMemory>
     ensures { OnOk result (Leads (PrintsIn (Idle played.now.name ∷ [])) player.old played.now player.new played.now) }
 {
@@ -41,6 +45,10 @@ pub fn say_idle(player: &mut Player, played: &Played) -> Result<(), NoMemory>
 }
 
 /// The call of the connection in hand has to wait for that one.
+///
+/// # Errors
+///
+/// `NoMemory` where there is no memory for the line.
 pub fn say_waits(player: &mut Player, played: &Played, call: u32) -> Result<(), NoMemory>
     ensures { OnOk result (Leads (PrintsIn (Waits played.now.name call ∷ [])) player.old played.now player.new played.now) }
 {

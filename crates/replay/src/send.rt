@@ -38,6 +38,10 @@ fn send_to(player: &mut Player, played: &mut Played, octets: &[u8]) -> Result<bo
 
 /// Octets come to the connection of that name, and all is done that they ask for. Answers false where there is none of
 /// that name, or it was lost.
+///
+/// # Errors
+///
+/// `NoMemory` where there is no memory for the octets, or for what is said or printed.
 pub fn send(player: &mut Player, name: u32, octets: &[u8]) -> Result<bool, NoMemory>
     requires { HasWorld player.old }
     ensures { IfOk result (λ taken. Comes player.old (lines.Send name octets.now) taken player.new) }

@@ -36,7 +36,7 @@ use Rattle.replay_groups.specs.Holding.{Holds, Frames, Moves, Known}
 use Rattle.replay_groups.specs.Requests.{RequestsIn}
 use Rattle.replay_events.specs.declared.player.Player.{Player}
 use Rattle.replay_events.specs.Standing.{KeepsCall, Minds, IsTold, Handles}
-use Rattle.replay_events.specs.Marked.{Tells, CancelsAs, MarksAs, OrphansAs, IsHere, with_orphan}
+use Rattle.replay_events.specs.Marked.{TellsReply, CancelsAs, MarksAs, OrphansAs, IsHere, with_orphan}
 use Rattle.replay_events.specs.Lived.{moment_of, Lived, Midway, IsMidway}
 use Rattle.replay_events.specs.Lived as lived
 use Rattle.replay_events.proofs.Sparing.{grown, same_taken, same_orphaned}

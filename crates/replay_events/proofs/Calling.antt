@@ -61,7 +61,7 @@ use Rattle.replay_events.specs.declared.player.Player.{Player}
 use Rattle.replay_events.specs.Standing.{KeepsRow, KeepsCall, Minds, IsTold, Handles}
 use Rattle.replay_events.specs.Hands.{IsInHand, Leads, TakesIn}
 use Rattle.replay_events.specs.Hands as hands
-use Rattle.replay_events.specs.Marked.{Tells, with_cookies, told_of, told_by}
+use Rattle.replay_events.specs.Marked.{TellsReply, with_cookies, told_of, told_by}
 use Rattle.replay_events.proofs.Sparing.{grown, same_taken, same_orphaned}
 use Rattle.replay_events.proofs.Spared.{SparesAll, no_call, one_call, taking_one, taking_none, ending}
 use Rattle.replay_events.proofs.Minding.{sound_of, KeepsOthers, call_kept, others_spared, others_untaken}
@@ -171,7 +171,7 @@ module _ (x : Player) (t : Played) (m : Member) (k : ℕ) (is : t.member ≡ Som
     take_minds echo w v h taking.Dropped holds g = still_minds echo w v h t.call refl holds (taking_none w v m.group k taking.Dropped tt g)
     take_minds echo w v h (Wait other) holds g = still_minds echo w v h t.call refl holds (taking_none w v m.group k (Wait other) tt g)
 
-    take_told : (echo : Option TableForm) (w v : World Services) (h : Handles echo x t w) (r : Taking) → TakesIn m k r echo w v → Tells v m k (told_of r)
+    take_told : (echo : Option TableForm) (w v : World Services) (h : Handles echo x t w) (r : Taking) → TakesIn m k r echo w v → TellsReply v m k (told_of r)
     take_told echo w v h (Run row serial) g = untold v m k
     take_told echo w v h taking.Dropped g = untold v m k
     take_told echo w v h (Wait other) g = untold v m k

@@ -54,7 +54,7 @@ use Rattle.replay_events.specs.declared.player.Player.{Player}
 use Rattle.replay_events.specs.Standing.{KeepsRow, KeepsCall, Minds, IsTold, Handles}
 use Rattle.replay_events.specs.Hands.{IsInHand, Leads, Runs, EndsAs}
 use Rattle.replay_events.specs.Hands as hands
-use Rattle.replay_events.specs.Marked.{Tells, told_by, told_at}
+use Rattle.replay_events.specs.Marked.{TellsReply, told_by, told_at}
 use Rattle.replay_events.proofs.Spared.{no_call, ending}
 use Rattle.replay_events.proofs.Minding.{sound_of, call_kept, others_spared}
 use Rattle.replay_events.proofs.Living.{with_call}
@@ -145,7 +145,7 @@ module _ (x : Player) (t : Played) (m : Member) (k : ℕ) (is : t.member ≡ Som
           let left : has_left j (asked j k) ≡ false = ap (λ (a : Option Asked). has_left j a) o.asked ∙ unleft in
           ap (λ (b : Bool). is_orphaned j k || b) left ∙ or_off (is_orphaned j k) ∙ sym o.orphaned
 
-      pub ended_told : t.standing ≡ Open → Tells v m k (Some (told_by kept.orphaned said))
+      pub ended_told : t.standing ≡ Open → TellsReply v m k (Some (told_by kept.orphaned said))
       ended_told open_ reply e =
           let now = journal_is open_ in
           let legal : Legal (with_entry j (End k results said)) = subst (λ (z : History). Legal z) now (sound_of echo realm v holds m.group (low_is x t m k is call echo w h)).legal in
@@ -186,7 +186,7 @@ module _ (x : Player) (t : Played) (m : Member) (k : ℕ) (is : t.member ≡ Som
           let minds : Minds echo v h.peer t.call =
           subst (λ (o : Option Kept). Minds echo v h.peer o) (sym has)
           (own_minds x t m k is call echo w v h kept (call_kept echo w v no_call no_call m.group k kept (low_is x t m k is call echo w h) sound spares (λ o. o) (λ o. o) (own echo w h))) in
-          let tells : Tells v m k told =
+          let tells : TellsReply v m k told =
           λ reply is_reply.
           let f = known reply is_reply in
           ended_told echo w h realm v said e.results e.desks q.3 runs_now e.settles f.0 reply (ap (λ (z : Reply). Some z) (sym f.1)) in (

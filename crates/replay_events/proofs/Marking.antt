@@ -25,12 +25,12 @@ use Rattle.replay_world.specs.Worlds.{World, home_of, past_of, journal}
 use Rattle.replay_world.specs.Groups.{GoesOn}
 use Rattle.replay_groups.specs.declared.realm.Realm.{Realm}
 use Rattle.replay_groups.specs.Holding.{Holds, Moves, Going}
-use Rattle.replay_events.specs.Marked.{Tells, CancelsAs, OrphansAs}
+use Rattle.replay_events.specs.Marked.{TellsReply, CancelsAs, OrphansAs}
 use Rattle.replay_events.proofs.Minding.{sound_of}
 
 -- ---- a call is told nothing new
 
-pub untold : (v : World Services) (m : Member) (k : ℕ) → Tells v m k None
+pub untold : (v : World Services) (m : Member) (k : ℕ) → TellsReply v m k None
 untold v m k reply e = absurd (cc)
 
 -- ---- the journal that was set

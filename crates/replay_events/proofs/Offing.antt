@@ -25,7 +25,7 @@ use Rattle.replay_groups.specs.declared.realm.Realm.{Realm}
 use Rattle.replay_groups.specs.Holding.{Moves, Known}
 use Rattle.replay_events.specs.declared.player.Player.{Player}
 use Rattle.replay_events.specs.Standing.{KeepsRow, KeepsCall, Minds, IsTold}
-use Rattle.replay_events.specs.Marked.{Tells, CancelsAs, OrphansAs, IsHere, with_orphan}
+use Rattle.replay_events.specs.Marked.{TellsReply, CancelsAs, OrphansAs, IsHere, with_orphan}
 use Rattle.replay_events.specs.Lived.{Midway, IsMidway}
 use Rattle.replay_events.specs.Lived as lived
 use Rattle.replay_events.proofs.Sparing.{grown, same_taken}
@@ -34,7 +34,7 @@ use Rattle.replay_events.proofs.Minding.{sound_of, minds_kept, none_of_none, oth
 use Rattle.replay_events.proofs.Acting.{holds_now, shows_now, minds_now, as_now, open_now, low_now, acted, of_call_is}
 
 -- what is known of a call is known of the connection's
-pub told_as : (b : World Services) (p : Peer) (m : Member) (k : ℕ) (told : Option Reply) → p.member ≡ Some m → p.unanswered ≡ Call k → Tells b m k told → IsTold b p told
+pub told_as : (b : World Services) (p : Peer) (m : Member) (k : ℕ) (told : Option Reply) → p.member ≡ Some m → p.unanswered ≡ Call k → TellsReply b m k told → IsTold b p told
 told_as b p m k told member unanswered tells reply n l e is call =
     let same : m ≡ n = some_is m n (sym member ∙ is) in
     let number : k ≡ l = (let f : Call k ≡ Call l = sym unanswered ∙ call in cc) in

@@ -50,6 +50,9 @@ pub record Moment : Type 0 where
   pub totals : Numbers
   pub out : List ℕ
 
+abbrev pub at_moment : Played → Numbers → List ℕ → Moment
+at_moment played totals out = record { played = played; totals = totals; out = out }
+
 -- The event happens to the connection, what it answers is printed, so that it can be read again, and counted, and the program's
 -- connection shows it.
 pub record LivesOn (old : Moment) (p : Peer) (event : Event) (new : Moment) : Type 0 where

@@ -19,15 +19,15 @@ use Rattle.replay_groups.specs.declared.realm.Realm.{Realm}
 use Rattle.replay_groups.specs.Holding.{Known}
 
 -- the reply to the call, where it is known
-abbrev pub Tells : World Services → Member → ℕ → Option Reply → Type 0
-Tells v m k told = (reply : Reply) → told ≡ Some reply → replies (journal v m.group) k ≡ reply
+abbrev pub TellsReply : World Services → Member → ℕ → Option Reply → Type 0
+TellsReply v m k told = (reply : Reply) → told ≡ Some reply → replies (journal v m.group) k ≡ reply
 
 -- the call is cancelled; or it is where its request was marked
 abbrev pub CancelsAs : Member → ℕ → Option Reply → Option TableForm → World Services → World Services → Type 0
-CancelsAs m k told echo w v = CancelsIn w m.group k v × Tells v m k told
+CancelsAs m k told echo w v = CancelsIn w m.group k v × TellsReply v m k told
 
 abbrev pub MarksAs : Bool → Member → ℕ → Option Reply → Option TableForm → World Services → World Services → Type 0
-MarksAs b m k told echo w v = CancelsMarked b w m.group k v × Tells v m k told
+MarksAs b m k told echo w v = CancelsMarked b w m.group k v × TellsReply v m k told
 
 -- the connection is open in its group, if it is of one
 abbrev pub IsHere : Realm → Option Member → Type 0
@@ -37,7 +37,7 @@ IsHere r (Some m) = Known r (λ w. journals.is_open (journal w m.group) m.number
 -- it is orphaned, now or before
 abbrev pub OrphansAs : Member → ℕ → Option Reply → Bool → Option TableForm → World Services → World Services → Type 0
 OrphansAs m k told now echo w v =
-    OrphansIn w m.group k v × Tells v m k told × (journals.is_orphaned (journal v m.group) k ≡ (now || journals.is_orphaned (journal w m.group) k))
+    OrphansIn w m.group k v × TellsReply v m k told × (journals.is_orphaned (journal v m.group) k ≡ (now || journals.is_orphaned (journal w m.group) k))
 
 -- what is kept of a call that is orphaned
 abbrev pub with_orphan : Bool → Option Kept → Option Kept

@@ -29,6 +29,10 @@ pub fn count(totals: &mut Counted, new: NewPackets, answered: u64)
 }
 
 /// Prints and counts what is answered on the connection of that name.
+///
+/// # Errors
+///
+/// `NoMemory` where there is no memory for the lines.
 pub fn answer(
     alloc: Global,
     name: u32,

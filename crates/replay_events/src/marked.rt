@@ -15,6 +15,10 @@ use replay_world::Member;
 use rpc_base::{NoMemory, Status};
 
 /// Cancels a call: what its client is then told, where it ends so.
+///
+/// # Errors
+///
+/// `NoMemory` where there is no memory for the entry.
 pub fn cancelled(realm: &mut Realm, member: Member, call: u32) -> Result<Option<Reply>, NoMemory>
     requires known { Known realm.old (λ w. ⊤) }
     requires low { 1 ≤ member.group }
@@ -29,6 +33,10 @@ pub fn cancelled(realm: &mut Realm, member: Member, call: u32) -> Result<Option<
 }
 
 /// Cancels a call whose request was marked: what its client is then told, where it ends so.
+///
+/// # Errors
+///
+/// `NoMemory` where there is no memory for the entry.
 pub fn marked(
     realm: &mut Realm,
     cancel: bool,
@@ -47,6 +55,10 @@ pub fn marked(
 }
 
 /// Orphans a call: what its client is then told, where it ends so, and whether it is orphaned by this.
+///
+/// # Errors
+///
+/// `NoMemory` where there is no memory for the entry.
 pub fn orphaned(
     realm: &mut Realm,
     member: Member,
@@ -65,6 +77,10 @@ pub fn orphaned(
 }
 
 /// A member leaves its group, if it is one.
+///
+/// # Errors
+///
+/// `NoMemory` where there is no memory for the entries.
 pub fn leave(realm: &mut Realm, member: Option<Member>) -> Result<(), NoMemory>
     requires { spec.IsHere realm.old member }
     ensures { OnOk result (Moves realm.old (λ echo w v. LeavesIts (service_of echo) member w v) realm.new) }

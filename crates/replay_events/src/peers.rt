@@ -62,6 +62,10 @@ impl Peers {
     }
 
     /// Puts a connection back that was taken out, or a new one in.
+    ///
+    /// # Errors
+    ///
+    /// `NoMemory` where there is no memory for it.
     pub fn put(&mut self, played: Played) -> Result<(), NoMemory>
         ensures list { OnOk result (self.new ≡ placed played self.old) }
         ensures back { OnOk result ((ps : List Peer) (p : Peer) → ShowOthers p.name self.old ps → Shows played p → ShowAll self.new (put_peer p ps)) }
@@ -72,6 +76,10 @@ impl Peers {
     }
 
     /// The names, rising.
+    ///
+    /// # Errors
+    ///
+    /// `NoMemory` where there is no memory for the list.
     pub fn names(&self, alloc: Global) -> Result<Vec<u32>, NoMemory>
         ensures { IfOk result (λ names. (ps : List Peer) → ShowAll self.now ps → names.items ≡ map name_of ps) }
     {

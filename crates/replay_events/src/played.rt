@@ -44,9 +44,13 @@ pub struct Played {
 
 impl Played {
     ghost use Rattle.replay_events.specs.Showing.{Shows};
-    ghost use Rattle.replay_events.specs.Living.{Lives, Decides, IsPlayed, event_of};
+    ghost use Rattle.replay_events.specs.Living.{Lives, Decides, IsPlayed, at_moment, event_of};
 
     /// A new connection of that name to a server of these interfaces.
+    ///
+    /// # Errors
+    ///
+    /// `NoMemory` where there is no memory for the connection.
     pub fn open(alloc: Global, ids: &[SyntaxId], name: u32) -> Result<Played, NoMemory>
         requires { length ids.now ≤ 2 ^ 16 }
         ensures { IfOk result (λ t. Shows t (opened_peer ids.now name)) }
@@ -65,8 +69,12 @@ impl Played {
     }
 
     /// Octets come, which may end anywhere. The totals are those of all connections.
+    ///
+    /// # Errors
+    ///
+    /// `NoMemory` where there is no memory for the octets.
     pub fn come(&mut self, octets: &[u8], totals: &mut Counted) -> Result<(), NoMemory>
-        ensures { (text : List ℕ) → OnOk result (Lives (record { played = self.old; totals = totals.old; out = text }) (Came octets.now) (record { played = self.new; totals = totals.new; out = text })) }
+        ensures { (text : List ℕ) → OnOk result (Lives (at_moment self.old totals.old text) (Came octets.now) (at_moment self.new totals.new text)) }
     {
         self.conn.feed(octets)?;
         let new = self.packets.push(octets);
@@ -75,6 +83,10 @@ impl Played {
     }
 
     /// The next act, or none for now. What it answers is printed and counted.
+    ///
+    /// # Errors
+    ///
+    /// `NoMemory` where there is no memory for what came, or for the lines of what is answered.
     pub fn next(
         &mut self,
         alloc: Global,
@@ -82,7 +94,7 @@ impl Played {
         out: &mut Vec<u8>,
     ) -> Result<Option<Act>, NoMemory>
         requires { IsPlayed self.old }
-        ensures lives { IfOk result (λ act. Lives (record { played = self.old; totals = totals.old; out = out.old.items }) (event_of act) (record { played = self.new; totals = totals.new; out = out.new.items })) }
+        ensures lives { IfOk result (λ act. Lives (at_moment self.old totals.old out.old.items) (event_of act) (at_moment self.new totals.new out.new.items)) }
         ensures waits { IfOk result (λ done. IfSome done (λ act. WaitsBehind act self.new.conn.waits)) }
     {
         let done = self.conn.next()?;
@@ -91,6 +103,10 @@ impl Played {
     }
 
     /// Joins the connection to the group of that id: a bind_ack is answered.
+    ///
+    /// # Errors
+    ///
+    /// `NoMemory` where there is no memory for the answer or its line.
     pub fn bound(
         &mut self,
         alloc: Global,
@@ -100,7 +116,7 @@ impl Played {
     ) -> Result<(), NoMemory>
         requires played { IsPlayed self.old }
         requires grouping { IsGrouping self.old.conn.waits }
-        ensures { OnOk result (Decides (record { played = self.old; totals = totals.old; out = out.old.items }) (ToGroup group) (record { played = self.new; totals = totals.new; out = out.new.items })) }
+        ensures { OnOk result (Decides (at_moment self.old totals.old out.old.items) (ToGroup group) (at_moment self.new totals.new out.new.items)) }
     {
         let octets = self.conn.bound(group)?;
         answer(alloc, self.name, octets.as_slice(), totals, out)?;
@@ -108,6 +124,10 @@ impl Played {
     }
 
     /// Refuses the bind for that reason: a bind_nak is answered, and the connection is over.
+    ///
+    /// # Errors
+    ///
+    /// `NoMemory` where there is no memory for the answer or its line.
     pub fn nak(
         &mut self,
         alloc: Global,
@@ -117,7 +137,7 @@ impl Played {
     ) -> Result<(), NoMemory>
         requires played { IsPlayed self.old }
         requires grouping { IsGrouping self.old.conn.waits }
-        ensures { OnOk result (Decides (record { played = self.old; totals = totals.old; out = out.old.items }) (RefuseGroup reason) (record { played = self.new; totals = totals.new; out = out.new.items })) }
+        ensures { OnOk result (Decides (at_moment self.old totals.old out.old.items) (RefuseGroup reason) (at_moment self.new totals.new out.new.items)) }
     {
         let octets = self.conn.nak(reason)?;
         answer(alloc, self.name, octets.as_slice(), totals, out)?;
@@ -125,6 +145,10 @@ impl Played {
     }
 
     /// Answers the call: a response or a fault, or nothing where nothing is said or the client wants no answer.
+    ///
+    /// # Errors
+    ///
+    /// `NoMemory` where there is no memory for the answer or its lines.
     pub fn reply(
         &mut self,
         alloc: Global,
@@ -136,7 +160,7 @@ impl Played {
         requires played { IsPlayed self.old }
         requires calling { IsCalling self.old.conn.waits }
         requires stub { FitsStub (option_copied said) }
-        ensures { OnOk result (Decides (record { played = self.old; totals = totals.old; out = out.old.items }) (Reply (option_copied said.entry) executed) (record { played = self.new; totals = totals.new; out = out.new.items })) }
+        ensures { OnOk result (Decides (at_moment self.old totals.old out.old.items) (Reply (option_copied said.entry) executed) (at_moment self.new totals.new out.new.items)) }
     {
         status_of(said);
         let octets = self.conn.reply(said, executed)?;

@@ -12,6 +12,10 @@ use std::alloc::Global;
 
 /// Adds a line for each PDU of the octets, as answered on the connection of that name, and answers how many there are.
 /// Linear in the octets.
+///
+/// # Errors
+///
+/// `NoMemory` where there is no memory for the lines; some of them may have been added.
 pub fn print_pdus(
     alloc: Global,
     name: u32,

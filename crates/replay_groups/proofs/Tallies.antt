@@ -12,7 +12,7 @@ use Rattle.handle_model.specs.Journal.{cookies_for, slots}
 use Rattle.handle_model.specs.History.{History, since}
 use Rattle.replay_script.specs.declared.counts.Counts.{Counts}
 use Rattle.replay_script.specs.Counting as tally
-use Rattle.replay_script.specs.Counting.{AddsGroup, Tells, shown, with_entry}
+use Rattle.replay_script.specs.Counting.{AddsGroup, TellsJournals, shown, with_entry}
 use Rattle.replay_script.proofs.Counting.{quiet_count, tells_more}
 use Rattle.group_core.specs.declared.answer.Taking.{Taking}
 use Rattle.group_core.specs.declared.answer.Taking.TheVariants as taking
@@ -59,24 +59,24 @@ length_set (past ∷ more) (suc i) a = ap suc (length_set more i a)
 abbrev At : Home → List Entry → History
 At home past = since home empty_base past
 
-none_more : (x : Counts) (home : Home) (pasts : List (List Entry)) (i : ℕ) (new : List Entry) → Adds (At home (get_or pasts i [])) [] (At home new) → Tells x pasts → Tells x (slice_set pasts i new)
+none_more : (x : Counts) (home : Home) (pasts : List (List Entry)) (i : ℕ) (new : List Entry) → Adds (At home (get_or pasts i [])) [] (At home new) → TellsJournals x pasts → TellsJournals x (slice_set pasts i new)
 none_more x home pasts i new adds t =
-    subst (λ (l : List Entry). Tells x (slice_set pasts i l)) (sym (ap (λ (z : History). z.past) adds)) (subst (Tells x) (sym (set_same pasts i)) t)
+    subst (λ (l : List Entry). TellsJournals x (slice_set pasts i l)) (sym (ap (λ (z : History). z.past) adds)) (subst (TellsJournals x) (sym (set_same pasts i)) t)
 
-one_more : (e : Entry) (x y : Counts) → tally.Adds e x y → (home : Home) (pasts : List (List Entry)) (i : ℕ) (new : List Entry) → i < length pasts → Adds (At home (get_or pasts i [])) (e ∷ []) (At home new) → Tells x pasts
-    → Tells y (slice_set pasts i new)
+one_more : (e : Entry) (x y : Counts) → tally.Adds e x y → (home : Home) (pasts : List (List Entry)) (i : ℕ) (new : List Entry) → i < length pasts → Adds (At home (get_or pasts i [])) (e ∷ []) (At home new) → TellsJournals x pasts
+    → TellsJournals y (slice_set pasts i new)
 one_more e x y c home pasts i new low adds t =
-    subst (λ (l : List Entry). Tells y (slice_set pasts i l)) (sym (ap (λ (z : History). z.past) adds)) (tells_more.entry pasts i e x y low t c)
+    subst (λ (l : List Entry). TellsJournals y (slice_set pasts i l)) (sym (ap (λ (z : History). z.past) adds)) (tells_more.entry pasts i e x y low t c)
 
-two_more : (d e : Entry) (x c y : Counts) → tally.Adds e x c → tally.Adds d c y → (home : Home) (pasts : List (List Entry)) (i : ℕ) (new : List Entry) → i < length pasts → Adds (At home (get_or pasts i [])) (d ∷ e ∷ []) (At home new) → Tells x pasts
-    → Tells y (slice_set pasts i new)
+two_more : (d e : Entry) (x c y : Counts) → tally.Adds e x c → tally.Adds d c y → (home : Home) (pasts : List (List Entry)) (i : ℕ) (new : List Entry) → i < length pasts → Adds (At home (get_or pasts i [])) (d ∷ e ∷ []) (At home new) → TellsJournals x pasts
+    → TellsJournals y (slice_set pasts i new)
 two_more d e x c y first second home pasts i new low adds t =
     let past : List Entry = get_or pasts i [] in
-    let one : Tells c (slice_set pasts i (e ∷ past)) = tells_more.entry pasts i e x c low t first in
-    let two : Tells y (slice_set (slice_set pasts i (e ∷ past)) i (d ∷ get_or (slice_set pasts i (e ∷ past)) i [])) =
+    let one : TellsJournals c (slice_set pasts i (e ∷ past)) = tells_more.entry pasts i e x c low t first in
+    let two : TellsJournals y (slice_set (slice_set pasts i (e ∷ past)) i (d ∷ get_or (slice_set pasts i (e ∷ past)) i [])) =
     tells_more.entry (slice_set pasts i (e ∷ past)) i d c y (let n = length_set pasts i (e ∷ past) in omega (arith, n, low)) one second in
-    subst (λ (l : List Entry). Tells y (slice_set pasts i l)) (sym (ap (λ (z : History). z.past) adds))
-    (subst (Tells y) (set_twice pasts i (e ∷ past) (d ∷ e ∷ past)) (subst (λ (l : List Entry). Tells y (slice_set (slice_set pasts i (e ∷ past)) i (d ∷ l))) (get_set pasts i (e ∷ past) low) two))
+    subst (λ (l : List Entry). TellsJournals y (slice_set pasts i l)) (sym (ap (λ (z : History). z.past) adds))
+    (subst (TellsJournals y) (set_twice pasts i (e ∷ past) (d ∷ e ∷ past)) (subst (λ (l : List Entry). TellsJournals y (slice_set (slice_set pasts i (e ∷ past)) i (d ∷ l))) (get_set pasts i (e ∷ past) low) two))
 
 -- entries that count nothing
 join_adds : (x : Counts) (n : ℕ) → tally.Adds (Join n) x x
@@ -168,11 +168,11 @@ low_last : (pasts : List (List Entry)) → length pasts < length (pasts ++ [] �
 low_last [] = omega arith
 low_last (past ∷ more) = let n = low_last more in omega (arith, n)
 
-pub opened_counted : (x y : Counts) (pasts : List (List Entry)) (n : ℕ) → AddsGroup x y → Tells x pasts → Tells y (pasts ++ (Join n ∷ []) ∷ [])
+pub opened_counted : (x y : Counts) (pasts : List (List Entry)) (n : ℕ) → AddsGroup x y → TellsJournals x pasts → TellsJournals y (pasts ++ (Join n ∷ []) ∷ [])
 opened_counted x y pasts n adds t =
-    let one : Tells y (pasts ++ [] ∷ []) = tells_more.group pasts x y t adds in
-    let two : Tells y (slice_set (pasts ++ [] ∷ []) (length pasts) (Join n ∷ get_or (pasts ++ [] ∷ []) (length pasts) [])) = tells_more.entry (pasts ++ [] ∷ []) (length pasts) (Join n) y y (low_last pasts) one (join_adds y n) in
-    subst (Tells y) (set_last pasts (Join n ∷ [])) (subst (λ (l : List Entry). Tells y (slice_set (pasts ++ [] ∷ []) (length pasts) (Join n ∷ l))) (get_last pasts) two)
+    let one : TellsJournals y (pasts ++ [] ∷ []) = tells_more.group pasts x y t adds in
+    let two : TellsJournals y (slice_set (pasts ++ [] ∷ []) (length pasts) (Join n ∷ get_or (pasts ++ [] ∷ []) (length pasts) [])) = tells_more.entry (pasts ++ [] ∷ []) (length pasts) (Join n) y y (low_last pasts) one (join_adds y n) in
+    subst (TellsJournals y) (set_last pasts (Join n ∷ [])) (subst (λ (l : List Entry). TellsJournals y (slice_set (pasts ++ [] ∷ []) (length pasts) (Join n ∷ l))) (get_last pasts) two)
 
 -- ---- the newest entry
 

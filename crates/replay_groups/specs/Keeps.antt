@@ -11,7 +11,7 @@ use Rattle.group_core.specs.declared.answer.Rest.{Rest}
 use Rattle.group_core.specs.declared.answer.Rest.TheVariants as rest
 use Rattle.group_core.specs.Conns.{Joins}
 use Rattle.replay_script.specs.declared.counts.Counts.{Counts}
-use Rattle.replay_script.specs.Counting.{Tells, Adds, AddsGroup}
+use Rattle.replay_script.specs.Counting.{TellsJournals, Adds, AddsGroup}
 use Rattle.replay_world.specs.Groups.{most_groups}
 use Rattle.replay_world.specs.Worlds.{goes_on}
 use Rattle.replay_world.specs.Replays.{journals_from}
@@ -46,7 +46,7 @@ pub record Keeps (x : GroupsView) (pasts : List (List Entry)) : Type 0 where
   pub journals : x.groups ≡ journals_from x.boot 1 pasts
   pub sound : AllSound x.boot 1 pasts
   pub open_is : x.open_groups ≡ length (filter goes_on pasts)
-  pub counted : Tells x.counts pasts
+  pub counted : TellsJournals x.counts pasts
 
 -- the group of that id was opened
 abbrev pub Has : GroupsView → ℕ → Type 0
@@ -90,7 +90,11 @@ Touched x g j n y = (y ≡ record x { groups = slice_set x.groups (g - 1) j; ope
 abbrev pub Counted : (History → History → Type 0) → Counts → Counts → Type 0
 Counted Says x y =
     (home : Home) (pasts : List (List Entry)) (i : ℕ) (new : List Entry) → i < length pasts
-    → Says (since home empty_base (get_or pasts i [])) (since home empty_base new) → Tells x pasts → Tells y (slice_set pasts i new)
+    → Says (since home empty_base (get_or pasts i [])) (since home empty_base new) → TellsJournals x pasts → TellsJournals y (slice_set pasts i new)
+
+-- the group of that id alone goes on, so; as many are open then, and it is counted
+abbrev pub TouchedSo : (History → History → Type 0) → GroupsView → ℕ → GroupsView → Type 0
+TouchedSo Says x g y = (j : History) × Touched x g j x.open_groups y × Says (group_at x g) j × Counted Says x.counts y.counts
 
 -- how many handles the newest entry lists to be run down
 abbrev pub newest_due : List Entry → ℕ
@@ -110,6 +114,10 @@ AddsSettled e r x y = (c : Counts) × Adds e x c × AddsRest r c y
 abbrev pub left_open : ℕ → Rest → ℕ
 left_open n rest.Stays = n
 left_open n (rest.Shut items) = n - 1
+
+-- the same by an entry behind which it may end
+abbrev pub TouchedSettled : (History → History → Type 0) → Entry → Rest → GroupsView → ℕ → GroupsView → Type 0
+TouchedSettled Says e r x g y = (j : History) × Touched x g j (left_open x.open_groups r) y × Says (group_at x g) j × AddsSettled e r x.counts y.counts
 
 -- ---- a group is opened
 

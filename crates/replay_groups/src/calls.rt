@@ -7,7 +7,7 @@ ghost use Rattle.handle_model.specs.declared.entry.Entry.TheVariants.{End, Leave
 ghost use Rattle.group_core.specs.Calls.{Accepts, Takes, Cancels, Orphans, Ends};
 ghost use Rattle.group_core.specs.Conns.{Joins, Leaves, Settles};
 ghost use Rattle.hub_story.specs.Answers.{JoinsWhole};
-ghost use Rattle.replay_groups.specs.Keeps.{Has, Known, GoesOn, Answers, Touched, Counted, AddsRest, AddsSettled, group_at, left_open};
+ghost use Rattle.replay_groups.specs.Keeps.{Has, Known, GoesOn, Answers, Touched, TouchedSo, TouchedSettled, Counted, AddsRest, AddsSettled, group_at, left_open};
 
 use crate::counting::{count_accept, count_cancel, count_rest, count_taking};
 use crate::groups::Groups;
@@ -120,14 +120,14 @@ fn index_of(id: u32) -> usize
 impl Groups {
     fn take_at(&mut self, id: u32, call: u32) -> Taking
         requires { Has self.old id }
-        ensures { (j : History) × Touched self.old id j self.old.open_groups self.new × Takes (group_at self.old id) call result j × Counted (λ a b. Takes a call result b) self.old.counts self.new.counts }
+        ensures { TouchedSo (λ a b. Takes a call result b) self.old id self.new }
     {
         take_of(&mut self.groups[index_of(id)], &mut self.counts, call)
     }
 
     fn cancel_at(&mut self, id: u32, call: u32) -> Cancelled
         requires { Has self.old id }
-        ensures { (j : History) × Touched self.old id j self.old.open_groups self.new × Cancels (group_at self.old id) call result j × Counted (λ a b. Cancels a call result b) self.old.counts self.new.counts }
+        ensures { TouchedSo (λ a b. Cancels a call result b) self.old id self.new }
     {
         cancel_of(&mut self.groups[index_of(id)], &mut self.counts, call)
     }
@@ -170,7 +170,7 @@ impl Groups {
         requires there { Has self.old id }
         requires is_open { journal.is_open (group_at self.old id) asked.conn ≡ true }
         requires few { length asked.slots ≤ 4 }
-        ensures { (j : History) × Touched self.old id j self.old.open_groups self.new × Accepts (group_at self.old id) asked result j × Counted (λ a b. Accepts a asked result b) self.old.counts self.new.counts }
+        ensures { TouchedSo (λ a b. Accepts a asked result b) self.old id self.new }
     {
         accept_of(&mut self.groups[index_of(id)], &mut self.counts, asked)
     }
@@ -179,7 +179,7 @@ impl Groups {
         requires there { Has self.old id }
         requires runs { journal.runs (group_at self.old id) call ≡ true }
         requires suit { journal.suit (journal.slots (group_at self.old id) call) results ≡ true }
-        ensures { (j : History) × Touched self.old id j (left_open self.old.open_groups result) self.new × Ends (group_at self.old id) call results said result j × AddsSettled (End call results said) result self.old.counts self.new.counts }
+        ensures { TouchedSettled (λ a b. Ends a call results said result b) (End call results said) result self.old id self.new }
     {
         let group = &mut self.groups[index_of(id)];
         let rest = end_of(group, &mut self.counts, call, results, said);
@@ -199,6 +199,11 @@ impl Groups {
     }
 
     /// Accepts a call of a connection that is open in the group, or refuses it at a limit.
+    ///
+    /// # Errors
+    ///
+    /// The call as it was asked, with the first of `Calls`, `Handles` and `Numbers` whose limit is
+    /// reached, or with `Memory` where there is no memory for it.
     pub fn accept(&mut self, id: u32, asked: Asked) -> Result<u32, (Asked, AcceptRefusal)>
         requires there { Has self.old id }
         requires is_open { Known self.old id (λ j. journal.is_open j asked.conn ≡ true) }
@@ -236,6 +241,11 @@ impl Groups {
     }
 
     /// A connection joins a group, and has this number there; or it is refused at a limit.
+    ///
+    /// # Errors
+    ///
+    /// `TooMany` or `Numbers` where that limit is reached, and `Memory` where there is no memory
+    /// for it.
     pub fn join(&mut self, id: u32) -> Result<u32, JoinRefusal>
         requires there { Has self.old id }
         requires goes_on { GoesOn self.old id }

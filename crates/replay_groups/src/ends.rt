@@ -1,5 +1,5 @@
 //! The end of a call.
-ghost use Rattle.std.specs.Prelude.{◌≡◌, ◌≢◌, ◌≤◌, ◌↔◌, ℕ, List, Option, Some, IfOk, length, true};
+ghost use Rattle.std.specs.Prelude.{◌≡◌, ◌≢◌, ◌≤◌, ◌↔◌, Option, Some, IfOk, length, true};
 ghost use Rattle.handle_model.specs.declared.entry.Said.TheVariants.{Fault};
 ghost use Rattle.handle_model.specs.Journal.{suit};
 ghost use Rattle.conn_asks.specs.Answers.{FitsStub};
@@ -10,7 +10,7 @@ ghost use Rattle.manager_api.specs.Served.{tables_in};
 ghost use Rattle.server_calls.specs.Suited.{suit_cookies};
 ghost use Rattle.desk_service.specs.State.{tables_of};
 ghost use Rattle.desk_service.specs.Views.{services};
-ghost use Rattle.replay_groups.specs.Rows.{AreIn, HasCookies, MayAnswer};
+ghost use Rattle.replay_groups.specs.Rows.{HasCookies, MayAnswer, MeetsRow};
 
 use desk_counts::Counted;
 use desk_service::ServiceDesks;
@@ -42,7 +42,7 @@ pub fn finish(
     requires slots { requests.HasSlots (tables_in served.now) asked.now.iface asked.now.op asked.now.order asked.now.stub asked.now.slots }
     requires few { length asked.now.slots ≤ 4 }
     requires cookies { HasCookies cookies.now asked.now.slots }
-    ensures meets { IfOk result (λ ended. (given : List (Option ℕ)) → AreIn cookies.now asked.now.slots given → Meets home (tables_in served.now) (MayAnswer (services desks.old) numbers cancelled (services desks.new)) asked.now given cancelled ended.results ended.said) }
+    ensures meets { IfOk result (MeetsRow home (tables_in served.now) (MayAnswer (services desks.old) numbers cancelled (services desks.new)) asked.now cookies.now cancelled) }
     ensures suit { IfOk result (λ ended. suit asked.now.slots ended.results ≡ true) }
     ensures memory { IfOk result (λ ended. ended.said ≢ Fault requests.no_memory) }
     ensures fits { IfOk result (λ ended. FitsStub (Some ended.said)) }

@@ -1,7 +1,7 @@
 //! The groups.
 ghost use Rattle.std.specs.Prelude.{◌≡◌, List, [], IfOk};
 ghost use Rattle.handle_model.specs.declared.entry.Entry.{Entry};
-ghost use Rattle.replay_script.specs.Counting.{Tells};
+ghost use Rattle.replay_script.specs.Counting.{TellsJournals};
 ghost use Rattle.replay_groups.specs.Keeps.{Keeps};
 
 use group_core::Group;
@@ -53,7 +53,7 @@ impl Groups {
 
     /// How many entries of each kind the whole journals have.
     pub fn counts(&self) -> &Counts
-        ensures { (pasts : List (List Entry)) → Keeps self.now pasts → Tells result.now pasts }
+        ensures { (pasts : List (List Entry)) → Keeps self.now pasts → TellsJournals result.now pasts }
     {
         &self.counts
     }

@@ -36,6 +36,11 @@ fn first_joined(alloc: Global, boot: u64, id: u32) -> Result<Group, NoMemory>
 impl Groups {
     /// Opens the group of the next id, which its first connection has joined, and answers the id. It is refused where so many
     /// are open, or no id is left.
+    ///
+    /// # Errors
+    ///
+    /// `Full` where 1,024 groups are open or no id is left, and `Memory` where there is no memory
+    /// for the group.
     pub fn open_next(&mut self) -> Result<u32, OpenRefusal>
         ensures { Opens self.old result self.new }
     {

@@ -6,7 +6,7 @@ ghost use Rattle.desk_service.specs.Start.{at_start};
 ghost use Rattle.desk_service.specs.State.{Services};
 ghost use Rattle.desk_service.specs.Views.{services};
 ghost use Rattle.manager_api.specs.Served.{tables_in};
-ghost use Rattle.replay_script.specs.Counting.{Tells};
+ghost use Rattle.replay_script.specs.Counting.{TellsJournals};
 ghost use Rattle.replay_world.specs.Worlds.{World, booted};
 ghost use Rattle.replay_world.specs.Services.{RunsDown};
 ghost use Rattle.replay_world.specs.Replays.{log_text};
@@ -71,7 +71,7 @@ impl Realm {
 
     /// How many entries of each kind the whole journals have.
     pub fn counts(&self) -> &Counts
-        ensures { (echo : Option TableForm) (w : World Services) → Holds echo self.now w → Tells result.now w.groups }
+        ensures { (echo : Option TableForm) (w : World Services) → Holds echo self.now w → TellsJournals result.now w.groups }
     {
         self.groups.counts()
     }

@@ -55,7 +55,7 @@ use Rattle.conn_turns.proofs.Stepping.{staged}
 use Rattle.conn_turns.specs.Quiet.{IsQuiet}
 use Rattle.conn_turns.proofs.Hearing.{grouping_still}
 use Rattle.conn_turns.specs.Done.{IsDone}
-use Rattle.replay_promises.proofs.Telling.{Front, Behind, BoundBy, is_gone, IsTold, Tells}
+use Rattle.replay_promises.proofs.Telling.{Front, Behind, BoundBy, is_gone, IsTold, TellsTurns}
 
 -- ---- parts
 
@@ -93,7 +93,7 @@ abbrev pub not_off : Act → Type 0
 not_off act = (id : ℕ) → IsCallOff id act → ⊥
 
 -- the event behind those before it
-module _ (service : Service) (end w b : World service.State) (p : Peer) (event : Event) (state : ConnState) (happens : Happens p.state event state) (t : Tells service end w p false) where
+module _ (service : Service) (end w b : World service.State) (p : Peer) (event : Event) (state : ConnState) (happens : Happens p.state event state) (t : TellsTurns service end w p false) where
   pub lives_on : Lives (at_start (ids_of service.tables)) (p.events ++ event ∷ []) state
   lives_on = one_more (at_start (ids_of service.tables)) p.state state p.events event t.lives happens
 
@@ -101,7 +101,7 @@ module _ (service : Service) (end w b : World service.State) (p : Peer) (event :
   seen_on = (put_in_order p.events (event ∷ [])).0.saw ∙ ap (λ (l : List Event). l ++ seen (event ∷ [])) t.events
 
   pub built : (mem : Option Member) (x : Unanswered) (s : Standing) (turns : List Turn) → all_events t.turns ++ seen (event ∷ []) ≡ all_events turns → Behind s x turns state → BoundBy mem x state
-      → IsTold service end b mem (is_gone s) turns → Tells service end b (lived service (record p { member = mem; unanswered = x; standing = s }) event state) false
+      → IsTold service end b mem (is_gone s) turns → TellsTurns service end b (lived service (record p { member = mem; unanswered = x; standing = s }) event state) false
   built mem x s turns events behind bound told = record {
     turns = turns;
     lives = lives_on;

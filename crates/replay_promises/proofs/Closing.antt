@@ -26,7 +26,7 @@ use Rattle.replay_moments.proofs.Lines.{ends_keep}
 use Rattle.conn_turns.specs.Quiet.{IsQuiet}
 use Rattle.replay_promises.proofs.Reaching.{Reaches, reaches_none, reaches_twice, below}
 use Rattle.replay_promises.proofs.Still.{still_left}
-use Rattle.replay_promises.proofs.Telling.{Behind, RestsAs, IsTold, Tells, is_gone, retold}
+use Rattle.replay_promises.proofs.Telling.{Behind, RestsAs, IsTold, TellsTurns, is_gone, retold}
 use Rattle.replay_promises.proofs.Happening.{Inv, some_peer}
 use Rattle.conn_turns.proofs.Done.{done_runs}
 use Rattle.replay_promises.proofs.Running.{ended_tells, ended_others, ended_none, over_none}
@@ -158,7 +158,7 @@ without_call Lost (Call k) turns m gone none b = absurd (none k refl)
 
 -- what the turns of a connection tell, and that none runs where it is none of these
 pub record Quiet (service : Service) (end w : World service.State) (d : ℕ) (x : Peer) (cs : List ℕ) : Type 0 where
-  pub tells : Tells service end w x true
+  pub tells : TellsTurns service end w x true
   pub none : NoneOf d cs → list_any turn_runs tells.turns ≡ false
 
 -- no connection is there
@@ -173,7 +173,7 @@ module _ (service : Service) (end : World service.State) (ends : AreSound end) w
   rests_away Closed x turns m gone = tt
   rests_away Lost x turns m gone = tt
 
-  abbrev away : (w : World service.State) (p : Peer) → p.standing ≢ Open → Tells service end w p false → Tells service end w p true
+  abbrev away : (w : World service.State) (p : Peer) → p.standing ≢ Open → TellsTurns service end w p false → TellsTurns service end w p true
   away w p gone t = record {
     turns = t.turns;
     lives = t.lives;
@@ -221,7 +221,7 @@ module _ (service : Service) (end : World service.State) (ends : AreSound end) w
       at_w : (d : ℕ) (x : Peer) → peer_at v d ≡ Some x → peer_at w d ≡ Some x
       at_w d x at = sym (ap (λ (ps : List Peer). peer_at (record w { peers = ps }) d) peers) ∙ at
 
-      here : Tells service end w p true
+      here : TellsTurns service end w p true
       here = (o.quiet c p was).tells
 
       ended : Over service end u cs

@@ -47,7 +47,7 @@ use Rattle.conn_turns.proofs.Making.{called, made_answered}
 use Rattle.conn_turns.proofs.StepEnding.{joined_so}
 use Rattle.conn_turns.proofs.Hearing.{bound_stays, bound_waits, refused_waits, reply_waits}
 use Rattle.replay_promises.proofs.Reaching.{Reaches, below, crowded}
-use Rattle.replay_promises.proofs.Telling.{Front, BoundBy, IsTold, Tells, others_told, none_apart, set_elsewhere}
+use Rattle.replay_promises.proofs.Telling.{Front, BoundBy, IsTold, TellsTurns, others_told, none_apart, set_elsewhere}
 use Rattle.replay_promises.proofs.Acting.{bound_by, bound_in, built, over_is, reply_here, not_left, fate_replied}
 use Rattle.conn_turns.proofs.Plain.{one_answer_more}
 use Rattle.replay_promises.proofs.Doing.{Acted, others_same}
@@ -158,7 +158,7 @@ module _ {S : Type 0} (w : World S) (asked : ℕ) (found : bind_refusal w asked 
 -- ---- the server's word
 
 module _ (service : Service) (end w b : World service.State) (c : ℕ) (p : Peer) (state : ConnState) (h : Coheres w) (ends : AreSound end) (from : Reaches w end) (reach : Reaches b end) (was : peer_at w c ≡ Some p)
-    (t : Tells service end w p false) (front : Front p.unanswered t.turns p.state.waits) (told : IsTold service end w p.member false t.turns) where
+    (t : TellsTurns service end w p false) (front : Front p.unanswered t.turns p.state.waits) (told : IsTold service end w p.member false t.turns) where
   abbrev server : Server
   server = as_server service end
 

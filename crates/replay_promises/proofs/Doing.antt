@@ -59,14 +59,14 @@ use Rattle.conn_turns.proofs.Hearing.{calls_wait, bound_stays, bind_once, bind_b
 use Rattle.replay_promises.proofs.Reaching.{Reaches, reaches_twice, accepts_reach, marked_reach, Below, below}
 use Rattle.conn_turns.specs.Done.{IsDone}
 use Rattle.conn_turns.proofs.Done.{done_may, done_closed, done_stay}
-use Rattle.replay_promises.proofs.Telling.{Asking, Front, BoundBy, IsTold, Tells, Enters, others_told, none_apart, call_apart, new_apart, set_there, set_elsewhere}
+use Rattle.replay_promises.proofs.Telling.{Asking, Front, BoundBy, IsTold, TellsTurns, Enters, others_told, none_apart, call_apart, new_apart, set_there, set_elsewhere}
 use Rattle.replay_promises.proofs.Acting.{bound_by, bound_in, built, free_at, plain_told, stage_here, not_left, open_is}
 use Rattle.conn_turns.proofs.Plain.{refused_so, plain_refused, plain_closed, plain_answer, one_more_off}
 
 -- ---- what an event comes to
 
 pub record Acted (service : Service) (end w b : World service.State) (c : ℕ) (q : Peer) : Type 0 where
-  pub own : Tells service end b q false
+  pub own : TellsTurns service end b q false
   pub others : (d : ℕ) (x : Peer) → d ≢ c → peer_at w d ≡ Some x → (gone : Bool) (turns : List Turn) → IsTold service end w x.member gone turns → IsTold service end b x.member gone turns
 
 module _ (service : Service) (end w b : World service.State) (c : ℕ) (p : Peer) (h : Coheres w) (was : peer_at w c ≡ Some p) where
@@ -92,7 +92,7 @@ pub off_set : {S : Type 0} (w v : World S) (g h : ℕ) (past : List Entry) → v
 off_set w v g h past groups low up d = ap (λ (l : List (List Entry)). get_or l (h - 1) []) groups ∙ set_elsewhere w.groups g h past low up d
 
 module _ (service : Service) (end w b : World service.State) (c : ℕ) (p : Peer) (state : ConnState) (h : Coheres w) (ends : AreSound end) (from : Reaches w end) (reach : Reaches b end) (was : peer_at w c ≡ Some p)
-    (t : Tells service end w p false) (front : Front p.unanswered t.turns p.state.waits) (told : IsTold service end w p.member false t.turns) where
+    (t : TellsTurns service end w p false) (front : Front p.unanswered t.turns p.state.waits) (told : IsTold service end w p.member false t.turns) where
   abbrev server : Server
   server = as_server service end
 

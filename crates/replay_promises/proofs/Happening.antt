@@ -29,7 +29,7 @@ use Rattle.replay_moments.proofs.Events.{events_keep}
 use Rattle.conn_turns.proofs.Hearing.{bound_stays, paused_waits}
 use Rattle.replay_promises.proofs.Reaching.{Reaches, reaches_none, reaches_twice, reaches_same, means_reach, below, of_member}
 use Rattle.replay_promises.proofs.Still.{means_still}
-use Rattle.replay_promises.proofs.Telling.{Front, Behind, RestsBy, RestsAs, is_gone, IsTold, Tells, busy, retold, same_told}
+use Rattle.replay_promises.proofs.Telling.{Front, Behind, RestsBy, RestsAs, is_gone, IsTold, TellsTurns, busy, retold, same_told}
 use Rattle.replay_promises.proofs.Acting.{bound_by, lives_on, seen_on, built, front_same, open_is, quiet_called}
 use Rattle.replay_promises.proofs.Doing.{Acted, others_same, answers, groups, refused, accepted, cancelled, orphaned, shuts, shuts_alone}
 use Rattle.replay_promises.proofs.Deciding.{joins, turned_down, faulted, replied}
@@ -37,12 +37,12 @@ use Rattle.replay_promises.proofs.Deciding.{joins, turned_down, faulted, replied
 -- of all connections, where nothing more happens for now; and where it does on one of them
 pub record Inv (service : Service) (end w : World service.State) : Type 0 where
   pub coheres : Coheres w
-  pub tells : (d : ℕ) (x : Peer) → peer_at w d ≡ Some x → Tells service end w x true
+  pub tells : (d : ℕ) (x : Peer) → peer_at w d ≡ Some x → TellsTurns service end w x true
 
 pub record Busy (service : Service) (end w : World service.State) (c : ℕ) : Type 0 where
   pub coheres : Coheres w
-  pub tells : (d : ℕ) (x : Peer) → d ≢ c → peer_at w d ≡ Some x → Tells service end w x true
-  pub mine : (x : Peer) → peer_at w c ≡ Some x → Tells service end w x false
+  pub tells : (d : ℕ) (x : Peer) → d ≢ c → peer_at w d ≡ Some x → TellsTurns service end w x true
+  pub mine : (x : Peer) → peer_at w c ≡ Some x → TellsTurns service end w x false
 
 pub begin_busy : (service : Service) (end w : World service.State) (c : ℕ) → Inv service end w → Busy service end w c
 begin_busy service end w c i = record {
@@ -71,23 +71,23 @@ module _ (service : Service) (end w b v : World service.State) (c : ℕ) (p q : 
   pub pasts : (g : ℕ) → past_of v g ≡ past_of b g
   pasts g = ap (λ (z : World service.State). past_of z g) is
 
-  pub put_tells : (x : Peer) (free : Bool) → Tells service end b x free → Tells service end v x free
+  pub put_tells : (x : Peer) (free : Bool) → TellsTurns service end b x free → TellsTurns service end v x free
   put_tells x free t = retold service end b v x free (same_told service end b v x.member (λ m e. pasts m.group)) t
 
-  pub others_put : Acted service end w b c q → ((d : ℕ) (x : Peer) → d ≢ c → peer_at w d ≡ Some x → Tells service end w x true) → (d : ℕ) (x : Peer) → d ≢ c → peer_at v d ≡ Some x → Tells service end v x true
+  pub others_put : Acted service end w b c q → ((d : ℕ) (x : Peer) → d ≢ c → peer_at w d ≡ Some x → TellsTurns service end w x true) → (d : ℕ) (x : Peer) → d ≢ c → peer_at v d ≡ Some x → TellsTurns service end v x true
   others_put a tells d x other at =
       let there : peer_at w d ≡ Some x = sym (put_other d other) ∙ at in
       put_tells x true (retold service end w b x true (a.others d x other there) (tells d x other there))
 
-  pub busy_put : Coheres v → Acted service end w b c q → ((d : ℕ) (x : Peer) → d ≢ c → peer_at w d ≡ Some x → Tells service end w x true) → Busy service end v c
+  pub busy_put : Coheres v → Acted service end w b c q → ((d : ℕ) (x : Peer) → d ≢ c → peer_at w d ≡ Some x → TellsTurns service end w x true) → Busy service end v c
   busy_put h a tells = record {
     coheres = h;
     tells = others_put a tells;
-    mine = λ x at. let one : q ≡ x = some_peer q x (sym put_is ∙ at) in subst (λ (y : Peer). Tells service end v y false) one (put_tells q false a.own);
+    mine = λ x at. let one : q ≡ x = some_peer q x (sym put_is ∙ at) in subst (λ (y : Peer). TellsTurns service end v y false) one (put_tells q false a.own);
   }
 
-  pub inv_put : Coheres v → Tells service end b q true → ((d : ℕ) (x : Peer) → d ≢ c → peer_at w d ≡ Some x → (gone : Bool) (turns : List Turn) → IsTold service end w x.member gone turns → IsTold service end b x.member gone turns)
-      → ((d : ℕ) (x : Peer) → d ≢ c → peer_at w d ≡ Some x → Tells service end w x true) → Inv service end v
+  pub inv_put : Coheres v → TellsTurns service end b q true → ((d : ℕ) (x : Peer) → d ≢ c → peer_at w d ≡ Some x → (gone : Bool) (turns : List Turn) → IsTold service end w x.member gone turns → IsTold service end b x.member gone turns)
+      → ((d : ℕ) (x : Peer) → d ≢ c → peer_at w d ≡ Some x → TellsTurns service end w x true) → Inv service end v
   inv_put h own others tells = record {
     coheres = h;
     tells =
@@ -95,7 +95,7 @@ module _ (service : Service) (end w b v : World service.State) (c : ℕ) (p q : 
         elim (eqb_tells d c) [
           | inl e ↦
               let here : peer_at v c ≡ Some x = subst (λ (n : ℕ). peer_at v n ≡ Some x) e.1 at in
-              let one : q ≡ x = some_peer q x (sym put_is ∙ here) in subst (λ (y : Peer). Tells service end v y true) one (put_tells q true own)
+              let one : q ≡ x = some_peer q x (sym put_is ∙ here) in subst (λ (y : Peer). TellsTurns service end v y true) one (put_tells q true own)
           | inr e ↦ let there : peer_at w d ≡ Some x = sym (put_other d e.1) ∙ at in put_tells x true (retold service end w b x true (others d x e.1 there) (tells d x e.1 there))
         ];
   }
@@ -117,7 +117,7 @@ call_by (Some m) (Refused s) P Q f t = absurd t
 call_by (Some m) (Call k) P Q f t = f m k refl refl t
 
 module _ (service : Service) (end w b : World service.State) (c : ℕ) (p a : Peer) (state : ConnState) (h : Coheres w) (ends : AreSound end) (from : Reaches w end) (reach : Reaches b end) (was : peer_at w c ≡ Some p)
-    (opens : p.standing ≡ Open) (t : Tells service end w p false) where
+    (opens : p.standing ≡ Open) (t : TellsTurns service end w p false) where
   front : Front p.unanswered t.turns p.state.waits
   front = behind_open p.standing p.unanswered t.turns p.state opens t.behind
 
@@ -227,11 +227,11 @@ module _ (service : Service) (end w b : World service.State) (c : ℕ) (p a : Pe
           let o = open_is (as_server service end) (home_of end m.group) w m r.0.joined r.0.iface k r.0.offs r.0.slots r.0.fate r.0.older s.0 made (over_due m k false is x_is due) in
           subst (λ (l : List Turn). RestsBy (Call k) l state) (sym r.0.is) o
 
-  pub paused_tells : Happens p.state Paused state → Means service w p Paused a b → Tells service end b (lived service a Paused state) true
+  pub paused_tells : Happens p.state Paused state → Means service w p Paused a b → TellsTurns service end b (lived service a Paused state) true
   paused_tells happens t' =
       let waits = paused_waits p.state state happens in
       let same : record p { member = p.member; unanswered = p.unanswered; standing = Open } ≡ a = sym (λ i. record p { standing = opens i }) ∙ sym t'.1 in
-      subst (λ (z : Peer). Tells service end b (lived service z Paused state) true) same
+      subst (λ (z : Peer). TellsTurns service end b (lived service z Paused state) true) same
       (record {
         turns = t.turns;
         lives = lives_on service end w b p Paused state happens t;

@@ -40,7 +40,7 @@ use Rattle.conn_turns.proofs.Making.{called, MayLeave}
 use Rattle.conn_turns.proofs.StepEnding.{Leaving}
 use Rattle.replay_promises.proofs.Reaching.{Reaches, reaches_none, reaches_twice, reaches_same, leaves_reach, takes_reach, settles_reach, below}
 use Rattle.replay_promises.proofs.Still.{still_on, still_left}
-use Rattle.replay_promises.proofs.Telling.{Front, Left, Behind, RestsBy, RestsAs, newest_open, is_gone, IsTold, Tells, busy, retold, same_told}
+use Rattle.replay_promises.proofs.Telling.{Front, Left, Behind, RestsBy, RestsAs, newest_open, is_gone, IsTold, TellsTurns, busy, retold, same_told}
 use Rattle.conn_turns.proofs.Done.{only_done, done_may, done_stay, done_closed}
 use Rattle.replay_promises.proofs.Acting.{quiet_called}
 use Rattle.replay_promises.proofs.Doing.{others_same, own_before, leaving, left_others}
@@ -74,25 +74,25 @@ module _ (service : Service) (end w u : World service.State) (c : ℕ) (p : Peer
   pub same_at : (d : ℕ) → peer_at u d ≡ peer_at w d
   same_at d = ap (λ (ps : List Peer). peer_at (record w { peers = ps }) d) peers
 
-  pub inv_same : Coheres u → Tells service end u p true → ((d : ℕ) (x : Peer) → d ≢ c → peer_at w d ≡ Some x → (gone : Bool) (ts : List Turn) → IsTold service end w x.member gone ts → IsTold service end u x.member gone ts)
-      → ((d : ℕ) (x : Peer) → peer_at w d ≡ Some x → Tells service end w x true) → Inv service end u
+  pub inv_same : Coheres u → TellsTurns service end u p true → ((d : ℕ) (x : Peer) → d ≢ c → peer_at w d ≡ Some x → (gone : Bool) (ts : List Turn) → IsTold service end w x.member gone ts → IsTold service end u x.member gone ts)
+      → ((d : ℕ) (x : Peer) → peer_at w d ≡ Some x → TellsTurns service end w x true) → Inv service end u
   inv_same h own others tells = record {
     coheres = h;
     tells =
         λ d x at.
         let there : peer_at w d ≡ Some x = sym (same_at d) ∙ at in
         elim (eqb_tells d c) [
-          | inl e ↦ let one : p ≡ x = some_peer p x (sym was ∙ subst (λ (n : ℕ). peer_at w n ≡ Some x) e.1 there) in subst (λ (y : Peer). Tells service end u y true) one own
+          | inl e ↦ let one : p ≡ x = some_peer p x (sym was ∙ subst (λ (n : ℕ). peer_at w n ≡ Some x) e.1 there) in subst (λ (y : Peer). TellsTurns service end u y true) one own
           | inr e ↦ retold service end w u x true (others d x e.1 there) (tells d x there)
         ];
   }
 
-  pub busy_same : Coheres u → Tells service end u p false → ((d : ℕ) (x : Peer) → d ≢ c → peer_at w d ≡ Some x → (gone : Bool) (ts : List Turn) → IsTold service end w x.member gone ts → IsTold service end u x.member gone ts)
-      → ((d : ℕ) (x : Peer) → peer_at w d ≡ Some x → Tells service end w x true) → Busy service end u c
+  pub busy_same : Coheres u → TellsTurns service end u p false → ((d : ℕ) (x : Peer) → d ≢ c → peer_at w d ≡ Some x → (gone : Bool) (ts : List Turn) → IsTold service end w x.member gone ts → IsTold service end u x.member gone ts)
+      → ((d : ℕ) (x : Peer) → peer_at w d ≡ Some x → TellsTurns service end w x true) → Busy service end u c
   busy_same h own others tells = record {
     coheres = h;
     tells = λ d x other at. let there : peer_at w d ≡ Some x = sym (same_at d) ∙ at in retold service end w u x true (others d x other there) (tells d x there);
-    mine = λ x at. let one : p ≡ x = some_peer p x (sym was ∙ (sym (same_at c) ∙ at)) in subst (λ (y : Peer). Tells service end u y false) one own;
+    mine = λ x at. let one : p ≡ x = some_peer p x (sym was ∙ (sym (same_at c) ∙ at)) in subst (λ (y : Peer). TellsTurns service end u y false) one own;
   }
 
 -- ---- a connection is opened
@@ -104,7 +104,7 @@ pub opens_inv : (service : Service) (end w v : World service.State) (c : ℕ) �
 opens_inv service end w v c ends reach t i =
     let q : Peer = opened_peer (ids_of service.tables) c in
     let low = below end v ends reach in
-    let told : (x : Peer) (free : Bool) → Tells service end w x free → Tells service end v x free =
+    let told : (x : Peer) (free : Bool) → TellsTurns service end w x free → TellsTurns service end v x free =
     λ x free s. retold service end w v x free (same_told service end w v x.member (λ m e. ap (λ (z : World service.State). past_of z m.group) t.1)) s in
     record {
       coheres = opens_keep service c w v low.sound t i.coheres;
@@ -114,7 +114,7 @@ opens_inv service end w v c ends reach t i =
           elim (eqb_tells d c) [
             | inl e ↦
                 let one : q ≡ x = some_peer q x (sym (put_found q w.peers) ∙ subst (λ (n : ℕ). peer_at (with_peer w q) n ≡ Some x) e.1 at') in
-                subst (λ (y : Peer). Tells service end v y true) one
+                subst (λ (y : Peer). TellsTurns service end v y true) one
                 (record { turns = []; lives = refl; events = refl; behind = (tt, refl); bound = tt; told = (tt, tt); rests = λ f. starts_at_rest })
             | inr e ↦ told x true (i.tells d x (sym (put_others d q w.peers (λ f. e.1 (sym f))) ∙ at'))
           ];
@@ -137,7 +137,7 @@ left_is (fates.Ended run) o = absurd cc
 left_is (fates.LeftEnded run) o = absurd cc
 
 module _ (service : Service) (end w u : World service.State) (c : ℕ) (p : Peer) (h : Coheres w) (ends : AreSound end) (from : Reaches w end) (reach : Reaches u end) (was : peer_at w c ≡ Some p) (opens : p.standing ≡ Open)
-    (t : Tells service end w p true) where
+    (t : TellsTurns service end w p true) where
   front : Front p.unanswered t.turns p.state.waits
   front = subst (λ (s : Standing). Behind s p.unanswered t.turns p.state) opens t.behind
 
@@ -147,14 +147,14 @@ module _ (service : Service) (end w u : World service.State) (c : ℕ) (p : Peer
   rests : RestsBy p.unanswered t.turns p.state
   rests = subst (λ (s : Standing). RestsAs s p.unanswered t.turns p.state) opens (t.rests refl)
 
-  abbrev mine : Tells service end w p false
+  abbrev mine : TellsTurns service end w p false
   mine = busy service end w p true t
 
   abbrev Others : Type 0
   Others = (d : ℕ) (x : Peer) → d ≢ c → peer_at w d ≡ Some x → (gone : Bool) (ts : List Turn) → IsTold service end w x.member gone ts → IsTold service end u x.member gone ts
 
   -- what its turns tell then
-  built : (turns : List Turn) → all_events t.turns ≡ all_events turns → Left p.unanswered turns p.state → IsTold service end u p.member true turns → Tells service end u (lost service p) true
+  built : (turns : List Turn) → all_events t.turns ≡ all_events turns → Left p.unanswered turns p.state → IsTold service end u p.member true turns → TellsTurns service end u (lost service p) true
   built turns events left told' = record {
     turns = turns;
     lives = t.lives;
@@ -165,7 +165,7 @@ module _ (service : Service) (end w u : World service.State) (c : ℕ) (p : Peer
     rests = λ e. tt;
   }
 
-  none_lost : p.member ≡ None → u ≡ w → (x : Unanswered) → p.unanswered ≡ x → Front x t.turns p.state.waits → RestsBy x t.turns p.state → Tells service end u (lost service p) true
+  none_lost : p.member ≡ None → u ≡ w → (x : Unanswered) → p.unanswered ≡ x → Front x t.turns p.state.waits → RestsBy x t.turns p.state → TellsTurns service end u (lost service p) true
   none_lost alone same Nothing x_is f r =
       let quiet : IsTold service end w None false t.turns = subst (λ (mem : Option Member). IsTold service end w mem false t.turns) alone told in
       let quiet' : IsTold service end w None true t.turns = quiet in
@@ -188,7 +188,7 @@ module _ (service : Service) (end w u : World service.State) (c : ℕ) (p : Peer
     others_with : (turns : List Turn) → Leaving (as_server service end) (home_of end m.group) m.number turns (past_of w m.group) (past_of u m.group) before → Others
     others_with turns l = left_others service end w u c p p.state h ends from reach was mine front told m is turns l s
 
-    some_lost : (x : Unanswered) → p.unanswered ≡ x → Front x t.turns p.state.waits → RestsBy x t.turns p.state → Tells service end u (lost service p) true × Others
+    some_lost : (x : Unanswered) → p.unanswered ≡ x → Front x t.turns p.state.waits → RestsBy x t.turns p.state → TellsTurns service end u (lost service p) true × Others
     some_lost Nothing x_is f r =
         let l = leave_with t.turns (done_closed t.turns f.0) (done_may (as_server service end) (home_of end m.group) m.number t.turns f.0) refl in (
           built t.turns refl (subst (λ (x : Unanswered). Left x t.turns p.state) (sym x_is) (f.0, f.1, r))
@@ -225,7 +225,7 @@ module _ (service : Service) (end w u : World service.State) (c : ℕ) (p : Peer
           others_with (newest ∷ a.older) l,
         )
 
-  pub lost_tells : (o : Option Member) → p.member ≡ o → LeavesIts service o w u → Tells service end u (lost service p) true × Others
+  pub lost_tells : (o : Option Member) → p.member ≡ o → LeavesIts service o w u → TellsTurns service end u (lost service p) true × Others
   lost_tells None is l = (none_lost is l p.unanswered refl front rests, others_same service end w u c p h was l)
   lost_tells (Some m) is l = some_lost m is l p.unanswered refl front rests
 

@@ -50,7 +50,7 @@ use Rattle.conn_turns.proofs.StepEnding.{ended_so}
 use Rattle.replay_promises.proofs.Reaching.{Reaches, Below, below}
 use Rattle.conn_turns.specs.Done.{IsDone}
 use Rattle.conn_turns.proofs.Done.{done_runs}
-use Rattle.replay_promises.proofs.Telling.{Asking, Behind, RestsAs, newest_open, is_gone, not_free, IsTold, Tells, call_apart, set_there}
+use Rattle.replay_promises.proofs.Telling.{Asking, Behind, RestsAs, newest_open, is_gone, not_free, IsTold, TellsTurns, call_apart, set_there}
 use Rattle.replay_promises.proofs.Doing.{others_by, on_set, off_set}
 
 pub true_is : (b : Bool) → b ≡ true → b ≡ false → ⊥
@@ -85,7 +85,7 @@ gone_left Closed k turns m b f = absurd (calling_never k b.0)
 gone_left Lost k turns m b f = b.1
 
 module _ (service : Service) (end w u : World service.State) (c : ℕ) (p : Peer) (m : Member) (k : ℕ) (h : Coheres w) (ends : AreSound end) (from : Reaches w end) (reach : Reaches u end) (was : peer_at w c ≡ Some p)
-    (is : p.member ≡ Some m) (x_is : p.unanswered ≡ Call k) (free : Bool) (t : Tells service end w p free) where
+    (is : p.member ≡ Some m) (x_is : p.unanswered ≡ Call k) (free : Bool) (t : TellsTurns service end w p free) where
   abbrev server : Server
   server = as_server service end
 
@@ -143,7 +143,7 @@ module _ (service : Service) (end w u : World service.State) (c : ℕ) (p : Peer
     pub events' : all_events t.turns ≡ all_events turns'
     events' = ap all_events at.is ∙ sym (λ i. all_events (called at.joined at.iface (same i) (deeds.Accepted k g.on.slots g.on.fate) None ∷ at.older))
 
-    abbrev pub went_tells : (free' : Bool) → (free' ≡ true → RestsAs p.standing (Call k) turns' p.state) → Tells service end u p free'
+    abbrev pub went_tells : (free' : Bool) → (free' ≡ true → RestsAs p.standing (Call k) turns' p.state) → TellsTurns service end u p free'
     went_tells free' rests = record {
       turns = turns';
       lives = t.lives;
@@ -189,10 +189,10 @@ module _ (service : Service) (end w u : World service.State) (c : ℕ) (p : Peer
   opens_after taking.Dropped fate granted o before = ap is_open o ∙ before
   opens_after (taking.Wait n) fate granted o before = ap is_open o ∙ before
 
-  pub taken_tells : (answer : Taking) → GoesOn (λ old new. Takes old k answer new) w m.group u → Tells service end u p false
+  pub taken_tells : (answer : Taking) → GoesOn (λ old new. Takes old k answer new) w m.group u → TellsTurns service end u p false
   taken_tells answer says = let g = takes_went answer says in went_tells _ g g.on.so.0 g.on.so.1 g.on.so.2 false (λ e. absurd cc)
 
-  pub taken_rests : (answer : Taking) → GoesOn (λ old new. Takes old k answer new) w m.group u → free ≡ true → (IsDenied answer → ⊥) → Tells service end u p true
+  pub taken_rests : (answer : Taking) → GoesOn (λ old new. Takes old k answer new) w m.group u → free ≡ true → (IsDenied answer → ⊥) → TellsTurns service end u p true
   taken_rests answer says f granted =
       let g = takes_went answer says in
       went_tells _ g g.on.so.0 g.on.so.1 g.on.so.2 true (λ e. rests_so p.standing _ (λ o. opens_after answer g.on.fate granted g.on.so.3 (open_before f o)))
@@ -277,7 +277,7 @@ module _ (service : Service) (end w u : World service.State) (c : ℕ) (p : Peer
     pub no_open : (b : Bool) → b ≡ false → b ≡ true → at.joined.cancel ≡ false
     no_open b f o = absurd (true_is b o f)
 
-    abbrev pub ended_tells : runs (journal w m.group) k ≡ true → Tells service end u p false
+    abbrev pub ended_tells : runs (journal w m.group) k ≡ true → TellsTurns service end u p false
     ended_tells r = let g = ends_went r in went_tells _ g g.on.so.0 g.on.so.1 (no_open (is_open g.on.fate) g.on.so.2) false (λ e. absurd (not_free e))
 
     pub ended_others : runs (journal w m.group) k ≡ true → (d : ℕ) (x : Peer) → d ≢ c → peer_at w d ≡ Some x → (gone' : Bool) (ts : List Turn) → IsTold service end w x.member gone' ts → IsTold service end u x.member gone' ts

@@ -34,7 +34,7 @@ use Rattle.replay_moments.proofs.Peers.{found_name}
 use Rattle.replay_promises.specs.Laws.{EachIsServedWhereSound, ReplaysServeAll}
 use Rattle.conn_turns.proofs.StepEnding.{quiet_all}
 use Rattle.conn_turns.proofs.Done.{done_over}
-use Rattle.replay_promises.proofs.Telling.{Behind, IsTold, Tells, is_gone}
+use Rattle.replay_promises.proofs.Telling.{Behind, IsTold, TellsTurns, is_gone}
 use Rattle.replay_promises.proofs.Heard.{CameTo, puts}
 use Rattle.replay_promises.proofs.Closing.{ends_over, ends_heard}
 
@@ -83,7 +83,7 @@ gone_is Open gone = absurd (gone refl)
 gone_is Closed gone = refl
 gone_is Lost gone = refl
 
-module _ (service : Service) (end : World service.State) (p : Peer) (ends : AreSound end) (gone : p.standing ≢ Open) (t : Tells service end end p true) (none : list_any turn_runs t.turns ≡ false) (asked : List Ask) (asks : AreAsksOf (stream p.events) asked) where
+module _ (service : Service) (end : World service.State) (p : Peer) (ends : AreSound end) (gone : p.standing ≢ Open) (t : TellsTurns service end end p true) (none : list_any turn_runs t.turns ≡ false) (asked : List Ask) (asks : AreAsksOf (stream p.events) asked) where
   over : AllByRecursion IsOver t.turns × IsAllAsked p.state t.turns
   over = all_over p.standing p.unanswered t.turns p.state gone t.behind
 

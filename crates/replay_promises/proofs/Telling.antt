@@ -121,7 +121,7 @@ module _ (service : Service) (end : World service.State) where
   IsTold w None gone turns = AllByRecursion IsQuiet turns × AllDue (as_server service end) (home_of end 0) 0 [] turns
   IsTold w (Some m) gone turns = (own : List Entry) × Made (as_server service end) (home_of end m.group) m.number (past_of w m.group) gone turns own
 
-  pub record Tells (w : World service.State) (p : Peer) (free : Bool) : Type 0 where
+  pub record TellsTurns (w : World service.State) (p : Peer) (free : Bool) : Type 0 where
     pub turns : List Turn
     pub lives : Lives (at_start (ids_of service.tables)) p.events p.state
     pub events : seen p.events ≡ all_events turns
@@ -130,10 +130,10 @@ module _ (service : Service) (end : World service.State) where
     pub told : IsTold w p.member (is_gone p.standing) turns
     pub rests : free ≡ true → RestsAs p.standing p.unanswered turns p.state
 
-  abbrev pub busy : (w : World service.State) (p : Peer) (free : Bool) → Tells w p free → Tells w p false
+  abbrev pub busy : (w : World service.State) (p : Peer) (free : Bool) → TellsTurns w p free → TellsTurns w p false
   busy w p free t = record { turns = t.turns; lives = t.lives; events = t.events; behind = t.behind; bound = t.bound; told = t.told; rests = λ e. absurd (not_free e) }
 
-  abbrev pub retold : (w v : World service.State) (p : Peer) (free : Bool) → ((gone : Bool) (turns : List Turn) → IsTold w p.member gone turns → IsTold v p.member gone turns) → Tells w p free → Tells v p free
+  abbrev pub retold : (w v : World service.State) (p : Peer) (free : Bool) → ((gone : Bool) (turns : List Turn) → IsTold w p.member gone turns → IsTold v p.member gone turns) → TellsTurns w p free → TellsTurns v p free
   retold w v p free f t = record { turns = t.turns; lives = t.lives; events = t.events; behind = t.behind; bound = t.bound; told = f (is_gone p.standing) t.turns t.told; rests = t.rests }
 
   -- ---- journals that stay

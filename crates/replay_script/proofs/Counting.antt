@@ -8,7 +8,7 @@ use Rattle.handle_model.specs.declared.entry.Outcome.{Outcome}
 use Rattle.handle_model.specs.declared.entry.Entry.{Entry}
 use Rattle.handle_model.specs.declared.entry.Entry.TheVariants.{Join, Accept, Take, Deny, Cancel, Orphan, End, Leave, Shut}
 use Rattle.replay_script.specs.declared.counts.Counts.{Counts}
-use Rattle.replay_script.specs.Counting.{accepts, takes, denies, cancels, is_issue, is_close, issues, closes, runs_down, count_all, counts_of, with_entry, with_group, stopped, shown, Tells, Adds, AddsGroup, IsWhole}
+use Rattle.replay_script.specs.Counting.{accepts, takes, denies, cancels, is_issue, is_close, issues, closes, runs_down, count_all, counts_of, with_entry, with_group, stopped, shown, TellsJournals, Adds, AddsGroup, IsWhole}
 use Rattle.replay_script.specs.Summary.{summary_text, Told}
 use Rattle.replay_script.specs.Laws.{and_entry, EntryCounts, GroupCounts, QuietCount, TellsMore}
 
@@ -138,10 +138,10 @@ quiet_count x n = (sym (nothing_more x), sym (nothing_more x), sym (nothing_more
 
 -- ---- what shows them
 
-tells_entry : (pasts : List (List Entry)) (i : ℕ) (e : Entry) (x y : Counts) → i < length pasts → Tells x pasts → Adds e x y → Tells y (and_entry pasts i e)
+tells_entry : (pasts : List (List Entry)) (i : ℕ) (e : Entry) (x y : Counts) → i < length pasts → TellsJournals x pasts → Adds e x y → TellsJournals y (and_entry pasts i e)
 tells_entry pasts i e x y low t adds = adds (counts_of pasts) t ∙ ap shown (sym (entry_counts pasts i e low))
 
-tells_group : (pasts : List (List Entry)) (x y : Counts) → Tells x pasts → AddsGroup x y → Tells y (pasts ++ [] ∷ [])
+tells_group : (pasts : List (List Entry)) (x y : Counts) → TellsJournals x pasts → AddsGroup x y → TellsJournals y (pasts ++ [] ∷ [])
 tells_group pasts x y t adds = adds (counts_of pasts) t ∙ ap shown (sym (group_counts pasts))
 
 pub tells_more : TellsMore

@@ -107,8 +107,8 @@ shown x =
     }
 
 -- it shows the counts of the journals
-abbrev pub Tells : Counts → List (List Entry) → Type 0
-Tells x pasts = x ≡ shown (counts_of pasts)
+abbrev pub TellsJournals : Counts → List (List Entry) → Type 0
+TellsJournals x pasts = x ≡ shown (counts_of pasts)
 
 -- what shows some counts shows those with an entry more, or with a journal more
 abbrev pub Adds : Entry → Counts → Counts → Type 0

@@ -3,7 +3,7 @@ use Rattle.std.specs.Prelude.{◌≡◌, ℕ, ◌<◌, List, [], ◌∷◌, ◌+
 use Rattle.handle_model.specs.declared.entry.Entry.{Entry}
 use Rattle.handle_model.specs.declared.entry.Entry.TheVariants.{Join, Orphan, Leave}
 use Rattle.replay_script.specs.declared.counts.Counts.{Counts}
-use Rattle.replay_script.specs.Counting.{counts_of, with_entry, with_group, Tells, Adds, AddsGroup}
+use Rattle.replay_script.specs.Counting.{counts_of, with_entry, with_group, TellsJournals, Adds, AddsGroup}
 
 -- the journals, with an entry more in one of them
 abbrev pub and_entry : List (List Entry) → ℕ → Entry → List (List Entry)
@@ -22,5 +22,5 @@ QuietCount = (x : Counts) (n : ℕ) → (with_entry (Join n) x ≡ x) × (with_e
 
 -- What shows the counts does, as entries and journals are added.
 pub record TellsMore : Type 0 where
-  pub entry : (pasts : List (List Entry)) (i : ℕ) (e : Entry) (x y : Counts) → i < length pasts → Tells x pasts → Adds e x y → Tells y (and_entry pasts i e)
-  pub group : (pasts : List (List Entry)) (x y : Counts) → Tells x pasts → AddsGroup x y → Tells y (pasts ++ [] ∷ [])
+  pub entry : (pasts : List (List Entry)) (i : ℕ) (e : Entry) (x y : Counts) → i < length pasts → TellsJournals x pasts → Adds e x y → TellsJournals y (and_entry pasts i e)
+  pub group : (pasts : List (List Entry)) (x y : Counts) → TellsJournals x pasts → AddsGroup x y → TellsJournals y (pasts ++ [] ∷ [])

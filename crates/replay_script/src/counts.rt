@@ -67,7 +67,7 @@ fn is_told(count: u64) -> bool
 impl Counts {
     /// Of no journals.
     pub fn none() -> Counts
-        ensures { spec.Tells result [] }
+        ensures { spec.TellsJournals result [] }
     {
         Counts {
             groups: 0,

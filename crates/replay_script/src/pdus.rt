@@ -47,6 +47,10 @@ fn written(alloc: Global, pdu: &Pdu) -> Result<Octets, NoMemory>
 }
 
 /// A bind to the probe, to the group of that id.
+///
+/// # Errors
+///
+/// `NoMemory` where there is no memory for the octets.
 #[tactic(auto, using(crate::proofs::Writable::bind_writable))]
 pub fn bind(alloc: Global, group: u32) -> Result<Octets, NoMemory>
     ensures { IfOk result (λ octets. octets ≡ spec.bind_of group) }
@@ -69,6 +73,10 @@ pub fn bind(alloc: Global, group: u32) -> Result<Octets, NoMemory>
 }
 
 /// A co_cancel of the call of that id.
+///
+/// # Errors
+///
+/// `NoMemory` where there is no memory for the octets.
 #[tactic(auto, using(crate::proofs::Writable::cancel_writable))]
 pub fn co_cancel(alloc: Global, call: u32) -> Result<Octets, NoMemory>
     ensures { IfOk result (λ octets. octets ≡ spec.cancel_of call) }
@@ -94,6 +102,10 @@ fn request(alloc: Global, call: u32, op: u16, stub: &[u8]) -> Result<Octets, NoM
 }
 
 /// A call of `probe_open` with that number.
+///
+/// # Errors
+///
+/// `NoMemory` where there is no memory for the octets.
 #[tactic(auto, using(crate::proofs::Writable::number_short))]
 pub fn probe_open(alloc: Global, call: u32, number: u32) -> Result<Octets, NoMemory>
     ensures { IfOk result (λ octets. octets ≡ spec.issue_of call number) }
@@ -104,6 +116,10 @@ pub fn probe_open(alloc: Global, call: u32, number: u32) -> Result<Octets, NoMem
 }
 
 /// A call of `probe_close` with that handle.
+///
+/// # Errors
+///
+/// `NoMemory` where there is no memory for the octets.
 #[tactic(auto, using(crate::proofs::Writable::handle_short))]
 pub fn probe_close(alloc: Global, call: u32, handle: WireHandle) -> Result<Octets, NoMemory>
     ensures { IfOk result (λ octets. octets ≡ spec.close_of call handle) }

@@ -1,7 +1,7 @@
 -- What the program does for words that ask for calls, by what came of them.
 use Rattle.std.proofs.Common.{◌≡◌, ◌≢◌, ◌⊎◌, ◌∙◌, ℕ, ◌<◌, ◌≤◌, Option, Some, None, List, length, inl, inr, refl, sym, subst, ap, arith}
 use Rattle.rpc_base.specs.Causes.{Rose}
-use Rattle.rpc_base.specs.Shelves.{Files, Tells}
+use Rattle.rpc_base.specs.Shelves.{Files, TellsFile}
 use Rattle.rpc_outside.specs.Links.{Shown}
 use Rattle.rpc_outside.specs.Dials.{DialShown}
 use Rattle.ndr_table.specs.Tables.{TableForm}
@@ -65,11 +65,11 @@ module _ {K : Type 0} (shows : K → Shown) (task : CallTask) (store : Shelf) (d
   nothing (forgotten kept u five) none = (u, inr (inr (inr five)))
 
   -- the text of the interface isn't taken
-  no_text : (octets : List ℕ) → Tells store.files task.idl octets → (IsTaken None Idl octets → ⊥) → (end : CallEnd) (P : List ℕ → Type 0) → HasCalled shows task store dial end P → ⊥
+  no_text : (octets : List ℕ) → TellsFile store.files task.idl octets → (IsTaken None Idl octets → ⊥) → (end : CallEnd) (P : List ℕ → Type 0) → HasCalled shows task store dial end P → ⊥
   no_text octets t untaken end P h = untaken (text_served store.files (Some task.idl) (Some h.interface) task.idl octets h.has_interface refl t)
 
   -- the script is too long
-  no_script : (octets : List ℕ) → Tells store.files task.script octets → call_limit < length octets → (end : CallEnd) (P : List ℕ → Type 0) → HasCalled shows task store dial end P → ⊥
+  no_script : (octets : List ℕ) → TellsFile store.files task.script octets → call_limit < length octets → (end : CallEnd) (P : List ℕ → Type 0) → HasCalled shows task store dial end P → ⊥
   no_script octets t long end P h =
       let same : octets ≡ h.script = told_is store.files task.script octets h.script t h.loaded.file in
       let short = h.loaded.short in

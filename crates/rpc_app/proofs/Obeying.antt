@@ -1,7 +1,7 @@
 -- What the program does for its words, by what it does to a file.
 use Rattle.std.proofs.Common.{◌≡◌, ◌≢◌, ◌⊎◌, ℕ, ◌<◌, Option, List, inl, inr, refl, sym, subst, arith}
 use Rattle.rpc_base.specs.Causes.{Rose}
-use Rattle.rpc_base.specs.Shelves.{Tells}
+use Rattle.rpc_base.specs.Shelves.{TellsFile}
 use Rattle.ndr_table.specs.Tables.{TableForm}
 use Rattle.rpc_app.specs.Asks.{FileTask, Task, OfFile, OfLoad, ServeTask, CallTask, Wanted, ToDo, ToServe, ToCall, Asks, AsksFor, AsksToServe, AsksToCall, AsksForNothing}
 use Rattle.rpc_app.specs.Obeys.{Obeys, Shelf, Output, IsKept, Put, HasDone, HasRefused, WasCutShort, IsTaken, TellsText, NoneFailed}
@@ -42,7 +42,7 @@ pub obeyed : (given : List (List ℕ)) (store : Shelf) (out log : Output) (statu
     → (status ≡ 4 → Rose out.before out.after ⊎ Rose log.before log.after) → (status ≡ 4 → WasCutShort task store out log)
     → ((status ≡ 3) ⊎ (status ≡ 5) → IsKept out) → ((status ≡ 3) ⊎ (status ≡ 5) → IsKept log) → Obeys given store out log status
 obeyed given store out log status task asks alone known done refused shelf sinks fronts silent quiet =
-    let takes = λ (other : FileTask) (echo : Option TableForm) (octets : List ℕ) (a : AsksFor given (OfFile other)) (x : TellsText store.files other.idl echo) (t : Tells store.files other.file octets)
+    let takes = λ (other : FileTask) (echo : Option TableForm) (octets : List ℕ) (a : AsksFor given (OfFile other)) (x : TellsText store.files other.idl echo) (t : TellsFile store.files other.file octets)
     (k : IsTaken echo other.command octets) (e : status ≡ 2).
     let r = subst (λ (z : Task). HasRefused z store out log) (sym (one_task (OfFile other) task (alone (ToDo (OfFile other)) a))) (refused e) in
     task_refused store.files other echo octets r.refusal r.refuses x t k in

@@ -1,7 +1,7 @@
 -- What the program does for words that ask for connections, by what came of them.
 use Rattle.std.proofs.Common.{◌≡◌, ◌≢◌, ◌⊎◌, ◌∙◌, ℕ, ◌<◌, Option, Some, None, List, inl, inr, refl, sym, subst, arith}
 use Rattle.rpc_base.specs.Causes.{Rose}
-use Rattle.rpc_base.specs.Shelves.{Files, Tells}
+use Rattle.rpc_base.specs.Shelves.{Files, TellsFile}
 use Rattle.rpc_outside.specs.Links.{Shown}
 use Rattle.rpc_outside.specs.Doors.{DoorShown}
 use Rattle.ndr_table.specs.Tables.{TableForm}

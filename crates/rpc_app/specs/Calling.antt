@@ -1,7 +1,7 @@
 -- What the program does for words that ask for the calls of a script.
 use Rattle.std.specs.Prelude.{◌≡◌, ◌≢◌, ◌⊎◌, ℕ, ◌<◌, ◌≤◌, ◌++◌, List, length, Option, Some, None}
 use Rattle.rpc_base.specs.Causes.{Rose}
-use Rattle.rpc_base.specs.Shelves.{Files, Tells}
+use Rattle.rpc_base.specs.Shelves.{Files, TellsFile}
 use Rattle.rpc_outside.specs.declared.address.Address.{Address}
 use Rattle.rpc_outside.specs.Links.{Shown}
 use Rattle.rpc_outside.specs.Dials.{DialShown}
@@ -42,7 +42,7 @@ pub record TellsCall (files : Option Files) (task : CallTask) : Type 0 where
   pub interface : Option TableForm
   pub text : TellsText files (Some task.idl) interface
   pub script : List ℕ
-  pub told : Tells files task.script script
+  pub told : TellsFile files task.script script
   pub short : length script ≤ call_limit
 
 -- ---- what is told
@@ -116,8 +116,8 @@ module _ {K : Type 0} (shows : K → Shown) where
     -- files that are told and taken aren't refused, but at a line of the script that is reached
     pub taken : TellsCall store.files task → status ≡ 2 → (n : ℕ) × HasToldAll task store dial (ends.Line n) out
     -- with an interface text that is told and not taken no call is made, nor by a script that is too long
-    pub refused : (octets : List ℕ) → Tells store.files task.idl octets → (IsTaken None Idl octets → ⊥) → CallsNothing dial status
-    pub too_long : (octets : List ℕ) → Tells store.files task.script octets → call_limit < length octets → CallsNothing dial status
+    pub refused : (octets : List ℕ) → TellsFile store.files task.idl octets → (IsTaken None Idl octets → ⊥) → CallsNothing dial status
+    pub too_long : (octets : List ℕ) → TellsFile store.files task.script octets → call_limit < length octets → CallsNothing dial status
     -- and all is played up to a line that is refused or at which a connection is lost, and told, unless an object of the outside failed or
     -- memory ran out
     pub complete : TellsCall store.files task → NoneFailed store dial out

@@ -1,7 +1,7 @@
 -- What the program does for its words, clause by clause.
 use Rattle.std.specs.Prelude.{◌≡◌, ◌≢◌, ◌⊎◌, ℕ, ◌<◌, ◌≤◌, List, length, Option, Some, None}
 use Rattle.rpc_base.specs.Causes.{Rose}
-use Rattle.rpc_base.specs.Shelves.{Files, Tells}
+use Rattle.rpc_base.specs.Shelves.{Files, TellsFile}
 use Rattle.ndr_table.specs.Tables.{TableForm}
 use Rattle.rpc_app.specs.declared.command.Command.{Command}
 use Rattle.rpc_app.specs.declared.command.Command.TheVariants.{Idl}
@@ -57,21 +57,21 @@ IsTaken echo command octets = (length octets ≤ limit command) × IsTextFor ech
 abbrev pub TellsText : Option Files → Option (List ℕ) → Option TableForm → Type 0
 TellsText files None echo = echo ≡ None
 TellsText files (Some name) echo =
-    (octets : List ℕ) × Tells files name octets × (length octets ≤ limit Idl) × ((table : TableForm) × IsInterface octets table × (echo ≡ Some table))
+    (octets : List ℕ) × TellsFile files name octets × (length octets ≤ limit Idl) × ((table : TableForm) × IsInterface octets table × (echo ≡ Some table))
 
 -- and whichever command they ask for, with files that are told: with the interface of its interface text and the octets of its file
 abbrev pub WhereTold : List (List ℕ) → Shelf → (Option TableForm → Command → List ℕ → Type 0) → Type 0
 WhereTold words shelf P =
-    (task : FileTask) (echo : Option TableForm) (octets : List ℕ) → AsksFor words (OfFile task) → TellsText shelf.files task.idl echo → Tells shelf.files task.file octets
+    (task : FileTask) (echo : Option TableForm) (octets : List ℕ) → AsksFor words (OfFile task) → TellsText shelf.files task.idl echo → TellsFile shelf.files task.file octets
     → P echo task.command octets
 
 -- with the octets of its file alone
 abbrev pub WhereFileTold : List (List ℕ) → Shelf → (Command → List ℕ → Type 0) → Type 0
-WhereFileTold words shelf P = (task : FileTask) (octets : List ℕ) → AsksFor words (OfFile task) → Tells shelf.files task.file octets → P task.command octets
+WhereFileTold words shelf P = (task : FileTask) (octets : List ℕ) → AsksFor words (OfFile task) → TellsFile shelf.files task.file octets → P task.command octets
 
 -- or of its interface text alone
 abbrev pub WhereTextTold : List (List ℕ) → Shelf → (List ℕ → Type 0) → Type 0
-WhereTextTold words shelf P = (task : FileTask) (name octets : List ℕ) → AsksFor words (OfFile task) → task.idl ≡ Some name → Tells shelf.files name octets → P octets
+WhereTextTold words shelf P = (task : FileTask) (name octets : List ℕ) → AsksFor words (OfFile task) → task.idl ≡ Some name → TellsFile shelf.files name octets → P octets
 
 -- whichever load they ask for
 abbrev pub WhereLoad : List (List ℕ) → Type 0 → Type 0

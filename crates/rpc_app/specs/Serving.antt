@@ -1,7 +1,7 @@
 -- What the program does for words that ask for connections to be served.
 use Rattle.std.specs.Prelude.{◌≡◌, ◌≢◌, ◌⊎◌, ℕ, ◌<◌, ◌≤◌, List, Option, Some, None}
 use Rattle.rpc_base.specs.Causes.{Rose}
-use Rattle.rpc_base.specs.Shelves.{Files, Tells}
+use Rattle.rpc_base.specs.Shelves.{Files, TellsFile}
 use Rattle.rpc_outside.specs.Links.{Shown}
 use Rattle.rpc_outside.specs.Doors.{DoorShown}
 use Rattle.ndr_table.specs.Tables.{TableForm}
@@ -89,6 +89,6 @@ module _ {K : Type 0} (shows : K → Shown) where
     pub memory : status ≡ 5 → IsSilent out log ⊎ HasServed task boot store door 5 (PutBoth out log)
     -- an interface text that is told and taken isn't refused, and with one that isn't taken none is served
     pub taken : (echo : Option TableForm) → TellsText store.files task.idl echo → status ≢ 2
-    pub refused : (name octets : List ℕ) → task.idl ≡ Some name → Tells store.files name octets → (IsTaken None Idl octets → ⊥) → (status ≢ 0) × (status ≢ 8)
+    pub refused : (name octets : List ℕ) → task.idl ≡ Some name → TellsFile store.files name octets → (IsTaken None Idl octets → ⊥) → (status ≢ 0) × (status ≢ 8)
     -- and connections are served, unless an object of the outside failed or memory ran out
     pub complete : (echo : Option TableForm) → TellsText store.files task.idl echo → NoneFailed store out log → NoDoorFailed door → (status ≡ 0) ⊎ (status ≡ 5) ⊎ (status ≡ 8)

@@ -103,6 +103,11 @@ fn printed(alloc: Global, tree: &Ast) -> Result<Replayed, NoMemory>
 }
 
 /// Reads an interface text, checks its tree and prints it.
+///
+/// # Errors
+///
+/// `Refused` with the line that says where the text departs from the grammar or which rule it
+/// breaks, and `Memory` where memory runs out.
 pub fn reprint(alloc: Global, text: &[u8]) -> Result<Replayed, MakeFault>
     ensures out { IfOk result (λ r. IsPrinted text.now r.out) }
     ensures log { IfOk result (λ r. r.log ≡ []) }
@@ -115,6 +120,11 @@ pub fn reprint(alloc: Global, text: &[u8]) -> Result<Replayed, MakeFault>
 }
 
 /// The table of the interface of a text.
+///
+/// # Errors
+///
+/// `Refused` with the line that says where the text departs from the grammar or which rule it
+/// breaks, and `Memory` where memory runs out.
 pub fn interface(alloc: Global, text: &[u8]) -> Result<Table, MakeFault>
     ensures made { IfOk result (λ t. IsInterface text.now (shown t)) }
     ensures fault { IfErr result (Why (RefusesInterface text.now)) }

@@ -19,6 +19,11 @@ pub enum LoadFault {
 }
 
 /// Loads a file of at most this many octets.
+///
+/// # Errors
+///
+/// `Failed` where the shelf fails, `TooLong` where the file is longer than that, and `Memory` where
+/// there is no memory for it.
 pub fn load_file<F: Shelf>(
     alloc: Global,
     shelf: &mut F,

@@ -34,6 +34,10 @@ impl From<NoMemory> for MakeFault {
 }
 
 /// The refusal of a script's line, by its number, from 1.
+///
+/// # Errors
+///
+/// `NoMemory` where there is no memory for the text.
 #[tactic(auto, unfolding(crate::specs::Commands::line_refusal))]
 pub fn line_refusal(alloc: Global, line: usize) -> Result<Vec<u8>, NoMemory>
     ensures { IfOk result (λ text. text.items ≡ line_refusal line) }
@@ -58,6 +62,11 @@ fn play(alloc: Global, echo: Option<&Table>, text: &[u8]) -> Result<Replayed, Ma
 }
 
 /// What the command makes of these octets, where the interface of an echo is served in a replay.
+///
+/// # Errors
+///
+/// `Refused` with the text that says why the file is none that the command takes, and `Memory`
+/// where memory runs out.
 pub fn make(
     alloc: Global,
     command: Command,

@@ -67,6 +67,11 @@ fn long_refusal(alloc: Global) -> Result<Vec<u8>, NoMemory>
 }
 
 /// Loads a file of at most this many octets.
+///
+/// # Errors
+///
+/// `Refused` where the file is longer than that, `Failed` where the shelf fails, and `Memory` where
+/// there is no memory for it.
 pub fn load<F: Shelf>(
     alloc: Global,
     most: usize,
@@ -88,6 +93,11 @@ pub fn load<F: Shelf>(
 }
 
 /// The table of the interface of an interface text.
+///
+/// # Errors
+///
+/// `Refused` with the text that says why a file is none that its command takes, `Failed` where the
+/// shelf fails, and `Memory` where memory runs out.
 pub fn text_table<F: Shelf>(alloc: Global, name: &str, shelf: &mut F) -> Result<Table, TaskFault>
     ensures made { IfOk result (λ t. ServesText (F.files shelf.old) name.now (Some (shown t))) }
     ensures files { F.files shelf.new ≡ F.files shelf.old }
@@ -100,6 +110,11 @@ pub fn text_table<F: Shelf>(alloc: Global, name: &str, shelf: &mut F) -> Result<
 }
 
 /// The same, where one is named.
+///
+/// # Errors
+///
+/// `Refused` with the text that says why a file is none that its command takes, `Failed` where the
+/// shelf fails, and `Memory` where memory runs out.
 pub fn echo_of<F: Shelf>(
     alloc: Global,
     name: Option<&str>,
@@ -164,6 +179,11 @@ fn load_done(alloc: Global, number: u64, steps: u32) -> Result<Replayed, TaskFau
 }
 
 /// What the task makes.
+///
+/// # Errors
+///
+/// `Refused` with the text that says why a file is none that its command takes, `Failed` where the
+/// shelf fails, and `Memory` where memory runs out.
 pub fn done<F: Shelf>(alloc: Global, task: Task<'_>, shelf: &mut F) -> Result<Replayed, TaskFault>
     requires { IsInRange (told_task task) }
     ensures made { IfOk result (λ r. DoesTask (F.files shelf.old) (told_task task.entry) r.out r.log) }

@@ -78,6 +78,11 @@ fn journal_refusal(alloc: Global, line: usize) -> Result<Vec<u8>, NoMemory>
 }
 
 /// Judges journals.
+///
+/// # Errors
+///
+/// `Refused` with the line that says where the text departs from the journals' grammar, or with the
+/// verdicts where one isn't good, and `Memory` where memory runs out.
 pub fn judge(alloc: Global, text: &[u8]) -> Result<Replayed, MakeFault>
     ensures out { IfOk result (λ r. IsAudited text.now r.out) }
     ensures log { IfOk result (λ r. r.log ≡ []) }

@@ -95,6 +95,10 @@ fn wanted_in(asked: Asked<'_>) -> Wanted<'_>
 }
 
 /// What the words ask for, or `None` where they ask for nothing; `NoMemory` where memory ends while they are read.
+///
+/// # Errors
+///
+/// `NoMemory` where there is no memory for reading the words.
 pub fn asked(alloc: Global, words: &[String]) -> Result<Option<Wanted<'_>>, NoMemory>
     ensures asked { IfOk result (λ o. IfSome o (λ w. Asks (map string_bytes words.now) (told_wanted w))) }
     ensures alone { IfOk result (λ o. IfSome o (λ w. (other : AWanted) → Asks (map string_bytes words.now) other → other ≡ told_wanted w)) }

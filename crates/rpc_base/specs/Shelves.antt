@@ -22,6 +22,6 @@ abbrev pub IsLoad : Option Files → List ℕ → ℕ → List ℕ → Type 0
 IsLoad told name most octets = HasFile told name (λ file. octets ≡ take most file)
 
 -- the files are told, and one of that name has these octets
-abbrev pub Tells : Option Files → List ℕ → List ℕ → Type 0
-Tells None name octets = ⊥
-Tells (Some files) name octets = files name ≡ Some octets
+abbrev pub TellsFile : Option Files → List ℕ → List ℕ → Type 0
+TellsFile None name octets = ⊥
+TellsFile (Some files) name octets = files name ≡ Some octets

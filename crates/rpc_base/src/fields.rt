@@ -149,6 +149,10 @@ fn put_both(first: &[u8], second: &[u8], into: &mut Vec<u8>) -> Result<(), NoMem
 }
 
 /// Adds the two octets of a number at the end.
+///
+/// # Errors
+///
+/// `NoMemory` where there is no memory for the octets; nothing is added then.
 #[tactic(auto, unfolding(crate::specs::Fields::number_octets))]
 pub fn put_u16(order: Order, value: u16, into: &mut Vec<u8>) -> Result<(), NoMemory>
     ensures ok { OnOk result (into.new.items ≡ into.old.items ++ u16_octets order value) }
@@ -162,6 +166,10 @@ pub fn put_u16(order: Order, value: u16, into: &mut Vec<u8>) -> Result<(), NoMem
 }
 
 /// Adds the four octets of a number at the end.
+///
+/// # Errors
+///
+/// `NoMemory` where there is no memory for the octets; nothing is added then.
 pub fn put_u32(order: Order, value: u32, into: &mut Vec<u8>) -> Result<(), NoMemory>
     ensures ok { OnOk result (into.new.items ≡ into.old.items ++ u32_octets order value) }
     ensures err { OnErr result (into.new.items ≡ into.old.items) }
@@ -171,6 +179,10 @@ pub fn put_u32(order: Order, value: u32, into: &mut Vec<u8>) -> Result<(), NoMem
 }
 
 /// Adds the eight octets of a number at the end.
+///
+/// # Errors
+///
+/// `NoMemory` where there is no memory for the octets; nothing is added then.
 #[tactic(auto, unfolding(crate::specs::Fields::number_octets))]
 pub fn put_u64(order: Order, value: u64, into: &mut Vec<u8>) -> Result<(), NoMemory>
     ensures ok { OnOk result (into.new.items ≡ into.old.items ++ u64_octets order value) }
@@ -184,6 +196,10 @@ pub fn put_u64(order: Order, value: u64, into: &mut Vec<u8>) -> Result<(), NoMem
 }
 
 /// Adds the 16 octets of a UUID at the end. Its first three fields are numbers in the order.
+///
+/// # Errors
+///
+/// `NoMemory` where there is no memory for the octets; nothing is added then.
 pub fn put_uuid(order: Order, value: &Uuid, into: &mut Vec<u8>) -> Result<(), NoMemory>
     ensures ok { OnOk result (into.new.items ≡ into.old.items ++ uuid_octets order value.now) }
     ensures err { OnErr result (into.new.items ≡ into.old.items) }
@@ -194,6 +210,10 @@ pub fn put_uuid(order: Order, value: &Uuid, into: &mut Vec<u8>) -> Result<(), No
 
 /// Adds the 20 octets of a syntax at the end: its UUID, and a word with the major version in its low
 /// 16 bits and the minor version in its high 16.
+///
+/// # Errors
+///
+/// `NoMemory` where there is no memory for the octets; nothing is added then.
 #[tactic(auto, unfolding(crate::specs::Fields::syntax_octets))]
 pub fn put_syntax(order: Order, value: &SyntaxId, into: &mut Vec<u8>) -> Result<(), NoMemory>
     ensures ok { OnOk result (into.new.items ≡ into.old.items ++ syntax_octets order value.now) }
@@ -208,6 +228,10 @@ pub fn put_syntax(order: Order, value: &SyntaxId, into: &mut Vec<u8>) -> Result<
 }
 
 /// Adds the 20 octets of a context handle at the end: its attributes, and its identifier as a UUID.
+///
+/// # Errors
+///
+/// `NoMemory` where there is no memory for the octets; nothing is added then.
 pub fn put_handle(order: Order, value: &WireHandle, into: &mut Vec<u8>) -> Result<(), NoMemory>
     ensures ok { OnOk result (into.new.items ≡ into.old.items ++ handle_octets order value.now) }
     ensures err { OnErr result (into.new.items ≡ into.old.items) }

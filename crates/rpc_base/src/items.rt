@@ -92,6 +92,10 @@ impl<T: Drop> Items<T> {
     }
 
     /// Adds an item at the end.
+    ///
+    /// # Errors
+    ///
+    /// `NoMemory` where there is no memory for it; nothing is added then.
     pub fn push(&mut self, item: T) -> Result<(), NoMemory>
         ensures ok { OnOk result (self.new ≡ self.old ++ item ∷ []) }
         ensures err { OnErr result (self.new ≡ self.old) }
@@ -103,6 +107,10 @@ impl<T: Drop> Items<T> {
 
 impl<T: Copy + Drop> Items<T> {
     /// An equal list.
+    ///
+    /// # Errors
+    ///
+    /// `NoMemory` where there is no memory for the list.
     pub fn copy(&self, alloc: Global) -> Result<Items<T>, NoMemory>
         ensures { IfOk result (λ copy. copy ≡ self.now) }
     {
@@ -110,6 +118,10 @@ impl<T: Copy + Drop> Items<T> {
     }
 
     /// Adds the items of a slice at the end.
+    ///
+    /// # Errors
+    ///
+    /// `NoMemory` where there is no memory for them; nothing is added then.
     pub fn append(&mut self, piece: &[T]) -> Result<(), NoMemory>
         ensures ok { OnOk result (self.new ≡ self.old ++ piece.now) }
         ensures err { OnErr result (self.new ≡ self.old) }

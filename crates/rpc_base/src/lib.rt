@@ -17,6 +17,6 @@ pub use fields::{
 };
 pub use identifiers::{Order, Status, SyntaxId, WireHandle};
 pub use items::{Exact, Items, Numbers, Octets, same_items};
-pub use names::{Names, named, put};
+pub use names::{Names, named, put_at_name};
 pub use shelf::{MapShelf, Shelf, ShelfFile, ShelfFiles};
 pub use sink::{Sink, VecSink, put_all};

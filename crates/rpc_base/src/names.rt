@@ -21,7 +21,7 @@ pub fn named<'a, X>(names: &'a Names<X>, name: &[u8]) -> Option<&'a X>
 ///
 /// `NoMemory` where there is no memory for it.
 #[tactic(auto, using(crate::proofs::NamePuts::puts))]
-pub fn put<X: Drop>(names: &mut Names<X>, name: Vec<u8>, value: X) -> Result<(), NoMemory>
+pub fn put_at_name<X: Drop>(names: &mut Names<X>, name: Vec<u8>, value: X) -> Result<(), NoMemory>
     ensures { OnOk result ((other : List ℕ) → at_name names.new other ≡ (if bytes_eq name.items other then Some value else at_name names.old other)) }
 {
     match names.insert(name, value) {

@@ -25,6 +25,10 @@ pub trait Sink {
 }
 
 /// Puts a whole text, in as many calls as it takes. At `Failed` a front of the text was taken.
+///
+/// # Errors
+///
+/// `Failed` where the sink fails; a front of the text was taken then.
 pub fn put_all<S: Sink>(sink: &mut S, text: &[u8]) -> Result<(), Failed>
     ensures written { OnOk result (S.written sink.new ≡ append_known (S.written sink.old) text.now) }
     ensures front { OnErr result ((k : ℕ) × (S.written sink.new ≡ append_known (S.written sink.old) (take k text.now))) }

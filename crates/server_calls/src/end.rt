@@ -1,13 +1,13 @@
 //! The end of a call, by its manager's answer.
-ghost use Rattle.std.specs.Prelude.{◌≡◌, ◌≤◌, length, true, Some};
+ghost use Rattle.std.specs.Prelude.{◌≡◌, ◌≤◌, length, true};
 ghost use Rattle.handle_model.specs.Journal.{suit};
 ghost use Rattle.ndr_value.specs.Values.{msg};
-ghost use Rattle.ndr_table.specs.Tables.{OpForm};
 ghost use Rattle.manager_api.specs.Answers.{ans};
-ghost use Rattle.conn_histories.specs.Requests.{HasSlots, IsAsked, op_of};
+ghost use Rattle.conn_histories.specs.Requests.{HasSlots, IsAsked};
 ghost use Rattle.conn_histories.specs.Ends as spec;
 ghost use Rattle.manager_api.specs.ServedCalls.{Owed};
 ghost use Rattle.manager_api.specs.Served.{tables_in};
+ghost use Rattle.server_calls.specs.Said.{SaysOfCall};
 ghost use Rattle.server_calls.specs.Suited.{suit_cookies};
 
 use crate::given::kepts_suit;
@@ -47,7 +47,7 @@ pub fn end_of(
     requires owes { Owed (tables_in served.now) (spec.call_with asked.now (msg message.now) cookies.now) (ans answer) }
     ensures results { result.results ≡ spec.results_of asked.now.slots cookies.now (ans answer) }
     ensures suit { suit asked.now.slots result.results ≡ true }
-    ensures says { (o : OpForm) → op_of (tables_in served.now) asked.now.iface asked.now.op ≡ Some o → spec.Says home (tables_in served.now) asked.now o (msg message.now) result.results (ans answer) result.said }
+    ensures says { SaysOfCall home (tables_in served.now) asked.now (msg message.now) result.results (ans answer) result.said }
 {
     let stub = asked.stub.as_slice();
     kepts_suit(served, asked, stub, message, cookies, &answer);

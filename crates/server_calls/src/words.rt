@@ -7,7 +7,7 @@ ghost use Rattle.ndr_model.specs.declared.way.Way.TheVariants.{Response};
 ghost use Rattle.ndr_model.specs.Written.{stub};
 ghost use Rattle.manager_api.specs.Answers.{ans};
 ghost use Rattle.conn_histories.specs.Ends as spec;
-ghost use Rattle.server_calls.specs.Said.{SaysAt};
+ghost use Rattle.server_calls.specs.Said.{SaysOfOperation};
 
 use handle_model::{Asked, Home, Outcome, Said, Slot};
 use manager_api::Answer;
@@ -115,7 +115,7 @@ pub fn said(
     answer: Answer,
 ) -> Said
     requires { call.now.op < length (shown table.now).ops }
-    ensures { (o : OpForm) → slice_get (shown table.now).ops call.now.op ≡ Some o → SaysAt (shown table.now) o call.now.order (msg asked.now) (spec.wires_at home call.now.slots results.now) (ans answer) result }
+    ensures { SaysOfOperation (shown table.now) call.now.op call.now.order (msg asked.now) (spec.wires_at home call.now.slots results.now) (ans answer) result }
 {
     match answer {
         Answer::Fault(status) => Said::Fault(status),

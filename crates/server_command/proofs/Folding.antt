@@ -31,7 +31,7 @@ use Rattle.conn_turns.specs.Laws.{DeedReplied, IsReplied}
 use Rattle.conn_turns.proofs.TaleFacts.{same_number, any_first, any_rest, in_tale}
 use Rattle.conn_turns.proofs.MarkFacts.{marks_none}
 use Rattle.conn_turns.proofs.Replying.{turns_are_replied}
-use Rattle.server_command.specs.Holds.{DeedIsTold, IsTold, Tells}
+use Rattle.server_command.specs.Holds.{DeedIsTold, IsTold, TellsOfTurns}
 use Rattle.server_command.proofs.Behind.{legal_older}
 
 -- ---- lists with one item that passes a test, the last
@@ -232,7 +232,7 @@ module _ (x : History) (home : Home) (past : List Entry) (same : (k : ℕ) → l
   all_told (Closed octets why ∷ ts) h has = (tt, all_told ts h.1 has)
 
 pub folds_tell : (x : History) (home : Home) (c : ℕ) (past : List Entry) (turns : List Turn) → Legal (whole home past) → IsFoldOf x (whole home past)
-    → list_any (joins c) x.past ≡ true → StandAll c true past turns → filter (of_conn c) past ≡ Leave c ∷ Join c ∷ [] → Tells x c turns
+    → list_any (joins c) x.past ≡ true → StandAll c true past turns → filter (of_conn c) past ≡ Leave c ∷ Join c ∷ [] → TellsOfTurns x c turns
 folds_tell x home c past turns l fold has stand conns =
     let p : x.past ≡ fold.newer = ap (λ (h : History). h.past) fold.fold_is in
     let here : past ≡ x.past ++ fold.older = fold.past_is ∙ ap (λ n. n ++ fold.older) (sym p) in

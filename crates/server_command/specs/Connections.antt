@@ -12,7 +12,7 @@ use Rattle.conn_histories.specs.Stories.{AllDue}
 use Rattle.server_ends.specs.Finishes.{serving, Alone}
 use Rattle.server_rounds.specs.declared.settled.Settled.{Settled}
 use Rattle.server_rounds.specs.Served.{finished_of}
-use Rattle.server_command.specs.Holds.{HoldsBy, Tells}
+use Rattle.server_command.specs.Holds.{HoldsBy, TellsOfTurns}
 use Rattle.server_command.specs.Groups.{printed_past, HasCopy}
 
 -- Why a bind is refused, by the printed journals: with 0 one that asked for a group; with 2 one that asked for a new group, where at
@@ -30,7 +30,7 @@ module _ {K : Type 0} (shows : K → Shown) (may : Call → Bool → Ans → Typ
   -- where its Join stands among what is printed of it, that tells of each of its calls just what its turn says.
   pub record HoldsByCopy (g c : ℕ) (x : Settled K) (copy : Copy) : Type 0 where
     pub holds : HoldsBy shows may tables boot (printed_past copy) x.began.value (shows x.came.value) g c (finished_of x)
-    pub told : list_any (joins c) (journal_of boot copy).past ≡ true → Tells (journal_of boot copy) c holds.member.turns
+    pub told : list_any (joins c) (journal_of boot copy).past ≡ true → TellsOfTurns (journal_of boot copy) c holds.member.turns
 
   -- It joined no group. A refusal of its bind has its cause in what is printed.
   pub record StandsAlone (copies : List Copy) (x : Settled K) : Type 0 where

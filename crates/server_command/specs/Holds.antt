@@ -46,7 +46,7 @@ IsTold j _ = ⊤
 
 -- The entries of the journal are, of each call of a connection that is over, those that its turn says, in that order, and of itself a
 -- Join and a Leave; and the reply to each call is the turn's.
-pub record Tells (j : History) (c : ℕ) (turns : List Turn) : Type 0 where
+pub record TellsOfTurns (j : History) (c : ℕ) (turns : List Turn) : Type 0 where
   pub stand : StandAll c true j.past turns
   pub conns : filter (of_conn c) j.past ≡ Leave c ∷ Join c ∷ []
   pub told : AllByRecursion (IsTold j) turns

@@ -29,7 +29,7 @@ use Rattle.server_ends.specs.declared.ended.Ending.{Ending}
 use Rattle.server_ends.specs.declared.ended.Finished.{Finished}
 use Rattle.server_ends.specs.Endings.{AreAnswers}
 use Rattle.server_ends.specs.Finishes.{AsMember}
-use Rattle.server_command.specs.Holds.{HoldsBy, Tells}
+use Rattle.server_command.specs.Holds.{HoldsBy, TellsOfTurns}
 
 -- ---- longer journals
 
@@ -59,7 +59,7 @@ MembersLast {K} shows may tables =
 abbrev pub FoldsTell : Type 0
 FoldsTell =
     (x : History) (home : Home) (c : ℕ) (past : List Entry) (turns : List Turn) → Legal (whole home past) → IsFoldOf x (whole home past)
-    → list_any (joins c) x.past ≡ true → StandAll c true past turns → filter (of_conn c) past ≡ Leave c ∷ Join c ∷ [] → Tells x c turns
+    → list_any (joins c) x.past ≡ true → StandAll c true past turns → filter (of_conn c) past ≡ Leave c ∷ Join c ∷ [] → TellsOfTurns x c turns
 
 -- ---- limits
 

@@ -47,6 +47,10 @@ fn put_connection(
 }
 
 /// Adds the line of a connection: its number in the order of the door, from 1, and why it ended.
+///
+/// # Errors
+///
+/// `NoMemory` where there is no memory for the line; nothing was added.
 pub fn connection_line(
     alloc: Global,
     number: u64,
@@ -78,6 +82,10 @@ fn put_stats(alloc: Global, stats: [u64; 4], into: &mut Vec<u8>) -> Result<(), N
 }
 
 /// Adds the line behind those of the connections: calls in, calls out, packets in and packets out.
+///
+/// # Errors
+///
+/// `NoMemory` where there is no memory for the line; nothing was added.
 pub fn stats_line(alloc: Global, stats: [u64; 4], into: &mut Vec<u8>) -> Result<(), NoMemory>
     ensures ok { OnOk result (into.new.items ≡ into.old.items ++ spec.stats_text (slice_index stats 0) (slice_index stats 1) (slice_index stats 2) (slice_index stats 3)) }
     ensures err { OnErr result (into.new.items ≡ into.old.items) }

@@ -11,6 +11,10 @@ use Rattle.manager_api.specs.Calls.{Call}
 use Rattle.conn_asks.specs.Answers.{FitsStub}
 use Rattle.conn_histories.specs.Events.{word_of}
 use Rattle.server_steps.specs.declared.working.Server.{Server}
+use Rattle.server_ends.specs.declared.ended.Finished.{Finished}
+use Rattle.server_ends.specs.Finishes.{Finishes}
+use Rattle.server_steps.specs.declared.wire.Wire.{Wire}
+use Rattle.server_steps.specs.declared.stop.Stop.{Stop}
 use Rattle.server_steps.specs.declared.line.Line.{Line}
 use Rattle.server_steps.specs.Early.{IsAlone}
 use Rattle.server_steps.specs.Lines.{IsReady}
@@ -30,6 +34,10 @@ module _ {K : Type 0} (shows : K → Shown) (may : Call → Bool → Ans → Typ
   Enters p first (Joined l) = BeganAs p first l × IsReady shows may tables hub l
   Enters p first (Stopped l why) = BeganAs p first l × IsStopping shows may tables hub l why
   Enters p first (Alone w q why) = (w.first.value ≡ first) × IsPassOf hub q × IsAlone shows tables may hub.boot p w q why
+
+  -- what a connection of no group comes to, with whatever pass it began
+  abbrev pub FinishesAlone : Wire K → Pass → Stop → Finished K → Type 0
+  FinishesAlone w q why r = (before : Pass) → IsAlone shows tables may hub.boot before w q why → Finishes shows may tables hub.boot before (shows w.first.value) r
 
 module _ {K M : Type 0} (shows : K → Shown) (may : M → Call → Bool → Ans → Type 0) (tables : M → List TableForm) (s : Server M) where
   abbrev pub Awaits : ℕ → Asked → Awaited → Line K → Type 0

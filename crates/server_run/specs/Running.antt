@@ -58,6 +58,10 @@ abbrev pub StartsSo : {M : Type 0} → (M → List TableForm) → (M → Call �
 StartsSo tables may s c (started.There child) = (r : Worked) → Keeps tables may child.promise r → WorksBy tables may s c r
 StartsSo tables may s c (started.Here r) = WorksBy tables may s c r
 
+-- the call was worked off with the cookies of that row
+abbrev pub WorksByRow : List TableForm → (Call → Bool → Ans → Type 0) → Hub → ℕ → ℕ → Asked → List (Option ℕ) → Worked → Type 0
+WorksByRow tables may hub g k a row r = (cookies : List (Option ℕ)) → row ≡ row_of cookies → length cookies ≡ length a.slots → Works tables may hub g k a cookies r
+
 module _ {K : Type 0} (shows : K → Shown) (tables : List TableForm) where
   -- what a closed link tells of a connection, whose turns are over
   abbrev pub Closing : Wire K → Stop → K → Ending → Type 0

@@ -1,12 +1,11 @@
 //! A call runs in a thread beside its connection's.
-ghost use Rattle.std.specs.Prelude.{◌≡◌, ℕ, Option, List, length, false};
+ghost use Rattle.std.specs.Prelude.{◌≡◌, false};
 ghost use Rattle.std.specs.Thread.{IsSync};
-ghost use Rattle.conn_histories.specs.Ends.{row_of};
 ghost use Rattle.manager_api.specs.Served.{tables_in};
 ghost use Rattle.server_steps.specs.Passes.{MayAsk};
-ghost use Rattle.server_steps.specs.Works.{IsGiven, IsReadyToRun, Works};
+ghost use Rattle.server_steps.specs.Works.{IsGiven, IsReadyToRun};
 ghost use Rattle.server_steps.specs.Calls.{IsRunning};
-ghost use Rattle.server_run.specs.Running.{IsRow, IsToRun, StartsSo, RunsBeside};
+ghost use Rattle.server_run.specs.Running.{IsRow, IsToRun, StartsSo, WorksByRow, RunsBeside};
 
 use crate::watching::{Watched, watch};
 use rpc_outside::Link;
@@ -70,7 +69,7 @@ fn start<'s, E, R: Wait + Threads + Sync, M: Manager + Sync>(
             requires served { IsSync R.row × (M.tables server.manager.now ≡ tables_in server.served.now) }
             requires asks { MayAsk server.hub.now running.group running.call task.pass }
             requires given { IsGiven (tables_in server.served.now) running.asked.now running.row task.message task.again }
-            ensures { (cookies : List (Option ℕ)) → running.entry.row ≡ row_of cookies → length cookies ≡ length running.entry.asked.now.slots → Works (M.tables server.entry.manager.now) (M.may server.entry.manager.now) server.entry.hub.now running.entry.group running.entry.call running.entry.asked.now cookies result }
+            ensures { WorksByRow (M.tables server.entry.manager.now) (M.may server.entry.manager.now) server.entry.hub.now running.entry.group running.entry.call running.entry.asked.now running.entry.row result }
         {
             let (server, running) = (Server { ..server }, RunningCall { ..running });
             work(rt, server, running, Task { ..task })

@@ -8,6 +8,7 @@ ghost use Rattle.server_steps.specs.Works.{Serves};
 ghost use Rattle.server_steps.specs.Early.{IsAlone};
 ghost use Rattle.server_steps.specs.Lines.{IsReady};
 ghost use Rattle.server_steps.specs.Endings.{IsStopping};
+ghost use Rattle.server_run.specs.Entering.{FinishesAlone};
 ghost use Rattle.server_run.specs.Running.{IsOverFrom};
 
 use crate::binding::{Entered, enter};
@@ -51,7 +52,7 @@ fn finish_alone<K: Link, M: Manager>(
     requires pass { IsPassOf _hub.now pass }
     requires alone { (before : PassSpec) × IsAlone K.shows (M.tables _manager.now) (M.may _manager.now) _hub.now.boot before wire pass why }
     ensures pass { IsPassOf _hub.now result.pass }
-    ensures finishes { (before : PassSpec) → IsAlone K.shows (M.tables _manager.now) (M.may _manager.now) _hub.now.boot before wire pass why → Finishes K.shows (M.may _manager.now) (M.tables _manager.now) _hub.now.boot before (K.shows wire.first.value) result }
+    ensures finishes { FinishesAlone K.shows (M.may _manager.now) (M.tables _manager.now) _hub.now wire pass why result }
 {
     let (link, ending) = close(wire, why);
     Finished {

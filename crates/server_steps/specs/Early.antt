@@ -49,6 +49,10 @@ module _ {K : Type 0} (shows : K → Shown) (tables : List TableForm) where
     pub seen_is : seen events ≡ all_events (Closed octets f ∷ turns)
     pub over : state.waits ≡ waits.Over
 
+  -- behind whatever turns it is closed, it is halted with the last answer among them
+  abbrev pub HaltsClosed : Wire K → List ℕ → ConnFault → Stop → Wire K → Type 0
+  HaltsClosed a octets f why b = (turns : List Turn) → IsClosing a octets f turns → Halted shows (ids_of tables) b why (Closed octets f ∷ turns)
+
   abbrev pub HeardEarly : Heard → Wire K → Type 0
   HeardEarly (heard.Does (acts.Group asked)) w = AsksGroup w asked
   HeardEarly (heard.Does (acts.Close octets f)) w = IsClosing w octets f []
@@ -66,3 +70,7 @@ module _ {K : Type 0} (shows : K → Shown) (tables : List TableForm) where
     pub over : AllByRecursion IsTurnOver turns
     pub due : AllDue (serving tables may (Refuses boot p q)) (home_of boot 0) 0 [] turns
     pub halted : Halted shows (ids_of tables) w why turns
+
+  -- the same of the pass with which the bind was refused for that reason, whichever it was before
+  abbrev pub IsRefusedAlone : (Call → Bool → Ans → Type 0) → ℕ → ℕ → ℕ → Wire K → Pass → Stop → Type 0
+  IsRefusedAlone may boot asked reason w q why = (before : Pass) → Refuses boot before q asked reason → IsAlone may boot before w q why

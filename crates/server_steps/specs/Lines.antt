@@ -4,6 +4,7 @@ use Rattle.std.specs.List.{AllByRecursion}
 use Rattle.rpc_outside.specs.Links.{Shown}
 use Rattle.hub_story.specs.Passes.{Serves}
 use Rattle.group_hub.specs.declared.hub.Hub.{Hub}
+use Rattle.group_hub.specs.declared.pass.Pass.{Pass}
 use Rattle.group_hub.specs.Shards.{shard_of}
 use Rattle.group_hub.specs.Passes.{IsPassOf, at_shard}
 use Rattle.server_ends.specs.Joins.{JoinedAs}
@@ -16,7 +17,8 @@ use Rattle.conn_histories.specs.Requests.{ids_of}
 use Rattle.conn_histories.specs.declared.turn.Turn.{Turn}
 use Rattle.conn_histories.specs.Stories.{Server}
 use Rattle.conn_turns.specs.Done.{IsDone}
-use Rattle.server_ends.specs.Finishes.{serving, never_refused}
+use Rattle.server_ends.specs.Finishes.{serving, never_refused, Refuses}
+use Rattle.server_steps.specs.declared.wire.Wire.{Wire}
 use Rattle.server_steps.specs.declared.line.Line.{Line}
 use Rattle.server_steps.specs.Held.{Held}
 use Rattle.server_steps.specs.Told.{Told}
@@ -25,6 +27,10 @@ use Rattle.server_steps.specs.Early.{AsksGroup, IsClosing}
 -- the same connection on the same link
 abbrev pub IsSame : {K : Type 0} → Line K → Line K → Type 0
 IsSame old new = (new.began.value ≡ old.began.value) × (new.wire.first.value ≡ old.wire.first.value)
+
+-- a connection is as it was, and its pass has seen why its bind is refused
+abbrev pub ComesBack : {K : Type 0} → Hub → Wire K → Pass → ℕ → Wire K → Pass → ℕ → Type 0
+ComesBack hub w p asked back q reason = (back ≡ w) × IsPassOf hub q × Refuses hub.boot p q asked reason
 
 module _ {K : Type 0} (shows : K → Shown) (may : Call → Bool → Ans → Type 0) (tables : List TableForm) (hub : Hub) where
   abbrev pub server : Server
@@ -44,6 +50,10 @@ module _ {K : Type 0} (shows : K → Shown) (may : Call → Bool → Ans → Typ
     pub new : asked ≡ 0 → l.number ≡ 1
     pub joined : JoinedAs hub.boot l.began.value l.group l.number l.pass
     pub unretired : l.retired ≡ None
+
+  -- it joined on the link of that wire, with that pass at first
+  abbrev pub JoinsFrom : Wire K → Pass → ℕ → Line K → Type 0
+  JoinsFrom w p asked l = (l.began.value ≡ p) × (l.wire.first.value ≡ w.first.value) × IsJoined l asked
 
   -- every turn so far is over; some octets are still to be put
   pub record IsIdle (l : Line K) (pending : List ℕ) : Type 0 where

@@ -1,8 +1,10 @@
 -- What has been done and answered on a connection that is served, and why it doesn't go on.
 use Rattle.std.specs.Prelude.{◌≡◌, ℕ, Bool, false, List, [], ⊤}
-use Rattle.std.specs.List.{list_any}
+use Rattle.std.specs.List.{list_any, AllByRecursion}
 use Rattle.rpc_base.specs.declared.identifiers.SyntaxId.{SyntaxId}
 use Rattle.rpc_outside.specs.Links.{Shown}
+use Rattle.handle_model.specs.declared.entry.Home.{Home}
+use Rattle.handle_model.specs.declared.entry.Entry.{Entry}
 use Rattle.conn_asks.specs.declared.events.Waits.{Waits}
 use Rattle.conn_asks.specs.Asks.{is_bound}
 use Rattle.conn_asks.specs.States.{ConnState}
@@ -12,8 +14,10 @@ use Rattle.server_steps.specs.declared.wire.Wire.{Wire}
 use Rattle.server_steps.specs.Wires.{Lived, Stopped, HasFailed, HasEnded}
 use Rattle.conn_histories.specs.declared.turn.Turn.{Turn}
 use Rattle.conn_histories.specs.Events.{all_events}
-use Rattle.conn_turns.specs.AnswerLaws.{IsAllAsked}
-use Rattle.server_ends.specs.Endings.{closes, ClosedFor}
+use Rattle.conn_histories.specs.Tales.{StandAll}
+use Rattle.conn_turns.specs.AnswerLaws.{IsAllAsked, IsOver}
+use Rattle.server_ends.specs.declared.ended.Ending.{Ending}
+use Rattle.server_ends.specs.Endings.{closes, ClosedFor, EndsAs}
 use Rattle.server_steps.specs.declared.stop.Stop.{Stop}
 use Rattle.server_steps.specs.declared.stop.Stop.TheVariants as stop
 
@@ -48,3 +52,9 @@ module _ {K : Type 0} (shows : K → Shown) (ids : List SyntaxId) where
     pub stopped : Stopped shows ids w events state pending []
     pub seen_is : seen events ≡ all_events turns
     pub cause : Causes why w turns state pending
+
+-- its closed link tells how the connection ended, whatever is served and whatever its turns were, once they are over
+abbrev pub ClosesAs : {K : Type 0} → (K → Shown) → Wire K → Stop → K → Ending → Type 0
+ClosesAs shows w why k e =
+    (ids : List SyntaxId) (home : Home) (c : ℕ) (gone : Bool) (past : List Entry) (turns : List Turn) → Halted shows ids w why turns → StandAll c gone past turns
+    → AllByRecursion IsOver turns → EndsAs ids home past turns (shows w.first.value) e (shows k)

@@ -95,3 +95,7 @@ module _ {K : Type 0} (shows : K → Shown) where
       Decides decision (Err fault.Failed) w =
           (octets : List ℕ) × (n : ConnState) × AnswersDecision m decision octets n × ((rest : List ℕ) × Lived w (events ++ Decided decision octets ∷ []) n rest × HasFailed w)
       Decides decision (Err fault.Memory) w = Lived w events m []
+
+  -- the server decided so, whatever had happened before
+  abbrev pub DecidesAfter : Wire K → Decision → Result Unit Fault → Wire K → Type 0
+  DecidesAfter a decision r b = (ids : List SyntaxId) (events : List Event) (m : ConnState) → Lived ids a events m [] → Decides ids events m decision r b

@@ -1,14 +1,9 @@
 //! A connection before it is in a group.
-ghost use Rattle.std.specs.Prelude.{◌≡◌, List, ◌∷◌, MatchResult};
+ghost use Rattle.std.specs.Prelude.{◌≡◌, List, MatchResult};
 ghost use Rattle.conn_histories.specs.declared.turn.Turn.{Turn};
-ghost use Rattle.conn_histories.specs.declared.turn.Turn.TheVariants.{Closed};
-ghost use Rattle.group_hub.specs.declared.pass.Pass.{Pass as PassSpec};
 ghost use Rattle.group_hub.specs.Passes.{IsPassOf};
-ghost use Rattle.server_ends.specs.Finishes.{Refuses};
-ghost use Rattle.conn_histories.specs.Requests.{ids_of};
-ghost use Rattle.server_steps.specs.Told.{Halted};
-ghost use Rattle.server_steps.specs.Early.{IsEarly, AsksGroup, IsClosing, HeardEarly, IsAlone};
-ghost use Rattle.server_steps.specs.Lines.{IsJoined};
+ghost use Rattle.server_steps.specs.Early.{IsEarly, AsksGroup, IsClosing, HaltsClosed, HeardEarly, IsRefusedAlone};
+ghost use Rattle.server_steps.specs.Lines.{JoinsFrom, ComesBack};
 ghost use Rattle.server_steps.specs.Stops.{stop_by};
 
 use crate::line::Line;
@@ -50,7 +45,7 @@ pub fn put_close<K: Link, M: Manager>(
 ) -> Stop
     requires { (turns : List Turn) × IsClosing K.shows (M.tables _manager.now) wire.old octets.now fault turns }
     ensures first { wire.new.first.value ≡ wire.old.first.value }
-    ensures halted { (turns : List Turn) → IsClosing K.shows (M.tables _manager.now) wire.old octets.now fault turns → Halted K.shows (ids_of (M.tables _manager.now)) wire.new result (Closed octets.now fault ∷ turns) }
+    ensures halted { HaltsClosed K.shows (M.tables _manager.now) wire.old octets.now fault result wire.new }
 {
     match wire.put(octets) {
         Ok(()) => Stop::Refused(fault),
@@ -73,7 +68,7 @@ pub fn join<R: Wait, K: Link, M: Manager>(
 ) -> Result<Line<K>, (Wire<K>, Pass, u16)>
     requires pass { IsPassOf hub.now pass }
     requires asks { AsksGroup K.shows (M.tables _manager.now) wire asked }
-    ensures joined { MatchResult result (λ line. (line.began.value ≡ pass) × (line.wire.first.value ≡ wire.first.value) × IsJoined K.shows (M.may _manager.now) (M.tables _manager.now) hub.now line asked) (λ back. (back.0 ≡ wire) × IsPassOf hub.now back.1 × Refuses hub.now.boot pass back.1 asked back.2) }
+    ensures joined { MatchResult result (λ line. JoinsFrom K.shows (M.may _manager.now) (M.tables _manager.now) hub.now wire pass asked line) (λ b. ComesBack hub.now wire pass asked b.0 b.1 b.2) }
 {
     let began = Snapshot::of(&pass);
     let mut pass = pass;
@@ -101,7 +96,7 @@ pub fn nak<K: Link, M: Manager>(
 ) -> Stop
     requires asks { AsksGroup K.shows (M.tables _manager.now) wire.old _asked }
     ensures first { wire.new.first.value ≡ wire.old.first.value }
-    ensures alone { (before : PassSpec) → Refuses _hub.now.boot before _pass.now _asked reason → IsAlone K.shows (M.tables _manager.now) (M.may _manager.now) _hub.now.boot before wire.new _pass.now result }
+    ensures alone { IsRefusedAlone K.shows (M.tables _manager.now) (M.may _manager.now) _hub.now.boot _asked reason wire.new _pass.now result }
 {
     match wire.nak(reason) {
         Ok(()) => {

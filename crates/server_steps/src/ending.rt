@@ -1,17 +1,8 @@
 //! The end of a connection's link.
-ghost use Rattle.std.specs.Prelude.{ℕ, Bool, List};
-ghost use Rattle.std.specs.List.{AllByRecursion};
-ghost use Rattle.rpc_base.specs.declared.identifiers.SyntaxId.{SyntaxId};
-ghost use Rattle.handle_model.specs.declared.entry.Home.{Home};
-ghost use Rattle.handle_model.specs.declared.entry.Entry.{Entry};
 ghost use Rattle.conn_asks.specs.States.{ConnState};
 ghost use Rattle.conn_core.specs.Fields.{IsAt};
 ghost use Rattle.server_steps.specs.Wires.{IsOpen};
-ghost use Rattle.conn_histories.specs.declared.turn.Turn.{Turn};
-ghost use Rattle.conn_histories.specs.Tales.{StandAll};
-ghost use Rattle.conn_turns.specs.AnswerLaws.{IsOver};
-ghost use Rattle.server_ends.specs.Endings.{EndsAs};
-ghost use Rattle.server_steps.specs.Told.{Halted};
+ghost use Rattle.server_steps.specs.Told.{ClosesAs};
 ghost use Rattle.server_steps.specs.Stops.{IsCutAs, IsEndedAs};
 
 use crate::Wire;
@@ -46,7 +37,7 @@ fn ended(conn: Conn, why: Stop) -> Ending
 /// Closes a connection that doesn't go on: its link, and how it ended.
 pub fn close<K: Link>(wire: Wire<K>, why: Stop) -> (K, Ending)
     requires { IsOpen K.shows wire.link }
-    ensures { (ids : List SyntaxId) (home : Home) (c : ℕ) (gone : Bool) (past : List Entry) (turns : List Turn) → Halted K.shows ids wire why turns → StandAll c gone past turns → AllByRecursion IsOver turns → EndsAs ids home past turns (K.shows wire.first.value) result.1 (K.shows result.0) }
+    ensures { ClosesAs K.shows wire why result.0 result.1 }
 {
     let Wire {
         link,

@@ -9,7 +9,7 @@ ghost use Rattle.conn_core.specs.Fields.{Leads};
 ghost use Rattle.conn_asks.specs.States.{ConnState, at_start, with_octets, IsGrouping, IsCalling, WaitsBehind};
 ghost use Rattle.conn_histories.specs.Histories.{Event};
 ghost use Rattle.conn_histories.specs.Histories.Decision.{ToGroup, RefuseGroup, Reply};
-ghost use Rattle.server_steps.specs.Wires.{IsOpen, Stays, Lived, Nexts, Takes, Hears, Puts, Decides};
+ghost use Rattle.server_steps.specs.Wires.{IsOpen, Stays, Lived, Nexts, Takes, Hears, Puts, Decides, DecidesAfter};
 
 use conn_core::{Act, Conn};
 use handle_model::Said;
@@ -208,7 +208,7 @@ impl<K: Link> Wire<K> {
         requires stub { FitsStub (option_copied said) }
         requires open { IsOpen K.shows self.old.link }
         ensures stays { Stays self.old self.new }
-        ensures decides { (ids : List SyntaxIdSpec) (events : List Event) (m : ConnState) → Lived K.shows ids self.old events m [] → Decides K.shows ids events m (Reply (option_copied said.entry) executed) result self.new }
+        ensures decides { DecidesAfter K.shows self.old (Reply (option_copied said.entry) executed) result self.new }
     {
         let octets = match self.conn.reply(said, executed) {
             Ok(octets) => octets,

@@ -12,6 +12,10 @@ use rpc_base::{NoMemory, Octets};
 use std::alloc::Global;
 
 /// A view, and what becomes of it.
+///
+/// # Errors
+///
+/// `NoMemory` where there is no memory for the message.
 pub fn viewed(alloc: Global, kept: Kept, status: u32) -> Result<Answer, NoMemory>
     ensures { IfOk result (λ a. ans a ≡ AOut (handle_and_status_spec status) (Stays ∷ kept ∷ [])) }
 {
@@ -25,6 +29,10 @@ pub fn viewed(alloc: Global, kept: Kept, status: u32) -> Result<Answer, NoMemory
 }
 
 /// The size of a view's file.
+///
+/// # Errors
+///
+/// `NoMemory` where there is no memory for the message.
 pub fn sized(alloc: Global, size: u64, status: u32) -> Result<Answer, NoMemory>
     ensures answer { IfOk result (λ a. ans a ≡ AOut (size_response size status) (Stays ∷ [])) }
     ensures fits { size < 2 ^ 64 }
@@ -38,6 +46,10 @@ pub fn sized(alloc: Global, size: u64, status: u32) -> Result<Answer, NoMemory>
 }
 
 /// Octets of a cursor's file, and what becomes of the cursor.
+///
+/// # Errors
+///
+/// `NoMemory` where there is no memory for the message.
 pub fn octets_read(alloc: Global, kept: Kept, piece: &[u8], status: u32) -> Result<Answer, NoMemory>
     ensures answer { IfOk result (λ a. ans a ≡ AOut (read_response piece.now status) (kept ∷ [])) }
     ensures octets { IsOctets piece.now }

@@ -1,13 +1,13 @@
 //! The files.
-ghost use Rattle.std.specs.Prelude.{◌≡◌, ◌+◌, ◌<◌, ◌≤◌, ◌++◌, ◌∷◌, [], ℕ, suc, List, length, slice_get, slice_set, MatchOption, Some, None, OnErr, OnOk, true, bytes_eq, if◌then◌else◌};
+ghost use Rattle.std.specs.Prelude.{◌≡◌, ◌+◌, ◌<◌, ◌≤◌, ℕ, suc, List, length, slice_get, MatchOption, Some, None, OnErr, OnOk, true, bytes_eq, if◌then◌else◌};
 ghost use Rattle.std.specs.List.{list_all};
 ghost use Rattle.std.specs.Option.{option_copied};
 ghost use Rattle.rpc_base.specs.Named.{at_name};
 ghost use Rattle.ndr_value.specs.Values.{msg};
 ghost use Rattle.manager_api.specs.Arguments.{bytes_at};
-ghost use Rattle.store_manager.specs.declared.file.File.{File as file};
 ghost use Rattle.store_manager.specs.Files as spec;
 ghost use Rattle.store_manager.specs.Steps.{piece_at};
+ghost use Rattle.store_manager.specs.Wholes.{AddsFile, AppendsOctets};
 
 use crate::File;
 use manager_api::append_bytes;
@@ -77,7 +77,11 @@ pub fn piece(octets: &[u8], position: usize, most: usize) -> &[u8]
     &rest[..count]
 }
 
-/// Adds the octets of an argument to the file at an index.
+/// AddsFile the octets of an argument to the file at an index.
+///
+/// # Errors
+///
+/// `NoMemory` where there is no memory for the octets: the files are as before then.
 pub fn append_at(
     alloc: Global,
     message: &Message,
@@ -85,7 +89,7 @@ pub fn append_at(
     index: usize,
 ) -> Result<(), NoMemory>
     requires { index < length files.old.items }
-    ensures ok { OnOk result ((f : file) → slice_get files.old.items index ≡ Some f → files.new.items ≡ slice_set files.old.items index (record { name = f.name; octets = f.octets ++ bytes_at (msg message.now) 2 })) }
+    ensures ok { OnOk result (AppendsOctets files.old.items index (bytes_at (msg message.now) 2) files.new.items) }
     ensures err { OnErr result (files.new.items ≡ files.old.items) }
 {
     append_bytes(alloc, message, 2, &mut files[index].octets)
@@ -103,7 +107,11 @@ fn put_name(names: &mut Names<u32>, name: Vec<u8>, number: u32) -> Result<(), No
     }
 }
 
-/// Adds an empty file of a name and of the number that follows the others'.
+/// AddsFile an empty file of a name and of the number that follows the others'.
+///
+/// # Errors
+///
+/// `NoMemory` where there is no memory for the file or its name: files and names are as before then.
 pub fn add_file(
     alloc: Global,
     name: &[u8],
@@ -111,7 +119,7 @@ pub fn add_file(
     files: &mut Vec<File>,
     names: &mut Names<u32>,
 ) -> Result<(), NoMemory>
-    ensures ok { OnOk result ((files.new.items ≡ files.old.items ++ record { name = name.now; octets = [] } ∷ []) × ((other : List ℕ) → at_name names.new other ≡ (if bytes_eq name.now other then Some number else at_name names.old other))) }
+    ensures ok { OnOk result (AddsFile files.old.items names.old name.now number files.new.items names.new) }
     ensures err { OnErr result ((files.new.items ≡ files.old.items) × ((other : List ℕ) → at_name names.new other ≡ at_name names.old other)) }
 {
     let key = Vec::from_slice(alloc, name)?;

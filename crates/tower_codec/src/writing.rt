@@ -9,6 +9,10 @@ use rpc_base::{NoMemory, Order, SyntaxId, put_u16, put_uuid};
 
 /// Adds the tower's octets at the end (C706, "Protocol Tower Encoding"). Where there is no memory,
 /// nothing is added.
+///
+/// # Errors
+///
+/// `NoMemory` where there is no memory for the octets; nothing is added then.
 pub fn write_tower(tower: &Tower, into: &mut Vec<u8>) -> Result<(), NoMemory>
     ensures ok { OnOk result (into.new.items ≡ into.old.items ++ tower_octets tower.now) }
     ensures err { OnErr result (into.new.items ≡ into.old.items) }

@@ -9,3 +9,4 @@ pub mod Rows
 pub mod Stands
 pub mod Texts
 pub mod Told
+pub mod Views

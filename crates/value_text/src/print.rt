@@ -206,6 +206,10 @@ fn put_list(values: &[Value], alloc: Global, into: &mut Vec<u8>) -> Result<(), N
 }
 
 /// Adds the text of a value. Where memory runs out nothing is added.
+///
+/// # Errors
+///
+/// `NoMemory` where memory runs out.
 pub fn print_value(alloc: Global, value: &Value, into: &mut Vec<u8>) -> Result<(), NoMemory>
     ensures ok { OnOk result (into.new.items ≡ into.old.items ++ value_text (val value.now)) }
     ensures err { OnErr result (into.new.items ≡ into.old.items) }

@@ -5,6 +5,7 @@ ghost use Rattle.ndr_value.specs.Values.{val, vals, bytes, VByte, VStruct, VArra
 ghost use Rattle.value_text.specs.Reading as spec;
 ghost use Rattle.value_text.specs.Rows.{with_front};
 ghost use Rattle.value_text.specs.Gives.{Gives};
+ghost use Rattle.value_text.specs.Views.{read_of};
 
 use crate::departure::{Departure, Stop};
 use crate::marks::{closed, heads, mark, marks, opened, wrong};
@@ -113,7 +114,7 @@ pub(crate) fn value<'t>(
     shape: &Shape,
     text: &'t [u8],
 ) -> Result<(Value, &'t [u8]), Stop>
-    ensures { Gives (λ x. (val x.0, x.1.now)) result (spec.read (types_of reader.now.types.now) room level (form shape.now) text.now) }
+    ensures { Gives (λ x. (val x.0, x.1.now)) result (read_of reader.now room level (form shape.now) text.now) }
 {
     if room == 0 {
         return Err(Stop::Memory);
@@ -129,7 +130,7 @@ fn step<'t>(
     shape: &Shape,
     text: &'t [u8],
 ) -> Result<(Value, &'t [u8]), Stop>
-    ensures { Gives (λ x. (val x.0, x.1.now)) result (spec.read_at (types_of reader.now.types.now) (spec.read (types_of reader.now.types.now) room) level (form shape.now) text.now) }
+    ensures { Gives (λ x. (val x.0, x.1.now)) result (spec.read_at (types_of reader.now.types.now) (read_of reader.now room) level (form shape.now) text.now) }
 {
     match shape {
         Shape::Bool => boolean(text),
@@ -183,7 +184,7 @@ fn structure<'t>(
     shapes: &[Shape],
     text: &'t [u8],
 ) -> Result<(Value, &'t [u8]), Stop>
-    ensures { Gives (λ x. (val x.0, x.1.now)) result (spec.struct_at (spec.read (types_of reader.now.types.now) room level) (forms shapes.now) text.now) }
+    ensures { Gives (λ x. (val x.0, x.1.now)) result (spec.struct_at (read_of reader.now room level) (forms shapes.now) text.now) }
 {
     let rest = opened(b'{', text)?;
     let (values, rest) = members(room, reader, level, shapes, rest)?;
@@ -198,7 +199,7 @@ fn members<'t>(
     shapes: &[Shape],
     text: &'t [u8],
 ) -> Result<(Vec<Value>, &'t [u8]), Stop>
-    ensures { Gives (λ x. (vals x.0.items, x.1.now)) result (spec.members_at (spec.read (types_of reader.now.types.now) room level) (forms shapes.now) text.now) }
+    ensures { Gives (λ x. (vals x.0.items, x.1.now)) result (spec.members_at (read_of reader.now room level) (forms shapes.now) text.now) }
 {
     match shapes.split_first() {
         None => {
@@ -226,7 +227,7 @@ fn member<'t>(
     shape: &Shape,
     text: &'t [u8],
 ) -> Result<(Value, &'t [u8]), Stop>
-    ensures { Gives (λ x. (val x.0, x.1.now)) result (spec.member_at (spec.read (types_of reader.now.types.now) room level (form shape.now)) text.now) }
+    ensures { Gives (λ x. (val x.0, x.1.now)) result (spec.member_at (read_of reader.now room level (form shape.now)) text.now) }
 {
     if heads(b'}', text) {
         return Err(Stop::Departs(Departure::Kind(text.len())));
@@ -255,7 +256,7 @@ fn members_on<'t>(
     before: Vec<Value>,
     text: &'t [u8],
 ) -> Result<(Vec<Value>, &'t [u8]), Stop>
-    ensures { Gives (λ x. (vals x.0.items, x.1.now)) result (with_front (vals before.items) (spec.members_on (spec.read (types_of reader.now.types.now) room level) (forms shapes.now) text.now)) }
+    ensures { Gives (λ x. (vals x.0.items, x.1.now)) result (with_front (vals before.items) (spec.members_on (read_of reader.now room level) (forms shapes.now) text.now)) }
 {
     let mut values = before;
     let mut rest = text;
@@ -278,7 +279,7 @@ fn union_value<'t>(
     arms: &[Arm],
     text: &'t [u8],
 ) -> Result<(Value, &'t [u8]), Stop>
-    ensures { Gives (λ x. (val x.0, x.1.now)) result (spec.union_at (spec.read (types_of reader.now.types.now) room level) (OfUnion (form kind.now) (arms_of arms.now)) text.now) }
+    ensures { Gives (λ x. (val x.0, x.1.now)) result (spec.union_at (read_of reader.now room level) (OfUnion (form kind.now) (arms_of arms.now)) text.now) }
 {
     let place = opened(b'(', text)?;
     let (number, rest) = number(place)?;
@@ -301,7 +302,7 @@ fn arm_value<'t>(
     tag: i64,
     text: &'t [u8],
 ) -> Result<(Value, &'t [u8]), Stop>
-    ensures { (left : ℕ) → Gives (λ x. (val x.0, x.1.now)) result (spec.arm_at (Some (body arm.now.shape)) tag left (spec.read (types_of reader.now.types.now) room level) text.now) }
+    ensures { (left : ℕ) → Gives (λ x. (val x.0, x.1.now)) result (spec.arm_at (Some (body arm.now.shape)) tag left (read_of reader.now room level) text.now) }
 {
     match &arm.shape {
         None => empty_arm(tag, text),
@@ -328,7 +329,7 @@ fn held_arm<'t>(
     tag: i64,
     text: &'t [u8],
 ) -> Result<(Value, &'t [u8]), Stop>
-    ensures { Gives (λ x. (val x.0, x.1.now)) result (spec.held_at tag (spec.read (types_of reader.now.types.now) room level (form shape.now)) text.now) }
+    ensures { Gives (λ x. (val x.0, x.1.now)) result (spec.held_at tag (read_of reader.now room level (form shape.now)) text.now) }
 {
     if heads(b')', text) {
         return Err(Stop::Departs(Departure::Kind(text.len())));
@@ -355,7 +356,7 @@ fn pointer<'t>(
     inner: &Shape,
     text: &'t [u8],
 ) -> Result<(Value, &'t [u8]), Stop>
-    ensures { Gives (λ x. (val x.0, x.1.now)) result (spec.pointer_at level (spec.read (types_of reader.now.types.now) room (level + 1) (form inner.now)) text.now) }
+    ensures { Gives (λ x. (val x.0, x.1.now)) result (spec.pointer_at level (read_of reader.now room (level + 1) (form inner.now)) text.now) }
 {
     if heads(b'n', text) {
         let rest = marks(b"null", text)?;
@@ -380,7 +381,7 @@ fn array<'t>(
     inner: &Shape,
     text: &'t [u8],
 ) -> Result<(Value, &'t [u8]), Stop>
-    ensures { Gives (λ x. (val x.0, x.1.now)) result (spec.array_at (spec.read (types_of reader.now.types.now) room level (form inner.now)) kind.now text.now) }
+    ensures { Gives (λ x. (val x.0, x.1.now)) result (spec.array_at (read_of reader.now room level (form inner.now)) kind.now text.now) }
 {
     let rest = opened(b'[', text)?;
     match inner {
@@ -398,7 +399,7 @@ fn elements<'t>(
     inner: &Shape,
     text: &'t [u8],
 ) -> Result<(Value, &'t [u8]), Stop>
-    ensures { Gives (λ x. (val x.0, x.1.now)) result (spec.in_array (spec.items_at (spec.read (types_of reader.now.types.now) room level (form inner.now)) kind.now text.now)) }
+    ensures { Gives (λ x. (val x.0, x.1.now)) result (spec.in_array (spec.items_at (read_of reader.now room level (form inner.now)) kind.now text.now)) }
 {
     let (values, rest) = items(room, reader, level, kind, inner, text)?;
     Ok((made_array(values), rest))
@@ -413,7 +414,7 @@ fn items<'t>(
     inner: &Shape,
     text: &'t [u8],
 ) -> Result<(Vec<Value>, &'t [u8]), Stop>
-    ensures { Gives (λ x. (vals x.0.items, x.1.now)) result (spec.items_at (spec.read (types_of reader.now.types.now) room level (form inner.now)) kind.now text.now) }
+    ensures { Gives (λ x. (vals x.0.items, x.1.now)) result (spec.items_at (read_of reader.now room level (form inner.now)) kind.now text.now) }
 {
     if heads(b']', text) {
         let rest = closed(count_fits(kind, 0), text)?;
@@ -448,7 +449,7 @@ fn item<'t>(
     inner: &Shape,
     text: &'t [u8],
 ) -> Result<(Value, &'t [u8]), Stop>
-    ensures { Gives (λ x. (val x.0, x.1.now)) result (spec.item_at (spec.read (types_of reader.now.types.now) room level (form inner.now)) may text.now) }
+    ensures { Gives (λ x. (val x.0, x.1.now)) result (spec.item_at (read_of reader.now room level (form inner.now)) may text.now) }
 {
     let rest = next(may, text)?;
     value(room, reader, level, inner, rest)
@@ -465,7 +466,7 @@ fn items_on<'t>(
     first: Vec<Value>,
     text: &'t [u8],
 ) -> Result<(Vec<Value>, &'t [u8]), Stop>
-    ensures { Gives (λ x. (vals x.0.items, x.1.now)) result (with_front (vals first.items) (spec.items_on (length text.now + 1) (spec.read (types_of reader.now.types.now) room level (form inner.now)) kind.now 1 text.now)) }
+    ensures { Gives (λ x. (vals x.0.items, x.1.now)) result (with_front (vals first.items) (spec.items_on (length text.now + 1) (read_of reader.now room level (form inner.now)) kind.now 1 text.now)) }
 {
     let mut values = first;
     let mut rest = text;
@@ -489,7 +490,7 @@ fn octets<'t>(
     kind: &ArrayKind,
     text: &'t [u8],
 ) -> Result<(Value, &'t [u8]), Stop>
-    ensures { Gives (λ x. (val x.0, x.1.now)) result (spec.in_array (spec.items_at (spec.read (types_of reader.now.types.now) room level OfByte) kind.now text.now)) }
+    ensures { Gives (λ x. (val x.0, x.1.now)) result (spec.in_array (spec.items_at (read_of reader.now room level OfByte) kind.now text.now)) }
 {
     if room == 0 {
         return Err(Stop::Memory);

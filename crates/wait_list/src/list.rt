@@ -79,6 +79,9 @@ fn give_back_nodes(alloc: &Global, spare: Vec<Spare<Global>>) {
 
 impl Lists {
     /// A list without nodes. It takes one block, for the stop.
+    ///
+    /// # Errors
+    /// `AllocError` where the block can't be had.
     pub fn new(alloc: Global) -> Result<Lists, AllocError>
         ensures { IfOk result (λ w. w ≡ record { nodes = []; spare = 0; queues = 0 }) }
     {
@@ -108,6 +111,9 @@ impl Lists {
 
     /// Takes blocks until so many nodes are free and there are so many queues. Where it fails, some may
     /// have been made.
+    ///
+    /// # Errors
+    /// `AllocError` where a block or a queue's place can't be had.
     pub fn reserve(&mut self, nodes: usize, queues: usize) -> Result<(), AllocError>
         ensures ok { OnOk result ((nodes ≤ self.new.spare) × (queues ≤ self.new.queues)) }
         ensures same { self.new.nodes ≡ self.old.nodes }

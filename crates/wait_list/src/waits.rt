@@ -60,6 +60,9 @@ impl WaitList {
 
     /// Makes room for `nodes` more nodes, and for as many as `queues` queues in all. Nothing else takes
     /// memory. Where it fails, everything stands as before.
+    ///
+    /// # Errors
+    /// `NoMemory` where memory runs out.
     pub fn reserve(&mut self, nodes: usize, queues: usize) -> Result<(), NoMemory>
         ensures ok { OnOk result ((nodes ≤ self.new.spare) × (queues ≤ self.new.queues)) }
         ensures same { self.new.nodes ≡ self.old.nodes }

@@ -21,10 +21,10 @@ returns-in_err-told-clause-waits g c =
     rw (p.1, p.2) (λ interface events m l. goes_wrong g.K.Link.shows interface c.loop.self c.look.new.self events (c.loop.invariant.waited interface events m l) (Err c.in_err-told.field-0.0) (c.in_err-told.ensures.looks interface)
     c.args.self.now m c.in_err-told.field-0.0 c.loop.invariant.counts refl)
 
-pub returns-in-Tells-clause-waits : goal.returns-in-Tells-clause-waits
-returns-in-Tells-clause-waits g c = λ interface events m l.
-    goes_told g.K.Link.shows interface c.loop.self c.look.new.self events (c.loop.invariant.waited interface events m l) (Ok c.in_ok-told.field-0) (c.in_ok-told.ensures.looks interface) c.args.self.now m c.in-Tells.told
-    (ap Ok c.in-Tells.is)
+pub returns-in-Outcome-clause-waits : goal.returns-in-Outcome-clause-waits
+returns-in-Outcome-clause-waits g c = λ interface events m l.
+    goes_told g.K.Link.shows interface c.loop.self c.look.new.self events (c.loop.invariant.waited interface events m l) (Ok c.in_ok-told.field-0) (c.in_ok-told.ensures.looks interface) c.args.self.now m c.in-Outcome.told
+    (ap Ok c.in-Outcome.is)
 
 pub returns-then-quiets-eq-MOST_QUIETS-clause-waits : goal.returns-then-quiets-eq-MOST_QUIETS-clause-waits
 returns-then-quiets-eq-MOST_QUIETS-clause-waits g c = λ interface events m l.
@@ -59,5 +59,5 @@ loop-preserved g c =
 pub returns-clause-waits : goal.returns-clause-waits
 returns-clause-waits g c = λ interface events m l. ends_short g.K.Link.shows interface c.args.self.now c.loop.self events m (c.loop.invariant.waited interface events m l)
 
-pub returns-in-Tells-clause-answer : goal.returns-in-Tells-clause-answer
-returns-in-Tells-clause-answer g c = rw c.in-Tells.is at c.in_ok-told.ensures.answer
+pub returns-in-Outcome-clause-answer : goal.returns-in-Outcome-clause-answer
+returns-in-Outcome-clause-answer g c = rw c.in-Outcome.is at c.in_ok-told.ensures.answer
