@@ -2,6 +2,7 @@ pub mod Accepted
 pub mod Agreement
 pub mod Apart
 pub mod BaseFacts
+pub mod ClosingEnds
 pub mod Fate
 pub mod Held
 pub mod Joins
@@ -12,6 +13,7 @@ pub mod Older
 pub mod Once
 pub mod OneSlot
 pub mod ReplyStays
+pub mod ReplyTruth
 pub mod Rest
 pub mod Reversed
 pub mod Sets

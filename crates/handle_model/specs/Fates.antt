@@ -1,13 +1,15 @@
 -- What becomes of the handles of a legal history, whose newest entry is its first.
-use Rattle.std.specs.Prelude.{◌≡◌, ℕ, ◌+◌, true, if◌then◌else◌, List, [], ◌∷◌, length, filter}
+use Rattle.std.specs.Prelude.{◌≡◌, ◌≢◌, ℕ, ◌+◌, true, if◌then◌else◌, Some, List, [], ◌∷◌, ◌++◌, length, filter, slice_get}
 use Rattle.rpc_base.specs.declared.identifiers.WireHandle.{WireHandle}
 use Rattle.handle_model.specs.declared.entry.Home.{Home}
 use Rattle.handle_model.specs.declared.entry.Slot.{Slot}
 use Rattle.handle_model.specs.declared.entry.Outcome.{Outcome}
+use Rattle.handle_model.specs.declared.entry.Outcome.TheVariants.{Close}
+use Rattle.handle_model.specs.declared.entry.Said.{Said}
 use Rattle.handle_model.specs.declared.entry.Entry.{Entry}
 use Rattle.handle_model.specs.declared.entry.Entry.TheVariants.{End, Shut}
 use Rattle.handle_model.specs.declared.base.Base.{Base}
-use Rattle.handle_model.specs.Slots.{wire_of}
+use Rattle.handle_model.specs.Slots.{wire_of, names}
 use Rattle.handle_model.specs.History.{History, since}
 use Rattle.handle_model.specs.Journal.{Legal, slots, issues, closes, is_item_of, is_issued, is_live}
 
@@ -46,3 +48,25 @@ abbrev pub OneFate : Type 0
 OneFate =
     (j : History) (h : ℕ) → Legal j → is_issued j h ≡ true
     → (issuings j h ≡ 1) × (closings j h + rundowns j.past h + (if is_live j h then 1 else 0) ≡ 1)
+
+-- the place among a call's slots at which its results close the handle of this wire value
+pub record ClosesAt (wire : WireHandle) (slots : List Slot) (results : List Outcome) : Type 0 where
+  pub place : ℕ
+  pub slot : Slot
+  pub is_slot : slice_get slots place ≡ Some slot
+  pub names_it : names wire slot ≡ true
+  pub is_closed : slice_get results place ≡ Some Close
+
+-- an End that closed the handle, behind the newer entries; the call's slots are those of the entries older than it
+pub record ClosedBy (j : History) (h : ℕ) : Type 0 where
+  pub call : ℕ
+  pub results : List Outcome
+  pub said : Said
+  pub newer : List Entry
+  pub older : List Entry
+  pub is : j.past ≡ newer ++ End call results said ∷ older
+  pub at : ClosesAt (wire_of j.home h) (slots (since j.home j.base older) call) results
+
+-- a handle that was closed was closed by the End of a call, at a slot that names it
+abbrev pub ClosingsAreEnds : Type 0
+ClosingsAreEnds = (j : History) (h : ℕ) → closings j h ≢ 0 → ClosedBy j h

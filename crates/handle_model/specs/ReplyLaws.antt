@@ -1,5 +1,5 @@
 -- What each entry of a legal history, whose newest entry is its first, makes the reply of its call.
-use Rattle.std.specs.Prelude.{◌≡◌, ◌≢◌, ℕ, true, if◌then◌else◌, Some, List}
+use Rattle.std.specs.Prelude.{◌≡◌, ◌≢◌, ℕ, true, if◌then◌else◌, Some, List, ◌∷◌, ◌++◌, length, filter}
 use Rattle.handle_model.specs.declared.entry.Asked.{Asked}
 use Rattle.handle_model.specs.declared.entry.Outcome.{Outcome}
 use Rattle.handle_model.specs.declared.entry.Said.{Said}
@@ -7,7 +7,8 @@ use Rattle.handle_model.specs.declared.entry.Entry.{Entry}
 use Rattle.handle_model.specs.declared.entry.Entry.TheVariants.{Deny, Cancel, Orphan, End, Leave}
 use Rattle.handle_model.specs.declared.reply.Reply.TheVariants.{Never, Ran, Dropped, Open}
 use Rattle.handle_model.specs.History.{History, with_entry}
-use Rattle.handle_model.specs.Journal.{Legal, asked, waits}
+use Rattle.rpc_base.specs.declared.identifiers.Status.{Status}
+use Rattle.handle_model.specs.Journal.{Legal, asked, waits, takes}
 use Rattle.handle_model.specs.Replies.{context_mismatch, cancelled, is_lost, replies}
 use Rattle.handle_model.specs.Further.{with_entries}
 
@@ -42,3 +43,18 @@ abbrev pub LeaveReplies : Type 0
 LeaveReplies =
     (j : History) (c k : ℕ) (a : Asked) → Legal (with_entry j (Leave c)) → asked j k ≡ Some a → a.conn ≡ c → replies j k ≡ Open
     → replies (with_entry j (Leave c)) k ≡ Dropped
+
+-- a call whose caller is told that it never ran has no Take
+abbrev pub NeverIsUntaken : Type 0
+NeverIsUntaken = (j : History) (k : ℕ) (status : Status) → Legal j → replies j k ≡ Never status → length (filter (takes k) j.past) ≡ 0
+
+-- an End of call k, which said so: the newer entries before it, the older behind it
+pub record Ended (past : List Entry) (k : ℕ) (said : Said) : Type 0 where
+  pub newer : List Entry
+  pub older : List Entry
+  pub results : List Outcome
+  pub is : past ≡ newer ++ End k results said ∷ older
+
+-- what a call is told that it said is what an End of it says
+abbrev pub RanHasEnded : Type 0
+RanHasEnded = (j : History) (k : ℕ) (said : Said) → replies j k ≡ Ran said → Ended j.past k said

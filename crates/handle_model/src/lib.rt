@@ -30,14 +30,15 @@ pub use due::{Due, DueList, Rundown};
 pub use entry::{
     Asked, CookieRow, Cookies, DueItem, DueItems, Entry, Home, Outcome, Outcomes, Said, Slot, Slots,
 };
-pub use handles::one_fate;
+pub use handles::{closings_are_ends, one_fate};
 pub use limits::{AcceptLimit, JoinLimit, MOST_HANDLES, accept_limit, join_limit};
 pub use moments::{common_past_agrees, kind_stays, moments_in_order, older_is_legal, shut_is_last};
 pub use refused::{
     fault_refuses, foreign_at_fault, null_at_fault, twice_at_fault, usable_names_live,
 };
 pub use replies::{
-    cancel_replies, deny_replies, end_replies, leave_replies, orphan_replies, reply_stays,
+    cancel_replies, deny_replies, end_replies, leave_replies, never_is_untaken, orphan_replies,
+    ran_has_ended, reply_stays,
 };
 pub use reply::Reply;
 pub use running::{named_live, running_apart, taken_issued, taken_live};

@@ -1,5 +1,7 @@
 //! What the caller of a call is told, and when.
-ghost use Rattle.handle_model.specs.ReplyLaws.{ReplyStays, DenyReplies, CancelReplies, EndReplies, OrphanReplies, LeaveReplies};
+ghost use Rattle.handle_model.specs.ReplyLaws.{ReplyStays, DenyReplies, CancelReplies, EndReplies, OrphanReplies, LeaveReplies, NeverIsUntaken, RanHasEnded};
+
+use crate::calls::decided_once;
 
 /// A reply stays, once it is more than "nothing yet".
 pub fn reply_stays()
@@ -29,4 +31,16 @@ pub fn orphan_replies()
 /// Nor does a call without a reply whose connection leaves.
 pub fn leave_replies()
     ensures { LeaveReplies }
+{}
+
+/// A call whose caller is told that it never ran was never taken.
+pub fn never_is_untaken()
+    ensures { NeverIsUntaken }
+{
+    decided_once();
+}
+
+/// What a caller is told that its call said is what an End of the call says.
+pub fn ran_has_ended()
+    ensures { RanHasEnded }
 {}
