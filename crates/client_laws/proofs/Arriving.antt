@@ -18,7 +18,7 @@ use Rattle.conn_asks.specs.declared.events.Waits.TheVariants.{Call}
 use Rattle.conn_asks.specs.States.{ConnState, with_octets, accepted, caller_of, ActsOnCall, MayCome, ActsAt, IsStuck, Goes}
 use Rattle.conn_histories.specs.Histories.{Event, Lives, IsAtRest}
 use Rattle.conn_histories.specs.Histories.Event.{Came, Did}
-use Rattle.conn_laws.proofs.Late.{same_answers}
+use Rattle.conn_histories.proofs.Late.{same_answers}
 use Rattle.client_core.specs.Octets.{IsRequest}
 use Rattle.client_laws.specs.Meeting.{IsLawful, IsReady, whole_request}
 use Rattle.client_laws.specs.Ends.{Comes, IsGiven}

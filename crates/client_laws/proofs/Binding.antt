@@ -28,7 +28,7 @@ use Rattle.conn_asks.specs.Answers.{agreement_of, bind_ack}
 use Rattle.conn_asks.specs.States.{ConnState, at_start, with_octets, accepted, ready_ack, ActsAt, Goes, BoundAt}
 use Rattle.conn_histories.specs.Histories.{Event, Lives}
 use Rattle.conn_histories.specs.Histories.Event.{Came, Did}
-use Rattle.conn_laws.proofs.Late.{same_answers}
+use Rattle.conn_histories.proofs.Late.{same_answers}
 use Rattle.client_core.specs.declared.begun.Stage.TheVariants.{Bound}
 use Rattle.client_core.specs.States.{Outcome, ClientState}
 use Rattle.client_core.specs.States.Outcome.{TBound}

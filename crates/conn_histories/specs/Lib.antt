@@ -1,9 +1,14 @@
 pub mod Answers
+pub mod Continued
 pub mod Ends
 pub mod Entries
 pub mod Events
 pub mod Histories
+pub mod Laws
+pub mod Played
 pub mod Plays
 pub mod Requests
+pub mod Serving
 pub mod Stories
 pub mod Tales
+pub mod WholeRuns

@@ -26,8 +26,8 @@ use Rattle.conn_asks.specs.States.{ConnState, at_start, caller_of, ready_ack}
 use Rattle.conn_histories.specs.Histories.{Decision, Event, Lives, IsAtRest, stream, seen, put}
 use Rattle.conn_histories.specs.Histories.Event.{Did, Decided}
 use Rattle.conn_histories.specs.Plays.{Negotiated, negotiated_at_start, offering, results, Binds, CallsOff, EndsCall, PlaysCall, Plays, EndsRefused}
-use Rattle.conn_laws.proofs.Done.{acts_are_asks}
-use Rattle.conn_laws.proofs.Along.{put_in_order}
+use Rattle.conn_histories.proofs.Done.{acts_are_asks}
+use Rattle.conn_histories.proofs.Along.{put_in_order}
 use Rattle.conn_histories.specs.declared.turn.Off.{Off}
 use Rattle.conn_histories.specs.declared.turn.Fate.{Fate}
 use Rattle.conn_histories.specs.declared.turn.Fate.TheVariants.{Waiting, Denied, Cancelled, Orphaned, LeftWaiting, Running, LeftRunning, Ended, LeftEnded}

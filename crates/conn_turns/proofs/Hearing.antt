@@ -26,7 +26,7 @@ use Rattle.conn_asks.specs.States.{ConnState, accepted, caller_of, IsGrouping, A
 use Rattle.conn_histories.specs.Histories.{Decision, Event, Happens, AnswersDecision}
 use Rattle.conn_histories.specs.Histories.Event.{Came, Paused, Did, Decided}
 use Rattle.conn_histories.specs.Histories.Decision.{ToGroup, RefuseGroup, Reply}
-use Rattle.conn_laws.proofs.Decided.{skips_keep, no_take}
+use Rattle.conn_histories.proofs.Decided.{skips_keep, no_take}
 
 -- ---- a group, or nothing more, is waited for
 

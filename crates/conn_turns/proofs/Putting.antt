@@ -15,8 +15,8 @@ use Rattle.conn_asks.specs.Answers.{Replies}
 use Rattle.conn_asks.specs.States.{ConnState, caller_of}
 use Rattle.conn_histories.specs.Histories.{Decision, Event, put}
 use Rattle.conn_histories.specs.Histories.Event.{Did}
-use Rattle.conn_laws.proofs.Along.{put_in_order}
-use Rattle.conn_laws.proofs.Decided.{one_answer}
+use Rattle.conn_histories.proofs.Along.{put_in_order}
+use Rattle.conn_histories.proofs.Decided.{one_answer}
 use Rattle.conn_histories.specs.declared.turn.Off.{Off}
 use Rattle.conn_histories.specs.declared.turn.Off.TheVariants as off
 use Rattle.conn_histories.specs.declared.turn.Deed.{Deed}

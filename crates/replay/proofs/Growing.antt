@@ -19,7 +19,7 @@ use Rattle.replay_world.specs.Worlds.Printed.{Waits, Idle}
 use Rattle.replay_world.specs.Events.{HappensOn, RestsAt, HappenOn, GoesOnAt}
 use Rattle.replay_world.specs.Plays.{idles, SendsAt, TriedAs, Tries, GoesOnIfOpen, EndsAt, IfRuns, Finishes, Loses, LosesAt, Plays}
 use Rattle.replay_world.specs.Replays.{Leads}
-use Rattle.replay_promises.proofs.Still.{means_still, still_on, still_left}
+use Rattle.replay.proofs.Still.{means_still, still_on, still_left}
 
 pub record Grew {S : Type 0} (w v : World S) : Type 0 where
   pub more : List Printed

@@ -6,7 +6,7 @@ use Rattle.replay_world.specs.declared.peer.Standing.{Standing}
 use Rattle.replay_world.specs.Worlds.{Peer, World, peer_at}
 use Rattle.replay_world.specs.Plays.{OfPeer}
 use Rattle.replay_groups.specs.Service.{service_of}
-use Rattle.replay_moments.proofs.Basics.{some_is}
+use Rattle.replay_world.proofs.Basics.{some_is}
 use Rattle.replay_events.specs.declared.played.Played.{Played}
 use Rattle.replay_events.specs.declared.player.Player.{Player}
 use Rattle.replay_events.specs.Standing.{Stands, Handles}

@@ -4,7 +4,7 @@ use Rattle.replay_script.specs.declared.line.Line.{Line}
 use Rattle.replay_world.specs.Services.{Service, IsDetermined}
 use Rattle.replay_world.specs.Worlds.{World}
 use Rattle.replay_world.specs.Replays.{Leads}
-use Rattle.replay_moments.proofs.ReplayLines.{one_line}
+use Rattle.replay_world.proofs.ReplayLines.{one_line}
 
 module _ (service : Service) where
   pub leads_more : (w : World service.State) (ls : List Line) (v : World service.State) (more : List Line) (u : World service.State) → Leads service w ls v → Leads service v more u → Leads service w (ls ++ more) u

@@ -5,7 +5,7 @@ use Rattle.std.proofs.lemmas.Grind.{flat_map-append}
 use Rattle.ndr_table.specs.Tables.{TableForm}
 use Rattle.desk_service.specs.State.{Services}
 use Rattle.replay_world.specs.declared.peer.Member.{Member}
-use Rattle.replay_moments.specs.Moments.{IsAs, Coheres}
+use Rattle.replay_world.specs.Moments.{IsAs, Coheres}
 use Rattle.replay_world.specs.Worlds.{Peer, Printed, World, printing}
 use Rattle.replay_world.specs.Printing.{printed_text, out_text}
 use Rattle.replay_world.specs.Answered.{FitsPrinted}

@@ -9,7 +9,7 @@ use Rattle.replay_script.specs.Lines.{FitLines, FitsLine, line_text, text_of_lin
 use Rattle.replay_script.specs.Scripts.{DepartsAt, IsFront}
 use Rattle.replay_script.proofs.Fronts.{first_line_unique, not_empty}
 use Rattle.replay_script.proofs.Departures.{text-more, shorter, fit-push, departs}
-use Rattle.replay_moments.proofs.Coming.{only_these}
+use Rattle.replay_world.proofs.Coming.{only_these}
 use Rattle.replay_world.specs.declared.fault.ReplayFault.{ReplayFault}
 use Rattle.replay_world.specs.declared.fault.ReplayFault.TheVariants as faults
 use Rattle.replay_world.specs.Services.{Service}

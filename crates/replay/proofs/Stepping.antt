@@ -25,7 +25,7 @@ use Rattle.replay_script.specs.Rounds.{Round, step_after}
 use Rattle.replay_script.specs.LoadScripts.{lines_of}
 use Rattle.replay_script.specs.Knowing.{Knows}
 use Rattle.replay_world.specs.Answered.{FitsPrinted, AddsText}
-use Rattle.replay_moments.specs.Loads.{PlaysRound, IsSummary}
+use Rattle.replay_world.specs.Loads.{PlaysRound, IsSummary}
 use Rattle.replay.specs.Playing.{LinesLead, IsBehind, HasPlayed}
 use Rattle.replay.proofs.Growing.{leads_grew, leads_last}
 

@@ -9,7 +9,7 @@ use Rattle.replay_world.specs.Replays.{Replays}
 use Rattle.replay_groups.specs.Service.{service_of}
 use Rattle.replay_events.specs.declared.player.Player.{Player}
 use Rattle.replay_events.specs.Standing.{Stands}
-use Rattle.replay_promises.specs.Laws.{ReplaysServeAll, ServesAll}
+use Rattle.replay.specs.Laws.{ReplaysServeAll, ServesAll}
 use Rattle.replay.specs.Closing.{IsLeft}
 use Rattle.replay.specs.Reading.{Played}
 

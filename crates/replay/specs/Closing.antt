@@ -7,7 +7,7 @@ use Rattle.desk_service.specs.State.{Services}
 use Rattle.replay_world.specs.Worlds.{World}
 use Rattle.replay_world.specs.Printing.{out_text}
 use Rattle.replay_world.specs.Replays.{LosesAll, FinishesAll, Closes, names_of, journals_of, log_text}
-use Rattle.replay_moments.specs.Moments.{AreSound}
+use Rattle.replay_world.specs.Moments.{AreSound}
 use Rattle.replay_groups.specs.Service.{service_of}
 use Rattle.replay_events.specs.declared.player.Player.{Player}
 use Rattle.replay_events.specs.Standing.{Stands}

@@ -10,7 +10,7 @@ use Rattle.replay_world.specs.Services.{Service}
 use Rattle.replay_world.specs.Worlds.{World}
 use Rattle.replay_world.specs.Plays.{MayCome}
 use Rattle.replay_world.specs.Replays.{PlaysTo}
-pub use Rattle.replay_promises.specs.Laws.{ServesAll}
+pub use Rattle.replay.specs.Laws.{ServesAll}
 
 -- no line with a boot word begins the text
 abbrev pub BeginsWithNoBoot : List ℕ → Type 0

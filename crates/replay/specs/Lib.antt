@@ -1,6 +1,7 @@
 pub mod Closing
 pub mod Departures
 pub mod Hands
+pub mod Laws
 pub mod Lines
 pub mod Meaning
 pub mod Playing

@@ -11,7 +11,7 @@ use Rattle.replay_events.specs.Standing.{Stands}
 use Rattle.replay_script.specs.declared.load.Load.{Load}
 use Rattle.replay_script.specs.Rounds.{Round, AreMade}
 use Rattle.replay_script.specs.Knowing.{Knows}
-use Rattle.replay_moments.specs.Loads.{PlaysRounds}
+use Rattle.replay_world.specs.Loads.{PlaysRounds}
 
 -- lines are played, one after the other
 abbrev pub LinesLead : List Line → Option TableForm → World Services → World Services → Type 0

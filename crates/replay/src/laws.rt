@@ -1,10 +1,10 @@
 //! What holds of the loads of the built-in services.
 ghost use Rattle.std.specs.Prelude.{◌≡◌, ℕ, List, None};
-ghost use Rattle.replay_moments.specs.Loads.{IsSummary, LoadsAreReplays};
+ghost use Rattle.replay_world.specs.Loads.{IsSummary, LoadsAreReplays};
 ghost use Rattle.replay_groups.specs.Service.{service_of};
 
 use replay_groups::{BuiltIn, is_determined};
-use replay_moments::{loads_are_replays, one_load};
+use replay_world::{loads_are_replays, one_load};
 
 /// A load of a number in so many steps comes to one line.
 pub fn one_summary()

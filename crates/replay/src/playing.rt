@@ -1,7 +1,7 @@
 //! A load is played.
 ghost use Rattle.std.specs.Prelude.{ℕ, ◌<◌, ◌≤◌, ◌∷◌, List, IfOk, OnOk, None};
 ghost use Rattle.replay_script.specs.Rounds.{Round};
-ghost use Rattle.replay_moments.specs.Loads.{IsSummary};
+ghost use Rattle.replay_world.specs.Loads.{IsSummary};
 ghost use Rattle.replay_groups.specs.Service.{service_of};
 ghost use Rattle.replay_events.specs.Hands.{Plays};
 ghost use Rattle.replay.specs.Lines.{HasWorld};

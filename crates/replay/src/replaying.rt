@@ -7,7 +7,7 @@ ghost use Rattle.replay_world.specs.declared.fault.ReplayFault.TheVariants as fa
 ghost use Rattle.replay_world.specs.Worlds.{booted};
 ghost use Rattle.replay_world.specs.Replays.{Replays, IsCause};
 ghost use Rattle.replay_groups.specs.Service.{service_of, IsEcho};
-ghost use Rattle.replay_promises.specs.Laws.{ServesAll};
+ghost use Rattle.replay.specs.Laws.{ServesAll};
 ghost use Rattle.replay_events.specs.Standing.{Stands};
 ghost use Rattle.replay.specs.Lines.{HasWorld};
 ghost use Rattle.replay.specs.Closing.{IsLeft};
@@ -15,10 +15,10 @@ ghost use Rattle.replay.specs.Departures.{StopsAt};
 
 use crate::closing::close;
 use crate::reading::{first_boot, play_rest};
+use crate::replays_serve_all;
 use ndr_table::Table;
 use replay_events::Player;
 use replay_groups::BuiltIn;
-use replay_promises::replays_serve_all;
 use replay_world::ReplayFault;
 use rpc_base::{NoMemory, Octets};
 use std::alloc::Global;

@@ -23,9 +23,9 @@ use Rattle.replay_world.specs.Worlds.{Peer, World, peer_at, past_of, home_of, jo
 use Rattle.replay_world.specs.Groups.{CancelsIn, OrphansIn}
 use Rattle.replay_world.specs.Events.{is_word_due, awaiting, closed, OfMember, OfCall, LeavesIts, request, Requests, ActMeans, Means, HappensOn}
 use Rattle.replay_groups.specs.Service.{service_of}
-use Rattle.replay_moments.specs.Moments.{IsAs}
-use Rattle.replay_moments.proofs.Pasts.{asked_grows}
-use Rattle.replay_moments.proofs.Keep.{some_is}
+use Rattle.replay_world.specs.Moments.{IsAs}
+use Rattle.replay_world.proofs.Pasts.{asked_grows}
+use Rattle.replay_world.proofs.Keep.{some_is}
 use Rattle.replay_events.specs.declared.played.Kept.{Kept}
 use Rattle.replay_events.specs.declared.played.Played.{Played}
 use Rattle.replay_events.specs.Showing.{Shows}

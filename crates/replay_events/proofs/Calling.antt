@@ -47,10 +47,10 @@ use Rattle.replay_world.specs.Printing.{out_text}
 use Rattle.replay_world.specs.Counting.{CountAll}
 use Rattle.replay_world.specs.Answered.{FitsPrinted}
 use Rattle.replay_groups.specs.Service.{service_of}
-use Rattle.replay_moments.specs.Moments.{IsAs, Coheres}
-use Rattle.replay_moments.proofs.Pasts.{asked_grows}
-use Rattle.replay_moments.proofs.Keep.{some_is}
-use Rattle.replay_moments.proofs.Lines.{takes_keep, ends_keep}
+use Rattle.replay_world.specs.Moments.{IsAs, Coheres}
+use Rattle.replay_world.proofs.Pasts.{asked_grows}
+use Rattle.replay_world.proofs.Keep.{some_is}
+use Rattle.replay_world.proofs.Lines.{takes_keep, ends_keep}
 use Rattle.replay_events.specs.declared.played.Kept.{Kept}
 use Rattle.replay_events.specs.declared.played.Played.{Played}
 use Rattle.replay_events.specs.Tables.{has_name, ShowOthers}

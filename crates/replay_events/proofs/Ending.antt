@@ -41,9 +41,9 @@ use Rattle.replay_world.specs.Plays.{MayAnswer, Ends}
 use Rattle.replay_world.specs.Groups.{SettlesIn, taken_with}
 use Rattle.replay_world.specs.Counting.{CountAll}
 use Rattle.replay_groups.specs.Service.{service_of}
-use Rattle.replay_moments.proofs.Pasts.{open_unleft}
-use Rattle.replay_moments.proofs.Keep.{some_is}
-use Rattle.replay_moments.proofs.Lines.{ends_keep}
+use Rattle.replay_world.proofs.Pasts.{open_unleft}
+use Rattle.replay_world.proofs.Keep.{some_is}
+use Rattle.replay_world.proofs.Lines.{ends_keep}
 use Rattle.replay_events.specs.declared.played.Kept.{Kept}
 use Rattle.replay_events.specs.declared.played.Played.{Played}
 use Rattle.replay_groups.specs.Keeps as groups

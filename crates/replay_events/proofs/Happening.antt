@@ -14,9 +14,9 @@ use Rattle.replay_world.specs.Counting.{CountAll}
 use Rattle.replay_world.specs.Events.{Means, lived, HappensOn}
 use Rattle.replay_world.specs.Answered.{FitsPrinted}
 use Rattle.replay_groups.specs.Service.{service_of}
-use Rattle.replay_moments.specs.Moments.{AreSound, Coheres}
-use Rattle.replay_moments.proofs.Peers.{found_name, put_found, put_others}
-use Rattle.replay_moments.proofs.Events.{events_keep}
+use Rattle.replay_world.specs.Moments.{AreSound, Coheres}
+use Rattle.replay_world.proofs.Peers.{found_name, put_found, put_others}
+use Rattle.replay_world.proofs.Events.{events_keep}
 use Rattle.replay_events.specs.declared.played.Played.{Played}
 use Rattle.replay_events.specs.Showing.{Shows}
 use Rattle.replay_events.specs.Tables.{has_name, ShowOthers}

@@ -13,8 +13,8 @@ use Rattle.replay_world.specs.Printing.{out_text}
 use Rattle.replay_world.specs.Counting.{CountAll}
 use Rattle.replay_world.specs.Answered.{FitsPrinted}
 use Rattle.replay_groups.specs.Service.{service_of}
-use Rattle.replay_moments.proofs.Lines.{loses_keep}
-use Rattle.replay_moments.proofs.Peers.{put_found, put_others}
+use Rattle.replay_world.proofs.Lines.{loses_keep}
+use Rattle.replay_world.proofs.Peers.{put_found, put_others}
 use Rattle.replay_events.specs.declared.played.Played.{Played}
 use Rattle.replay_events.specs.Showing.{Shows}
 use Rattle.replay_events.specs.Tables.{ShowOthers}

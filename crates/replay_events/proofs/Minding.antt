@@ -13,9 +13,9 @@ use Rattle.replay_world.specs.declared.peer.Member.{Member}
 use Rattle.replay_world.specs.declared.peer.Unanswered.TheVariants.{Call}
 use Rattle.replay_world.specs.Worlds.{Peer, World, peer_at, home_of, past_of, journal}
 use Rattle.replay_world.specs.Groups.{taken_with}
-use Rattle.replay_moments.specs.Moments.{AreSound, IsAs, IsCallOf, Coheres}
-use Rattle.replay_moments.proofs.Pasts.{asked_grows}
-use Rattle.replay_moments.proofs.Keep.{some_is}
+use Rattle.replay_world.specs.Moments.{AreSound, IsAs, IsCallOf, Coheres}
+use Rattle.replay_world.proofs.Pasts.{asked_grows}
+use Rattle.replay_world.proofs.Keep.{some_is}
 use Rattle.replay_events.specs.declared.played.Kept.{Kept}
 use Rattle.replay_groups.specs.declared.realm.Realm.{Realm}
 use Rattle.replay_groups.specs.Holding.{Holds}

@@ -17,8 +17,8 @@ use Rattle.replay_world.specs.Worlds.{Peer, World, past_of, home_of, journal}
 use Rattle.replay_world.specs.Groups.{CancelsIn, OrphansIn, taken_with}
 use Rattle.replay_world.specs.Events.{awaiting, closed, LeavesIts}
 use Rattle.replay_groups.specs.Service.{service_of}
-use Rattle.replay_moments.proofs.Pasts.{asked_grows}
-use Rattle.replay_moments.proofs.Keep.{some_is}
+use Rattle.replay_world.proofs.Pasts.{asked_grows}
+use Rattle.replay_world.proofs.Keep.{some_is}
 use Rattle.replay_events.specs.declared.played.Kept.{Kept}
 use Rattle.replay_events.specs.declared.played.Played.{Played}
 use Rattle.replay_groups.specs.declared.realm.Realm.{Realm}

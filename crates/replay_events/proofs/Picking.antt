@@ -15,10 +15,10 @@ use Rattle.replay_world.specs.Plays.{Opens}
 use Rattle.replay_world.specs.Printing.{out_text}
 use Rattle.replay_world.specs.Counting.{CountAll}
 use Rattle.replay_groups.specs.Service.{service_of}
-use Rattle.replay_moments.specs.Moments.{AreSound, Coheres}
-use Rattle.replay_moments.proofs.Keep.{some_is}
-use Rattle.replay_moments.proofs.Peers.{found_name, put_found, put_others}
-use Rattle.replay_moments.proofs.Lines.{starts, opens_keep}
+use Rattle.replay_world.specs.Moments.{AreSound, Coheres}
+use Rattle.replay_world.proofs.Keep.{some_is}
+use Rattle.replay_world.proofs.Peers.{found_name, put_found, put_others}
+use Rattle.replay_world.proofs.Lines.{starts, opens_keep}
 use Rattle.replay_events.specs.declared.played.Kept.{Kept}
 use Rattle.replay_events.specs.declared.played.Played.{Played}
 use Rattle.replay_events.specs.Showing.{Shows}

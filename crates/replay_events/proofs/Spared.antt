@@ -16,8 +16,8 @@ use Rattle.replay_world.specs.Services.{Service}
 use Rattle.replay_world.specs.Worlds.{World, home_of, past_of, journal, with_past}
 use Rattle.replay_world.specs.Groups.{GoesOn, AcceptsIn, CancelsIn, OrphansIn, CancelsMarked, SettlesIn, bind_refusal, group_for, with_group_for, joined, next_conn}
 use Rattle.replay_world.specs.Events.{LeavesIts}
-use Rattle.replay_moments.proofs.Pasts.{at_set}
-use Rattle.replay_moments.proofs.Events.{group_of}
+use Rattle.replay_world.proofs.Pasts.{at_set}
+use Rattle.replay_world.proofs.Events.{group_of}
 use Rattle.replay_events.proofs.Sparing.{Spares, SparesEntry, SparesEach, spares_none, twice, accepts_spare, takes_spare, IsUntaken, untaken_spare, cancels_spare, orphans_spare, ends_spare, leaves_spare}
 
 -- of each group no other call than the first is taken, and no other than the second is orphaned

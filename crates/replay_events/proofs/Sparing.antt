@@ -23,7 +23,7 @@ use Rattle.group_core.specs.Adds.{Adds}
 use Rattle.group_core.specs.Calls.{Accepts, Takes, Cancels, Orphans, numbered}
 use Rattle.group_core.specs.Conns.{Settles}
 use Rattle.replay_world.specs.Groups.{taken_with}
-use Rattle.replay_moments.proofs.Pasts.{Grows}
+use Rattle.replay_world.proofs.Pasts.{Grows}
 
 -- ---- entries
 

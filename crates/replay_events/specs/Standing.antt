@@ -17,7 +17,7 @@ use Rattle.replay_world.specs.Groups.{taken_with}
 use Rattle.replay_world.specs.Printing.{out_text}
 use Rattle.replay_world.specs.Counting.{CountAll}
 use Rattle.replay_world.specs.Answered.{FitsPrinted}
-use Rattle.replay_moments.specs.Moments.{Coheres}
+use Rattle.replay_world.specs.Moments.{Coheres}
 use Rattle.replay_events.specs.declared.played.Kept.{Kept}
 use Rattle.replay_events.specs.declared.played.Played.{Played}
 use Rattle.replay_events.specs.Showing.{Shows}

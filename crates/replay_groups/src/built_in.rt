@@ -1,7 +1,7 @@
 //! Laws of the services.
 ghost use Rattle.replay_groups.specs.Service.{EachIsDetermined, OneReplayWith};
 
-use replay_moments::{Serves, one_replay};
+use replay_world::{Serves, one_replay};
 
 /// The built-in services. No value of it is made.
 #[derive(Drop)]

@@ -2,6 +2,9 @@ pub mod Answered
 pub mod Counting
 pub mod Events
 pub mod Groups
+pub mod Laws
+pub mod Loads
+pub mod Moments
 pub mod Plays
 pub mod Printing
 pub mod Promised

@@ -11,7 +11,7 @@ use Rattle.ndr_table.specs.Tables.{TableForm}
 use Rattle.manager_api.specs.Answers.{Ans}
 use Rattle.manager_api.specs.Calls.{Call}
 use Rattle.conn_asks.specs.declared.events.ConnFault.{ConnFault}
-use Rattle.conn_laws.proofs.Asking.{each_asks}
+use Rattle.conn_histories.proofs.Asking.{each_asks}
 use Rattle.server_steps.specs.declared.wire.Wire.{Wire}
 use Rattle.conn_histories.specs.Requests.{ids_of}
 use Rattle.conn_histories.specs.declared.turn.Turn.TheVariants.{Closed}

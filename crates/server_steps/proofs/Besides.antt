@@ -36,8 +36,8 @@ use Rattle.conn_asks.specs.declared.events.Waits.TheVariants as waits
 use Rattle.conn_asks.specs.States.{ConnState, caller_of, Goes}
 use Rattle.conn_histories.specs.Histories.{act_octets}
 use Rattle.conn_histories.specs.Histories.Event.{Did}
-use Rattle.conn_laws.proofs.Called.{calls_stay}
-use Rattle.conn_laws.specs.Serving.{IsCallOff}
+use Rattle.conn_histories.proofs.Called.{calls_stay}
+use Rattle.conn_histories.specs.Serving.{IsCallOff}
 use Rattle.server_steps.specs.declared.wire.Wire.{Wire}
 use Rattle.server_steps.specs.declared.wire.Heard.{Heard}
 use Rattle.server_steps.specs.declared.wire.Heard.TheVariants as heard

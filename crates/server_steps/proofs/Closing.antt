@@ -15,9 +15,9 @@ use Rattle.conn_asks.specs.States.{ConnState}
 use Rattle.conn_core.specs.Fields.{IsAt}
 use Rattle.conn_histories.specs.Histories.{stream}
 use Rattle.conn_histories.specs.Plays.{negotiated_at_start}
-use Rattle.conn_laws.proofs.Asking.{each_asks}
-use Rattle.conn_laws.proofs.Comes.{leaves_all}
-use Rattle.conn_laws.proofs.Goes.{come_all}
+use Rattle.conn_histories.proofs.Asking.{each_asks}
+use Rattle.conn_histories.proofs.Comes.{leaves_all}
+use Rattle.conn_histories.proofs.Goes.{come_all}
 use Rattle.server_steps.specs.declared.wire.Wire.{Wire}
 use Rattle.server_steps.specs.Wires.{Linked}
 use Rattle.conn_histories.specs.declared.turn.Turn.{Turn}

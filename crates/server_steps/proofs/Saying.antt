@@ -26,8 +26,8 @@ use Rattle.conn_asks.specs.States.{ConnState, caller_of, IsGrouping, BoundAt, Re
 use Rattle.conn_histories.specs.Histories.{Event, Decision, AnswersDecision, seen}
 use Rattle.conn_histories.specs.Histories.Event.{Did, Decided}
 use Rattle.conn_histories.specs.Histories.Decision.{ToGroup, RefuseGroup}
-use Rattle.conn_laws.proofs.Along.{put_in_order}
-use Rattle.conn_laws.proofs.Wide.{each_call_answered}
+use Rattle.conn_histories.proofs.Along.{put_in_order}
+use Rattle.conn_histories.proofs.Wide.{each_call_answered}
 use Rattle.server_steps.specs.declared.wire.Wire.{Wire}
 use Rattle.server_steps.specs.declared.wire.Fault.{Fault}
 use Rattle.server_steps.specs.declared.wire.Fault.TheVariants as fault

@@ -11,7 +11,7 @@ use Rattle.conn_asks.specs.Asks.{is_bound}
 use Rattle.conn_asks.specs.States.{ConnState, at_start, with_octets, Goes}
 use Rattle.conn_histories.specs.Histories.{Decision, Event, AnswersDecision, IsAtRest, stream, seen, put}
 use Rattle.conn_histories.specs.Histories.Event.{Came, Paused, Decided}
-use Rattle.conn_laws.proofs.Along.{one_more, put_in_order}
+use Rattle.conn_histories.proofs.Along.{one_more, put_in_order}
 use Rattle.server_steps.specs.declared.wire.Wire.{Wire}
 use Rattle.server_steps.specs.declared.wire.Heard.TheVariants as heard
 use Rattle.server_steps.specs.declared.wire.Fault.TheVariants as fault

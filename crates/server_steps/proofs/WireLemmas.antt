@@ -14,7 +14,7 @@ use Rattle.conn_asks.specs.declared.events.Act.{Act}
 use Rattle.conn_asks.specs.States.{ConnState, at_start, with_octets, Goes}
 use Rattle.conn_histories.specs.Histories.{Decision, Event, Happens, Lives, AnswersDecision, act_octets, stream, put}
 use Rattle.conn_histories.specs.Histories.Event.{Came, Paused, Did, Decided}
-use Rattle.conn_laws.proofs.Along.{one_more, put_in_order}
+use Rattle.conn_histories.proofs.Along.{one_more, put_in_order}
 use Rattle.conn_core.specs.Fields.{ConnFields, IsAt, Leads}
 use Rattle.server_steps.specs.declared.wire.Wire.{Wire}
 use Rattle.server_steps.specs.declared.wire.Fault.TheVariants as fault

@@ -1,5 +1,0 @@
-use Rattle.conn_laws.proofs.Goes.{come_all}
-use Rattle.conn_laws.proofs.laws.all_has_come.Goals as goal
-
-pub returns : goal.returns
-returns c = come_all

@@ -1,5 +1,0 @@
-use Rattle.conn_laws.proofs.Onward.{asks_go_on}
-use Rattle.conn_laws.proofs.laws.asks_go_on.Goals as goal
-
-pub returns : goal.returns
-returns c = asks_go_on

@@ -1,5 +1,0 @@
-use Rattle.conn_laws.proofs.Calls.{calls_are_whole_runs}
-use Rattle.conn_laws.proofs.laws.calls_are_whole_runs.Goals as goal
-
-pub returns : goal.returns
-returns c = calls_are_whole_runs

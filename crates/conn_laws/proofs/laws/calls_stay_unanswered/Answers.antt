@@ -1,5 +1,0 @@
-use Rattle.conn_laws.proofs.Called.{calls_stay}
-use Rattle.conn_laws.proofs.laws.calls_stay_unanswered.Goals as goal
-
-pub returns : goal.returns
-returns c = calls_stay

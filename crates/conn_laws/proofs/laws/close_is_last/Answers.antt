@@ -1,5 +1,0 @@
-use Rattle.conn_laws.proofs.Closing.{close_is_last}
-use Rattle.conn_laws.proofs.laws.close_is_last.Goals as goal
-
-pub returns : goal.returns
-returns c = close_is_last

@@ -1,5 +1,0 @@
-use Rattle.conn_laws.proofs.Asking.{each_asks}
-use Rattle.conn_laws.proofs.laws.each_asks.Goals as goal
-
-pub returns : goal.returns
-returns c = each_asks

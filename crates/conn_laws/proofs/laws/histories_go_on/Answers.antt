@@ -1,5 +1,0 @@
-use Rattle.conn_laws.proofs.Along.{go_on}
-use Rattle.conn_laws.proofs.laws.histories_go_on.Goals as goal
-
-pub returns : goal.returns
-returns c = go_on

@@ -1,5 +1,0 @@
-use Rattle.conn_laws.proofs.OneAct.{one_act}
-use Rattle.conn_laws.proofs.laws.one_act.Goals as goal
-
-pub returns : goal.returns
-returns c = one_act

@@ -1,5 +1,0 @@
-use Rattle.conn_laws.proofs.Decided.{one_answer}
-use Rattle.conn_laws.proofs.laws.one_answer.Goals as goal
-
-pub returns : goal.returns
-returns c = one_answer

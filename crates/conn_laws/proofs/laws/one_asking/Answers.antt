@@ -1,5 +1,0 @@
-use Rattle.conn_laws.proofs.Asking.{one_asking}
-use Rattle.conn_laws.proofs.laws.one_asking.Goals as goal
-
-pub returns : goal.returns
-returns c = one_asking

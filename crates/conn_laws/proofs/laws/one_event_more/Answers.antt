@@ -1,5 +1,0 @@
-use Rattle.conn_laws.proofs.Along.{one_more}
-use Rattle.conn_laws.proofs.laws.one_event_more.Goals as goal
-
-pub returns : goal.returns
-returns c = one_more

@@ -1,5 +1,0 @@
-use Rattle.conn_laws.proofs.Along.{put_in_order}
-use Rattle.conn_laws.proofs.laws.put_in_order.Goals as goal
-
-pub returns : goal.returns
-returns c = put_in_order

@@ -1,5 +1,0 @@
-use Rattle.conn_laws.proofs.Late.{same_answers}
-use Rattle.conn_laws.proofs.laws.same_answers.Goals as goal
-
-pub returns : goal.returns
-returns c = same_answers

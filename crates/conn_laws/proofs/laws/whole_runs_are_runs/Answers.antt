@@ -1,5 +1,0 @@
-use Rattle.conn_laws.proofs.Calls.{whole_runs_are_runs}
-use Rattle.conn_laws.proofs.laws.whole_runs_are_runs.Goals as goal
-
-pub returns : goal.returns
-returns c = whole_runs_are_runs

@@ -1,5 +1,0 @@
-use Rattle.replay_moments.proofs.Events.{events_keep}
-use Rattle.replay_moments.proofs.laws.events_keep.Goals as goal
-
-pub returns : goal.returns
-returns g c = λ echo. events_keep (g.D.Serves.service echo)

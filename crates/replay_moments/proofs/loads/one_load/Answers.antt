@@ -1,5 +1,0 @@
-use Rattle.replay_moments.proofs.LoadsOnce.{one_load}
-use Rattle.replay_moments.proofs.loads.one_load.Goals as goal
-
-pub returns : goal.returns
-returns g c = λ echo. one_load (g.D.Serves.service echo)

@@ -1,5 +1,0 @@
-use Rattle.replay_promises.proofs.Serving.{each_is_served}
-use Rattle.replay_promises.proofs.laws.each_is_served.Goals as goal
-
-pub returns : goal.returns
-returns g c = λ echo. each_is_served (g.D.Serves.service echo)

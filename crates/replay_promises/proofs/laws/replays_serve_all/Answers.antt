@@ -1,5 +1,0 @@
-use Rattle.replay_promises.proofs.Serving.{replays_serve_all}
-use Rattle.replay_promises.proofs.laws.replays_serve_all.Goals as goal
-
-pub returns : goal.returns
-returns g c = λ echo. replays_serve_all (g.D.Serves.service echo)
