@@ -5,52 +5,15 @@
 set -eu
 top=$(cd "$(dirname "$0")/.." && pwd)
 source "$top/bench/timing.sh"
+source "$top/bench/refusing.sh"
 build_bench hub_walk
 program=$bench
 folder=$(mktemp -d)
 trap 'rm -rf "$folder"' EXIT
-cat >"$folder/refuse.c" <<'C'
-#include <errno.h>
-#include <stdio.h>
-#include <stdlib.h>
-
-void *__libc_malloc(size_t size);
-void *__libc_realloc(void *block, size_t size);
-
-static long asked, refused = -1;
-
-static int is_refused(void) {
-    if (refused < 0) {
-        const char *word = getenv("REFUSED");
-        refused = word ? atol(word) : 0;
-    }
-    return ++asked == refused;
-}
-
-void *malloc(size_t size) {
-    if (is_refused()) {
-        errno = ENOMEM;
-        return NULL;
-    }
-    return __libc_malloc(size);
-}
-
-void *realloc(void *block, size_t size) {
-    if (is_refused()) {
-        errno = ENOMEM;
-        return NULL;
-    }
-    return __libc_realloc(block, size);
-}
-
-__attribute__((destructor)) static void tell(void) {
-    fprintf(stderr, "%ld\n", asked);
-}
-C
-cc -O1 -shared -fPIC -o "$folder/refuse.so" "$folder/refuse.c"
+make_refuser "$folder"
 
 run() { # REFUSED: its output; how much it asked for is in the file `asked`
-    REFUSED=$1 LD_PRELOAD=$folder/refuse.so "$program" 2>"$folder/asked"
+    REFUSED=$1 ASKED=$folder/asked LD_PRELOAD=$refuser "$program" 2>/dev/null
 }
 
 ample=$(run 0)

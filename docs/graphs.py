@@ -1,6 +1,6 @@
 #!/usr/bin/env python3
-"""Draws graphs of what bench/serve.sh and bench/group.sh print: docs/graphs.py [FILE] reads their lines in a file, or in
-docs/BENCHMARKS.md, and writes docs/calls_by_connections.svg and docs/cost_by_journal.svg."""
+"""Draws graphs of what bench/serve.sh, bench/ceiling.sh and bench/group.sh print: docs/graphs.py [FILE] reads their lines in
+a file, or in docs/BENCHMARKS.md, and writes docs/calls_by_connections.svg and docs/cost_by_journal.svg."""
 
 import os
 import re
@@ -8,7 +8,7 @@ import sys
 
 DOCS = os.path.dirname(os.path.abspath(__file__))
 WIDTH, HEIGHT, LEFT, TOP, RIGHT, BOTTOM = 640, 320, 80, 50, 150, 50
-COLOURS = ("#2f6fb0", "#d9822b", "#5b9a4a")
+COLOURS = ("#2f6fb0", "#d9822b", "#5b9a4a", "#888888")
 
 
 def ticks(most, count=5):

@@ -1,14 +1,15 @@
-pub mod Alone
 pub mod Calls
-pub mod Counted
 pub mod Counts
 pub mod Follows
 pub mod Found
 pub mod Marks
+pub mod Nearest
 pub mod Order
 pub mod Owed
 pub mod Search
+pub mod Sharing
 pub mod Started
 pub mod Steps
 pub mod Stored
 pub mod Tallied
+pub mod Walks

@@ -48,7 +48,7 @@ lesser_low : (low x m : ℕ) (o : Option ℕ) → low ≤ x → ((n : ℕ) → o
 lesser_low low x m None le h e = let same : x ≡ m = cc in omega arith
 lesser_low low x m (Some n) le h e = let same : min x n ≡ m = cc in let more = h n refl in omega arith
 
-least_low : (low : ℕ) (p : Row → Bool) (rows : List Row) (m : ℕ) → Rises low rows → least (calls (filter p rows)) ≡ Some m → low ≤ m
+pub least_low : (low : ℕ) (p : Row → Bool) (rows : List Row) (m : ℕ) → Rises low rows → least (calls (filter p rows)) ≡ Some m → low ≤ m
 least_low low p [] m r e = absurd (cc)
 least_low low p (x ∷ rows) m r e =
     let first = r.0 in

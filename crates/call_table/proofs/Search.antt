@@ -12,7 +12,7 @@ use Rattle.call_table.specs.Kept.{Rises, IsRow}
 use Rattle.call_table.specs.Sought.{IsPlace}
 use Rattle.call_table.proofs.Marks.{rises_at, head_call, tail_row, earlier, others_kept}
 
-rises_order : (low : ℕ) (rows : List Row) (j k : ℕ) (d : Row) → Rises low rows → j < k → k < length rows → (get_or rows j d).call < (get_or rows k d).call
+pub rises_order : (low : ℕ) (rows : List Row) (j k : ℕ) (d : Row) → Rises low rows → j < k → k < length rows → (get_or rows j d).call < (get_or rows k d).call
 rises_order low [] j k d r lt l = absurd (omega arith)
 rises_order low (x ∷ rows) zero zero d r lt l = absurd (omega arith)
 rises_order low (x ∷ rows) zero (suc k) d r lt l = let more = rises_at (x.call + 1) rows k d r.2 (omega arith) in omega arith

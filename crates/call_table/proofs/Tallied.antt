@@ -10,8 +10,7 @@ use Rattle.call_table.specs.declared.row.Row.{Row}
 use Rattle.call_table.specs.declared.tally.Tally.{Tally}
 use Rattle.call_table.specs.Rows.{is_call, is_running, row_at, waits_at, at_call, taken, without, with_start, openings_of}
 use Rattle.call_table.specs.Kept.{Rises, AllFew}
-use Rattle.call_table.specs.Tally.{total_of, opens_of, runs_of, uses_of, count, IsTally, IsPart, HasRoom, Holds, Enters, Leaves}
-use Rattle.call_table.proofs.Counted.{uses_few}
+use Rattle.call_table.specs.Tally.{total_of, opens_of, runs_of, IsTally, IsPart, HasRoom, Holds, Enters, Leaves}
 use Rattle.call_table.proofs.Marks.{above_kept, others_kept}
 
 -- SUMS
@@ -101,9 +100,6 @@ opens_small r le = let few = filter_few opens r.slots in omega arith
 runs_small : (r : Row) → length r.slots ≤ 4 → runs_of r ≤ 4
 runs_small r le = let few = runs_few r in omega arith
 
-uses_small : (any : Bool) (b : ℕ) (r : Row) → length r.slots ≤ 4 → uses_of any b r ≤ 4
-uses_small any b r le = let few = uses_few any b r.slots in omega arith
-
 -- THE COUNTS
 
 pub part_room : (rows rest : List Row) (t : Tally) → Rises 0 rows → AllFew rows → IsPart rows rest t → HasRoom t
@@ -111,8 +107,6 @@ part_room rows rest t r w p =
     record {
       openings_room = let small = small_total opens_of rows r w opens_small in let part = p.openings_part in omega arith;
       running_room = let small = small_total runs_of rows r w runs_small in let part = p.running_part in omega arith;
-      any_room = λ b. let small = small_total (uses_of true b) rows r w (uses_small true b) in let part = p.any_part b in omega arith;
-      exclusive_room = λ b. let small = small_total (uses_of false b) rows r w (uses_small false b) in let part = p.exclusive_part b in omega arith;
     }
 
 pub tally_room : (rows : List Row) (t : Tally) → Rises 0 rows → AllFew rows → IsTally rows t → HasRoom t
@@ -120,8 +114,6 @@ tally_room rows t r w s =
     part_room rows [] t r w (record {
       openings_part = let e = s.openings_is in omega arith;
       running_part = let e = s.running_is in omega arith;
-      any_part = λ b. let e = s.any_is b in omega arith;
-      exclusive_part = λ b. let e = s.exclusive_is b in omega arith;
     })
 
 pub tally_holds : (rows : List Row) (t : Tally) (k : ℕ) (r : Row) → Rises 0 rows → row_at rows k ≡ Some r → IsTally rows t → Holds t r
@@ -129,8 +121,6 @@ tally_holds rows t k r s e i =
     record {
       openings_there = let total = total_without opens_of 0 rows k r s e in let is = i.openings_is in omega arith;
       running_there = let total = total_without runs_of 0 rows k r s e in let is = i.running_is in omega arith;
-      any_there = λ b. let total = total_without (uses_of true b) 0 rows k r s e in let is = i.any_is b in omega arith;
-      exclusive_there = λ b. let total = total_without (uses_of false b) 0 rows k r s e in let is = i.exclusive_is b in omega arith;
     }
 
 pub tally_push : (rows : List Row) (t t' : Tally) (r : Row) → IsTally rows t → Enters t r t' → IsTally (rows ++ r ∷ []) t'
@@ -138,8 +128,6 @@ tally_push rows t t' r i m =
     record {
       openings_is = let total = total_push opens_of rows r in let is = i.openings_is in let more = m.openings_more in omega arith;
       running_is = let total = total_push runs_of rows r in let is = i.running_is in let more = m.running_more in omega arith;
-      any_is = λ b. let total = total_push (uses_of true b) rows r in let is = i.any_is b in let more = m.any_more b in omega arith;
-      exclusive_is = λ b. let total = total_push (uses_of false b) rows r in let is = i.exclusive_is b in let more = m.exclusive_more b in omega arith;
     }
 
 pub tally_without : (rows : List Row) (t t' : Tally) (k : ℕ) (r : Row) → Rises 0 rows → row_at rows k ≡ Some r → IsTally rows t → Leaves t r t' → IsTally (without k rows) t'
@@ -147,8 +135,6 @@ tally_without rows t t' k r s e i m =
     record {
       openings_is = let total = total_without opens_of 0 rows k r s e in let is = i.openings_is in let less = m.openings_less in omega arith;
       running_is = let total = total_without runs_of 0 rows k r s e in let is = i.running_is in let less = m.running_less in omega arith;
-      any_is = λ b. let total = total_without (uses_of true b) 0 rows k r s e in let is = i.any_is b in let less = m.any_less b in omega arith;
-      exclusive_is = λ b. let total = total_without (uses_of false b) 0 rows k r s e in let is = i.exclusive_is b in let less = m.exclusive_less b in omega arith;
     }
 
 -- a mark that none of the counts sees
@@ -157,8 +143,6 @@ tally_marked g rows t k h n i =
     record {
       openings_is = i.openings_is ∙ sym (total_same opens_of g rows k (λ r. ap (λ (ss : List Slot). length (filter opens ss)) (h r)));
       running_is = i.running_is ∙ sym (total_same runs_of g rows k (λ r. rw (n r) refl));
-      any_is = λ b. i.any_is b ∙ sym (total_same (uses_of true b) g rows k (λ r. rw (h r) refl));
-      exclusive_is = λ b. i.exclusive_is b ∙ sym (total_same (uses_of false b) g rows k (λ r. rw (h r) refl));
     }
 
 -- A CALL STARTS
@@ -192,8 +176,8 @@ waits_row low (x ∷ rows) k r s h e =
     runs_said : {x r : Row} → Some x ≡ Some r → r.runs ≡ x.runs
     runs_said e = sym (ap runs_in e)
 
-pub tally_started : (rows : List Row) (t t' : Tally) (k : ℕ) (r : Row) → Rises 0 rows → waits_at rows k ≡ true → row_at rows k ≡ Some r → IsTally rows t → t'.openings ≡ t.openings → t'.running ≡ t.running + 1 → t'.any ≡ t.any → t'.exclusive ≡ t.exclusive → IsTally (with_start k rows) t'
-tally_started rows t t' k r s h e i o n a x =
+pub tally_started : (rows : List Row) (t t' : Tally) (k : ℕ) (r : Row) → Rises 0 rows → waits_at rows k ≡ true → row_at rows k ≡ Some r → IsTally rows t → t'.openings ≡ t.openings → t'.running ≡ t.running + 1 → IsTally (with_start k rows) t'
+tally_started rows t t' k r s h e i o n =
     record {
       openings_is = o ∙ (i.openings_is ∙ sym (total_same opens_of taken rows k (λ r. refl)));
       running_is = (
@@ -202,6 +186,4 @@ tally_started rows t t' k r s h e i o n a x =
           let on : runs_of (taken r) ≡ 1 = refl in
           let is = i.running_is in omega arith
           );
-      any_is = λ b. ap (λ u. count u b) a ∙ (i.any_is b ∙ sym (total_same (uses_of true b) taken rows k (λ r. refl)));
-      exclusive_is = λ b. ap (λ u. count u b) x ∙ (i.exclusive_is b ∙ sym (total_same (uses_of false b) taken rows k (λ r. refl)));
     }

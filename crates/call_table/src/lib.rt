@@ -3,16 +3,18 @@
 #![tactic(auto)]
 
 mod based;
+mod blocking;
 mod blocks;
+mod ends;
 mod held;
 mod laws;
 mod lists;
+mod queues;
 mod row;
 mod rows;
 mod seek;
 mod table;
 mod tally;
-mod uses;
 
 pub use held::OpenRows;
 pub use laws::{

@@ -1,11 +1,13 @@
 //! The rows as a slice.
-ghost use Rattle.std.specs.Prelude.{◌≡◌, true, IfOk};
+ghost use Rattle.std.specs.Prelude.{◌≡◌, true, map, IfOk};
 ghost use Rattle.std.specs.List.{list_all};
 ghost use Rattle.handle_model.specs.Sound.{is_within};
 ghost use Rattle.call_table.specs.Shown.{base_rows};
-ghost use Rattle.call_table.specs.Kept.{Rises};
+ghost use Rattle.call_table.specs.Kept.{AllFew, Rises};
+ghost use Rattle.call_table.specs.Queues.{queued};
 ghost use Rattle.call_table.specs.Rows as spec;
 
+use crate::queues::CallQueues;
 use crate::row::{CallSlots, Row};
 use handle_model::Base;
 use rpc_base::NoMemory;
@@ -33,6 +35,23 @@ pub fn rows_of(alloc: Global, base: &Base) -> Result<Vec<Row>, NoMemory>
         })?;
     }
     Ok(rows)
+}
+
+/// The calls of these rows in their queues.
+///
+/// # Errors
+/// `NoMemory` where memory runs out.
+#[tactic(auto, using(handle_model::proofs::Rest::resting))]
+pub fn queued_rows(alloc: Global, rows: &[Row]) -> Result<CallQueues, NoMemory>
+    requires { AllFew rows.now }
+    ensures { IfOk result (λ queues. queues.calls ≡ map queued rows.now) }
+{
+    let mut queues = CallQueues::new(alloc);
+    queues.reserve(rows.len())?;
+    for row in rows {
+        queues.join(row.call, row.slots.as_slice());
+    }
+    Ok(queues)
 }
 
 /// How many entries may still come of the calls.

@@ -9,25 +9,27 @@ ghost use Rattle.call_table.specs.Based.{asked_at, stored_calls};
 ghost use Rattle.std.specs.Option.{option_copied};
 
 use crate::based::{least_place, stored, stored_calls};
-use crate::blocks::blocker_of;
+use crate::blocking::blocker_of;
 use crate::held::OpenRows;
 use crate::lists::{cut, fill};
+use crate::queues::CallQueues;
 use crate::row::{CallSlots, Row};
-use crate::rows::{all_below, owed_of, rows_of};
-use crate::seek::{place, row_of, seek};
+use crate::rows::{all_below, owed_of, queued_rows, rows_of};
+use crate::seek::{place, row_of};
 use crate::tally::Tally;
 use handle_model::{Asked, Base, BaseCalls, Cookies, Entry, Slot, Slots};
 use rpc_base::{Items, NoMemory};
 use std::alloc::Global;
 use std::marker::Model;
 
-/// The waiting and running calls of a group.
+/// The waiting and running calls of a group: a row of each, and the queues in which they stand.
 #[derive(Drop)]
 pub struct CallTable {
-    rows: Vec<Row>,
+    pub(crate) rows: Vec<Row>,
+    pub(crate) queues: CallQueues,
     lists: Vec<Cookies>,
     room: usize,
-    tally: Tally,
+    pub(crate) tally: Tally,
     alloc: Global,
 }
 
@@ -35,12 +37,13 @@ impl Model for CallTable {
     ghost use Rattle.call_table.specs.Rows.{OpenCalls};
     ghost use Rattle.call_table.specs.Kept.{IsKept};
     ghost use Rattle.call_table.specs.Tally.{IsTally};
+    ghost use Rattle.call_table.specs.Queues.{IsQueued};
 
     ghost Value = { OpenCalls };
 
     ghost view = { λ t. record { rows = t.rows.items; room = t.room } };
 
-    ghost invariant = { λ t. IsKept t.rows t.lists t.room × IsTally t.rows.items t.tally };
+    ghost invariant = { λ t. IsKept t.rows t.lists t.room × IsTally t.rows.items t.tally × IsQueued t.rows.items t.queues t.room };
 }
 
 impl OpenRows for CallTable {
@@ -59,7 +62,7 @@ impl OpenRows for CallTable {
     fn is_free(&self, call: u32, slots: &[Slot]) -> bool
         ensures { IsTrue result ↔ (blocker_of slots.now call self.now.rows ≡ None) }
     {
-        blocker_of(slots, call, self.rows.as_slice()).is_none()
+        blocker_of(slots, call, self.rows.as_slice(), &self.queues).is_none()
     }
 }
 
@@ -72,6 +75,7 @@ impl CallTable {
     {
         CallTable {
             rows: Vec::new(alloc),
+            queues: CallQueues::new(alloc),
             lists: Vec::new(alloc),
             room: 0,
             tally: Tally::new(),
@@ -93,9 +97,11 @@ impl CallTable {
         let rows = rows_of(alloc, base)?;
         let mut lists = Vec::new(alloc);
         fill(alloc, &mut lists, rows.len())?;
+        let queues = queued_rows(alloc, rows.as_slice())?;
         let tally = Tally::of(rows.as_slice());
         Ok(CallTable {
             rows,
+            queues,
             lists,
             room: 0,
             tally,
@@ -117,6 +123,7 @@ impl CallTable {
             return Ok(());
         }
         self.rows.reserve(n)?;
+        self.queues.reserve(n)?;
         let Some(wanted) = self.rows.len().checked_add(n) else {
             return Err(NoMemory);
         };
@@ -140,11 +147,12 @@ impl CallTable {
     {
         let at = place(self.rows.as_slice(), call);
         let row = &self.rows[at];
-        let slots = row.slots.as_slice();
-        if self.tally.is_alone(slots) {
-            return None;
-        }
-        blocker_of(slots, call, self.rows.as_slice())
+        blocker_of(
+            row.slots.as_slice(),
+            call,
+            self.rows.as_slice(),
+            &self.queues,
+        )
     }
 
     /// How many calls wait or run.
@@ -241,6 +249,7 @@ impl CallTable {
             orphaned: false,
         };
         self.tally.enter(&row);
+        self.queues.join(call, slots.as_slice());
         self.rows.push(row).unwrap();
     }
 
@@ -279,32 +288,5 @@ impl CallTable {
         let at = place(self.rows.as_slice(), call);
         let row = &mut self.rows[at];
         row.orphaned = true;
-    }
-
-    /// A call neither waits nor runs from now on.
-    pub fn end(&mut self, call: u32)
-        ensures rows { self.new.rows ≡ spec.without call self.old.rows }
-        ensures room { self.new.room ≡ self.old.room }
-    {
-        match seek(self.rows.as_slice(), call) {
-            Some(at) => {
-                let row = self.rows.remove(at);
-                self.tally.leave(&row);
-            }
-            None => {}
-        }
-    }
-
-    /// The waiting calls of a connection wait no more. The answer is how many entries might have come
-    /// of them.
-    pub fn leave(&mut self, conn: u32) -> usize
-        ensures rows { self.new.rows ≡ spec.left conn self.old.rows }
-        ensures freed { result + spec.owed_of self.new.rows ≡ spec.owed_of self.old.rows }
-        ensures room { self.new.room ≡ self.old.room }
-    {
-        let before = owed_of(self.rows.as_slice());
-        self.rows.retain(|row| row.stays(conn));
-        self.tally = Tally::of(self.rows.as_slice());
-        before - owed_of(self.rows.as_slice())
     }
 }

@@ -1,21 +1,15 @@
 //! What is counted over all calls, so that no call has to look at each of them.
-ghost use Rattle.std.specs.Prelude.{◌≡◌, ◌≤◌, [], length};
-ghost use Rattle.handle_model.specs.Slots.{named, is_exclusive};
+ghost use Rattle.std.specs.Prelude.{[]};
 ghost use Rattle.call_table.specs.Kept.{AllFew, Rises};
 ghost use Rattle.call_table.specs.Tally as spec;
 
 use crate::row::Row;
-use crate::uses::{Uses, bucket_of, use_count};
-use handle_model::Slot;
 
-/// How many handles the calls may issue, how many calls run, and how often handles are used: in all,
-/// and by uses that exclude others.
+/// How many handles the calls may issue, and how many calls run.
 #[derive(Drop)]
 pub struct Tally {
     pub openings: usize,
     pub running: usize,
-    pub any: Uses,
-    pub exclusive: Uses,
 }
 
 impl Tally {
@@ -26,8 +20,6 @@ impl Tally {
         Tally {
             openings: 0,
             running: 0,
-            any: Uses::new(),
-            exclusive: Uses::new(),
         }
     }
 
@@ -50,11 +42,8 @@ impl Tally {
         requires { spec.HasRoom self.old }
         ensures { spec.Enters self.old row.now self.new }
     {
-        let slots = row.slots.as_slice();
         self.openings += row.slots.openings();
         self.running += usize::from(row.runs);
-        self.any.add(true, slots);
-        self.exclusive.add(false, slots);
     }
 
     /// Of a call less.
@@ -62,33 +51,7 @@ impl Tally {
         requires { spec.Holds self.old row.now }
         ensures { spec.Leaves self.old row.now self.new }
     {
-        let slots = row.slots.as_slice();
         self.openings -= row.slots.openings();
         self.running -= usize::from(row.runs);
-        self.any.remove(true, slots);
-        self.exclusive.remove(false, slots);
-    }
-
-    /// Whether no other call can use a handle of these slots, which are those of a call, as far as the
-    /// counts tell.
-    pub fn is_alone(&self, slots: &[Slot]) -> bool
-        ensures { result ≡ spec.is_alone self.now slots.now }
-    {
-        slots.iter().all(|slot| self.is_alone_at(slots, slot))
-    }
-
-    fn is_alone_at(&self, all: &[Slot], slot: &Slot) -> bool
-        ensures { result ≡ spec.is_alone_at self.now all.now slot.now }
-    {
-        match bucket_of(slot) {
-            None => true,
-            Some(at) => {
-                if slot.is_exclusive() {
-                    self.any.count(at) == use_count(true, at, all)
-                } else {
-                    self.exclusive.count(at) == use_count(false, at, all)
-                }
-            }
-        }
     }
 }

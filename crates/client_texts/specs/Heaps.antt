@@ -1,6 +1,6 @@
 -- The heaps of requests: items that stand behind a row of values, and to which full pointers (`@N`) lead.
 use Rattle.std.specs.Prelude.{◌≡◌, ◌≢◌, ℕ, suc, ◌^◌, ◌==◌, List, [], ◌∷◌, ◌++◌, length, Option, Some, None, if◌then◌else◌, codes}
-use Rattle.ndr_value.specs.Forms.{Form, Forms, no_form, then_form}
+use Rattle.ndr_value.specs.Forms.{Form, Forms, no_form, then_form, Body}
 use Rattle.ndr_value.specs.Values.{Val, VStruct, VUnion, VArray, VPtr, VFull, Vals, no_val, then_val}
 use Rattle.ndr_value.specs.Fits.{arm_of}
 use Rattle.ndr_value.specs.Judged.{plain, members, inner, is_held, held}
@@ -37,7 +37,7 @@ abbrev mutual
   all_aims types s (then_val v vs) = aims types s v ++ all_aims types s vs
 
 -- those in the value of a union's arm, where one is held
-abbrev pub arm_aims : List Form → Option Form → Val → Aims
+abbrev pub arm_aims : List Form → Option Body → Val → Aims
 arm_aims types arm v = if is_held arm then aims types (held arm) v else []
 
 -- the shape that the first of these points to that leads to item n

@@ -72,7 +72,7 @@ module _ (home : Home) (past : List Entry) where
   -- A request gets its piece, and what is asked then is answered. Where the connection left before, nothing is, nor later.
   abbrev pub AnswersRequest : Joined → ℕ → Deed → Option (List ℕ) → (List Turn → Type 0) → List Turn → Type 0
   AnswersRequest j most deed (Some octets) Then later = (deed_left deed ≡ false) × Piece j most deed octets × Then later
-  AnswersRequest j most deed None Then later = IsLost deed × (later ≡ [])
+  AnswersRequest j most deed None Then later = (deed_left deed ≡ true) × IsLost deed × (later ≡ [])
 
   -- a request of an interface, with what called it off, or one whose context isn't accepted
   abbrev pub AnswersCall : Option ℕ → Joined → ℕ → List Ask → (List Turn → Type 0) → List Turn → Type 0

@@ -18,7 +18,7 @@ use Rattle.manager_api.specs.Messages.{Response}
 use Rattle.manager_api.specs.Messages.{stub}
 use Rattle.manager_api.specs.declared.answer.Kept.{Kept}
 use Rattle.manager_api.specs.declared.answer.Kept.TheVariants.{Cookie}
-use Rattle.manager_api.specs.Answers.{Ans, AOut, AFault}
+use Rattle.manager_api.specs.Answers.{Ans, AOut, AFault, cancelled as as_cancelled}
 use Rattle.manager_api.specs.Calls.{Call}
 use Rattle.manager_api.specs.Responses.{null_handle}
 use Rattle.conn_histories.specs.Requests.{IsAsked, types_of, no_memory}
@@ -94,7 +94,7 @@ call_with a m cookies = record { iface = a.iface; op = a.op; message = m; cookie
 
 -- The end of a call meets its manager's relation: the message is that of the call's stub, the answer is one that the
 -- manager may give to it with the cookies that the call was given, and what the end does and says follows from it. The
--- manager was told of a cancel only where there was one.
+-- manager was told of a cancel only where there was one, and only then may it answer nca_s_fault_cancel.
 pub record Meets (home : Home) (tables : List TableForm) (may : Call → Bool → Ans → Type 0) (a : Asked) (cookies : List (Option ℕ)) (cancelled : Bool) (results : List Outcome) (said : Said) : Type 0 where
   pub message : Msg
   pub asked : IsAsked tables a.iface a.op a.order a.stub message
@@ -102,5 +102,6 @@ pub record Meets (home : Home) (tables : List TableForm) (may : Call → Bool �
   pub cause : told ≡ true → cancelled ≡ true
   pub answer : Ans
   pub answers : may (call_with a message cookies) told answer
+  pub blames : answer ≡ as_cancelled → told ≡ true
   pub results_are : results ≡ results_of a.slots cookies answer
   pub says : Says home tables a asked.operation message results answer said

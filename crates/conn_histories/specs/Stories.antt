@@ -1,12 +1,13 @@
 -- A connection's story in the journal of its group: what each turn has for its reason, and what the connection entered.
-use Rattle.std.specs.Prelude.{◌≡◌, ◌≢◌, ℕ, Bool, true, false, not, None, if◌then◌else◌, List, [], ◌∷◌, ◌++◌, filter, ⊤}
+use Rattle.std.specs.Prelude.{◌≡◌, ◌≢◌, ℕ, ◌==◌, Bool, true, false, not, None, if◌then◌else◌, List, [], ◌∷◌, ◌++◌, filter, ⊤}
 use Rattle.std.specs.List.{list_any}
 use Rattle.handle_model.specs.declared.entry.Home.{Home}
 use Rattle.handle_model.specs.declared.entry.Slot.{Slot}
 use Rattle.handle_model.specs.declared.entry.Asked.{Asked}
 use Rattle.handle_model.specs.declared.entry.Entry.{Entry}
-use Rattle.handle_model.specs.declared.entry.Entry.TheVariants.{Join, Shut}
+use Rattle.handle_model.specs.declared.entry.Entry.TheVariants.{Join, End, Leave, Shut}
 use Rattle.handle_model.specs.Entries.{is_shut}
+use Rattle.handle_model.specs.Journal.{due}
 use Rattle.handle_model.specs.Limits.{accept_limit}
 use Rattle.ndr_table.specs.Tables.{TableForm}
 use Rattle.manager_api.specs.Answers.{Ans}
@@ -24,7 +25,7 @@ use Rattle.conn_histories.specs.declared.turn.Deed.TheVariants.{Pending, Refused
 use Rattle.conn_histories.specs.declared.turn.Request.{Request}
 use Rattle.conn_histories.specs.declared.turn.Turn.{Turn}
 use Rattle.conn_histories.specs.declared.turn.Turn.TheVariants.{Bound, NotBound, Called}
-use Rattle.conn_histories.specs.Entries.{is_cancel, asked_as, turn_runs, leave_behind, story_entries}
+use Rattle.conn_histories.specs.Entries.{is_cancel, asked_as, turn_runs, leave_behind, story_entries, numbers_of}
 use Rattle.conn_histories.specs.Events.{all_events, all_octets}
 use Rattle.conn_histories.specs.Tales.{whole, of_conn, StandAll}
 
@@ -43,10 +44,23 @@ pub record IsItsGroup (asked group c : ℕ) : Type 0 where
   pub known : asked ≢ 0 → group ≡ asked
   pub new : asked ≡ 0 → c ≡ 1
 
--- A Shut is the connection's own only where its newest other entry made it due: it stands behind that one.
-abbrev pub HasOwnShut : List Entry → List Entry → Type 0
-HasOwnShut past (Shut items ∷ e ∷ own) = (list_any is_shut (e ∷ own) ≡ false) × ((older : List Entry) × (past ≡ Shut items ∷ e ∷ older))
-HasOwnShut past own = list_any is_shut own ≡ false
+-- the connection's Leave, or the End of one of its calls: what may make the group's Shut due
+abbrev pub may_shut : ℕ → List ℕ → Entry → Bool
+may_shut c calls (Leave d) = d == c
+may_shut c calls (End k results said) = list_any (λ n. k == n) calls
+may_shut c calls _ = false
+
+-- no entry of the connection made a Shut due: neither the newest one, nor the one that the group's Shut stands behind
+abbrev pub MadeNoneDue : Home → ℕ → List ℕ → List Entry → Type 0
+MadeNoneDue home c calls [] = ⊤
+MadeNoneDue home c calls (Shut items ∷ []) = ⊤
+MadeNoneDue home c calls (Shut items ∷ e ∷ older) = may_shut c calls e ≡ false
+MadeNoneDue home c calls (e ∷ older) = may_shut c calls e ≡ true → due (whole home (e ∷ older)) ≡ false
+
+-- A Shut is the connection's own exactly where its newest other entry made it due: it stands behind that one.
+abbrev pub HasOwnShut : Home → ℕ → List ℕ → List Entry → List Entry → Type 0
+HasOwnShut home c calls past (Shut items ∷ e ∷ own) = (list_any is_shut (e ∷ own) ≡ false) × ((older : List Entry) × (past ≡ Shut items ∷ e ∷ older))
+HasOwnShut home c calls past own = (list_any is_shut own ≡ false) × MadeNoneDue home c calls past
 
 -- A server: the interfaces that it serves, by number; what their managers may answer; and for which reasons it may refuse
 -- a bind to the group of an id.
@@ -99,7 +113,7 @@ module _ (server : Server) (home : Home) (c : ℕ) (past : List Entry) where
   -- gone. Each turn has its reason, and the journal says nothing else of the connection and its calls.
   pub record Made (gone : Bool) (turns : List Turn) (own : List Entry) : Type 0 where
     pub entries : filter (λ e. not (is_shut e)) own ≡ story_entries c gone turns
-    pub shut : HasOwnShut past own
+    pub shut : HasOwnShut home c (numbers_of turns) past own
     pub due : AllDue turns
     pub stand : StandAll c gone past turns
     pub conns : filter (of_conn c) past ≡ leave_behind c gone false ++ Join c ∷ []

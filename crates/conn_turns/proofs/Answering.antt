@@ -171,7 +171,7 @@ module _ (home : Home) (past : List Entry) (j : Joined) (most : ℕ) (more : Lis
   request_answers offs deed None ts replied over r o xs end others is calls ends =
       let whole' = sym (append_assoc (acts_off j.call_id offs) (answer_events (deed_reply offs deed) None) (events_from ts)) ∙ is in
       let s = splits (caller_of j) most j.maybe Then j.call_id offs (events_from ts) more others xs end (starts_apart ts) whole' calls ends in
-      ((s.others, s.begins), (lost_is home past offs deed replied over, unanswered_last (caller_of j) most j.maybe Then s.others ts s.ends))
+      ((s.others, s.begins), (over, lost_is home past offs deed replied over, unanswered_last (caller_of j) most j.maybe Then s.others ts s.ends))
 
   call_answers : (iface : Option ℕ) (ts : List Turn) → AllByRecursion (IsReplied home past) ts → AllByRecursion IsOver ts → PlaysCall iface j most Then more (events_from ts)
       → AnswersCall home past iface j most more Then' ts

@@ -1,5 +1,5 @@
 -- A connection's entries go on with its turns.
-use Rattle.std.proofs.Common.{◌≡◌, ◌==◌, ℕ, Bool, true, false, ◌||◌, not, Option, None, List, [], ◌∷◌, ◌++◌, filter, refl, sym, ap, ◌∙◌}
+use Rattle.std.proofs.Common.{subst, ◌≡◌, ◌==◌, ℕ, Bool, true, false, ◌||◌, not, Option, None, List, [], ◌∷◌, ◌++◌, filter, refl, sym, ap, ◌∙◌}
 use Rattle.std.specs.List.{list_any, cons_option, AllByRecursion}
 use Rattle.handle_model.specs.declared.entry.Home.{Home}
 use Rattle.handle_model.specs.declared.entry.Slot.{Slot}
@@ -18,44 +18,46 @@ use Rattle.conn_histories.specs.Tales.{whole}
 use Rattle.conn_histories.specs.declared.turn.Fate.TheVariants.{Waiting, Denied, Cancelled, Orphaned, LeftWaiting, Running, LeftRunning, Ended, LeftEnded}
 use Rattle.conn_histories.specs.declared.turn.Deed.TheVariants.{Pending, Refused, Accepted}
 use Rattle.conn_histories.specs.declared.turn.Turn.TheVariants.{Binding, Bound, NotBound, Answered, Called, Closed}
-use Rattle.handle_model.specs.Journal.{Legal}
+use Rattle.handle_model.specs.Journal.{due, Legal}
 use Rattle.conn_histories.specs.Entries.{asked_as, deed_entries, entries_of, all_entries, has_left, deed_left, turn_left, is_open, deed_open, turn_open, leave_behind, story_entries, number_of, numbers_of, marks, is_like, fate_entries}
 use Rattle.conn_histories.specs.Events.{all_events, all_octets}
-use Rattle.conn_histories.specs.Stories.{HasOwnShut, DeedIsDue, IsDue, AllDue, Made}
+use Rattle.conn_histories.specs.Stories.{MadeNoneDue, HasOwnShut, DeedIsDue, IsDue, AllDue, Made}
 use Rattle.conn_histories.specs.Tales.{of_call, of_conn, Stands, StandAll}
 use Rattle.conn_turns.specs.Laws.{AreOfOthers}
 use Rattle.conn_turns.specs.Steps.{GoesOn, left_turns, left_fate, OnlyNewestOpen}
 use Rattle.conn_turns.proofs.TaleFacts.{same_number, any_first, any_rest}
 use Rattle.conn_turns.proofs.Going.{turns_go_on, turns_are_left}
 use Rattle.conn_turns.proofs.Keeping.{dues_stay, stories_stay}
+use Rattle.conn_turns.proofs.Staying.{turns_stay}
 
 -- ---- Shuts
 
-pub unshut_own : (past own : List Entry) → list_any is_shut own ≡ false → HasOwnShut past own
-unshut_own past [] h = h
-unshut_own past (Join d ∷ own) h = h
-unshut_own past (Accept m a ∷ own) h = h
-unshut_own past (Take m cookies ∷ own) h = h
-unshut_own past (Deny m slot ∷ own) h = h
-unshut_own past (Cancel m ∷ own) h = h
-unshut_own past (Orphan m ∷ own) h = h
-unshut_own past (End m results said ∷ own) h = h
-unshut_own past (Leave d ∷ own) h = h
-unshut_own past (Shut items ∷ own) h = absurd cc
+-- none of it is a Shut, and none is due at the connection's newest entry
+pub unshut_own : (home : Home) (c : ℕ) (calls : List ℕ) (past own : List Entry) → list_any is_shut own ≡ false → MadeNoneDue home c calls past → HasOwnShut home c calls past own
+unshut_own home c calls past [] h none = (h, none)
+unshut_own home c calls past (Join d ∷ own) h none = (h, none)
+unshut_own home c calls past (Accept m a ∷ own) h none = (h, none)
+unshut_own home c calls past (Take m cookies ∷ own) h none = (h, none)
+unshut_own home c calls past (Deny m slot ∷ own) h none = (h, none)
+unshut_own home c calls past (Cancel m ∷ own) h none = (h, none)
+unshut_own home c calls past (Orphan m ∷ own) h none = (h, none)
+unshut_own home c calls past (End m results said ∷ own) h none = (h, none)
+unshut_own home c calls past (Leave d ∷ own) h none = (h, none)
+unshut_own home c calls past (Shut items ∷ own) h none = absurd cc
 
 -- where more may come, there is no Shut among them
-pub own_unshut : (past own : List Entry) → HasOwnShut past own → list_any is_shut past ≡ false → list_any is_shut own ≡ false
-own_unshut past [] h none = h
-own_unshut past (Shut items ∷ []) h none = h
-own_unshut past (Shut items ∷ e ∷ own) h none = let shut : list_any is_shut past ≡ true = ap (list_any is_shut) h.1.1 in absurd (cc (shut, none))
-own_unshut past (Join d ∷ own) h none = h
-own_unshut past (Accept m a ∷ own) h none = h
-own_unshut past (Take m cookies ∷ own) h none = h
-own_unshut past (Deny m slot ∷ own) h none = h
-own_unshut past (Cancel m ∷ own) h none = h
-own_unshut past (Orphan m ∷ own) h none = h
-own_unshut past (End m results said ∷ own) h none = h
-own_unshut past (Leave d ∷ own) h none = h
+pub own_unshut : (home : Home) (c : ℕ) (calls : List ℕ) (past own : List Entry) → HasOwnShut home c calls past own → list_any is_shut past ≡ false → list_any is_shut own ≡ false
+own_unshut home c calls past [] h none = h.0
+own_unshut home c calls past (Shut items ∷ []) h none = h.0
+own_unshut home c calls past (Shut items ∷ e ∷ own) h none = let shut : list_any is_shut past ≡ true = ap (list_any is_shut) h.1.1 in absurd (cc (shut, none))
+own_unshut home c calls past (Join d ∷ own) h none = h.0
+own_unshut home c calls past (Accept m a ∷ own) h none = h.0
+own_unshut home c calls past (Take m cookies ∷ own) h none = h.0
+own_unshut home c calls past (Deny m slot ∷ own) h none = h.0
+own_unshut home c calls past (Cancel m ∷ own) h none = h.0
+own_unshut home c calls past (Orphan m ∷ own) h none = h.0
+own_unshut home c calls past (End m results said ∷ own) h none = h.0
+own_unshut home c calls past (Leave d ∷ own) h none = h.0
 
 keep_one : (e : Entry) (own : List Entry) → is_shut e ≡ false → filter (λ x. not (is_shut x)) (e ∷ own) ≡ e ∷ filter (λ x. not (is_shut x)) own
 keep_one e own h = rw h refl
@@ -111,12 +113,23 @@ all_stand_more c gone past t turns p s = record {
   none_left = λ is. neither (turn_left t) (list_any turn_left turns) p.left (s.none_left is);
 }
 
+-- what is made, but for whose Shut it is
+pub record Entered (server : Server) (home : Home) (c : ℕ) (past : List Entry) (gone : Bool) (turns : List Turn) (own : List Entry) : Type 0 where
+  pub entries : filter (λ e. not (is_shut e)) own ≡ story_entries c gone turns
+  pub due : AllDue server home c past turns
+  pub stand : StandAll c gone past turns
+  pub conns : filter (of_conn c) past ≡ leave_behind c gone false ++ Join c ∷ []
+
+pub made_so : (server : Server) (home : Home) (c : ℕ) (past : List Entry) (gone : Bool) (turns : List Turn) (own : List Entry) → HasOwnShut home c (numbers_of turns) past own → Entered server home c past gone turns own
+    → Made server home c past gone turns own
+made_so server home c past gone turns own shut m = record { entries = m.entries; shut = shut; due = m.due; stand = m.stand; conns = m.conns }
+
 module _ (server : Server) (home : Home) (c : ℕ) where
   pub made_plain : (past : List Entry) (gone : Bool) (t : Turn) (turns : List Turn) (own : List Entry) → IsPlain c t → IsDue server home c past turns t → Made server home c past gone turns own
       → Made server home c past gone (t ∷ turns) own
   made_plain past gone t turns own p due m = record {
     entries = m.entries ∙ sym (λ i. leave_behind c gone (p.left i || list_any turn_left turns) ++ (p.entries i ++ all_entries c turns));
-    shut = m.shut;
+    shut = subst (λ (ks : List ℕ). HasOwnShut home c ks past own) (sym (λ i. cons_option (p.number i) (numbers_of turns))) m.shut;
     due = (due, m.due);
     stand = all_stand_more c gone past t turns p m.stand;
     conns = m.conns;
@@ -162,18 +175,28 @@ module _ (server : Server) (home : Home) (c : ℕ) where
       (λ i. leave_behind c true (before i || list_any turn_left ts) ++ (deed_entries c r r.deed ++ all_entries c ts)) in
       first ∙ (ap (λ l. l ++ all_entries c ts) g.entries ∙ ap (λ l. e ∷ l) (sym then_))
 
+  pub entered_more : (past : List Entry) (gone : Bool) (k : ℕ) (e : Entry) (r s : Request) (ts : List Turn) (own : List Entry) → list_any is_shut past ≡ false → GoesOn c k e past r s
+      → (gone ≡ true → deed_left s.deed ≡ true) → AllByRecursion (λ m. (k == m) ≡ false) (numbers_of ts) → DeedIsDue server home c (e ∷ past) ts s s.deed
+      → Made server home c past gone (Called r ∷ ts) own → Entered server home c (e ∷ past) gone (Called s ∷ ts) (e ∷ own)
+  entered_more past gone k e r s ts own none g left apart due m = record {
+    entries = keep_one e own (call_no_shut k e g.of_it) ∙ (ap (λ l. e ∷ l) m.entries ∙ sym (told_by gone e past k r s ts g left));
+    due = (due, dues_stay server home c (e ∷ []) past ts m.due.1);
+    stand = turns_go_on c k gone e past r s ts g left apart m.stand;
+    conns = passed c e past (call_no_conn c k e g.of_it) ∙ m.conns;
+  }
+
+  -- none of the connection's is a Shut, with one more that is none
+  pub unshut_more : (past : List Entry) (gone : Bool) (turns : List Turn) (e : Entry) (own : List Entry) → is_shut e ≡ false → list_any is_shut past ≡ false → Made server home c past gone turns own → list_any is_shut (e ∷ own) ≡ false
+  unshut_more past gone turns e own plain none m = neither (is_shut e) (list_any is_shut own) plain (own_unshut home c (numbers_of turns) past own m.shut none)
+
   pub made_entered : (past : List Entry) (gone : Bool) (k : ℕ) (e : Entry) (r s : Request) (ts : List Turn) (own : List Entry) → list_any is_shut past ≡ false → GoesOn c k e past r s
       → (gone ≡ true → deed_left s.deed ≡ true) → AllByRecursion (λ m. (k == m) ≡ false) (numbers_of ts) → DeedIsDue server home c (e ∷ past) ts s s.deed
+      → MadeNoneDue home c (numbers_of (Called s ∷ ts)) (e ∷ past)
       → Made server home c past gone (Called r ∷ ts) own → Made server home c (e ∷ past) gone (Called s ∷ ts) (e ∷ own)
-  made_entered past gone k e r s ts own none g left apart due m =
-      let shuts : is_shut e ≡ false = call_no_shut k e g.of_it in
-      record {
-        entries = keep_one e own shuts ∙ (ap (λ l. e ∷ l) m.entries ∙ sym (told_by gone e past k r s ts g left));
-        shut = unshut_own (e ∷ past) (e ∷ own) (neither (is_shut e) (list_any is_shut own) shuts (own_unshut past own m.shut none));
-        due = (due, dues_stay server home c (e ∷ []) past ts m.due.1);
-        stand = turns_go_on c k gone e past r s ts g left apart m.stand;
-        conns = passed c e past (call_no_conn c k e g.of_it) ∙ m.conns;
-      }
+  made_entered past gone k e r s ts own none g left apart due stays m =
+      made_so server home c (e ∷ past) gone (Called s ∷ ts) (e ∷ own)
+      (unshut_own home c (numbers_of (Called s ∷ ts)) (e ∷ past) (e ∷ own) (unshut_more past gone (Called r ∷ ts) e own (call_no_shut k e g.of_it) none m) stays)
+      (entered_more past gone k e r s ts own none g left apart due m)
 
   -- ---- what calls off a running call again
 
@@ -262,15 +285,21 @@ module _ (server : Server) (home : Home) (c : ℕ) where
   leave_kept : (past : List Entry) → filter (of_conn c) (Leave c ∷ past) ≡ Leave c ∷ filter (of_conn c) past
   leave_kept past = rw (same_number c) refl
 
-  pub made_left : (past : List Entry) (turns : List Turn) (own : List Entry) → list_any is_shut past ≡ false → OnlyNewestOpen turns → MayLeave turns → Made server home c past false turns own
-      → Made server home c (Leave c ∷ past) true (left_turns turns) (Leave c ∷ own)
-  made_left past turns own none newest may m = record {
+  pub entered_left : (past : List Entry) (turns : List Turn) (own : List Entry) → OnlyNewestOpen turns → MayLeave turns → Made server home c past false turns own
+      → Entered server home c (Leave c ∷ past) true (left_turns turns) (Leave c ∷ own)
+  entered_left past turns own newest may m = record {
     entries = ap (λ l. Leave c ∷ l) m.entries ∙ sym (left_told turns (m.stand.none_left refl));
-    shut = unshut_own (Leave c ∷ past) (Leave c ∷ own) (own_unshut past own m.shut none);
     due = dues_stay server home c (Leave c ∷ []) past (left_turns turns) (left_due past turns may m.due);
     stand = turns_are_left c past turns newest m.stand;
     conns = leave_kept past ∙ ap (λ l. Leave c ∷ l) m.conns;
   }
+
+  pub made_left : (past : List Entry) (turns : List Turn) (own : List Entry) → list_any is_shut past ≡ false → OnlyNewestOpen turns → MayLeave turns → due (whole home (Leave c ∷ past)) ≡ false
+      → Made server home c past false turns own → Made server home c (Leave c ∷ past) true (left_turns turns) (Leave c ∷ own)
+  made_left past turns own none newest may stays m =
+      made_so server home c (Leave c ∷ past) true (left_turns turns) (Leave c ∷ own)
+      (unshut_own home c (numbers_of (left_turns turns)) (Leave c ∷ past) (Leave c ∷ own) (unshut_more past false turns (Leave c) own refl none m) (λ x. stays))
+      (entered_left past turns own newest may m)
 
   -- ---- others, and a Shut
 
@@ -283,8 +312,12 @@ module _ (server : Server) (home : Home) (c : ℕ) where
   none_called items [] = tt
   none_called items (k ∷ ks) = (refl, none_called items ks)
 
-  pub made_shut : (e : Entry) (items : List DueItem) (past : List Entry) (gone : Bool) (turns : List Turn) (own : List Entry) → list_any is_shut (e ∷ own) ≡ false → Legal (whole home (Shut items ∷ e ∷ past))
-      → Made server home c (e ∷ past) gone turns (e ∷ own) → Made server home c (Shut items ∷ e ∷ past) gone turns (Shut items ∷ e ∷ own)
-  made_shut e items past gone turns own none legal m =
-      let stays = made_stays (Shut items ∷ []) (e ∷ past) gone turns (e ∷ own) legal (record { no_conn = refl; no_call = refl; none_of = none_called items (numbers_of turns) }) m in
-      record { entries = m.entries; shut = (none, (past, refl)); due = stays.due; stand = stays.stand; conns = stays.conns }
+  pub made_shut : (e : Entry) (items : List DueItem) (past : List Entry) (gone : Bool) (turns : List Turn) (own : List Entry) → list_any is_shut (e ∷ own) ≡ false
+      → Entered server home c (e ∷ past) gone turns (e ∷ own) → Made server home c (Shut items ∷ e ∷ past) gone turns (Shut items ∷ e ∷ own)
+  made_shut e items past gone turns own none m = record {
+    entries = m.entries;
+    shut = (none, (past, refl));
+    due = dues_stay server home c (Shut items ∷ []) (e ∷ past) turns m.due;
+    stand = turns_stay c gone (Shut items ∷ []) (e ∷ past) turns (record { no_conn = refl; no_call = refl; none_of = none_called items (numbers_of turns) }) m.stand;
+    conns = m.conns;
+  }

@@ -35,9 +35,9 @@ use Rattle.conn_histories.specs.Tales.{of_conn, calls_of, Stands, StandAll}
 use Rattle.conn_turns.specs.Steps.{left_turns, OnlyNewestOpen}
 use Rattle.conn_turns.proofs.TaleFacts.{same_number}
 use Rattle.conn_turns.specs.Quiet.{IsQuiet}
-use Rattle.conn_turns.proofs.Making.{called, own_unshut, MayLeave, made_entered, made_plain, made_left, made_shut, plain_pending}
+use Rattle.conn_turns.proofs.Making.{called, unshut_own, own_unshut, MayLeave, Entered, made_so, made_entered, made_plain, entered_left, made_left, made_shut, plain_pending}
 use Rattle.conn_turns.proofs.Whose.{AreBy, all_asked, apart_unasked, unasked_none, fresh_none, unjoined_conns, unjoined_calls}
-use Rattle.conn_turns.proofs.Stepping.{past_is, legal_so, true_is, Onward, staged, further, one, two, EndSo, EndsWell, ended_fate}
+use Rattle.conn_turns.proofs.Stepping.{past_is, legal_so, true_is, Onward, staged, further, ended_further, one, two, EndSo, EndsWell, ended_fate}
 
 -- ---- a running call ends
 
@@ -47,16 +47,16 @@ module _ (server : Server) (home at : Home) (c : ℕ) (gone : Bool) (j : Joined)
 
   module _ (past past' : List Entry) (offs : List Off) (slots : List Slot) (own : List Entry) (results : List Outcome) (said : Said) (legal : Legal (whole home past')) where
     end_so : (fate : Fate) (r : Rest) → EndSo server home at c gone j iface k ts apart offs slots fate offs slots fate → Settles (whole at past) (End k results said) r (whole at past') → list_any is_shut own ≡ false
-        → ((l : Legal (whole home (End k results said ∷ past))) → Made server home c (End k results said ∷ past) gone (turn offs slots fate ∷ ts) (End k results said ∷ own))
+        → Entered server home c (End k results said ∷ past) gone (turn offs slots fate ∷ ts) (End k results said ∷ own)
         → Onward server home c gone j iface k ts past past' own (EndSo server home at c gone j iface k ts apart offs slots fate)
     end_so fate rest.Stays so t unshut made =
         let grown : past' ≡ End k results said ∷ past = past_is (whole at past) (whole at past') (End k results said ∷ []) t.1 in
         one server home at c gone j iface k ts apart past past' (EndSo server home at c gone j iface k ts apart offs slots fate) (End k results said) offs slots fate own grown (same_number k) so
-        (made (legal_so home (End k results said ∷ past) past' grown legal))
+        (made_so server home c (End k results said ∷ past) gone (turn offs slots fate ∷ ts) (End k results said ∷ own)
+        (unshut_own home c (k ∷ numbers_of ts) (End k results said ∷ past) (End k results said ∷ own) unshut (λ x. t.0)) made)
     end_so fate (rest.Shut items) so t unshut made =
         let grown : past' ≡ Shut items ∷ End k results said ∷ past = past_is (whole at past) (whole at past') (Shut items ∷ End k results said ∷ []) t.2 in
-        two server home at c gone j iface k ts apart past past' (End k results said) items offs slots fate own (EndSo server home at c gone j iface k ts apart offs slots fate) grown legal (same_number k) so unshut
-        (made (legal_so home (Shut items ∷ End k results said ∷ past) past' grown legal).1)
+        two server home at c gone j iface k ts apart past past' (End k results said) items offs slots fate own (EndSo server home at c gone j iface k ts apart offs slots fate) grown (same_number k) so unshut made
 
     abbrev run : List (Option ℕ) → Run
     run cookies = record { cookies = cookies; results = results; said = said }
@@ -79,15 +79,15 @@ module _ (server : Server) (home at : Home) (c : ℕ) (gone : Bool) (j : Joined)
     ended_so (Running cookies') cookies r runs left which well t m =
         let none = none_shut r t in
         let same : cookies ≡ cookies' = elim which [ inl e ↦ cc | inr e ↦ absurd cc ] in
-        end_so (Ended (run cookies')) r (refl, left, refl, refl, refl, refl) t (own_unshut past own m.shut none)
-        (λ l. further server home at c gone j iface k ts apart past (End k results said) offs offs slots (Running cookies') (Ended (run cookies')) own l (same_number k) (λ a n x. absurd cc) refl refl
+        end_so (Ended (run cookies')) r (refl, left, refl, refl, refl, refl) t (own_unshut home c (k ∷ numbers_of ts) past own m.shut none)
+        (ended_further server home at c gone j iface k ts apart past results said offs slots (Running cookies') (Ended (run cookies')) own none refl refl
         (λ g. absurd (true_is gone g (sym left)))
         (m.due.0.0, m.due.0.1, subst (λ (x : List (Option ℕ)). EndsWell server home at c gone j iface k ts apart offs slots x results said) same well) m)
     ended_so (LeftRunning cookies') cookies r runs left which well t m =
         let none = none_shut r t in
         let same : cookies ≡ cookies' = elim which [ inl e ↦ absurd cc | inr e ↦ cc ] in
-        end_so (LeftEnded (run cookies')) r (refl, left, refl, refl, refl, refl) t (own_unshut past own m.shut none)
-        (λ l. further server home at c gone j iface k ts apart past (End k results said) offs offs slots (LeftRunning cookies') (LeftEnded (run cookies')) own l (same_number k) (λ a n x. absurd cc) refl refl
+        end_so (LeftEnded (run cookies')) r (refl, left, refl, refl, refl, refl) t (own_unshut home c (k ∷ numbers_of ts) past own m.shut none)
+        (ended_further server home at c gone j iface k ts apart past results said offs slots (LeftRunning cookies') (LeftEnded (run cookies')) own none refl refl
         (λ g. refl)
         (m.due.0.0, m.due.0.1, subst (λ (x : List (Option ℕ)). EndsWell server home at c gone j iface k ts apart offs slots x results said) same well) m)
 
@@ -147,7 +147,7 @@ module _ (server : Server) (home at : Home) (c : ℕ) (j : Joined) (iface k : �
           from = inl (record { asked = asked_as c request (kept past); accept = refl; theirs = refl; before = refl; new = unasked_none home past k legal.1 (fresh_none home past k legal.1 number); joined = m.conns });
           left_same = refl;
         })
-        (λ x. absurd cc) new_apart (has_kept, refl, tt) (made_plain server home c past false (called j iface [] Pending None) ts own (plain_pending c j iface) refl m)
+        (λ x. absurd cc) new_apart (has_kept, refl, tt) (λ x. absurd cc) (made_plain server home c past false (called j iface [] Pending None) ts own (plain_pending c j iface) refl m)
 
 -- the turns before a request that is asked
 pub made_tail : (server : Server) (home : Home) (c : ℕ) (past : List Entry) (j : Joined) (iface : ℕ) (ts : List Turn) (own : List Entry)
@@ -169,7 +169,7 @@ marked_so server home at c j iface k ts slots past past' own cancelled.Ended apa
       grown,
       subst (λ (p : List Entry). Made server home c p false (called j iface [] (Accepted k slots Cancelled) None ∷ ts) (Cancel k ∷ own)) (sym grown)
           (further server home at c false j iface k ts apart past (Cancel k) [] [] slots Waiting Cancelled own (legal_so home (Cancel k ∷ past) past' grown legal) (same_number k) (λ a n x. absurd cc)
-          refl refl (λ x. absurd cc) (m.due.0.0, rw marked refl, tt) m),
+          refl refl (λ x. absurd cc) (m.due.0.0, rw marked refl, tt) (λ x. absurd cc) m),
     )
 marked_so server home at c j iface k ts slots past past' own cancelled.Flagged apart legal marked t m =
     let s = staged server home at c false j iface k ts past [] slots Waiting own refl m in
@@ -249,7 +249,7 @@ left_so server home at c turns past past' own rest.Stays legal newest may t m =
       by = (same_number c, tt);
       own = Leave c ∷ own;
       grows = refl;
-      made = subst (λ (p : List Entry). Made server home c p true (left_turns turns) (Leave c ∷ own)) (sym grown) (made_left server home c past turns own l.0.before_shut newest may m);
+      made = subst (λ (p : List Entry). Made server home c p true (left_turns turns) (Leave c ∷ own)) (sym grown) (made_left server home c past turns own l.0.before_shut newest may t.0 m);
     }
 left_so server home at c turns past past' own (rest.Shut items) legal newest may t m =
     let grown : past' ≡ Shut items ∷ Leave c ∷ past = past_is (whole at past) (whole at past') (Shut items ∷ Leave c ∷ []) t.2 in
@@ -263,7 +263,7 @@ left_so server home at c turns past past' own (rest.Shut items) legal newest may
       grows = refl;
       made =
           subst (λ (p : List Entry). Made server home c p true (left_turns turns) (Shut items ∷ Leave c ∷ own)) (sym grown)
-          (made_shut server home c (Leave c) items past true (left_turns turns) own (own_unshut past own m.shut none) l (made_left server home c past turns own none newest may m));
+          (made_shut server home c (Leave c) items past true (left_turns turns) own (own_unshut home c (numbers_of turns) past own m.shut none) (entered_left server home c past turns own newest may m));
     }
 
 -- ---- a connection joins
@@ -344,7 +344,7 @@ module _ (server : Server) (home at : Home) (c d : ℕ) (past old : List Entry) 
       let s = quiet_all c false (Join c ∷ past) ts calls q in
       record {
         entries = ap (λ (l : List Entry). Join c ∷ l) (sym (quiet_entries c ts q));
-        shut = refl;
+        shut = (refl, λ x. absurd cc);
         due = (its, quiet_due server home at c d (Join c ∷ past) old ts q due);
         stand = record { calls = s.calls; stand = (tt, s.stand); none_open = s.none_open; none_left = s.none_left };
         conns = joined_first ∙ ap (λ (l : List Entry). Join c ∷ l) conns;

@@ -8,7 +8,7 @@ use Rattle.handle_model.specs.declared.entry.Asked.{Asked}
 use Rattle.handle_model.specs.declared.entry.Outcome.{Outcome}
 use Rattle.handle_model.specs.declared.entry.Said.{Said}
 use Rattle.handle_model.specs.declared.entry.Entry.{Entry}
-use Rattle.handle_model.specs.declared.entry.Entry.TheVariants.{Join, Accept, Take, Deny, Cancel, Orphan, Shut}
+use Rattle.handle_model.specs.declared.entry.Entry.TheVariants.{Join, Accept, Take, Deny, Cancel, Orphan, End, Shut}
 use Rattle.handle_model.specs.Entries.{is_shut}
 use Rattle.handle_model.specs.History.{History}
 use Rattle.pdu_stream.specs.declared.joined.Joined.{Joined}
@@ -31,11 +31,11 @@ use Rattle.group_core.specs.Adds.{Adds}
 use Rattle.group_core.specs.Calls.{Takes, Cancels, Orphans, is_cancellable, is_orphanable}
 use Rattle.handle_model.specs.Journal.{Legal, waits, runs, is_cancelled, is_orphaned, slots, cookies_for}
 use Rattle.conn_histories.specs.Entries.{is_cancel, is_orphan, asked_as, has_left, is_open, is_running, leave_behind, numbers_of, fate_entries}
-use Rattle.conn_histories.specs.Stories.{EndMeets, DeedIsDue, Made}
+use Rattle.conn_histories.specs.Stories.{MadeNoneDue, EndMeets, DeedIsDue, Made}
 use Rattle.conn_histories.specs.Tales.{of_call}
 use Rattle.conn_turns.proofs.TaleFacts.{same_number}
 use Rattle.conn_turns.proofs.Staged.{is_waiting, Stage, stage, Marked, marked_running}
-use Rattle.conn_turns.proofs.Making.{called, made_entered, made_again, made_shut}
+use Rattle.conn_turns.proofs.Making.{called, Entered, entered_more, made_entered, made_again, made_shut}
 use Rattle.conn_turns.proofs.Whose.{is_by, AreBy}
 
 pub true_is : (b : Bool) → b ≡ true → b ≡ false → ⊥
@@ -101,11 +101,21 @@ module _ (server : Server) (home at : Home) (c : ℕ) (gone : Bool) (j : Joined)
     pub further : (past : List Entry) (e : Entry) (offs offs' : List Off) (slots : List Slot) (fate fate' : Fate) (own : List Entry) → Legal (whole home (e ∷ past)) → of_call k e ≡ true
         → ((a : Asked) → (m : ℕ) → e ≡ Accept m a → ⊥)
         → fate_entries k (asked_so offs slots) offs' fate' ≡ e ∷ fate_entries k (asked_so offs slots) offs fate → has_left fate' ≡ has_left fate → (gone ≡ true → has_left fate' ≡ true)
-        → DeedIsDue server home c (e ∷ past) ts (request offs' slots fate') (Accepted k slots fate')
+        → DeedIsDue server home c (e ∷ past) ts (request offs' slots fate') (Accepted k slots fate') → MadeNoneDue home c (k ∷ numbers_of ts) (e ∷ past)
         → Made server home c past gone (turn offs slots fate ∷ ts) own → Made server home c (e ∷ past) gone (turn offs' slots fate' ∷ ts) (e ∷ own)
-    further past e offs offs' slots fate fate' own legal it unasked es left gone_left due m =
+    further past e offs offs' slots fate fate' own legal it unasked es left gone_left due stays m =
         made_entered server home c past gone k e (request offs slots fate) (request offs' slots fate') ts own legal.0.before_shut
         (record { of_it = it; entries = es; number = refl; from = inr (record { same = refl; no_accept = unasked }); left_same = left })
+        gone_left apart due stays m
+
+    -- the call ends, but for whose Shut comes then
+    pub ended_further : (past : List Entry) (results : List Outcome) (said : Said) (offs : List Off) (slots : List Slot) (fate fate' : Fate) (own : List Entry)
+        → list_any is_shut past ≡ false → fate_entries k (asked_so offs slots) offs fate' ≡ End k results said ∷ fate_entries k (asked_so offs slots) offs fate → has_left fate' ≡ has_left fate → (gone ≡ true → has_left fate' ≡ true)
+        → DeedIsDue server home c (End k results said ∷ past) ts (request offs slots fate') (Accepted k slots fate')
+        → Made server home c past gone (turn offs slots fate ∷ ts) own → Entered server home c (End k results said ∷ past) gone (turn offs slots fate' ∷ ts) (End k results said ∷ own)
+    ended_further past results said offs slots fate fate' own none es left gone_left due m =
+        entered_more server home c past gone k (End k results said) (request offs slots fate) (request offs slots fate') ts own none
+        (record { of_it = same_number k; entries = es; number = refl; from = inr (record { same = refl; no_accept = λ a n x. absurd cc }); left_same = left })
         gone_left apart due m
 
     pub none : (past past' : List Entry) (So : List Off → List Slot → Fate → Type 0) (offs : List Off) (slots : List Slot) (fate : Fate) (own : List Entry) → past' ≡ past → So offs slots fate
@@ -160,7 +170,7 @@ module _ (server : Server) (home at : Home) (c : ℕ) (gone : Bool) (j : Joined)
       takes_run Waiting cookies row serial w g may grown m =
           one past past' (TakenSo offs slots' cookies (taking.Run row serial) Waiting) (Take k cookies) offs slots' (Running cookies) own grown (same_number k) (refl, sym g, may, refl, refl, refl)
           (further past (Take k cookies) offs offs slots' Waiting (Running cookies) own (legal_so home (Take k cookies ∷ past) past' grown legal) (same_number k) (λ a n x. absurd cc)
-          (let none_off : offs ≡ [] = m.due.0.1 in rw none_off refl) refl (λ x. absurd (true_is gone x g)) (m.due.0.0, may refl, tt) m)
+          (let none_off : offs ≡ [] = m.due.0.1 in rw none_off refl) refl (λ x. absurd (true_is gone x g)) (m.due.0.0, may refl, tt) (λ x. absurd cc) m)
       takes_run (Running cookies') cookies row serial w g may grown m = absurd cc
       takes_run (Denied slot') cookies row serial w g may grown m = absurd cc
       takes_run Cancelled cookies row serial w g may grown m = absurd cc
@@ -175,7 +185,7 @@ module _ (server : Server) (home at : Home) (c : ℕ) (gone : Bool) (j : Joined)
       takes_deny Waiting slot w g may grown m =
           one past past' (TakenSo offs slots' (given past) (taking.Denied slot) Waiting) (Deny k slot) offs slots' (Denied slot) own grown (same_number k) (refl, sym g, (λ o. absurd cc), g, refl, refl)
           (further past (Deny k slot) offs offs slots' Waiting (Denied slot) own (legal_so home (Deny k slot ∷ past) past' grown legal) (same_number k) (λ a n x. absurd cc)
-          refl refl (λ x. absurd (true_is gone x g)) (m.due.0.0, (may refl, m.due.0.1), tt) m)
+          refl refl (λ x. absurd (true_is gone x g)) (m.due.0.0, (may refl, m.due.0.1), tt) (λ x. absurd cc) m)
       takes_deny (Running cookies') slot w g may grown m = absurd cc
       takes_deny (Denied slot') slot w g may grown m = absurd cc
       takes_deny Cancelled slot w g may grown m = absurd cc
@@ -231,21 +241,21 @@ module _ (server : Server) (home at : Home) (c : ℕ) (gone : Bool) (j : Joined)
       cancel_waiting m u grown =
           one past past' (OffSo off.Cancel offs slots' Waiting) (Cancel k) (off.Cancel ∷ offs) slots' Cancelled own grown (same_number k) (refl, refl, refl, refl)
           (further past (Cancel k) offs (off.Cancel ∷ offs) slots' Waiting Cancelled own (legal_so home (Cancel k ∷ past) past' grown legal) (same_number k) (λ a n x. absurd cc)
-          refl refl (λ x. absurd (true_is gone x here)) (m.due.0.0, off_due m.due.0.1 u, tt) m)
+          refl refl (λ x. absurd (true_is gone x here)) (m.due.0.0, off_due m.due.0.1 u, tt) (λ x. absurd cc) m)
 
       orphan_waiting : Made server home c past gone (turn offs slots' Waiting ∷ ts) own → j.cancel ≡ false → past' ≡ Orphan k ∷ past
           → Onward server home c gone j iface k ts past past' own (OffSo off.Orphan offs slots' Waiting)
       orphan_waiting m u grown =
           one past past' (OffSo off.Orphan offs slots' Waiting) (Orphan k) (off.Orphan ∷ offs) slots' Orphaned own grown (same_number k) (refl, refl, refl, refl)
           (further past (Orphan k) offs (off.Orphan ∷ offs) slots' Waiting Orphaned own (legal_so home (Orphan k ∷ past) past' grown legal) (same_number k) (λ a n x. absurd cc)
-          refl refl (λ x. absurd (true_is gone x here)) (m.due.0.0, (u, one_off off.Orphan m.due.0.1), tt) m)
+          refl refl (λ x. absurd (true_is gone x here)) (m.due.0.0, (u, one_off off.Orphan m.due.0.1), tt) (λ x. absurd cc) m)
 
       module _ (cookies : List (Option ℕ)) (m : Made server home c past gone (turn offs slots' (Running cookies) ∷ ts) own) where
         cancel_running : list_any is_cancel offs ≡ false → past' ≡ Cancel k ∷ past → Onward server home c gone j iface k ts past past' own (OffSo off.Cancel offs slots' (Running cookies))
         cancel_running first grown =
             one past past' (OffSo off.Cancel offs slots' (Running cookies)) (Cancel k) (off.Cancel ∷ offs) slots' (Running cookies) own grown (same_number k) (refl, refl, refl, refl)
             (further past (Cancel k) offs (off.Cancel ∷ offs) slots' (Running cookies) (Running cookies) own (legal_so home (Cancel k ∷ past) past' grown legal) (same_number k) (λ a n x. absurd cc)
-            (rw first refl) refl (λ x. absurd (true_is gone x here)) m.due.0 m)
+            (rw first refl) refl (λ x. absurd (true_is gone x here)) m.due.0 (λ x. absurd cc) m)
 
         cancel_again : list_any is_cancel offs ≡ true → past' ≡ past → Onward server home c gone j iface k ts past past' own (OffSo off.Cancel offs slots' (Running cookies))
         cancel_again like same =
@@ -256,7 +266,7 @@ module _ (server : Server) (home at : Home) (c : ℕ) (gone : Bool) (j : Joined)
         orphan_running first grown =
             one past past' (OffSo off.Orphan offs slots' (Running cookies)) (Orphan k) (off.Orphan ∷ offs) slots' (Running cookies) own grown (same_number k) (refl, refl, refl, refl)
             (further past (Orphan k) offs (off.Orphan ∷ offs) slots' (Running cookies) (Running cookies) own (legal_so home (Orphan k ∷ past) past' grown legal) (same_number k) (λ a n x. absurd cc)
-            (rw first refl) refl (λ x. absurd (true_is gone x here)) m.due.0 m)
+            (rw first refl) refl (λ x. absurd (true_is gone x here)) m.due.0 (λ x. absurd cc) m)
 
         orphan_again : list_any is_orphan offs ≡ true → past' ≡ past → Onward server home c gone j iface k ts past past' own (OffSo off.Orphan offs slots' (Running cookies))
         orphan_again like same =
@@ -363,9 +373,9 @@ module _ (server : Server) (home at : Home) (c : ℕ) (gone : Bool) (j : Joined)
     EndsWell offs slots' cookies results said = EndMeets server home c [] (asked_so offs slots') offs (record { cookies = cookies; results = results; said = said })
 
     pub two : (past past' : List Entry) (e : Entry) (items : List DueItem) (offs : List Off) (slots : List Slot) (fate : Fate) (own : List Entry) (So : List Off → List Slot → Fate → Type 0) → past' ≡ Shut items ∷ e ∷ past
-        → Legal (whole home past') → is_by c (Some k) e ≡ true → So offs slots fate → list_any is_shut (e ∷ own) ≡ false → Made server home c (e ∷ past) gone (turn offs slots fate ∷ ts) (e ∷ own)
+        → is_by c (Some k) e ≡ true → So offs slots fate → list_any is_shut (e ∷ own) ≡ false → Entered server home c (e ∷ past) gone (turn offs slots fate ∷ ts) (e ∷ own)
         → Onward server home c gone j iface k ts past past' own So
-    two past past' e items offs slots fate own So is legal by so unshut m = record {
+    two past past' e items offs slots fate own So is by so unshut m = record {
       es = Shut items ∷ e ∷ [];
       is = is;
       by = (refl, (by, tt));
@@ -376,6 +386,6 @@ module _ (server : Server) (home at : Home) (c : ℕ) (gone : Bool) (j : Joined)
       grows = refl;
       made =
           subst (λ (p : List Entry). Made server home c p gone (turn offs slots fate ∷ ts) (Shut items ∷ e ∷ own)) (sym is)
-          (made_shut server home c e items past gone (turn offs slots fate ∷ ts) own unshut (subst (λ (p : List Entry). Legal (whole home p)) is legal) m);
+          (made_shut server home c e items past gone (turn offs slots fate ∷ ts) own unshut m);
       so = so;
     }

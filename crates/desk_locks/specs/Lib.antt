@@ -1,4 +1,5 @@
 pub mod Calls
+pub mod Keepers
 pub mod Offers
 pub mod States
 pub mod Tables

@@ -5,6 +5,7 @@
 #![tactic(auto)]
 
 mod endpoints;
+mod keeper;
 mod lasting;
 mod locked;
 mod served;
@@ -14,6 +15,7 @@ mod shared;
 /// The length in octets of the longest stub whose call is brief: a desk's call takes time by its stub.
 const BRIEF: usize = 65_536;
 
+pub use keeper::Keeper;
 pub use locked::Locked;
 pub use service::DeskService;
 pub use shared::SharedDesks;

@@ -9,6 +9,7 @@ ghost use Rattle.desk_locks.specs.States.{InSomeState};
 use handle_model::{CookieRow, Due};
 use manager_api::{Answer, FixedDesk, Probe};
 use ndr_value::Message;
+use std::snapshot::Snapshot;
 use std::sync::{Mutex, Wait};
 
 /// A desk that any thread may call: it answers one call at a time. Nothing is known of its state but
@@ -16,19 +17,24 @@ use std::sync::{Mutex, Wait};
 #[derive(Drop)]
 pub struct Locked<D: FixedDesk + Drop> {
     desk: Mutex<D>,
+    /// The desk before the first call. It has no octets: clauses alone read it.
+    pub first: Snapshot<D>,
 }
 
 impl<D: FixedDesk + Drop> Locked<D> {
     /// The desk behind a lock.
-    pub fn new(desk: D) -> Locked<D> {
+    pub fn new(desk: D) -> Locked<D>
+        ensures { result.first.value ≡ desk }
+    {
         Locked {
+            first: Snapshot::of(&desk),
             desk: Mutex::new(desk),
         }
     }
 
     /// The desk, as its calls left it.
     pub fn into_inner(self) -> D {
-        let Locked { desk } = self;
+        let Locked { desk, .. } = self;
         desk.into_inner()
     }
 

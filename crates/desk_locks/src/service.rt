@@ -53,6 +53,7 @@ impl DeskService {
     ghost use Rattle.std.specs.Prelude.{IfOk};
     ghost use Rattle.desk_service.specs.Shows.{shown_by};
     ghost use Rattle.desk_locks.specs.Calls.{echo_of};
+    ghost use Rattle.desk_locks.specs.Offers.{OffersAll};
 
     /// The services before the first call, with an echo of that interface. Each interface is registered in the endpoint
     /// map at the address. Management tells the numbers of `tally`.
@@ -66,7 +67,8 @@ impl DeskService {
         echo: Option<Table>,
         tally: Arc<Tally, Global>,
     ) -> Result<DeskService, NoMemory>
-        ensures { IfOk result (λ service. echo_of service ≡ shown_by (λ t. t) echo) }
+        ensures echo { IfOk result (λ service. echo_of service ≡ shown_by (λ t. t) echo) }
+        ensures offers { IfOk result (OffersAll at) }
     {
         let served = tables_with(alloc, echo.as_ref())?;
         let desks = SharedDesks::new(alloc, at, echo, tally)?;

@@ -6,7 +6,8 @@ ghost use Rattle.desk_service.specs.State.{tables_with};
 
 use crate::BRIEF;
 use crate::endpoints::endpoint_map;
-use crate::lasting::{echo, manage, run_down_echo, run_down_managed};
+use crate::keeper::Keeper;
+use crate::lasting::{echo, manage};
 use crate::locked::Locked;
 use desk_counts::Tally;
 use desk_service::tables_with as offered;
@@ -50,8 +51,10 @@ pub struct SharedDesks {
 }
 
 impl SharedDesks {
-    ghost use Rattle.std.specs.Prelude.{IfOk};
+    ghost use Rattle.std.specs.Prelude.{IfOk, is_some};
     ghost use Rattle.desk_locks.specs.Calls.{echo_of};
+    ghost use Rattle.desk_locks.specs.Offers.{OffersAll};
+    ghost use Rattle.desk_locks.specs.Keepers.{place_for, place_of};
 
     /// The services before the first call, with an echo of that interface. Each interface is registered
     /// in the endpoint map at the address. `tally` has the numbers of calls and packets.
@@ -65,7 +68,8 @@ impl SharedDesks {
         echo: Option<Table>,
         tally: Arc<Tally, Global>,
     ) -> Result<SharedDesks, NoMemory>
-        ensures { IfOk result (λ desks. echo_of desks ≡ shown_by (λ t. t) echo) }
+        ensures echo { IfOk result (λ desks. echo_of desks ≡ shown_by (λ t. t) echo) }
+        ensures offers { IfOk result (OffersAll at) }
     {
         let ids = offered(alloc, echo.as_ref())?.ids(alloc)?;
         let endpoints = endpoint_map(alloc, ids.as_slice(), at)?;
@@ -78,6 +82,20 @@ impl SharedDesks {
             tally,
             echo,
         })
+    }
+
+    /// The service that kept something behind the handles of a kind: that of the interface in it, and the probe where none
+    /// of that number is served.
+    pub fn keeper(&self, kind: u32) -> Keeper<'_>
+        ensures { place_of result ≡ place_for (is_some self.now.echo) kind }
+    {
+        match (kind / (1 << 16), &self.echo) {
+            (1, _) => Keeper::Store(&self.store),
+            (2, _) => Keeper::Endpoints(&self.endpoints),
+            (3, _) => Keeper::Management,
+            (4, Some(table)) => Keeper::Echo(table),
+            _ => Keeper::Probe(&self.probe),
+        }
     }
 }
 
@@ -119,12 +137,6 @@ impl Manager for SharedDesks {
     }
 
     fn rundown<R: Wait>(&self, rt: &R, due: Due) {
-        match (due.kind() / (1 << 16), &self.echo) {
-            (1, _) => self.store.run_down(rt, due),
-            (2, _) => self.endpoints.run_down(rt, due),
-            (3, _) => run_down_managed(self.alloc, due),
-            (4, Some(table)) => run_down_echo(self.alloc, table, due),
-            _ => self.probe.run_down(rt, due),
-        }
+        self.keeper(due.kind()).run_down(rt, self.alloc, due);
     }
 }

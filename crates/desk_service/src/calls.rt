@@ -139,6 +139,8 @@ impl ServiceDesks {
         requires { IsCall (tables_of (services self.old)) (record { iface = iface; op = op; message = msg message; cookies = cookies }) }
         ensures may { May (services self.old) numbers (record { iface = iface; op = op; message = msg message; cookies = cookies }) cancelled (ans result) (services self.new) }
         ensures owes { Owed (tables_of (services self.old)) (record { iface = iface; op = op; message = msg message; cookies = cookies }) (ans result) }
+        // A call is answered as cancelled only where it was.
+        ensures told { ans result ≡ cancelled_answer → cancelled ≡ true }
     {
         // The probe asks before it opens a handle, and nothing else asks.
         if cancelled && iface == PROBE && op == OPEN {

@@ -1,5 +1,5 @@
 //! A group.
-ghost use Rattle.std.specs.Prelude.{◌≡◌, ◌||◌, [], true, false, reverse, IfOk};
+ghost use Rattle.std.specs.Prelude.{◌≡◌, ◌+◌, ◌≤◌, ◌||◌, [], true, false, reverse, IfOk};
 ghost use Rattle.std.specs.List.{list_any};
 ghost use Rattle.std.specs.Option.{option_copied};
 ghost use Rattle.handle_model.specs.Journal as journal;
@@ -22,6 +22,8 @@ use journal_tables::ConnTable;
 use rpc_base::NoMemory;
 use std::alloc::Global;
 use std::marker::Model;
+use std::sync::ledger::Ledger;
+use wait_list::Steps;
 
 /// An association group (C706, "Remote Procedure Call Model", context handles and rundown): the
 /// journal of the connections that share its handles, and of their calls. Contracts see it as its
@@ -161,13 +163,16 @@ impl Group {
     }
 
     /// Cancels a call: it ends where it waits, and is asked to end where it runs. It takes no memory.
-    pub fn cancel(&mut self, call: u32) -> Cancelled
-        ensures { Cancels self.old call result self.new }
+    /// The link words that are written to take a call out of its queues are counted: at most 12, however
+    /// many calls there are.
+    pub fn cancel<L: Ledger>(&mut self, call: u32, steps: &mut Steps<L>) -> Cancelled
+        ensures call { Cancels self.old call result self.new }
+        ensures steps { steps.new ≤ steps.old + 12 }
     {
         let found = judge_cancel(&self.calls, call);
         match found {
             Cancelled::Ended => {
-                self.calls.end(call);
+                self.calls.end_counted(call, steps);
                 self.log.add(Entry::Cancel { call }, 3);
             }
             Cancelled::Flagged => {

@@ -1,5 +1,5 @@
 //! Calls on a group of the shard.
-ghost use Rattle.std.specs.Prelude.{◌≡◌, ◌≤◌, ◌&&◌, not, true, false, length, ℕ, List};
+ghost use Rattle.std.specs.Prelude.{◌≡◌, ◌<◌, ◌≤◌, ◌&&◌, not, true, false, length, ℕ, List};
 ghost use Rattle.std.specs.List.{list_any};
 ghost use Rattle.handle_model.specs.Journal as journal;
 ghost use Rattle.group_core.specs.Calls.{Accepts, Takes, Cancels, Orphans, Ends};
@@ -14,8 +14,11 @@ ghost use Rattle.hub_shard.specs.Counts.{taken_count, cancelled_count, orphaned_
 use crate::act::Act;
 use crate::answer::{HubRest, ShutKey};
 use crate::shard::{Listed, Shard, index_of};
-use group_core::{AcceptRefusal, Cancelled, Orphaned, Rest, Stage, Taking};
+use group_core::{AcceptRefusal, Cancelled, Group, Orphaned, Rest, Stage, Taking};
 use handle_model::{Asked, Outcomes, Said};
+use std::marker::Brand;
+use std::sync::ledger::{Blank, Ledger};
+use wait_list::Steps;
 
 impl Listed {
     fn accept(&mut self, asked: Asked) -> Result<u32, (Asked, AcceptRefusal)>
@@ -45,7 +48,7 @@ impl Listed {
         ensures flag { self.new.retired ≡ self.old.retired }
         ensures sound { IsSound self.new.group }
     {
-        let cancelled = self.group.cancel(call);
+        let cancelled = cancel_counted::<Brand>(&mut self.group, call, Blank::new(1));
         let _ = self.group.journal();
         cancelled
     }
@@ -82,6 +85,16 @@ impl Listed {
         let _ = self.group.journal();
         rest
     }
+}
+
+/// Cancels a call, with a count of the link words that are written.
+fn cancel_counted<L: Ledger>(group: &mut Group, call: u32, blank: Blank) -> Cancelled
+    requires name { blank.name ≡ L.name }
+    requires parts { (blank.parts ≡ L.parts) × (0 < blank.parts) }
+    ensures { Cancels group.old call result group.new }
+{
+    let mut steps = Steps::<L>::new(blank);
+    group.cancel(call, &mut steps)
 }
 
 impl Shard {

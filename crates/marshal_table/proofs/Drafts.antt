@@ -20,7 +20,7 @@ use Rattle.idl_scopes.specs.declared.said.Terms.{Terms}
 use Rattle.idl_scopes.specs.Scopes.{Sense, Scope, handle_sense}
 use Rattle.idl_scopes.specs.Declarators.{terms, declared}
 use Rattle.idl_shapes.specs.Specs.{within, attrs_within, member_within, sense_at}
-use Rattle.idl_tables.specs.Interfaces.{Listed, Draft, is_binding, param_names, listed_as, param_at, params_at, sort_result, op_of, op_at, typed, typedef_one, typedef_all, own_at, decl_at, decls_at, nothing_declared, declared_in}
+use Rattle.marshal_table.specs.Interfaces.{Listed, Draft, is_binding, param_names, listed_as, param_at, params_at, sort_result, op_of, op_at, typed, typedef_one, typedef_all, own_at, decl_at, decls_at, nothing_declared, declared_in}
 use Rattle.marshal_table.proofs.Fitting.{both_of, and_of, less_of, or_left, or_right, fits_more, declared_fits}
 use Rattle.marshal_table.proofs.Sounds.{SenseFits, put_all, Sound, Goes, reach_near, reach_far, pointed_not, shapes_fit, sense_sound}
 

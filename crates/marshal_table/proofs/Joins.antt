@@ -2,7 +2,7 @@
 use Rattle.std.proofs.Common.{◌≡◌, List, [], ◌++◌, append_assoc, append-nil}
 use Rattle.ndr_table.specs.declared.operation.HandleUse.{HandleUse}
 use Rattle.ndr_table.specs.Tables.{ParamForm}
-use Rattle.idl_tables.specs.Interfaces.{Listed, joined}
+use Rattle.marshal_table.specs.Interfaces.{Listed, joined}
 
 pub joined_assoc : (a b c : Listed) → joined (joined a b) c ≡ joined a (joined b c)
 joined_assoc a b c =

@@ -1,4 +1,14 @@
+pub mod Bodies
+pub mod Declarations
 pub mod Drafts
 pub mod Fitting
+pub mod Handles
 pub mod Joins
+pub mod Known
+pub mod Listed
+pub mod Quiet
+pub mod Resolved
+pub mod Said
 pub mod Sounds
+pub mod Standing
+pub mod Suits

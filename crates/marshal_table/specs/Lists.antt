@@ -3,7 +3,7 @@ use Rattle.std.specs.Prelude.{map}
 use Rattle.ndr_table.specs.Tables.{param_form, op_form}
 use Rattle.idl_scopes.specs.declared.known.Known.{Known}
 use Rattle.idl_scopes.specs.Scopes.{scope}
-use Rattle.idl_tables.specs.Interfaces.{Listed, Draft}
+use Rattle.marshal_table.specs.Interfaces.{Listed, Draft}
 use Rattle.marshal_table.specs.declared.listing.Listing.{Listing}
 use Rattle.marshal_table.specs.declared.listing.Operations.{Operations}
 

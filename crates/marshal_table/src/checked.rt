@@ -1,9 +1,9 @@
 //! The table of an interface that keeps the rules.
 ghost use Rattle.std.specs.Prelude.{◌≡◌, IfOk};
 ghost use Rattle.ndr_table.specs.Shown.{shown};
-ghost use Rattle.idl_tables.specs.Interfaces as spec;
-ghost use Rattle.idl_tables.specs.Wholes.{HasEachOperation, HasEachHandle};
-ghost use Rattle.idl_tables.specs.Stands.{EachNameStands};
+ghost use Rattle.marshal_table.specs.Interfaces as spec;
+ghost use Rattle.marshal_table.specs.Wholes.{HasEachOperation, HasEachHandle};
+ghost use Rattle.marshal_table.specs.Stands.{EachNameStands};
 
 use crate::tables::build_tree;
 use idl_check::Checked;

@@ -3,7 +3,7 @@ ghost use Rattle.std.specs.Prelude.{◌≡◌, map, IfOk, OnOk};
 ghost use Rattle.idl_forms.specs.Forms.{a_member, spec_form, attrs_form, decl_kind_form, decl_form, file_kind_form, file_form};
 ghost use Rattle.idl_scopes.specs.Scopes.{sense, scope};
 ghost use Rattle.rpc_base.specs.Named.{at_name};
-ghost use Rattle.idl_tables.specs.Interfaces as spec;
+ghost use Rattle.marshal_table.specs.Interfaces as spec;
 ghost use Rattle.marshal_table.specs.Lists as lists;
 
 use crate::listing::Operations;

@@ -5,7 +5,7 @@ ghost use Rattle.ndr_table.specs.Tables.{result_form, param_form, op_form};
 ghost use Rattle.idl_forms.specs.Forms as idl;
 ghost use Rattle.idl_forms.specs.Forms.{spec_form, attrs_form};
 ghost use Rattle.idl_scopes.specs.Scopes.{sense, scope};
-ghost use Rattle.idl_tables.specs.Interfaces as spec;
+ghost use Rattle.marshal_table.specs.Interfaces as spec;
 ghost use Rattle.marshal_table.specs.Lists as lists;
 
 use crate::listing::{Listing, Operations};

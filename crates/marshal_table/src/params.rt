@@ -7,7 +7,7 @@ ghost use Rattle.idl_forms.specs.Forms.{spec_form, kind_form, attrs_form};
 ghost use Rattle.idl_names.specs.Members.{param_member};
 ghost use Rattle.idl_scopes.specs.Scopes.{sense, scope};
 ghost use Rattle.rpc_base.specs.Named.{at_name};
-ghost use Rattle.idl_tables.specs.Interfaces as spec;
+ghost use Rattle.marshal_table.specs.Interfaces as spec;
 ghost use Rattle.marshal_table.specs.Lists as lists;
 
 use crate::listing::Listing;

@@ -1,7 +1,7 @@
 //! The table of an interface.
 ghost use Rattle.std.specs.Prelude.{◌≡◌, [], IfOk};
 ghost use Rattle.ndr_table.specs.Shown.{shown};
-ghost use Rattle.idl_tables.specs.Interfaces as spec;
+ghost use Rattle.marshal_table.specs.Interfaces as spec;
 
 use crate::interface::{declarations, syntax_of};
 use crate::listing::Operations;

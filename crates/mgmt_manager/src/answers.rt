@@ -1,5 +1,5 @@
 //! Parts of the answers.
-ghost use Rattle.std.specs.Prelude.{◌≡◌, ◌<◌, ◌^◌, IfOk, length, min, take};
+ghost use Rattle.std.specs.Prelude.{◌≡◌, ◌+◌, ◌<◌, ◌^◌, IfOk, length, min, take};
 ghost use Rattle.ndr_value.specs.Values.{msg, val, vals};
 ghost use Rattle.mgmt_manager.specs.Fits.{AreSyntaxes, AreWords};
 ghost use Rattle.mgmt_manager.specs.Steps as spec;
@@ -11,7 +11,7 @@ use rpc_base::{NoMemory, SyntaxId};
 use std::alloc::Global;
 
 fn vector(alloc: Global, ids: &[SyntaxId]) -> Result<Value, NoMemory>
-    requires { length ids.now < 2 ^ 31 }
+    requires { length ids.now + 1 < 2 ^ 32 }
     ensures { IfOk result (λ v. val v ≡ spec.vector ids.now) }
 {
     let mut members = Vec::new(alloc);
@@ -23,7 +23,7 @@ fn vector(alloc: Global, ids: &[SyntaxId]) -> Result<Value, NoMemory>
 // The heap: the vector, and what it points to.
 #[tactic(auto, using(desk_kit::proofs::Rows::rows))]
 fn heap(alloc: Global, ids: &[SyntaxId]) -> Result<Values, NoMemory>
-    requires { length ids.now < 2 ^ 31 }
+    requires { length ids.now + 1 < 2 ^ 32 }
     ensures values { IfOk result (λ vs. vals vs.items ≡ spec.heap ids.now) }
     ensures fits { IfOk result (λ vs. AreSyntaxes ids.now) }
 {
@@ -42,7 +42,7 @@ fn heap(alloc: Global, ids: &[SyntaxId]) -> Result<Values, NoMemory>
 ///
 /// `NoMemory` where there is no memory for the message.
 pub fn ids_message(alloc: Global, ids: &[SyntaxId]) -> Result<Message, NoMemory>
-    requires { length ids.now < 2 ^ 31 }
+    requires { length ids.now + 1 < 2 ^ 32 }
     ensures values { IfOk result (λ m. msg m ≡ spec.ids_message ids.now) }
     ensures fits { IfOk result (λ m. AreSyntaxes ids.now) }
 {

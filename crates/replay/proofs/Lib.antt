@@ -1,6 +1,6 @@
 pub mod Acting
 pub mod AtEnd
-pub mod Closing
+pub mod ClosedStories
 pub mod Cookies
 pub mod Deciding
 pub mod Doing

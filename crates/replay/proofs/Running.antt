@@ -252,6 +252,7 @@ module _ (service : Service) (end w u : World service.State) (c : ℕ) (p : Peer
           cause = x.cause;
           answer = x.answer;
           answers = (w.desks, e.desks, x.answers.1.0, x.answers.1.2);
+          blames = x.blames;
           results_are = x.results_are;
           says = x.says;
         } in

@@ -36,7 +36,7 @@ use Rattle.conn_turns.proofs.StepEnding.{quiet_all}
 use Rattle.conn_turns.proofs.Done.{done_over}
 use Rattle.replay.proofs.Telling.{Behind, IsTold, TellsTurns, is_gone}
 use Rattle.replay.proofs.Heard.{CameTo, puts}
-use Rattle.replay.proofs.Closing.{ends_over, ends_heard}
+use Rattle.replay.proofs.ClosedStories.{ends_over, ends_heard}
 
 -- ---- octets
 

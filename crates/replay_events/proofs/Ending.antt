@@ -75,6 +75,7 @@ meets_as w echo numbers cancelled desks a cookies results said g is counted m = 
   cause = m.cause;
   answer = m.answer;
   answers = (m.answers.0, (numbers, counted, (is, m.answers.1)));
+  blames = m.blames;
   results_are = m.results_are;
   says = m.says;
 }

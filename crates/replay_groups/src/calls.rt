@@ -1,5 +1,5 @@
 //! Calls on a group.
-ghost use Rattle.std.specs.Prelude.{◌≡◌, ◌-◌, ◌≤◌, true, false, length};
+ghost use Rattle.std.specs.Prelude.{◌≡◌, ◌-◌, ◌<◌, ◌≤◌, true, false, length};
 ghost use Rattle.std.specs.List.{list_any};
 ghost use Rattle.handle_model.specs.Journal as journal;
 ghost use Rattle.handle_model.specs.History.{History, IsSound};
@@ -14,6 +14,9 @@ use crate::groups::Groups;
 use group_core::{AcceptRefusal, Cancelled, Group, JoinRefusal, Orphaned, Rest, Taking};
 use handle_model::{Asked, Outcomes, Said};
 use replay_script::Counts;
+use std::marker::Brand;
+use std::sync::ledger::{Blank, Ledger};
+use wait_list::Steps;
 
 fn accept_of(
     group: &mut Group,
@@ -94,10 +97,20 @@ fn cancel_of(group: &mut Group, counts: &mut Counts, call: u32) -> Cancelled
     ensures sound { IsSound group.new }
     ensures counted { Counted (λ a b. Cancels a call result b) counts.old counts.new }
 {
-    let cancelled = group.cancel(call);
+    let cancelled = cancel_counted::<Brand>(group, call, Blank::new(1));
     count_cancel(counts, cancelled);
     let _ = group.journal();
     cancelled
+}
+
+/// Cancels a call, with a count of the link words that are written.
+fn cancel_counted<L: Ledger>(group: &mut Group, call: u32, blank: Blank) -> Cancelled
+    requires name { blank.name ≡ L.name }
+    requires parts { (blank.parts ≡ L.parts) × (0 < blank.parts) }
+    ensures { Cancels group.old call result group.new }
+{
+    let mut steps = Steps::<L>::new(blank);
+    group.cancel(call, &mut steps)
 }
 
 fn orphan_of(group: &mut Group, call: u32) -> Orphaned

@@ -4,7 +4,7 @@ use Rattle.std.specs.List.{list_all, AllByRecursion}
 use Rattle.handle_model.proofs.Held.{and_left, and_right}
 use Rattle.journal_audit.specs.declared.verdict.Verdict.{Verdict}
 use Rattle.journal_audit.specs.declared.verdict.Verdict.TheVariants as verdicts
-use Rattle.journal_audit.specs.Verdicts.{Tells}
+use Rattle.journal_audit.specs.Verdicts.{TellsVerdict}
 use Rattle.journal_audit.specs.declared.verdict.GroupVerdict.{GroupVerdict}
 use Rattle.journal_audit.specs.Files.{Journal, DepartsAt}
 use Rattle.journal_audit.specs.Told.{Audited, TellsAll}
@@ -14,7 +14,7 @@ use Rattle.rpc_app.specs.Audits.{is_legal, is_good, IsGood, AreGood, IsAudited, 
 use Rattle.rpc_app.specs.Commands.{RefusesJournals}
 
 -- a journal with a good verdict is legal and settled
-good_by : (g : Journal) (v : Verdict) → Tells g.home g.base g.entries v → is_legal v ≡ true → IsGood g
+good_by : (g : Journal) (v : Verdict) → TellsVerdict g.home g.base g.entries v → is_legal v ≡ true → IsGood g
 good_by g (verdicts.Legal n) t a = record { legal = t.1; settled = t.2 }
 good_by g (verdicts.Breach place) t a = absurd (cc)
 

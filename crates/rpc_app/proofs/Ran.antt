@@ -1,5 +1,5 @@
 -- What comes of the program, by what its words ask for.
-use Rattle.std.proofs.Common.{◌≡◌, ℕ, Option, List, refl, sym, subst, inr}
+use Rattle.std.proofs.Common.{◌≡◌, ℕ, Option, List, refl, sym, subst, inl, inr}
 use Rattle.rpc_base.specs.Shelves.{Files}
 use Rattle.rpc_outside.specs.Links.{Shown}
 use Rattle.rpc_app.specs.Asks.{ServeTask, CallTask, Wanted, ToServe, ToCall, Asks, AsksToServe, AsksToCall}
@@ -26,7 +26,7 @@ module _ {K Q : Type 0} (shows : K → Shown) (dial_shows : Q → Shown) (given 
   run_done o server caller unused undialled = record {
     obeys = λ none neither. (o, unused, undialled);
     serves = λ task a. let e = server task a in
-        (subst (ServesFor shows task boot store door out log) (sym e) (served.memory_out shows task boot store door out log (o.silent (inr e), o.quiet (inr e))), undialled);
+        (subst (ServesFor shows task boot store door out log) (sym e) (served.memory_out shows task boot store door out log (o.silent (inr e), o.quiet (inr e)) (inl unused)), undialled);
     calls = λ task a. let e = caller task a in
         (called.memory_out dial_shows task store dial out status (o.silent (inr e)) undialled e, o.quiet (inr e), unused);
   }

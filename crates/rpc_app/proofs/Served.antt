@@ -1,6 +1,7 @@
 -- What the program does for words that ask for connections, by what came of them.
 use Rattle.std.proofs.Common.{◌≡◌, ◌≢◌, ◌⊎◌, ◌∙◌, ℕ, ◌<◌, Option, Some, None, List, inl, inr, refl, sym, subst, arith}
 use Rattle.rpc_base.specs.Causes.{Rose}
+use Rattle.rpc_base.specs.declared.fault.OutFault.TheVariants.{Failed, Memory}
 use Rattle.rpc_base.specs.Shelves.{Files, TellsFile}
 use Rattle.rpc_outside.specs.Links.{Shown}
 use Rattle.rpc_outside.specs.Doors.{DoorShown}
@@ -9,7 +10,7 @@ use Rattle.rpc_app.specs.declared.command.Command.TheVariants.{Idl}
 use Rattle.rpc_app.specs.Asks.{ServeTask}
 use Rattle.rpc_app.specs.Runs.{Gains, GainsFront, Serves, RefusesText}
 use Rattle.rpc_app.specs.Obeys.{Shelf, Output, IsKept, Put, TellsText, IsTaken, NoneFailed}
-use Rattle.rpc_app.specs.Serving.{Doorway, IsUnused, IsSilent, PutBoth, PutInPart, IsPut, RefusesInterface, NoDoorFailed, HasServedWith, HasServed, ServesWith, ServesFor}
+use Rattle.rpc_app.specs.Serving.{Doorway, IsUnused, IsSilent, PutBoth, PutInPart, IsPut, RefusesInterface, NoDoorFailed, HasServedWith, HasServed, EndsUntold, ServesWith, ServesFor}
 use Rattle.server_command.specs.Tables.{tables_with}
 use Rattle.server_command.specs.Serves.{May}
 use Rattle.rpc_app.proofs.Told.{text_refused, text_served}
@@ -68,8 +69,8 @@ module _ {K : Type 0} (shows : K → Shown) (task : ServeTask) (boot : ℕ) (sto
   }
 
   -- memory ran out, and nothing is said
-  pub memory_out : IsSilent out log → ServesFor shows task boot store door out log 5
-  memory_out silent = record {
+  pub memory_out : IsSilent out log → IsUnused door ⊎ EndsUntold shows task boot store door Memory → ServesFor shows task boot store door out log 5
+  memory_out silent left = record {
     known = (omega arith, λ z. absurd (omega (arith, z)), λ z. absurd (omega (arith, z)));
     done = λ e. absurd (neither 5 0 8 (λ z. absurd (omega (arith, z))) (λ z. absurd (omega (arith, z))) e);
     outside = λ e. absurd (omega (arith, e));
@@ -78,7 +79,7 @@ module _ {K : Type 0} (shows : K → Shown) (task : ServeTask) (boot : ℕ) (sto
     fronts = λ e. absurd (omega (arith, e));
     fault = λ e. absurd (omega (arith, e));
     behind_fault = λ e. absurd (omega (arith, e));
-    memory = λ e. inl silent;
+    memory = λ e. inl (silent, left);
     taken = λ echo told e. absurd (omega (arith, e));
     refused = λ name octets i t no. (λ e. absurd (omega (arith, e)), λ e. absurd (omega (arith, e)));
     complete = λ echo told nothing closed. inr (inl refl);
@@ -86,7 +87,7 @@ module _ {K : Type 0} (shows : K → Shown) (task : ServeTask) (boot : ℕ) (sto
 
   -- the door failed, and more or less is said
   pub door_failed : Rose door.before.faults door.after.faults
-      → IsSilent out log ⊎ HasServed shows task boot store door 7 (λ printed logged. PutBoth out log printed logged ⊎ PutInPart out log printed logged) → ServesFor shows task boot store door out log 7
+      → (IsSilent out log × EndsUntold shows task boot store door Failed) ⊎ HasServed shows task boot store door 7 (λ printed logged. PutBoth out log printed logged ⊎ PutInPart out log printed logged) → ServesFor shows task boot store door out log 7
   door_failed failed said = record {
     known = (omega arith, λ z. absurd (omega (arith, z)), λ z. absurd (omega (arith, z)));
     done = λ e. absurd (neither 7 0 8 (λ z. absurd (omega (arith, z))) (λ z. absurd (omega (arith, z))) e);
@@ -198,8 +199,10 @@ module _ {K : Type 0} (shows : K → Shown) (task : ServeTask) (boot : ℕ) (sto
     -- connections were served, or not
     pub served_for : (result : ℕ) → ServesWith shows echo task boot door out log result → ServesFor shows task boot store door out log result
     served_for result (inl w) = by_put w.0 result w.1 w.1.put
-    served_for result (inr (silent, inl why)) = subst (ServesFor shows task boot store door out log) (sym why.0) (door_failed why.1 (inl silent))
-    served_for result (inr (silent, inr none)) = subst (ServesFor shows task boot store door out log) (sym none) (memory_out silent)
+    served_for result (inr (silent, inl why)) =
+        subst (ServesFor shows task boot store door out log) (sym why.0) (door_failed why.1.failed (inl (silent, (echo, interface, why.1))))
+    served_for result (inr (silent, inr none)) =
+        subst (ServesFor shows task boot store door out log) (sym none.0) (memory_out silent (inr (echo, interface, none.1)))
 
 module _ {K F S L : Type 0} (shows : K → Shown) (task : ServeTask) (boot : ℕ) (door : Doorway K) (status : ℕ) (files : F → Option Files) (faults : F → ℕ) (out_faults : S → ℕ) (out_has : S → Option (List ℕ))
     (log_faults : L → ℕ) (log_has : L → Option (List ℕ)) where

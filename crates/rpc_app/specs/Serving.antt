@@ -1,6 +1,8 @@
 -- What the program does for words that ask for connections to be served.
 use Rattle.std.specs.Prelude.{◌≡◌, ◌≢◌, ◌⊎◌, ℕ, ◌<◌, ◌≤◌, List, Option, Some, None}
 use Rattle.rpc_base.specs.Causes.{Rose}
+use Rattle.rpc_base.specs.declared.fault.OutFault.{OutFault}
+use Rattle.rpc_base.specs.declared.fault.OutFault.TheVariants.{Failed, Memory}
 use Rattle.rpc_base.specs.Shelves.{Files, TellsFile}
 use Rattle.rpc_outside.specs.Links.{Shown}
 use Rattle.rpc_outside.specs.Doors.{DoorShown}
@@ -17,6 +19,9 @@ use Rattle.server_command.specs.Serves as command
 pub record Doorway (K : Type 0) : Type 0 where
   pub before : DoorShown K
   pub after : DoorShown K
+
+abbrev pub doorway_from : {K D : Type 0} → (D → DoorShown K) → D → D → Doorway K
+doorway_from shows old new = record { before = shows old; after = shows new }
 
 -- nothing was done with it
 abbrev pub IsUnused : {K : Type 0} → Doorway K → Type 0
@@ -67,11 +72,19 @@ module _ {K : Type 0} (shows : K → Shown) where
   abbrev pub HasServed : ServeTask → ℕ → Shelf → Doorway K → ℕ → (List ℕ → List ℕ → Type 0) → Type 0
   HasServed task boot store door status puts = (echo : Option TableForm) × Serves store.files task.idl echo × HasServedWith echo task boot door status puts
 
+  -- Nothing is said since the door failed or memory ran out: no link was handed out, or connections were served with the interface of an echo.
+  abbrev pub IsUntold : Option TableForm → ServeTask → ℕ → Doorway K → OutFault → Type 0
+  IsUntold echo task boot door why = command.IsWhy shows (May echo) (tables_with echo) boot door.before task.at task.most door.after why
+
+  -- with the interface of the task's interface text
+  abbrev pub EndsUntold : ServeTask → ℕ → Shelf → Doorway K → OutFault → Type 0
+  EndsUntold task boot store door why = (echo : Option TableForm) × Serves store.files task.idl echo × IsUntold echo task boot door why
+
   -- What came of the task with an echo: served, with the status of that; or the door failed or memory ran out, and nothing is said.
   abbrev pub ServesWith : Option TableForm → ServeTask → ℕ → Doorway K → Output → Output → ℕ → Type 0
   ServesWith echo task boot door out log result =
       ((status : ℕ) × HasServedWith echo task boot door status (λ printed logged. IsPut out log printed logged status result))
-      ⊎ (IsSilent out log × (((result ≡ 7) × Rose door.before.faults door.after.faults) ⊎ (result ≡ 5)))
+      ⊎ (IsSilent out log × (((result ≡ 7) × IsUntold echo task boot door Failed) ⊎ ((result ≡ 5) × IsUntold echo task boot door Memory)))
 
   -- What was done, or why it wasn't; what stands where it wasn't done; and what must be done.
   pub record ServesFor (task : ServeTask) (boot : ℕ) (store : Shelf) (door : Doorway K) (out log : Output) (status : ℕ) : Type 0 where
@@ -84,9 +97,9 @@ module _ {K : Type 0} (shows : K → Shown) where
     pub sinks : status ≡ 4 → Rose out.before out.after ⊎ Rose log.before log.after
     pub fronts : status ≡ 4 → RefusesInterface GainsFront task store out log ⊎ ((s : ℕ) × (s ≢ 7) × HasServed task boot store door s (PutInPart out log))
     pub fault : status ≡ 7 → Rose door.before.faults door.after.faults
-    -- at these nothing is said, or all that was to be
-    pub behind_fault : status ≡ 7 → IsSilent out log ⊎ HasServed task boot store door 7 (λ printed logged. PutBoth out log printed logged ⊎ PutInPart out log printed logged)
-    pub memory : status ≡ 5 → IsSilent out log ⊎ HasServed task boot store door 5 (PutBoth out log)
+    -- at these nothing is said, and what was served is given back; or all that was to be is said
+    pub behind_fault : status ≡ 7 → (IsSilent out log × EndsUntold task boot store door Failed) ⊎ HasServed task boot store door 7 (λ printed logged. PutBoth out log printed logged ⊎ PutInPart out log printed logged)
+    pub memory : status ≡ 5 → (IsSilent out log × (IsUnused door ⊎ EndsUntold task boot store door Memory)) ⊎ HasServed task boot store door 5 (PutBoth out log)
     -- an interface text that is told and taken isn't refused, and with one that isn't taken none is served
     pub taken : (echo : Option TableForm) → TellsText store.files task.idl echo → status ≢ 2
     pub refused : (name octets : List ℕ) → task.idl ≡ Some name → TellsFile store.files name octets → (IsTaken None Idl octets → ⊥) → (status ≢ 0) × (status ≢ 8)

@@ -28,7 +28,7 @@ use Rattle.conn_histories.specs.Tales.{whole}
 use Rattle.server_ends.specs.Finishes.{Refuses, AsMember, Alone, FinishesAs}
 use Rattle.server_rounds.specs.declared.settled.Settled.{Settled}
 use Rattle.server_rounds.specs.declared.round.Round.{Round}
-use Rattle.server_rounds.specs.Served.{IsSettled, finished_of}
+use Rattle.server_rounds.specs.Served.{AreNumbers, IsSettled, finished_of}
 use Rattle.server_rounds.specs.Rounds.{IsRound, passes}
 use Rattle.server_command.proofs.Folding.{folds_tell}
 use Rattle.server_command.proofs.Limits.{room_is_taken, joins_are_taken}
@@ -143,12 +143,12 @@ module _ {K : Type 0} (shows : K → Shown) (may : Call → Bool → Ans → Typ
     ))
     by_reason asked reason items (inr (inr r)) = inr (inr r.0)
 
-    holds_as : (o : Option (ℕ × ℕ)) → FinishesAs shows may tables h.boot o x.began.value (shows x.came.value) (finished_of x) → HoldsAs shows may tables h.boot l.copies o x
-    holds_as (Some (g, c)) m = λ low.
+    holds_as : (o : Option (ℕ × ℕ)) → AreNumbers o → FinishesAs shows may tables h.boot o x.began.value (shows x.came.value) (finished_of x) → HoldsAs shows may tables h.boot l.copies o x
+    holds_as (Some (g, c)) numbers m =
         find_copy g (HoldsByCopy shows may tables h.boot g c x) l.copies (by_copies g c x l.copies l.each (starts (shard_of g) (low_shard g)) m)
-        (among shows may tables h p last g (joins c) text l of low
+        (among shows may tables h p last g (joins c) text l of numbers.0
         (later (joins c) g (front_at x.pass.value g) (front_at p g) (starts (shard_of g) (low_shard g)) (member_joined shows may tables h x.began.value (shows x.came.value) g c x m)))
-    holds_as None a = record {
+    holds_as None numbers a = record {
       alone = a;
       due = dues_widen tables may (Refuses h.boot x.began.value x.pass.value) (RefusesBy h.boot l.copies) (home_of h.boot 0) 0 [] (λ asked reason r. by_reason asked reason r.0 r.2) a.turns a.due;
     }
@@ -156,7 +156,7 @@ module _ {K : Type 0} (shows : K → Shown) (may : Call → Bool → Ans → Typ
   all_hold : (first : Pass) (xs : List (Settled K)) → AllByRecursion (IsSettled shows may tables h first) xs
       → ((s : ℕ) → s < 16 → AllByRecursion (λ o. StartsWith (at_shard p s).log (at_shard o s).log) (passes xs)) → AllByRecursion (HoldsByPrinted shows may tables h.boot l.copies) xs
   all_hold first [] s f = tt
-  all_hold first (x ∷ xs) s f = (holds_as x (λ n low. (f n low).0) x.joined s.0.served.finishes, all_hold first xs s.1 (λ n low. (f n low).1))
+  all_hold first (x ∷ xs) s f = (holds_as x (λ n low. (f n low).0) x.joined s.0.numbers s.0.served.finishes, all_hold first xs s.1 (λ n low. (f n low).1))
 
 -- what each came to holds by what is printed
 pub hold : {K : Type 0} (shows : K → Shown) (may : Call → Bool → Ans → Type 0) (tables : List TableForm) (h : Hub) (first last : Pass) (a b : DoorShown K) (most : ℕ) (r : Round K) (text : List ℕ)

@@ -29,7 +29,7 @@ use Rattle.group_hub.proofs.ListLemmas.{some_item}
 use Rattle.conn_histories.specs.Tales.{whole}
 use Rattle.server_rounds.specs.declared.settled.Settled.{Settled}
 use Rattle.server_rounds.specs.declared.round.Round.{Round}
-use Rattle.server_rounds.specs.Served.{IsSettled}
+use Rattle.server_rounds.specs.Served.{AreNumbers, IsSettled}
 use Rattle.server_rounds.specs.Rounds.{IsRound, passes}
 use Rattle.server_command.specs.Logs.{Copy, IsCopy, Logs, IsOpened, SeesOn, ids_of, journal_of, front_at}
 use Rattle.server_command.specs.Groups.{HasCopy, HasJoin, IsLogged}
@@ -102,7 +102,7 @@ module _ {K : Type 0} (shows : K → Shown) (may : Call → Bool → Ans → Typ
       → ((g : ℕ) → AllByRecursion (λ o. StartsWith (at_shard p (shard_of g)).log (at_shard o (shard_of g)).log) (passes xs)) → AllByRecursion (IsLogged h.boot l.copies) xs
   all_logged first p last [] text l of s f = tt
   all_logged first p last (x ∷ xs) text l of s f = (
-    λ g c low is. logged_one p last g c text l of low (conn_joined shows may tables h first p g c (x ∷ xs) s (f g) (inl is)),
+    λ g c is. logged_one p last g c text l of (subst AreNumbers is s.0.numbers).0 (conn_joined shows may tables h first p g c (x ∷ xs) s (f g) (inl is)),
     all_logged first p last xs text l of s.1 (λ g. (f g).1),
   )
 

@@ -1,8 +1,10 @@
 -- What is known behind a round.
-use Rattle.std.proofs.Common.{◌≡◌, ℕ, ◌+◌, ◌<◌, ◌≤◌, Bool, Result, Ok, Err, IfOk, List, subst, arith, length}
+use Rattle.std.proofs.Common.{◌≡◌, ℕ, ◌+◌, ◌<◌, ◌≤◌, Bool, Result, Ok, Err, IfOk, IfErr, List, inl, inr, refl, sym, subst, arith, length}
 use Rattle.rpc_base.specs.Causes.{Rose}
+use Rattle.rpc_base.specs.declared.fault.OutFault.{OutFault}
+use Rattle.rpc_base.specs.declared.fault.OutFault.TheVariants as faults
 use Rattle.rpc_outside.specs.Links.{Shown}
-use Rattle.rpc_outside.specs.Doors.{DoorShown, ListensAt}
+use Rattle.rpc_outside.specs.Doors.{DoorShown, ListensAt, Listens}
 use Rattle.rpc_outside.specs.declared.address.Address.{Address}
 use Rattle.ndr_table.specs.Tables.{TableForm}
 use Rattle.manager_api.specs.Answers.{Ans}
@@ -15,13 +17,17 @@ use Rattle.server_rounds.specs.declared.round.Stop.{Stop}
 use Rattle.server_rounds.specs.declared.round.Stop.TheVariants.{Done, DoorClosed, DoorFault, Memory}
 use Rattle.server_rounds.specs.Rounds.{IsRound, Stops}
 use Rattle.server_command.specs.Doors.{links_in, AreOut, TakesBack}
-use Rattle.server_command.specs.Serves.{IsFirst, IsOver, Serves}
+use Rattle.server_command.specs.Serves.{IsFirst, IsOver, Serves, HasFailed, IsWhy, fault_with}
 use Rattle.server_command.proofs.Doors.{are_out}
 use Rattle.server_command.proofs.Groups.{copies_ended}
 use Rattle.server_command.proofs.Logged.{logged}
 use Rattle.server_command.proofs.Apart.{apart}
 use Rattle.server_command.proofs.Connections.{hold}
 use Rattle.server_command.proofs.Statuses.{rose_later}
+
+pub if_err : {T E : Type 0} (P Q : E → Type 0) (r : Result T E) → ((x : E) → P x → Q x) → IfErr r P → IfErr r Q
+if_err P Q (Ok x) f h = h
+if_err P Q (Err e) f h = f e h
 
 pub if_ok : {T E : Type 0} (P Q : T → Type 0) (r : Result T E) → ((x : T) → P x → Q x) → IfOk r P → IfOk r Q
 if_ok P Q (Ok x) f h = f x h
@@ -69,3 +75,45 @@ module _ {K : Type 0} (shows : K → Shown) (may : Call → Bool → Ans → Typ
   failed h p before heard left after at most r listens round back stop =
       let s : Stops heard left most (length r.finished.items) DoorFault = subst (Stops heard left most (length r.finished.items)) stop round.stop in
       rose_later before.faults heard.faults left.faults after.faults listens.counts.faults s.1 (let same = back.faults in omega (arith, same))
+
+  pub has_failed : (h : Hub) (p : Pass) (before heard left after : DoorShown K) (at : Address) (most : ℕ) (r : Round K) → ListensAt before heard at → IsRound shows may tables h p heard most r left
+      → TakesBack left (links_in r.finished.items) after → (s : Stop) → r.stop ≡ s → HasFailed shows may tables before after (fault_with s)
+  has_failed h p before heard left after at most r listens round back DoorFault is = failed h p before heard left after at most r listens round back is
+  has_failed h p before heard left after at most r listens round back Done is = tt
+  has_failed h p before heard left after at most r listens round back DoorClosed is = tt
+  has_failed h p before heard left after at most r listens round back Memory is = tt
+
+  -- nothing is printed of what was served
+  pub untold : (h : Hub) (boot : ℕ) (p : Pass) (before heard left after : DoorShown K) (at : Address) (most : ℕ) (r : Round K) (why : OutFault) → h.boot ≡ boot → IsFirst boot p
+      → ListensAt before heard at → IsRound shows may tables h p heard most r left → IsPassOf h r.pass → TakesBack left (links_in r.finished.items) after
+      → why ≡ fault_with r.stop → IsWhy shows may tables boot before at most after why
+  untold h boot p before heard left after at most r why boot_is new listens round pass back is = record {
+    failed = subst (HasFailed shows may tables before after) (sym is) (has_failed h p before heard left after at most r listens round back r.stop refl);
+    done = inr (record {
+      hub = h;
+      boot_is = boot_is;
+      first = p;
+      new = new;
+      heard = heard;
+      listens = listens;
+      round = r;
+      left = left;
+      serves = round;
+      pass = pass;
+      given_back = back;
+      apart = apart shows may tables h p heard left most r pass round;
+      why_is = is;
+    });
+  }
+
+  -- nothing was done at the door
+  pub unused : (boot : ℕ) (a : DoorShown K) (at : Address) (most : ℕ) → IsWhy shows may tables boot a at most a faults.Memory
+  unused boot a at most = record {
+    failed = tt;
+    done = inl (record { counts = record { faults = omega arith; closings = omega arith }; listens = refl; to_come = refl; back = refl; out = refl });
+  }
+
+  -- it didn't listen
+  pub unheard : (boot : ℕ) (a b : DoorShown K) (at : Address) (most : ℕ) (why : OutFault) → Listens a at (Err why) b → IsWhy shows may tables boot a at most b why
+  unheard boot a b at most faults.Failed h = record { failed = h.0; done = inl h.1 }
+  unheard boot a b at most faults.Memory h = record { failed = tt; done = inl h }

@@ -78,7 +78,7 @@ module _ (home : Home) (now then : List Entry) where
     request : (j : Joined) (most : ℕ) (d : Deed) (answer : Option (List ℕ)) (later : List Turn) → DeedSame d → AllByRecursion IsSame later
         → AnswersRequest home then j most d answer Then later → AnswersRequest home now j most d answer Then' later
     request j most d (Some octets) later s all h = (h.0, piece j most d octets s h.1, go later all h.2)
-    request j most d None later s all h = (lost d s h.0, h.1)
+    request j most d None later s all h = (h.0, lost d s h.1, h.2)
 
     call : (iface : Option ℕ) (j : Joined) (most : ℕ) (more : List Ask) (turns : List Turn) → AllByRecursion IsSame turns
         → AnswersCall home then iface j most more Then turns → AnswersCall home now iface j most more Then' turns

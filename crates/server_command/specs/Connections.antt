@@ -38,7 +38,7 @@ module _ {K : Type 0} (shows : K → Shown) (may : Call → Bool → Ans → Typ
     pub due : AllDue (serving tables may (RefusesBy boot copies)) (home_of boot 0) 0 [] alone.turns
 
   abbrev pub HoldsAs : List Copy → Option (ℕ × ℕ) → Settled K → Type 0
-  HoldsAs copies (Some (g, c)) x = g < 2 ^ 32 → HasCopy g (HoldsByCopy g c x) copies
+  HoldsAs copies (Some (g, c)) x = HasCopy g (HoldsByCopy g c x) copies
   HoldsAs copies None x = StandsAlone copies x
 
   -- what a connection came to, by these printed journals

@@ -39,7 +39,7 @@ HasJoin j c = (list_any (joins c) j.past ≡ true) ⊎ (c ≤ j.base.joins)
 
 -- where the connection joined a group, that is one whose journal is printed, with its Join
 abbrev pub IsLogged : {K : Type 0} → ℕ → List Copy → Settled K → Type 0
-IsLogged boot copies x = (g c : ℕ) → g < 2 ^ 32 → x.joined ≡ Some (g, c) → HasCopy g (λ copy. HasJoin (journal_of boot copy) c) copies
+IsLogged boot copies x = (g c : ℕ) → x.joined ≡ Some (g, c) → HasCopy g (λ copy. HasJoin (journal_of boot copy) c) copies
 
 -- no two of these joined one group with one number
 abbrev pub AreApart : {K : Type 0} → List (Settled K) → Type 0

@@ -1,12 +1,12 @@
 -- What the command `serve` comes to.
-use Rattle.std.specs.Prelude.{◌≡◌, ℕ, ◌<◌, Bool, List, [], ◌∷◌, ⊤}
+use Rattle.std.specs.Prelude.{◌≡◌, ◌⊎◌, ℕ, ◌<◌, Bool, List, [], ◌∷◌, ⊤}
 use Rattle.std.specs.List.{AllByRecursion}
 use Rattle.rpc_base.specs.Causes.{Rose}
 use Rattle.rpc_base.specs.declared.fault.OutFault.{OutFault}
 use Rattle.rpc_base.specs.declared.fault.OutFault.TheVariants as faults
 use Rattle.rpc_outside.specs.declared.address.Address.{Address}
 use Rattle.rpc_outside.specs.Links.{Shown}
-use Rattle.rpc_outside.specs.Doors.{DoorShown, ListensAt}
+use Rattle.rpc_outside.specs.Doors.{DoorShown, DoorSame, ListensAt}
 use Rattle.ndr_table.specs.Tables.{TableForm}
 use Rattle.manager_api.specs.Answers.{Ans}
 use Rattle.manager_api.specs.Calls.{Call}
@@ -17,6 +17,7 @@ use Rattle.group_hub.specs.Passes.{at_shard, IsPassOf}
 use Rattle.server_rounds.specs.declared.settled.Settled.{Settled}
 use Rattle.server_rounds.specs.declared.round.Round.{Round}
 use Rattle.server_rounds.specs.declared.round.Stop.{Stop}
+use Rattle.server_rounds.specs.declared.round.Stop.TheVariants.{Done, DoorClosed, DoorFault, Memory}
 pub use Rattle.desk_locks.specs.Calls.{May}
 use Rattle.server_rounds.specs.Rounds.{IsRound}
 use Rattle.server_command.specs.Logs.{Logs}
@@ -67,7 +68,36 @@ module _ {K : Type 0} (shows : K → Shown) (may : Call → Bool → Ans → Typ
     -- a journal each of whose connections is one of theirs ends with Shut
     pub ended : AllByRecursion (EndsIfOurs hub.boot round.finished.items) over.logged.copies
 
--- why nothing is printed: the door failed, or memory ran out
-abbrev pub IsWhy : {K : Type 0} → DoorShown K → DoorShown K → OutFault → Type 0
-IsWhy a b faults.Failed = Rose a.faults b.faults
-IsWhy a b faults.Memory = ⊤
+-- why nothing is printed of a round for whose texts there is no memory: a failed door outweighs that
+abbrev pub fault_with : Stop → OutFault
+fault_with DoorFault = faults.Failed
+fault_with Done = faults.Memory
+fault_with DoorClosed = faults.Memory
+fault_with Memory = faults.Memory
+
+module _ {K : Type 0} (shows : K → Shown) (may : Call → Bool → Ans → Type 0) (tables : List TableForm) where
+  -- The same of connections of which nothing is printed, since there is no memory for it: what each came to, and that its link was given back.
+  pub record ServesUntold (boot : ℕ) (a : DoorShown K) (at : Address) (most : ℕ) (b : DoorShown K) (why : OutFault) : Type 0 where
+    pub hub : Hub
+    pub boot_is : hub.boot ≡ boot
+    pub first : Pass
+    pub new : IsFirst boot first
+    pub heard : DoorShown K
+    pub listens : ListensAt a heard at
+    pub round : Round K
+    pub left : DoorShown K
+    pub serves : IsRound shows may tables hub first heard most round left
+    pub pass : IsPassOf hub round.pass
+    pub given_back : TakesBack left (links_in round.finished.items) b
+    pub apart : AreApart round.finished.items
+    pub why_is : why ≡ fault_with round.stop
+
+  abbrev pub HasFailed : DoorShown K → DoorShown K → OutFault → Type 0
+  HasFailed a b faults.Failed = Rose a.faults b.faults
+  HasFailed a b faults.Memory = ⊤
+
+  -- Why nothing is printed, and what was done: the door failed, or memory ran out. Either no link was handed out, and the door listens where
+  -- it did; or connections were served.
+  pub record IsWhy (boot : ℕ) (a : DoorShown K) (at : Address) (most : ℕ) (b : DoorShown K) (why : OutFault) : Type 0 where
+    pub failed : HasFailed a b why
+    pub done : DoorSame a b ⊎ ServesUntold boot a at most b why

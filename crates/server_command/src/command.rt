@@ -22,8 +22,10 @@ use std::thread::Threads;
 ///
 /// # Errors
 ///
-/// `Failed` where the door failed: nothing is to be printed, since it doesn't listen or there is no memory for more.
-/// `Memory` where there is no memory.
+/// `Failed` where the door failed, and `Memory` where there is no memory: nothing is to be printed. Either no link was
+/// handed out, or there is no memory for the texts of the connections that were served: their links are given back then
+/// too, and a failed door outweighs want of memory.
+#[tactic(auto, using(crate::proofs::Rounds::unused))]
 pub fn serve<R, D>(
     rt: R,
     alloc: Global,
@@ -39,7 +41,7 @@ where
     D::Link: 'static,
     requires { most ≤ 1000000 }
     ensures serves { IfOk result (λ p. Serves D.Link.shows (May (shown_by (λ t. t) echo)) (tables_with (shown_by (λ t. t) echo)) boot (D.shows door.old) at most (D.shows door.new) p.out p.log p.status) }
-    ensures why { IfErr result (IsWhy (D.shows door.old) (D.shows door.new)) }
+    ensures why { IfErr result (IsWhy D.Link.shows (May (shown_by (λ t. t) echo)) (tables_with (shown_by (λ t. t) echo)) boot (D.shows door.old) at most (D.shows door.new)) }
 {
     let tally = Arc::new(alloc, Tally::new())?;
     let service = DeskService::new(alloc, at, echo, Arc::try_clone(&tally)?)?;

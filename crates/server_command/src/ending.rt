@@ -1,8 +1,8 @@
 //! The end of a round of connections.
-ghost use Rattle.std.specs.Prelude.{◌≡◌, ◌≤◌, length, Err, IfOk};
+ghost use Rattle.std.specs.Prelude.{◌≡◌, ◌≤◌, length, IfErr, IfOk};
 ghost use Rattle.group_hub.specs.Passes.{IsPassOf};
 ghost use Rattle.server_command.specs.Doors.{AreOut, TakesBack, links_in};
-ghost use Rattle.server_command.specs.Serves.{IsOver};
+ghost use Rattle.server_command.specs.Serves.{IsOver, fault_with};
 
 use crate::back::give_back;
 use crate::lines::{out_text, status};
@@ -43,7 +43,7 @@ fn printed<R: Wait, K: Link>(
 
 /// Why nothing is printed of a round for which there is no memory: a failed door outweighs that.
 fn fault_of(stop: Stop) -> OutFault
-    ensures { result ≡ OutFault.Failed → stop ≡ Stop.DoorFault }
+    ensures { result ≡ fault_with stop }
 {
     match stop {
         Stop::DoorFault => OutFault::Failed,
@@ -66,7 +66,7 @@ pub(crate) fn end<R: Wait, D: Door>(
     requires out { AreOut round.finished.items (D.shows door.old) }
     ensures back { TakesBack (D.shows door.old) (links_in round.finished.items) (D.shows door.new) }
     ensures over { IfOk result (λ p. IsOver D.Link.shows hub.now round.pass round.finished.items round.stop p.out p.log p.status) }
-    ensures failed { result ≡ Err OutFault.Failed → round.stop ≡ Stop.DoorFault }
+    ensures fault { IfErr result (λ why. why ≡ fault_with round.stop) }
 {
     let Round {
         pass,

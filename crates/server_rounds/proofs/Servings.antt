@@ -19,7 +19,7 @@ use Rattle.server_rounds.specs.declared.running.Promised.{Promised}
 use Rattle.server_rounds.specs.declared.serving.Serving.{Serving}
 use Rattle.server_rounds.specs.declared.round.Round.{Round}
 use Rattle.server_rounds.specs.Passes.{StartsFrom, TakesIn}
-use Rattle.server_rounds.specs.Served.{IsServed, IsSettled, finished_of}
+use Rattle.server_rounds.specs.Served.{AreNumbers, IsServed, IsSettled, finished_of}
 use Rattle.server_rounds.specs.Running.{Keeps, WillKeep}
 use Rattle.rpc_outside.specs.Doors.{DoorShown}
 use Rattle.server_rounds.specs.Rounds.{came, passes, HandsOutAll, Stops, IsRound}
@@ -63,23 +63,24 @@ module _ {S K : Type 0} (shows : K → Shown) (may : S → Call → Bool → Ans
       (subst (λ y. IsServed shows (may y) (tables y) x.hub.value x.began.value x.came.value (finished_of c)) service k)))
 
   pub is_settled : (v : S) (p : Pass) (r : Running S K) (c : Settled K) → IsRunning shows may tables h v p r
-      → c.came.value ≡ r.promise.came.value → c.began.value ≡ r.promise.began.value → Keeps shows may tables r.promise (finished_of c)
+      → c.came.value ≡ r.promise.came.value → c.began.value ≡ r.promise.began.value → Keeps shows may tables r.promise (finished_of c) → AreNumbers c.joined
       → IsSettled shows (may v) (tables v) h p c
-  is_settled v p r c running came_is began k = record {
+  is_settled v p r c running came_is began k numbers = record {
     new = subst (λ y. IsNew (shows y)) (sym came_is) running.new;
     starts = subst (StartsFrom p) (sym began) running.starts;
     served = served_as v r.promise c running.service_is running.hub_is came_is began k;
+    numbers = numbers;
   }
 
   pub stands_settled : (boot : ℕ) (v : S) (p q q2 : Pass) (finished : List (Settled K)) (r : Running S K) (running : List (Running S K)) (c : Settled K)
       → Stands shows may tables h v p q finished (r ∷ running) → IsPassOf h q2
       → ((s : ℕ) → s < 16 → Merges boot s (at_shard q s) (at_shard c.pass.value s) (at_shard q2 s))
-      → c.came.value ≡ r.promise.came.value → c.began.value ≡ r.promise.began.value → Keeps shows may tables r.promise (finished_of c)
+      → c.came.value ≡ r.promise.came.value → c.began.value ≡ r.promise.began.value → Keeps shows may tables r.promise (finished_of c) → AreNumbers c.joined
       → Stands shows may tables h v p q2 (finished ++ c ∷ []) running
-  stands_settled boot v p q q2 finished r running c st of merges came_is began k = record {
+  stands_settled boot v p q q2 finished r running c st of merges came_is began k numbers = record {
     pass = of;
     takes = subst (λ l. TakesIn p l q2) (sym (map-append (λ x. x.pass.value) finished (c ∷ []))) (takes_more boot p q c.pass.value q2 (passes finished) st.takes merges);
-    settled = all_snoc (IsSettled shows (may v) (tables v) h p) finished c st.settled (is_settled v p r c st.served.0 came_is began k);
+    settled = all_snoc (IsSettled shows (may v) (tables v) h p) finished c st.settled (is_settled v p r c st.served.0 came_is began k numbers);
     served = st.served.1;
   }
 
@@ -137,11 +138,11 @@ module _ {S K : Type 0} (shows : K → Shown) (may : S → Call → Bool → Ans
       → a.running.items ≡ r ∷ b.running.items → deque_len b.running + 1 ≡ deque_len a.running
       → b.finished.items ≡ a.finished.items ++ c ∷ [] → vec_len b.finished ≡ vec_len a.finished + 1 → vec_capacity b.finished ≡ vec_capacity a.finished
       → b.service ≡ a.service → b.first ≡ a.first
-      → c.came.value ≡ r.promise.came.value → c.began.value ≡ r.promise.began.value → Keeps shows may tables r.promise (finished_of c)
+      → c.came.value ≡ r.promise.came.value → c.began.value ≡ r.promise.began.value → Keeps shows may tables r.promise (finished_of c) → AreNumbers c.joined
       → IsServing shows may tables h b
-  serving_settled a b boot r c st of merges running less finished more wide service first came_is began k =
+  serving_settled a b boot r c st of merges running less finished more wide service first came_is began k numbers =
       let was = subst (λ l. AtStart a.service.value a.first.value a.pass a.finished.items l) running st.stands in
-      let on = stands_settled shows may tables h boot a.service.value a.first.value a.pass b.pass a.finished.items r b.running.items c was of merges came_is began k in
+      let on = stands_settled shows may tables h boot a.service.value a.first.value a.pass b.pass a.finished.items r b.running.items c was of merges came_is began k numbers in
       let has = st.room in record {
         stands =
             subst (λ v. AtStart v b.first.value b.pass b.finished.items b.running.items) (ap (λ x. x.value) (sym service))

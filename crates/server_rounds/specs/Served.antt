@@ -1,5 +1,5 @@
 -- What a connection that was served came to.
-use Rattle.std.specs.Prelude.{ℕ, Bool, List}
+use Rattle.std.specs.Prelude.{ℕ, ◌<◌, ◌^◌, Bool, Option, Some, None, List, ⊤}
 use Rattle.rpc_outside.specs.Links.{Shown, IsNew}
 use Rattle.ndr_table.specs.Tables.{TableForm}
 use Rattle.manager_api.specs.Answers.{Ans}
@@ -16,6 +16,11 @@ use Rattle.server_rounds.specs.Passes.{StartsFrom}
 abbrev pub finished_of : {K : Type 0} → Settled K → Finished K
 finished_of c = record { link = c.link; pass = c.pass.value; joined = c.joined; ending = c.ending; retired = c.retired }
 
+-- the ids of groups, and the numbers of connections in them, have 32 bits
+abbrev pub AreNumbers : Option (ℕ × ℕ) → Type 0
+AreNumbers None = ⊤
+AreNumbers (Some (g, c)) = (g < 2 ^ 32) × (c < 2 ^ 32)
+
 module _ {K : Type 0} (shows : K → Shown) (may : Call → Bool → Ans → Type 0) (tables : List TableForm) (h : Hub) where
   -- the connection of a link was served at the hub, with that pass
   pub record IsServed (began : Pass) (link : K) (r : Finished K) : Type 0 where
@@ -27,3 +32,4 @@ module _ {K : Type 0} (shows : K → Shown) (may : Call → Bool → Ans → Typ
     pub new : IsNew (shows c.came.value)
     pub starts : StartsFrom p c.began.value
     pub served : IsServed c.began.value c.came.value (finished_of c)
+    pub numbers : AreNumbers c.joined

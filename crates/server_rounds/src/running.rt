@@ -1,10 +1,10 @@
 //! A connection that is being served.
-ghost use Rattle.std.specs.Prelude.{◌≡◌};
+ghost use Rattle.std.specs.Prelude.{◌≡◌, ◌<◌, ◌^◌};
 ghost use Rattle.std.specs.Arc.{arc_value};
 ghost use Rattle.rpc_outside.specs.Links.{IsNew};
 ghost use Rattle.group_hub.specs.Passes.{IsPassOf};
 ghost use Rattle.server_ends.specs.Finishes.{Finishes};
-ghost use Rattle.server_rounds.specs.Served.{IsServed, finished_of};
+ghost use Rattle.server_rounds.specs.Served.{AreNumbers, IsServed, finished_of};
 ghost use Rattle.server_rounds.specs.Running.{Keeps, WillKeep};
 
 use crate::settled::Settled;
@@ -12,7 +12,7 @@ use group_hub::{Hub, Pass};
 use rpc_outside::Link;
 use server_calls::Service;
 use server_ends::Finished;
-use server_run::serve_connection;
+use server_run::{serve_connection, turn_away};
 use std::alloc::Global;
 use std::snapshot::Snapshot;
 use std::sync::atomic::{AtomicBool, Ordering};
@@ -58,7 +58,7 @@ impl<S: Service, K: Link> Promise<Finished<K>> for Promised<S, K> {
 pub(crate) enum Place<S: Service, K: Link> {
     /// In a thread of its own.
     There(PromisedHandle<Finished<K>, Promised<S, K>>),
-    /// It was served where no thread could be started.
+    /// It is over, and its thread, if it had one, was joined.
     Here(Finished<K>),
 }
 
@@ -71,11 +71,12 @@ pub(crate) struct Running<S: Service, K: Link> {
     over: Arc<AtomicBool, Global>,
 }
 
-/// Serves a connection to its end, whose link is new.
+/// Serves a connection to its end, whose link is new, or closes it at once for want of memory.
 fn serve_one<R: Wait + Threads + Sync, S: Service + Sync, K: Link>(
     rt: &R,
     service: &S,
     hub: &Hub,
+    is_turned_away: bool,
     pass: Pass,
     link: K,
 ) -> Finished<K>
@@ -84,11 +85,14 @@ fn serve_one<R: Wait + Threads + Sync, S: Service + Sync, K: Link>(
     ensures pass { IsPassOf hub.now result.pass }
     ensures finishes { Finishes K.shows (S.may service.now) (S.tables service.now) hub.now.boot pass (K.shows link) result }
 {
+    if is_turned_away {
+        return turn_away(service, hub, pass, link);
+    }
     let table = service.served();
     serve_connection(rt, service.alloc(), hub, pass, link, table, service)
 }
 
-/// Serves a connection, in whatever thread this is.
+/// Serves a connection in a thread of its own, unless it is said to be over already, as where no thread could be started.
 fn serve_there<R: Wait + Threads + Sync + Copy, S: Service + Sync + Drop, K: Link>(
     rt: R,
     service: Arc<S, Global>,
@@ -101,13 +105,15 @@ fn serve_there<R: Wait + Threads + Sync + Copy, S: Service + Sync + Drop, K: Lin
     requires new { IsNew (K.shows link) }
     ensures { IsServed K.shows (S.may (arc_value service)) (S.tables (arc_value service)) (arc_value hub) pass link result }
 {
-    let finished = serve_one(&rt, &*service, &*hub, pass, link);
+    let is_turned_away = over.load(Ordering::SeqCst);
+    let finished = serve_one(&rt, &*service, &*hub, is_turned_away, pass, link);
     over.store(true, Ordering::SeqCst);
     finished
 }
 
 impl<S: Service, K: Link> Running<S, K> {
-    /// Serves a connection in a thread of its own, or in this one where none can be started.
+    /// Serves a connection in a thread of its own. Where none can be started it is turned away, which another one can be served
+    /// beside.
     pub(crate) fn start<R: Wait + Threads + Send + Sync + Copy + 'static>(
         rt: R,
         service: &Arc<S, Global>,
@@ -133,7 +139,7 @@ impl<S: Service, K: Link> Running<S, K> {
             Arc::try_clone(hub),
             Arc::try_clone(&over),
         ) else {
-            let place = Place::Here(serve_one(&rt, &**service, &**hub, pass, link));
+            let place = Place::Here(serve_one(&rt, &**service, &**hub, true, pass, link));
             return Running {
                 place,
                 promise,
@@ -151,13 +157,21 @@ impl<S: Service, K: Link> Running<S, K> {
             { serve_there(rt, mine, theirs, flag, pass, link) },
         ) {
             Ok(child) => Place::There(child),
-            Err(refused) => Place::Here((refused.value)()),
+            Err(refused) => {
+                over.store(true, Ordering::SeqCst);
+                Place::Here((refused.value)())
+            }
         };
         Running {
             place,
             promise,
             over,
         }
+    }
+
+    /// Whether the connection is over.
+    pub(crate) fn is_over(&self) -> bool {
+        self.over.load(Ordering::SeqCst)
     }
 
     /// Joins its thread, where the connection is over.
@@ -193,6 +207,7 @@ impl<S: Service, K: Link> Running<S, K> {
         ensures began { result.0.began.value ≡ self.promise.began.value }
         ensures pass { result.1 ≡ result.0.pass.value }
         ensures served { Keeps K.shows S.may S.tables self.promise (finished_of result.0) }
+        ensures numbers { AreNumbers result.0.joined }
     {
         let Running { place, promise, .. } = self;
         let finished = match place {
@@ -204,12 +219,30 @@ impl<S: Service, K: Link> Running<S, K> {
     }
 }
 
+/// What their type says of two numbers.
+fn note_pair(group: u32, number: u32)
+    ensures { (group < 2 ^ 32) × (number < 2 ^ 32) }
+{
+    let _ = (group, number);
+}
+
+/// The id of a group and the number of a connection have 32 bits.
+fn note_numbers(joined: Option<(u32, u32)>)
+    ensures { AreNumbers joined }
+{
+    match joined {
+        None => {}
+        Some((group, number)) => note_pair(group, number),
+    }
+}
+
 /// What is left of a connection beside its pass.
 fn settled<K>(finished: Finished<K>, came: Snapshot<K>, began: Snapshot<Pass>) -> (Settled<K>, Pass)
     ensures came { result.0.came.value ≡ came.value }
     ensures began { result.0.began.value ≡ began.value }
     ensures pass { result.1 ≡ result.0.pass.value }
     ensures same { finished_of result.0 ≡ finished }
+    ensures numbers { AreNumbers result.0.joined }
 {
     let Finished {
         link,
@@ -218,6 +251,7 @@ fn settled<K>(finished: Finished<K>, came: Snapshot<K>, began: Snapshot<Pass>) -
         ending,
         retired,
     } = finished;
+    note_numbers(joined);
     let settled = Settled {
         link,
         joined,

@@ -345,6 +345,7 @@ module _ {K : Type 0} (shows : K → Shown) (may : Call → Bool → Ans → Typ
         cause = λ t. cause (m.cause t);
         answer = m.answer;
         answers = m.answers;
+        blames = m.blames;
         results_are = m.results_are;
         says = m.says;
       })

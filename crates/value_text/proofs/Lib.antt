@@ -1,9 +1,11 @@
+pub mod Caused
 pub mod Complete
 pub mod Numerals
 pub mod Parts
 pub mod Printed
 pub mod Quotes
 pub mod Rows
+pub mod Shallow
 pub mod Sound
 pub mod Steps
 pub mod Tells

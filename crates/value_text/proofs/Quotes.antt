@@ -38,11 +38,11 @@ digit_of_mark c h =
     let parts = and_parts (nat_lt (digit_of c) 16) (get_or lower_digits (digit_of c) 0 == c) both in
     (ltb-true (digit_of c) 16 parts.0, eq_is (get_or lower_digits (digit_of c) 0) c parts.1)
 
-char_plain : (c : ℕ) → is_plain c ≡ true → char_text c ≡ c ∷ []
+pub char_plain : (c : ℕ) → is_plain c ≡ true → char_text c ≡ c ∷ []
 unfolding char_text
 char_plain c h = rw h refl
 
-char_number : (c : ℕ) → is_plain c ≡ false → char_text c ≡ 92 ∷ 120 ∷ get_or lower_digits (c / 16) 0 ∷ get_or lower_digits (c % 16) 0 ∷ []
+pub char_number : (c : ℕ) → is_plain c ≡ false → char_text c ≡ 92 ∷ 120 ∷ get_or lower_digits (c / 16) 0 ∷ get_or lower_digits (c % 16) 0 ∷ []
 unfolding char_text encode_with
 char_number c h = rw h refl
 

@@ -1,4 +1,6 @@
 pub mod Bind
+pub mod Causes
+pub mod Fuel
 pub mod Gives
 pub mod Laws
 pub mod Marks

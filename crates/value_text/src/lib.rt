@@ -16,6 +16,6 @@ mod shapes;
 mod top;
 
 pub use departure::TextFault;
-pub use laws::one_value;
+pub use laws::{fuel_suffices, one_value};
 pub use print::print_value;
 pub use top::read_value;

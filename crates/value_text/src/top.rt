@@ -4,6 +4,7 @@ ghost use Rattle.ndr_value.specs.Forms.{form, types_of};
 ghost use Rattle.ndr_value.specs.Values.{val};
 ghost use Rattle.value_text.specs.declared.departure.TextFault.TheVariants.{Memory};
 ghost use Rattle.value_text.specs.Told.{Told, StandsAt, NoneStands};
+ghost use Rattle.value_text.specs.Causes.{IsCaused};
 ghost use Rattle.value_text.specs.Told as spec;
 
 use crate::departure::{Departure, Stop, TextFault};
@@ -44,6 +45,8 @@ pub fn read_value(
     ensures found { IfOk result (λ x. StandsAt (types_of types.now.items) (2 ^ 32) (form shape.now) text.now at (val x.0) x.1) }
     ensures none { IfErr result (λ e. e ≢ Memory → NoneStands (types_of types.now.items) (form shape.now) text.now at) }
     ensures exact { Told (types_of types.now.items) (form shape.now) text.now at result }
+    // What stands at the index, and what stands before it.
+    ensures cause { IfErr result (λ e. IsCaused (types_of types.now.items) (form shape.now) text.now at e) }
 {
     told(alloc, types, shape, text, at)
 }

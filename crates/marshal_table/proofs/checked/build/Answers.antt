@@ -1,9 +1,9 @@
 use Rattle.std.proofs.Common.{ap, ◌∙◌}
 use Rattle.ndr_table.specs.Shown.{shown}
-use Rattle.idl_tables.specs.Interfaces.{tabled}
-use Rattle.idl_tables.proofs.Listed.{has_each}
-use Rattle.idl_tables.proofs.Handles.{has_handles}
-use Rattle.idl_tables.proofs.Declarations.{each_name_stands}
+use Rattle.marshal_table.specs.Interfaces.{tabled}
+use Rattle.marshal_table.proofs.Listed.{has_each}
+use Rattle.marshal_table.proofs.Handles.{has_handles}
+use Rattle.marshal_table.proofs.Declarations.{each_name_stands}
 use Rattle.marshal_table.proofs.checked.build.Goals as goal
 
 pub returns-clause-operations : goal.returns-clause-operations

@@ -1,6 +1,6 @@
 use Rattle.std.proofs.Common.{◌≡◌, map, drop}
 use Rattle.idl_forms.specs.Forms.{decl_form}
-use Rattle.idl_tables.specs.Interfaces.{decls_at}
+use Rattle.marshal_table.specs.Interfaces.{decls_at}
 use Rattle.marshal_table.specs.Lists.{draft}
 use Rattle.marshal_table.proofs.interface.declarations.Given as goal
 

@@ -1,6 +1,6 @@
 use Rattle.std.proofs.Common.{◌≡◌, drop}
 use Rattle.idl_scopes.specs.Scopes.{sense, scope}
-use Rattle.idl_tables.specs.Interfaces.{typedef_all}
+use Rattle.marshal_table.specs.Interfaces.{typedef_all}
 use Rattle.marshal_table.proofs.interface.typedef_all.Given as goal
 
 abbrev pub invariant-loop-dtor : goal.invariant-loop-dtor

@@ -1,6 +1,6 @@
 use Rattle.std.proofs.Common.{◌≡◌, ◌++◌, map, drop}
 use Rattle.idl_forms.specs.Forms.{param_form}
-use Rattle.idl_tables.specs.Interfaces.{param_names}
+use Rattle.marshal_table.specs.Interfaces.{param_names}
 use Rattle.marshal_table.proofs.params.param_names.Given as goal
 
 abbrev pub invariant-loop-node : goal.invariant-loop-node

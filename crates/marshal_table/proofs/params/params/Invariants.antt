@@ -1,7 +1,7 @@
 use Rattle.std.proofs.Common.{◌≡◌, map, drop}
 use Rattle.idl_forms.specs.Forms.{param_form}
 use Rattle.idl_scopes.specs.Scopes.{scope}
-use Rattle.idl_tables.specs.Interfaces.{joined, params_at}
+use Rattle.marshal_table.specs.Interfaces.{joined, params_at}
 use Rattle.marshal_table.specs.Lists.{listing}
 use Rattle.marshal_table.proofs.params.params.Given as goal
 

@@ -7,7 +7,7 @@ use Rattle.ndr_table.specs.declared.operation.HandleUse.{HandleUse}
 use Rattle.ndr_table.specs.declared.operation.Op.{Op}
 use Rattle.ndr_table.specs.Tables.{op_form}
 use Rattle.idl_scopes.specs.Scopes.{Scope, scope, nothing_known}
-use Rattle.idl_tables.specs.Interfaces.{Draft, decls_at, nothing_declared}
+use Rattle.marshal_table.specs.Interfaces.{Draft, decls_at, nothing_declared}
 use Rattle.marshal_table.specs.Lists.{draft}
 use Rattle.marshal_table.proofs.Drafts.{made_is}
 use Rattle.marshal_table.proofs.tables.build_tree.Goals as goal

@@ -29,6 +29,7 @@ returns-clause-meets c = record {
     may_is (services c.args.desks.now) (services c.answer-answer.new.self) c.args.numbers c.args.cancelled c.args.asked.now (msg c.args.message.now) (msg c.args.given) c.args.cookies.now c.row_for-row.result
         (ans c.answer-answer.result) c.requires.given c.row_for-row.ensures.row c.answer-answer.ensures.may,
   );
+  blames = c.answer-answer.ensures.told;
   results_are = c.end_of.ensures.results;
   says = c.end_of.ensures.says c.requires.asked.operation c.requires.asked.found;
 }

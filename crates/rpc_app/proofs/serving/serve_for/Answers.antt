@@ -1,4 +1,4 @@
-use Rattle.std.proofs.Common.{rules, ◌≡◌, refl}
+use Rattle.std.proofs.Common.{rules, ◌≡◌, refl, inl}
 use Rattle.server_command.specs.Tables.{shown_by}
 use Rattle.rpc_app.specs.Runs.{Gains, GainsFront, RefusesText, Serves}
 use Rattle.rpc_app.specs.Words.{told_server}
@@ -22,4 +22,4 @@ pub returns-in-Err-Failed : goal.returns-in-Err-Failed
 returns-in-Err-Failed g c = shelf_failed g.D.Link.Link.shows (told_server c.args.task) c.args.boot _ _ _ _ (search rules) (refl, refl) refl
 
 pub returns-in-Err-Memory : goal.returns-in-Err-Memory
-returns-in-Err-Memory g c = memory_out g.D.Link.Link.shows (told_server c.args.task) c.args.boot _ _ _ _ (refl, refl)
+returns-in-Err-Memory g c = memory_out g.D.Link.Link.shows (told_server c.args.task) c.args.boot _ _ _ _ (refl, refl) (inl refl)

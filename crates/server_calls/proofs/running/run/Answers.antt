@@ -13,6 +13,7 @@ returns-clause-meets g c = record {
   answer = ans c.call-answer.result;
   answers = may_is (λ x. g.M.Manager.may c.args.manager.now x (g.P.Probe.told c.call-answer.new.probe) (ans c.call-answer.result)) c.args.asked.now (msg c.args.again.now) (msg c.args.message) c.args.cookies.now c.row_for-row.result
       c.same_message.ensures c.row_for-row.ensures.row c.call-answer.ensures.may;
+  blames = λ is. c.call-answer.ensures.told is;
   results_are = c.end_of-results.ensures.results;
   says = says_again c.args.home (tables_in c.args.served.now) c.args.asked.now _ (msg c.args.again.now) c.end_of-results.result.results (ans c.call-answer.result) c.end_of-results.result.said c.twice-said.result.0
       (c.end_of-results.ensures.says c.requires.again.operation c.requires.again.found) c.twice-said.ensures.repeats;

@@ -7,8 +7,8 @@ use Rattle.desk_locks.specs.Tables.{shown_by}
 use Rattle.desk_locks.specs.Tables.{tables_with}
 use Rattle.desk_locks.specs.Calls.{echo_of, May}
 use Rattle.desk_locks.proofs.Crossing.{service_send, service_sync}
-use Rattle.server_command.specs.Serves.{Serves}
-use Rattle.server_command.proofs.Rounds.{if_ok}
+use Rattle.server_command.specs.Serves.{Serves, IsWhy}
+use Rattle.server_command.proofs.Rounds.{if_err, if_ok}
 use Rattle.server_command.proofs.command.serve.Goals as goal
 
 pub serve_over-requires-send-S : goal.serve_over-requires-send-S
@@ -23,3 +23,10 @@ returns-clause-serves g c =
     if_ok _ _ c.serve_over.result
     (λ p s. subst (λ (e : Option TableForm). Serves g.D.Link.Link.shows (May e) (tables_with e) c.args.boot (g.D.Door.shows c.args.door.now) c.args.at c.args.most (g.D.Door.shows c.serve_over.new.door) p.out p.log p.status) same s)
     c.serve_over.ensures.serves
+
+pub returns-clause-why : goal.returns-clause-why
+returns-clause-why g c =
+    let same : echo_of (arc_value c.in_ok-service-2.service) ≡ shown_by (λ t. t) c.args.echo = search rules in
+    if_err _ _ c.serve_over.result
+    (λ why w. subst (λ (e : Option TableForm). IsWhy g.D.Link.Link.shows (May e) (tables_with e) c.args.boot (g.D.Door.shows c.args.door.now) c.args.at c.args.most (g.D.Door.shows c.serve_over.new.door) why) same w)
+    c.serve_over.ensures.why

@@ -1,4 +1,5 @@
 use Rattle.ndr_value.specs.Forms.{form, types_of}
+use Rattle.value_text.proofs.Caused.{told_caused}
 use Rattle.value_text.proofs.Tells.{told_found, told_none}
 use Rattle.value_text.proofs.top.read_value.Goals as goal
 
@@ -7,3 +8,6 @@ returns-clause-found c = told_found (types_of c.args.types.now.items) (form c.ar
 
 pub returns-clause-none : goal.returns-clause-none
 returns-clause-none c = told_none (types_of c.args.types.now.items) (form c.args.shape.now) c.args.text.now c.args.at c.told.result c.told.ensures
+
+pub returns-clause-cause : goal.returns-clause-cause
+returns-clause-cause c = told_caused (types_of c.args.types.now.items) (form c.args.shape.now) c.args.text.now c.args.at c.told.result c.told.ensures

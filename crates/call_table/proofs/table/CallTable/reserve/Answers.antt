@@ -13,4 +13,5 @@ invariant_of-self-2 c =
         blanks = c.fill.ensures.blanks;
       },
       search rules,
+      (let same = c.reserve-2.ensures.same in let all = c.self.invariant.2.calls_are in record { calls_are = search rules; enough = search rules }),
     )

@@ -3,6 +3,8 @@ use Rattle.call_table.specs.Kept.{blank}
 use Rattle.call_table.specs.Rows.{waits_at, slots_at, no_cookies, taken, with_start}
 use Rattle.call_table.specs.Tally.{IsTally}
 use Rattle.call_table.proofs.Tallied.{tally_room, tally_started}
+use Rattle.call_table.specs.Queues.{IsQueued}
+use Rattle.call_table.proofs.Nearest.{mark_queued}
 use Rattle.call_table.proofs.Marks.{waits_called, mark_at, row_place, slots_place, begun, some_list, blank_cut, last_blank}
 use Rattle.call_table.proofs.table.CallTable.start.Goals as goal
 
@@ -30,7 +32,7 @@ invariant_of-self c =
     let at = rw c.as_slice.ensures.value at c.place-at.ensures in
     let same = mark_at taken 0 _ _ _ c.index_mut-row.result.now rise at c.index_mut-row.ensures.value in
     let there = row_place 0 _ _ _ c.index_mut-row.result.now rise at c.index_mut-row.ensures.value in
-    (begun c.self.inside.rows _ c.self.inside.lists _ _ c.args.call _ c.index_mut-row.result.now c.self.invariant.0 waits at c.index_mut-row.ensures.value refl refl refl one c.pop.ensures.rest, subst (λ rows. IsTally rows (record c.self.inside.tally { running = c.self.inside.tally.running + 1 })) (sym same) (tally_started _ c.self.inside.tally (record c.self.inside.tally { running = c.self.inside.tally.running + 1 }) c.args.call _ rise waits there c.self.invariant.1 refl refl refl refl))
+    (begun c.self.inside.rows _ c.self.inside.lists _ _ c.args.call _ c.index_mut-row.result.now c.self.invariant.0 waits at c.index_mut-row.ensures.value refl refl refl one c.pop.ensures.rest, subst (λ rows. IsTally rows (record c.self.inside.tally { running = c.self.inside.tally.running + 1 })) (sym same) (tally_started _ c.self.inside.tally (record c.self.inside.tally { running = c.self.inside.tally.running + 1 }) c.args.call _ rise waits there c.self.invariant.1 refl refl), subst (λ rows. IsQueued rows c.self.inside.queues c.self.inside.room) (sym same) (mark_queued c.args.call taken _ _ _ (record { call = λ r. refl; slots = λ r. refl }) c.self.invariant.2))
 
 pub returns-clause-cookies : goal.returns-clause-cookies
 returns-clause-cookies c =

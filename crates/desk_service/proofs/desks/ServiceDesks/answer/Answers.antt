@@ -25,3 +25,8 @@ returns-clause-may c =
     ] in
     untold c.call-answer.new.probe.told c.call-answer.new.probe.cancelled c.args.cancelled c.is_honest.ensures known no)
     c.call-answer.ensures.may
+
+pub returns-clause-told : goal.returns-clause-told
+returns-clause-told c =
+    let known : c.call-answer.new.probe.cancelled ≡ c.args.cancelled = c.call-answer.ensures.key ∙ c.new-probe.ensures.cancelled in
+    λ is. sym known ∙ c.is_honest.ensures (c.call-answer.ensures.told is)

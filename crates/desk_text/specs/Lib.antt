@@ -1,0 +1,4 @@
+pub mod Interfaces
+pub mod Managers
+pub mod Played
+pub mod Suited
