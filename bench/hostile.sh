@@ -1,5 +1,6 @@
 #!/usr/bin/env bash
-# Whether `dcerpc serve` outlasts clients that mean it ill, over the loopback: 1,000 that connect and say nothing; one
+# Whether `dcerpc serve` outlasts clients that mean it ill, over the loopback: 1,000 that connect and say nothing, with
+# descriptors for all of them and with 256 in all; one that says nothing for more than a minute; one
 # that reads no answer and asks on, up to 64 MiB; one that sends 64 MiB as one request; one that is refused and sends
 # 32 MiB more; and one that vanishes at each octet of a bind and a call. In each case the server has to go on, to answer
 # a client that means it well meanwhile, to be done with each connection, its thread and its descriptors, to end with
@@ -90,6 +91,34 @@ call_beside
 for descriptor in "${silent[@]}"; do exec {descriptor}>&-; done
 end 0 $((count + 2)) "$count that say nothing" $((count * 100))
 [ "$(grep -c ' closed$' "$work/out")" = $((count + 2)) ] || fail 'one that said nothing was not closed'
+
+# The same with 256 descriptors: as many as those reach for are let in, and the others as these go
+ulimit -S -n 256
+start $((count + 2))
+ulimit -S -n 4096
+note_rest
+silent=()
+for ((n = 0; n < count; n++)); do
+    exec {descriptor}<>"/dev/tcp/127.0.0.1/$port"
+    silent+=("$descriptor")
+done
+sleep 2
+kill -0 "$server" || fail 'want of descriptors ended the server'
+held=$(descriptors)
+[ "$held" -ge 200 ] || fail "only $held descriptors of 256 are used"
+for descriptor in "${silent[@]}"; do exec {descriptor}>&-; done
+call_beside
+end 0 $((count + 2)) "$count that say nothing, 256 descriptors" $((count * 100))
+
+# One that says nothing is heard of no more behind a minute
+start 3
+note_rest
+connect
+[ "$(timeout 90 cat <&4 | wc -c)" = 0 ] || fail 'one that said nothing got octets'
+call_beside
+exec 4>&-
+end 8 3 'one that says nothing for a minute' 16384
+ended 1 link
 
 # An echo of 4,096 octets, asked 16,257 times
 printf '[uuid(0badc0de-1111-2222-3333-444455556666), version(1.0)] interface echo {\n  error_status_t block([in] unsigned long n, [in, out, size_is(n)] byte d[]); }\n' >"$work/idl"

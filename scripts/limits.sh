@@ -1,9 +1,9 @@
 # The limits under which the program runs. To be sourced, with `say` and `speaks`.
 # shellcheck shell=bash
 
-# What a connection takes of them: a socket and what waits for it; the stack of its thread, in KiB, which is 4 MiB, and
-# the least of what it keeps.
-readonly connection_files=2 connection_kib=4200
+# What a connection takes of them: a socket, what waits for it and, once a call of it had to wait, what wakes it; the stack
+# of its thread, in KiB, which is 4 MiB, and the least of what it keeps.
+readonly connection_files=3 connection_kib=4200
 # What the program takes beside its connections.
 readonly own_files=16 own_kib=200000
 

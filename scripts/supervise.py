@@ -18,7 +18,7 @@ import server
 READ_AT_MOST = 1 << 20
 PR_SET_PDEATHSIG = 1
 SIGNS = {signal.SIGINT, signal.SIGTERM}
-STOPPED = ["stopped: its door was closed, which is status 7; the lines and journals of those that were served are printed"]
+STOPPED = "stopped: its door was shut; the lines and journals of those that were served are printed"
 WATCHED = SIGNS | {signal.SIGCHLD, signal.SIGHUP}
 
 
@@ -193,7 +193,9 @@ def main(program, *words):
     ended.set()
     if is_spoken:
         said = out.text().decode("utf-8", "replace")
-        for line in STOPPED if times and status == 7 else explain.ended(list(words), status, said):
+        if times and status >= 0:
+            say(STOPPED)
+        for line in explain.ended(list(words), status, said):
             say(line)
     end_as(status)
 

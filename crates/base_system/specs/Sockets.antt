@@ -21,9 +21,9 @@ shown link = record {
   closed = link.closed;
 }
 
--- so does a door, which never closes
-abbrev pub door_shown : {L : Type 0} → ℕ → DoorShown L
-door_shown faults = record { faults = faults; closings = 0; listens = None; to_come = None; back = None; out = None }
+-- so does a door
+abbrev pub door_shown : {L : Type 0} → ℕ → ℕ → DoorShown L
+door_shown faults closings = record { faults = faults; closings = closings; listens = None; to_come = None; back = None; out = None }
 
 abbrev pub dial_shown : {L : Type 0} → ℕ → DialShown L
 dial_shown faults = record { faults = faults; dialled = None; back = None; out = None }

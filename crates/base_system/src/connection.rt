@@ -2,19 +2,26 @@
 ghost use Rattle.std.specs.Prelude.{◌<◌, length, IfOk, IfSome};
 ghost use Rattle.base_system.specs.Sockets.{Gives, IsSome};
 
-use crate::waiter::{TURN, Waiter};
-use mio::Interest;
+use crate::waiter::{REST, TURN, Waiter};
 use mio::net::TcpStream;
+use mio::{Interest, Waker};
 use rpc_base::{Failed, OutFault};
 use rpc_outside::Taken;
+use std::alloc::Global;
 use std::io::{ErrorKind, Read, Write};
 use std::net::Shutdown;
+use std::sync::Arc;
+use std::sync::atomic::{AtomicBool, Ordering};
 
-/// How long a take waits at most behind octets, in milliseconds. Each further one waits twice as long, up to a turn.
+/// How long a take that looks again and again waits at most behind octets, in milliseconds. Each further one waits twice as
+/// long, up to a turn.
 const SHORT: u64 = 1;
 
-/// How many turns a put waits at most.
-const MOST_TURNS: u32 = 6_000;
+/// How many turns a call may wait for the peer.
+const MOST_TURNS: u64 = 6_000;
+
+/// How long a peer may say nothing at first that a take waits for, in milliseconds.
+const MOST_SILENCE: u64 = TURN * MOST_TURNS;
 
 /// How many whole turns a peer is waited for at most, once the connection is to end.
 const LAST_TURNS: u32 = 200;
@@ -23,19 +30,41 @@ const LAST_TURNS: u32 = 200;
 /// pieces takes a read, and another that finds nothing more.
 const LAST_READS: u32 = 32_768;
 
+/// How long a take waits where nothing came.
+#[derive(Clone, Copy, PartialEq, Eq)]
+pub(crate) enum Patience {
+    /// A turn at most, so that whoever calls counts the turns.
+    Turns,
+    /// Until octets come or a bell is rung.
+    Rests,
+}
+
 /// A connected socket, and what waits for it. It waits until octets come, but for a put that doesn't
 /// find room.
 #[derive(Drop)]
 pub(crate) struct Connection {
     stream: TcpStream,
     waiter: Waiter,
-    // How long the next take waits at most, in milliseconds.
+    patience: Patience,
+    // Whether a take doesn't wait at all.
+    is_hasty: AtomicBool,
+    // How long the next take of a turn waits at most, in milliseconds.
     pause: u64,
+    // How long nothing came at first, in milliseconds; none once octets came.
+    silence: Option<u64>,
+    // How many milliseconds were waited for room since a piece was last put whole.
+    stalled: u64,
+    // Whether anything was put.
+    has_put: bool,
 }
 
 impl Connection {
     /// A socket that is connected, or about to be. What is put on it goes out at once, however little it is.
-    pub(crate) fn new(mut stream: TcpStream, waiter: Waiter) -> Result<Connection, OutFault> {
+    pub(crate) fn new(
+        mut stream: TcpStream,
+        waiter: Waiter,
+        patience: Patience,
+    ) -> Result<Connection, OutFault> {
         if stream.set_nodelay(true).is_err() {
             return Err(OutFault::Failed);
         }
@@ -43,7 +72,12 @@ impl Connection {
             Ok(()) => Ok(Connection {
                 stream,
                 waiter,
+                patience,
+                is_hasty: AtomicBool::new(false),
                 pause: SHORT,
+                silence: Some(0),
+                stalled: 0,
+                has_put: false,
             }),
             Err(Failed) => Err(OutFault::Failed),
         }
@@ -67,6 +101,16 @@ impl Connection {
         Err(Failed)
     }
 
+    /// What ends a take that waits.
+    pub(crate) fn waker(&self) -> Result<Arc<Waker, Global>, OutFault> {
+        self.waiter.waker()
+    }
+
+    /// Whether takes don't wait.
+    pub(crate) fn set_hasty(&self, is_hasty: bool) {
+        self.is_hasty.store(is_hasty, Ordering::SeqCst);
+    }
+
     /// Takes what came, and waits where nothing did.
     pub(crate) fn take(&mut self, into: &mut [u8]) -> Result<Taken, Failed>
         requires { 0 < length into.old }
@@ -74,12 +118,32 @@ impl Connection {
     {
         match self.read(into)? {
             Taken::Quiet => {
-                self.waiter.wait(self.pause)?;
-                self.pause = self.pause.saturating_mul(2).min(TURN);
+                self.wait_octets()?;
                 self.read(into)
             }
             taken => Ok(taken),
         }
+    }
+
+    // Waits for octets, as long as the link's patience goes. A peer that said nothing for a minute failed.
+    fn wait_octets(&mut self) -> Result<(), Failed> {
+        if self.is_hasty.load(Ordering::SeqCst) {
+            return Ok(());
+        }
+        if self.patience == Patience::Turns {
+            let time = self.pause;
+            self.pause = time.saturating_mul(2).min(TURN);
+            return self.waiter.wait(time);
+        }
+        let silence = self.silence.unwrap_or(0);
+        if silence >= MOST_SILENCE {
+            return Err(Failed);
+        }
+        self.waiter.wait(REST)?;
+        if self.silence.is_some() && !self.waiter.was_woken() {
+            self.silence = Some(silence.saturating_add(REST));
+        }
+        Ok(())
     }
 
     fn read(&mut self, into: &mut [u8]) -> Result<Taken, Failed>
@@ -90,6 +154,7 @@ impl Connection {
             Ok(0) => Ok(Taken::End),
             Ok(count) => {
                 self.pause = SHORT;
+                self.silence = None;
                 Ok(Taken::Bytes(count))
             }
             Err(error) if is_passing(error.kind()) => Ok(Taken::Quiet),
@@ -97,15 +162,27 @@ impl Connection {
         }
     }
 
-    /// Puts a front of the piece, and waits for room where there is none.
+    /// Puts a front of the piece, and waits for room where there is none: a minute in all, between two pieces that are put
+    /// whole.
     pub(crate) fn put(&mut self, piece: &[u8]) -> Result<usize, Failed>
+        ensures { IfOk result (λ count. IsSome (length piece.now) count) }
+    {
+        self.has_put = true;
+        let put = self.put_some(piece);
+        if put == Ok(piece.len()) {
+            self.stalled = 0;
+        }
+        put
+    }
+
+    fn put_some(&mut self, piece: &[u8]) -> Result<usize, Failed>
         ensures { IfOk result (λ count. IsSome (length piece.now) count) }
     {
         match self.write(piece)? {
             Some(count) => Ok(count),
             None => {
                 let put = self.put_waiting(piece);
-                // A take that isn't told of octets finds them a turn later.
+                // A take that isn't told of octets finds them when it looks next.
                 let _ = self
                     .waiter
                     .watch_again(&mut self.stream, Interest::READABLE);
@@ -121,6 +198,11 @@ impl Connection {
             .watch_again(&mut self.stream, Interest::WRITABLE)?;
         for _ in 0..MOST_TURNS {
             self.waiter.wait(TURN)?;
+            let time = if self.waiter.was_woken() { 1 } else { TURN };
+            self.stalled = self.stalled.saturating_add(time);
+            if self.stalled > TURN * MOST_TURNS {
+                return Err(Failed);
+            }
             if let Some(count) = self.write(piece)? {
                 return Ok(count);
             }
@@ -143,9 +225,12 @@ impl Connection {
     /// Ends the connection. What was put reaches the peer: the peer is told that no more comes, and
     /// what it still sends is read and dropped for some turns, since a socket that is closed with octets
     /// unread takes back what the peer hasn't read yet. A turn that the peer cuts short by sending isn't
-    /// counted among these.
+    /// counted among these. Where nothing was put, nothing can be taken back, and it ends at once.
     pub(crate) fn part(mut self) {
         let _ = self.stream.shutdown(Shutdown::Write);
+        if !self.has_put {
+            return;
+        }
         let mut dropped = [0u8; 4096];
         let mut turns = 0;
         for _ in 0..LAST_READS {
@@ -166,6 +251,6 @@ impl Connection {
 }
 
 // Whether the call is to be made again later.
-pub(crate) fn is_passing(kind: ErrorKind) -> bool {
+fn is_passing(kind: ErrorKind) -> bool {
     kind == ErrorKind::WouldBlock || kind == ErrorKind::Interrupted
 }

@@ -1,6 +1,6 @@
 //! Dials over sockets.
 use crate::address::socket_address;
-use crate::connection::Connection;
+use crate::connection::{Connection, Patience};
 use crate::link::SocketLink;
 use crate::waiter::Waiter;
 use mio::net::TcpStream;
@@ -14,7 +14,7 @@ fn connect(net: &impl Net, alloc: Global, at: Address) -> Result<Connection, Out
     let Ok(stream) = TcpStream::connect(net, socket_address(at)) else {
         return Err(OutFault::Failed);
     };
-    let mut connection = Connection::new(stream, waiter)?;
+    let mut connection = Connection::new(stream, waiter, Patience::Turns)?;
     match connection.wait_connected() {
         Ok(()) => Ok(connection),
         Err(Failed) => Err(OutFault::Failed),
@@ -49,7 +49,7 @@ impl<R: Net> Dial for SocketDial<'_, R> {
 
     fn dial(&mut self, at: Address) -> Result<SocketLink, OutFault> {
         match connect(self.net, self.alloc, at) {
-            Ok(connection) => Ok(SocketLink::new(connection)),
+            Ok(connection) => Ok(SocketLink::new(connection, None)),
             Err(OutFault::Failed) => {
                 self.faults = self.faults.saturating_add(1);
                 Err(OutFault::Failed)

@@ -1,19 +1,26 @@
 //! Waiting for a socket.
 use mio::event::Source;
-use mio::{Events, Interest, Poll, Token};
+use mio::{Events, Interest, Poll, Token, Waker};
 use rpc_base::{Failed, OutFault};
 use std::alloc::Global;
 use std::net::Net;
+use std::sync::{Arc, OnceLock};
 use std::time::Duration;
 
 /// How long a turn lasts at most, in milliseconds.
 pub(crate) const TURN: u64 = 10;
 
-/// Waits until its one socket is ready, turn by turn.
+/// How long a wait lasts at most that only a socket or a bell ends, in milliseconds.
+pub(crate) const REST: u64 = 10_000;
+
+/// Waits until its one socket is ready or its waker is woken.
 #[derive(Drop)]
 pub(crate) struct Waiter {
     poll: Poll,
     events: Events,
+    alloc: Global,
+    // Made when it is first wanted, since it takes a descriptor.
+    waker: OnceLock<Arc<Waker, Global>>,
 }
 
 impl Waiter {
@@ -21,7 +28,12 @@ impl Waiter {
     pub(crate) fn new(net: &impl Net, alloc: Global) -> Result<Waiter, OutFault> {
         let events = Events::with_capacity(alloc, 1)?;
         match Poll::new(net) {
-            Ok(poll) => Ok(Waiter { poll, events }),
+            Ok(poll) => Ok(Waiter {
+                poll,
+                events,
+                alloc,
+                waker: OnceLock::new(),
+            }),
             Err(_) => Err(OutFault::Failed),
         }
     }
@@ -46,7 +58,7 @@ impl Waiter {
         }
     }
 
-    /// Waits for so many milliseconds, or until the socket is ready.
+    /// Waits for so many milliseconds, or until the socket is ready or its waker is woken.
     pub(crate) fn wait(&mut self, time: u64) -> Result<(), Failed> {
         match self
             .poll
@@ -57,8 +69,24 @@ impl Waiter {
         }
     }
 
-    /// Whether the last wait ended since the socket was ready, and not for its time.
+    /// Whether the last wait ended since the socket was ready or the waker woken, and not for its time.
     pub(crate) fn was_woken(&self) -> bool {
         !self.events.is_empty()
+    }
+
+    /// What ends a wait, or else the next one, from any thread.
+    pub(crate) fn waker(&self) -> Result<Arc<Waker, Global>, OutFault> {
+        if let Some(waker) = self.waker.get() {
+            return Ok(Arc::try_clone(waker)?);
+        }
+        let Ok(made) = Waker::new(self.poll.registry(), Token(1)) else {
+            return Err(OutFault::Failed);
+        };
+        let made = Arc::new(self.alloc, made)?;
+        let given = Arc::try_clone(&made)?;
+        match self.waker.try_set(made) {
+            Ok(_) => Ok(given),
+            Err(_) => Err(OutFault::Failed),
+        }
     }
 }

@@ -1,6 +1,6 @@
 //! The program: `cases FILE..` goes through files of cases, by hand or made by other programs, and prints each that comes to
 //! something else than the file says, and then how many there were. The subject of a file is what stands in its name before
-//! the first `_`. Beside `src/`, `data/` has the files.
+//! the first `_`. Beside `src/`, `data/` has the files. Cases that need threads are those of `cases_served` and `cases_runs`.
 #![tactic(auto)]
 
 use anyhow::{Error, Result};
@@ -40,6 +40,7 @@ fn of_words(alloc: Global, subject: &str, text: &str) -> Result<Option<Told>, Ca
 /// What cases of values, stubs and callers come to.
 fn of_values(alloc: Global, subject: &str, text: &str) -> Result<Option<Told>, CasesFault> {
     let told = match subject {
+        "values" => cases_values::values(alloc, text)?,
         "stubs" => ndr_lines::stubs(alloc, text)?,
         "callers" => cases_callers::callers(alloc, text)?,
         "calls" => cases_callers::calls(alloc, text)?,
@@ -57,6 +58,9 @@ fn of_groups<R: Threads>(
     text: &str,
 ) -> Result<Option<Told>, CasesFault> {
     let told = match subject {
+        "entries" => cases_journal::entry_lines(alloc, text)?,
+        "journals" => cases_journal::journal_texts(alloc, text)?,
+        "groups" => cases_journal::group_calls(alloc, text)?,
         "desks" => cases_desks::desk_calls(rt, alloc, text)?,
         _ => return Ok(None),
     };

@@ -3,7 +3,7 @@
 ghost use Rattle.std.specs.Prelude.{◌≡◌, true};
 ghost use Rattle.rpc_outside.specs.LinkLists.{is_new};
 
-use base_words::{put, put_decimal, put_hex};
+use base_words::{put, put_decimal, put_hex, read_u16};
 use cases_base::{CasesFault, Names, Plays, Step, Told, first_word, octets_of, played};
 use client_script::{CallEnd, call};
 use ndr_lines::table_of;
@@ -13,8 +13,8 @@ use rpc_outside::{Address, LinkStep, LinkSteps, Links, ScriptDial, ScriptLink};
 use std::alloc::Global;
 
 /// What is told of stories of call scripts, over the probe's interface. A line `link` has the steps of the next link that is
-/// dialled, of two, with `;` between them: `give OCTETS`, `each OCTETS` with each octet alone, `quiet`, `await` for octets that
-/// are put, and `end`. `line` has the script's next line, `out` the next that is put out, `end` how the script ends, and `put` the
+/// dialled, of two, with `;` between them: `give OCTETS`, `each OCTETS` with each octet alone, `quiet COUNT` for that many quiet
+/// turns, `await` for octets that are put, and `end`. `line` has the script's next line, `out` the next that is put out, `end` how the script ends, and `put` the
 /// octets that are put on the next link that is given back.
 pub fn calls(alloc: Global, text: &str) -> Result<Told, CasesFault> {
     let Some(table) = table_of(alloc, PROBE.as_bytes()) else {
@@ -74,7 +74,14 @@ fn steps_of(alloc: Global, names: &Names, text: &str) -> Result<Option<LinkSteps
         };
         match word {
             "" => {}
-            "quiet" => steps.push(LinkStep::Quiet)?,
+            "quiet" => {
+                let Some(count) = read_u16(words.as_bytes()) else {
+                    return Ok(None);
+                };
+                for _ in 0..count {
+                    steps.push(LinkStep::Quiet)?;
+                }
+            }
             "await" => steps.push(LinkStep::AwaitPut)?,
             "end" => steps.push(LinkStep::End)?,
             "give" => steps.push(LinkStep::Give(Octets::from_vec(octets)))?,

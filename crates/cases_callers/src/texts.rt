@@ -72,9 +72,11 @@ fn put_message(
     message: &Message,
     into: &mut Vec<u8>,
 ) -> Result<(), NoMemory> {
-    if !put_row(alloc, known, message, into)? {
+    let mut row = Vec::new(alloc);
+    if !put_row(alloc, known, message, &mut row)? {
         return put(b"no row", into);
     }
+    put(&row, into)?;
     for wire in message.wires.as_slice() {
         put(b" ", into)?;
         put_decimal(alloc, u64::from(wire.attributes), into)?;

@@ -25,10 +25,10 @@ use Rattle.client_script.specs.declared.player.Player.{Player}
 use Rattle.client_script.specs.declared.player.Stop.{Stop}
 use Rattle.client_script.specs.declared.player.Stop.TheVariants as stops
 use Rattle.client_script.specs.Worlds.{Association, World, fresh}
-use Rattle.client_script.specs.Steps.{HasNoCall, Binds, HasOp, IsRequestOf, BarsCall, MayStart, HasCall}
+use Rattle.client_script.specs.Steps.{closing, HasNoCall, Binds, HasOp, IsRequestOf, BarsCall, MayStart, HasCall}
 use Rattle.client_script.specs.Steps.BarsCall.{too_long}
 use Rattle.client_script.specs.Shows.{Holds, Stands, HasWorld, IsBoundAs, IsThere, IsNowhere, IsIndex}
-use Rattle.client_script.specs.Channels.{BeginsOn, HearsOn, BindsOn, FromEach}
+use Rattle.client_script.specs.Channels.{BeginsOn, HearsOn, BindsOn, FromEach, StartsOn, CancelsOn, WaitsOn, ClosesOn}
 use Rattle.client_script.specs.Players.{CanStart, BarsAt, HasAt, Touches, IsCalling, IsIdle, AsksOf, AsksNone, Answered, Begun}
 use Rattle.client_script.specs.Plays.{Opened, Runs, LineEnds, Adds, PlaysLine, PlaysAnywhere, BindsTo}
 use Rattle.client_script.proofs.Lists.{one_there, is_within, set_there, set_long, last_there, zip_push, zip_long}
@@ -80,7 +80,7 @@ module _ {K : Type 0} (shows : K → Shown) where
     pub message : IsMessage s.interface op (msg m)
 
   module _ (p q r : Player K) (name at : ℕ) (op_name text : List ℕ) (op : ℕ) (m : Message) (done : Result Unit Halt) (result : Result Bool Stop) where
-    pub started : IsThere name p.channels.items at → CanStart p at op_name text op m → Touches p at (λ c d. FromEach shows c (λ interface a. BeginsOn shows interface a (DidCall op (msg m)) (IsTooLong (state c.wire.client).interface op (msg m)) done d)) q → Begun q name at done result r
+    pub started : IsThere name p.channels.items at → CanStart p at op_name text op m → Touches p at (λ c d. StartsOn shows c op m done d) q → Begun q name at done result r
         → PlaysAnywhere shows (lines.Start name op_name text) p result r
     started found can t b interface address first now w runs =
         let x = bound_there shows interface p w name at t.before runs.0 t.there (same_bound p name at found.0 t.before found.1 t.there found.2) in
@@ -91,7 +91,7 @@ module _ {K : Type 0} (shows : K → Shown) where
         let can_in : CanIn a.state w.known op_name text op m = subst (λ (known : List WireHandle). CanIn a.state known op_name text op m) runs.0.known can_there in
         let Long : Type 0 = IsTooLong (state t.before.wire.client).interface op (msg m) in
         let as_here : state t.before.wire.client ≡ a.state = (x.2.lived x.1.is_open).0.at in
-        let begun_there : Touches p at (λ c d. FromEach shows c (λ interface a. BeginsOn shows interface a (DidCall op (msg m)) Long done d)) q =
+        let begun_there : Touches p at (λ c d. FromEach shows c (λ interface a. BeginsOn shows c interface a (DidCall op (msg m)) Long done d)) q =
         record { before = t.before; after = t.after; there = t.there; becomes = t.becomes; named = t.named; channels = t.channels; others = t.others } in
         let may : MayStart w name op_name text at a op (msg m) = record {
           bound = x.1;
@@ -101,7 +101,7 @@ module _ {K : Type 0} (shows : K → Shown) where
           message = can_in.message;
         } in
         from_begins shows interface address first now p q r w runs name at (lines.Start name op_name text) a (DidCall op (msg m)) Long
-        (λ l. inr (at, a, x.1, too_long op (msg m) can_in.has_op can_in.request (subst (λ (s : ClientState). IsTooLong s.interface op (msg m)) as_here l))) (λ v h. (at, a, op, msg m, may, h)) (λ b v cut loses. (a, op, msg m, may, cut, loses)) result
+        (λ l. inr (at, a, x.1, too_long op (msg m) can_in.has_op can_in.request (subst (λ (s : ClientState). IsTooLong s.interface op (msg m)) as_here l))) (λ v h. (at, a, op, msg m, may, h)) (λ b v cut loses. (op, msg m, may, cut, loses)) result
         (line_begins shows interface address first now p q r w runs name at a (DidCall op (msg m)) Long done x.1.there begun_there x.2 x.1.is_open (same_bound p name at found.0 t.before found.1 t.there found.2) result b)
 
   -- ---- a call is cancelled, or waited for
@@ -114,32 +114,32 @@ module _ {K : Type 0} (shows : K → Shown) where
       let same : state calls.channel.wire.client ≡ x.0.state = ap (λ (d : Channel K). state d.wire.client) (one_there p.channels.items at calls.channel c calls.there there) ∙ (x.2.lived x.1.is_open).0.at in
       (x.0, record { bound = x.1; calling = subst (λ (m : ClientState). is_calling m ≡ true) same calls.calling }, x.2)
 
-  pub cancelled : (p q r : Player K) (name at : ℕ) (done : Result Unit Halt) (result : Result Bool Stop) → IsCalling p name at → Touches p at (λ c d. FromEach shows c (λ interface a. BeginsOn shows interface a DidCancel ⊥ done d)) q
+  pub cancelled : (p q r : Player K) (name at : ℕ) (done : Result Unit Halt) (result : Result Bool Stop) → IsCalling p name at → Touches p at (λ c d. CancelsOn shows c done d) q
       → Begun q name at done result r → PlaysAnywhere shows (lines.Cancel name) p result r
   cancelled p q r name at done result calls t b interface address first now w runs =
       let x = has_call interface p w name at t.before runs.0 t.there calls in
-      from_begins shows interface address first now p q r w runs name at (lines.Cancel name) x.0 DidCancel ⊥ (λ l. absurd l) (λ v h. (at, x.0, x.1, h)) (λ b v cut loses. (x.0, x.1, cut, loses)) result
+      from_begins shows interface address first now p q r w runs name at (lines.Cancel name) x.0 DidCancel ⊥ (λ l. absurd l) (λ v h. (at, x.0, x.1, h)) (λ b v cut loses. (x.1, cut, loses)) result
       (line_begins shows interface address first now p q r w runs name at x.0 DidCancel ⊥ done x.1.bound.there t x.2 x.1.bound.is_open (same_bound p name at calls.channel t.before calls.there t.there calls.bound) result b)
 
-  module _ (p q r : Player K) (name at : ℕ) (answer : Result Told Halt) (calls : IsCalling p name at) (t : Touches p at (λ c d. FromEach shows c (λ interface a. HearsOn shows interface a answer d)) q) where
+  module _ (p q r : Player K) (name at : ℕ) (answer : Result Told Halt) (calls : IsCalling p name at) (t : Touches p at (λ c d. WaitsOn shows c answer d) q) where
     indexed : (interface : TableForm) (address : Address) (first now : DialShown K) (w : World) → Runs shows interface address first p now w → IsIndex q.places q.channels.items
     indexed interface address first now w runs = indexed_now shows interface address first now p q r w runs name at t (same_bound p name at calls.channel t.before calls.there t.there calls.bound)
 
     pub waited : (u : Unit {0}) → Answered q name at answer (Ok u) r → PlaysAnywhere shows (lines.Wait name) p (Ok true) r
     waited u b interface address first now w runs =
         let x = has_call interface p w name at t.before runs.0 t.there calls in
-        let y = subst (λ (z : Result Told Halt). HearsOn shows interface x.0 z t.after) b.1 (t.becomes interface x.0 x.2 x.1.bound.is_open) in
+        let y = subst (λ (z : Result Told Halt). HearsOn shows t.before interface x.0 z t.after) b.1 (t.becomes interface x.0 x.2 x.1.bound.is_open) in
         let l = told_line shows interface q r w name (told b.0) (slice_set w.associations at y.0) (zipped shows interface address first now p q r w runs name at t.after y.0 t.channels y.2) (touched shows interface p q at w t (agrees shows interface p w runs.0)) (indexed interface address first now w runs) b.2 in
         (l.0, (at, x.0, x.1, told b.0, y.0, y.1, l.1), (l.2, counted shows interface address first now p q r w runs name at t.after t.channels b.2.channels))
 
     pub waited_not : (why : Stop) → Answered q name at answer (Err why) r → PlaysAnywhere shows (lines.Wait name) p (Err why) r
     waited_not stops.Lost b interface address first now w runs =
         let x = has_call interface p w name at t.before runs.0 t.there calls in
-        let y = subst (λ (z : Result Told Halt). HearsOn shows interface x.0 z t.after) b.0 (t.becomes interface x.0 x.2 x.1.bound.is_open) in
-        let l = lost_line shows interface q r w name at t.after y.0 (slice_set w.associations at y.0) (zipped shows interface address first now p q r w runs name at t.after y.0 t.channels y.2.holds)
+        let y = subst (λ (z : Result Told Halt). HearsOn shows t.before interface x.0 z t.after) b.0 (t.becomes interface x.0 x.2 x.1.bound.is_open) in
+        let l = lost_line shows interface q r w name at (shows t.before.wire.link) x.0 t.after y.0 (slice_set w.associations at y.0) (zipped shows interface address first now p q r w runs name at t.after y.0 t.channels y.2.holds)
         (touched shows interface p q at w t (agrees shows interface p w runs.0)) (indexed interface address first now w runs) (there_now shows interface address first now p q r w runs name at t.before t.after t.there t.channels) y.2 b.1 in
         let is : slice_get l.0.associations at ≡ Some y.0 = subst (λ (z : World). slice_get z.associations at ≡ Some y.0) (sym l.1) (set_there w.associations at y.0 x.0 x.1.bound.there) in
-        (l.0, at, y.0, (x.0, x.1, y.1, l.1), is, (l.2, counted shows interface address first now p q r w runs name at t.after t.channels l.4), l.3)
+        (l.0, at, x.0, y.0, (x.1, y.1, l.1), is, (l.2, counted shows interface address first now p q r w runs name at t.after t.channels l.4), l.3)
     waited_not stops.Dial b interface address first now w runs = absurd b
     waited_not stops.Memory b interface address first now w runs = counted shows interface address first now p q r w runs name at t.after t.channels b
 
@@ -180,11 +180,11 @@ module _ {K : Type 0} (shows : K → Shown) where
 
   -- ---- a connection is closed
 
-  pub closed : (p q : Player K) (name at : ℕ) → IsThere name p.channels.items at → Touches p at (λ c d. FromEach shows c (λ interface a. Holds shows interface d (record a { is_open = false }))) q → PlaysAnywhere shows (lines.Close name) p (Ok true) q
+  pub closed : (p q : Player K) (name at : ℕ) → IsThere name p.channels.items at → Touches p at (λ c d. ClosesOn shows c d) q → PlaysAnywhere shows (lines.Close name) p (Ok true) q
   closed p q name at found t interface address first now w runs =
       let x = bound_there shows interface p w name at t.before runs.0 t.there (same_bound p name at found.0 t.before found.1 t.there found.2) in
-      let s = stands_set shows interface address first now p q q w runs name at (record x.0 { is_open = false }) t (same_bound p name at found.0 t.before found.1 t.there found.2) (t.becomes interface x.0 x.2 x.1.is_open) in
-      (record w { associations = slice_set w.associations at (record x.0 { is_open = false }) }, (at, x.0, x.1, refl), (s, counted shows interface address first now p q q w runs name at t.after t.channels refl))
+      let s = stands_set shows interface address first now p q q w runs name at (closing x.0) t (same_bound p name at found.0 t.before found.1 t.there found.2) (t.becomes interface x.0 x.2 x.1.is_open) in
+      (record w { associations = slice_set w.associations at (closing x.0) }, (at, x.0, x.1, refl), (s, counted shows interface address first now p q q w runs name at t.after t.channels refl))
 
   -- ---- a connection binds
 
@@ -220,11 +220,11 @@ module _ {K : Type 0} (shows : K → Shown) where
     bound_not_line stops.Lost b first w runs =
         let y = subst (λ (z : Result Told Halt). BindsOn shows interface (fresh interface name) asked z d) b.0 (binds interface (fresh interface name) new refl) in
         let here : slice_get q.channels.items at ≡ Some d = subst (λ cs. slice_get cs at ≡ Some d) (sym put.channels) (subst (λ (n : ℕ). slice_get (p.channels.items ++ d ∷ []) n ≡ Some d) (sym put.place) (last_there p.channels.items d)) in
-        let l = lost_line shows interface q r w name at d y.0 (w.associations ++ y.0 ∷ []) (put_zipped w y.0 runs.0 y.2.holds) (put_agrees w runs.0) (put.indexed runs.0.indexed) here y.2 b.1 in
+        let l = lost_line shows interface q r w name at y.2 y.0 d y.1 (w.associations ++ y.1 ∷ []) (put_zipped w y.1 runs.0 y.4.holds) (put_agrees w runs.0) (put.indexed runs.0.indexed) here y.4 b.1 in
         let place : at ≡ length w.associations = put.place ∙ zip_long (Holds shows interface) p.channels.items w.associations runs.0.channels in
-        let is : slice_get l.0.associations at ≡ Some y.0 =
-        subst (λ (z : World). slice_get z.associations at ≡ Some y.0) (sym l.1) (subst (λ (n : ℕ). slice_get (w.associations ++ y.0 ∷ []) n ≡ Some y.0) (sym place) (last_there w.associations y.0)) in
-        (l.0, at, y.0, (is_free shows interface p w name runs.0 nowhere, asked, asks_group shows interface p w group asked runs.0 asks, place, y.1, l.1), is, (l.2, put_counted first runs.1 l.4), l.3)
+        let is : slice_get l.0.associations at ≡ Some y.1 =
+        subst (λ (z : World). slice_get z.associations at ≡ Some y.1) (sym l.1) (subst (λ (n : ℕ). slice_get (w.associations ++ y.1 ∷ []) n ≡ Some y.1) (sym place) (last_there w.associations y.1)) in
+        (l.0, at, y.0, y.1, (is_free shows interface p w name runs.0 nowhere, asked, asks_group shows interface p w group asked runs.0 asks, place, y.3, l.1), is, (l.2, put_counted first runs.1 l.4), l.3)
     bound_not_line stops.Dial b first w runs = absurd b
     bound_not_line stops.Memory b first w runs = put_counted first runs.1 b
 

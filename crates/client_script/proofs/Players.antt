@@ -79,9 +79,9 @@ module _ {K : Type 0} (shows : K → Shown) (interface : TableForm) where
         },
       )
 
-  pub lost_line : (q r : Player K) (w : World) (name at : ℕ) (d : Channel K) (b : Association) (A : List Association) → AllZip (Holds shows interface) q.channels.items A → Agrees q w → IsIndex q.places q.channels.items → slice_get q.channels.items at ≡ Some d
-      → HoldsLost shows interface d b → TellsLost q name at r → (v : World) × Loses w name A b v × Stands shows interface r v × HasLost shows interface r at b × (r.channels ≡ q.channels)
-  lost_line q r w name at d b A z s i e h t =
+  pub lost_line : (q r : Player K) (w : World) (name at : ℕ) (from : Shown) (a : Association) (d : Channel K) (b : Association) (A : List Association) → AllZip (Holds shows interface) q.channels.items A → Agrees q w → IsIndex q.places q.channels.items → slice_get q.channels.items at ≡ Some d
+      → HoldsLost shows interface from a d b → TellsLost q name at r → (v : World) × Loses w name A b v × Stands shows interface r v × HasLost shows interface r at a b × (r.channels ≡ q.channels)
+  lost_line q r w name at from a d b A z s i e h t =
       let same : t.channel ≡ d = one_there q.channels.items at t.channel d t.there e in
       let called : is_calling (state t.channel.wire.client) ≡ is_calling b.state = ap (λ (c : Channel K). is_calling (state c.wire.client)) same ∙ ap is_calling h.at in
       let channels : r.channels ≡ q.channels = ap (λ (x : Player K). x.channels) t.others in (
@@ -94,7 +94,7 @@ module _ {K : Type 0} (shows : K → Shown) (interface : TableForm) where
           failed = ap (λ (x : Player K). x.failed) t.others ∙ s.failed;
           indexed = same_index q r channels (ap (λ (x : Player K). x.places) t.others) i;
         },
-        (d, subst (λ cs. slice_get cs at ≡ Some d) (sym (ap (λ x. x.items) channels)) e, h),
+        (d, subst (λ cs. slice_get cs at ≡ Some d) (sym (ap (λ x. x.items) channels)) e, from, h),
         channels,
       )
 
@@ -131,22 +131,22 @@ module _ {K : Type 0} (shows : K → Shown) (interface : TableForm) where
     LineBegins a event Long (Ok true) = (v : World) × Begins w at a event v × Runs shows interface address first r now v
     LineBegins a event Long (Ok false) = Runs shows interface address first r now w × Long
     LineBegins a event Long (Err stops.Lost) =
-        (v : World) × (b : Association) × IsCutOff a event b × Loses w name (slice_set w.associations at b) b v × (slice_get v.associations at ≡ Some b) × Runs shows interface address first r now v × HasLost shows interface r at b
+        (v : World) × (b : Association) × IsCutOff a event b × Loses w name (slice_set w.associations at b) b v × (slice_get v.associations at ≡ Some b) × Runs shows interface address first r now v × HasLost shows interface r at a b
     LineBegins a event Long (Err stops.Dial) = ⊥
     LineBegins a event Long (Err stops.Memory) = Opened address first (length r.channels.items) now
 
     -- a line that begins something
     pub from_begins : (line : CallLine) (a : Association) (event : List ℕ → ClientEvent) (Long : Type 0) → (Long → IsBarred w line) → ((v : World) → Begins w at a event v → Steps interface w line v)
-        → ((b : Association) (v : World) → IsCutOff a event b → Loses w name (slice_set w.associations at b) b v → EndsAt interface w line at b v) → (result : Result Bool Stop) → LineBegins a event Long result → LineEnds shows interface address first w line result now r now
+        → ((b : Association) (v : World) → IsCutOff a event b → Loses w name (slice_set w.associations at b) b v → EndsAt interface w line at a b v) → (result : Result Bool Stop) → LineBegins a event Long result → LineEnds shows interface address first w line result now r now
     from_begins line a event Long bars steps ends (Ok true) h = (h.0, steps h.0 h.1, h.2)
     from_begins line a event Long bars steps ends (Ok false) h = (h.0, bars h.1)
-    from_begins line a event Long bars steps ends (Err stops.Lost) h = (h.0, at, h.1, ends h.1 h.0 h.2 h.3, h.4, h.5, h.6)
+    from_begins line a event Long bars steps ends (Err stops.Lost) h = (h.0, at, a, h.1, ends h.1 h.0 h.2 h.3, h.4, h.5, h.6)
     from_begins line a event Long bars steps ends (Err stops.Dial) h = absurd h
     from_begins line a event Long bars steps ends (Err stops.Memory) h = h
 
-    module _ (a : Association) (event : List ℕ → ClientEvent) (Long : Type 0) (done : Result Unit Halt) (there : slice_get w.associations at ≡ Some a) (t : Touches p at (λ c d. FromEach shows c (λ interface a. BeginsOn shows interface a event Long done d)) q) (h : Holds shows interface t.before a) (o : a.is_open ≡ true) (bound : IsBoundAs name t.before) where
-      becomes : (x : Result Unit Halt) → done ≡ x → BeginsOn shows interface a event Long x t.after
-      becomes x e = subst (λ (y : Result Unit Halt). BeginsOn shows interface a event Long y t.after) e (t.becomes interface a h o)
+    module _ (a : Association) (event : List ℕ → ClientEvent) (Long : Type 0) (done : Result Unit Halt) (there : slice_get w.associations at ≡ Some a) (t : Touches p at (λ c d. FromEach shows c (λ interface a. BeginsOn shows c interface a event Long done d)) q) (h : Holds shows interface t.before a) (o : a.is_open ≡ true) (bound : IsBoundAs name t.before) where
+      becomes : (x : Result Unit Halt) → done ≡ x → BeginsOn shows t.before interface a event Long x t.after
+      becomes x e = subst (λ (y : Result Unit Halt). BeginsOn shows t.before interface a event Long y t.after) e (t.becomes interface a h o)
 
       pub line_begins : (result : Result Bool Stop) → Begun q name at done result r → LineBegins a event Long result
       line_begins (Ok true) b =
@@ -161,7 +161,7 @@ module _ {K : Type 0} (shows : K → Shown) (interface : TableForm) where
           ((subst (λ (y : Player K). Stands shows interface y w) (sym b.1) same, counted t.after t.channels (ap (λ (y : Player K). y.channels) b.1)), x.0)
       line_begins (Err stops.Lost) b =
           let x = becomes (Err halts.Lost) b.0 in
-          let l = lost_line q r w name at t.after x.0 (slice_set w.associations at x.0) (zipped t.after x.0 t.channels x.2.holds) (touched p q at w t (agrees p w runs.0)) (indexed_now t bound) (there_now t.before t.after t.there t.channels) x.2 b.1 in
+          let l = lost_line q r w name at (shows t.before.wire.link) a t.after x.0 (slice_set w.associations at x.0) (zipped t.after x.0 t.channels x.2.holds) (touched p q at w t (agrees p w runs.0)) (indexed_now t bound) (there_now t.before t.after t.there t.channels) x.2 b.1 in
           let is : slice_get l.0.associations at ≡ Some x.0 = subst (λ (y : World). slice_get y.associations at ≡ Some x.0) (sym l.1) (set_there w.associations at x.0 a there) in
           (l.0, x.0, x.1, l.1, is, (l.2, counted t.after t.channels l.4), l.3)
       line_begins (Err stops.Dial) b = absurd b

@@ -93,7 +93,7 @@ module _ {K : Type 0} (shows : K → Shown) (interface : TableForm) (at : Addres
   opened_of : (text : List ℕ) (end : CallEnd) (p : Player K) → AllEnds shows interface at text first end p now → Opened at first (length p.channels.items) now
   opened_of text ends.Done p h = h.3.1
   opened_of text ends.Failed p h = h.3.1
-  opened_of text ends.Lost p h = h.5.1
+  opened_of text ends.Lost p h = h.6.1
   opened_of text (ends.Line n) p h = h.6.1
   opened_of text ends.DialFault p h = h.6.1
   opened_of text ends.Memory p h = h
@@ -105,7 +105,7 @@ module _ {K : Type 0} (shows : K → Shown) (interface : TableForm) (at : Addres
   links_held [] [] h = tt
   links_held [] (b ∷ bs) h = absurd h
   links_held (c ∷ cs) [] h = absurd h
-  links_held (c ∷ cs) (b ∷ bs) h = ((shows c.wire.first.value, h.0.first, h.0.spoken), links_held cs bs h.1)
+  links_held (c ∷ cs) (b ∷ bs) h = (record { new = shows c.wire.first.value; is_new = h.0.first; spoken = h.0.spoken; closed = h.0.closed }, links_held cs bs h.1)
 
   module _ (p : Player K) (last : DialShown K) (r : Returns now (map link_of p.channels.items) last) where
     gives_back : (w : World) → Runs shows interface at first p now w → GivesBack shows interface first at w.associations (map link_of p.channels.items) last
@@ -135,13 +135,14 @@ module _ {K : Type 0} (shows : K → Shown) (interface : TableForm) (at : Addres
       map link_of p.channels.items,
       h.1,
       h.2,
-      h.6.0.wire.link,
       h.3,
-      h.5.0.out,
-      gives_back h.0 h.5,
+      h.7.0.wire.link,
       h.4,
-      lost_there h.1 h.6.0 h.6.1,
-      (shows h.6.0.wire.first.value, h.6.2.holds.first, h.6.2.lost),
+      h.6.0.out,
+      gives_back h.0 h.6,
+      h.5,
+      lost_there h.1 h.7.0 h.7.1,
+      record { new = shows h.7.0.wire.first.value; is_new = h.7.3.holds.first; from = h.7.2; lost = h.7.3.lost },
     )
     comes_to text (ends.Line n) h = (h.0, map link_of p.channels.items, h.1, h.2, h.3, h.4, h.5, h.6.0.out, gives_back h.0 h.6)
     comes_to text ends.DialFault h = (h.0, map link_of p.channels.items, h.1, h.2, h.3, rose_still _ _ _ h.4 r.faults, h.5, h.6.0.out, gives_back h.0 h.6)

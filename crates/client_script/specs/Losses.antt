@@ -38,11 +38,12 @@ pub record IsCutOff (a : Association) (event : List ℕ → ClientEvent) (b : As
   pub happens : Happens a.state (event octets) b.state
   pub happened : b ≡ record (with_event a (event octets) b.state) { is_open = false; pending = b.pending }
 
--- a new connection is lost before its bind is answered
-abbrev pub BindsInVain : TableForm → ℕ → ℕ → Association → Type 0
-BindsInVain interface name group b =
-    IsCutOff (fresh interface name) (DidBind group) b
-    ⊎ ((octets : List ℕ) × (n : ClientState) × Happens (at_start interface) (DidBind group octets) n × GoesUnheard interface (with_event (fresh interface name) (DidBind group octets) n) b)
+-- A connection on which nothing happened is lost before its bind is answered: as the bind is put, or as the answer is waited for. It
+-- was as in a when that began.
+abbrev pub BindsInVain : TableForm → Association → ℕ → Association → Association → Type 0
+BindsInVain interface new group a b =
+    ((a ≡ new) × IsCutOff a (DidBind group) b)
+    ⊎ ((octets : List ℕ) × (n : ClientState) × Happens new.state (DidBind group octets) n × (a ≡ with_event new (DidBind group octets) n) × GoesUnheard interface a b)
 
 -- ---- what is printed
 
@@ -57,27 +58,33 @@ Loses w name associations b v = v ≡ record w { associations = associations; ou
 -- ---- lines
 
 module _ (interface : TableForm) where
-  -- At a line the connection at that place is lost, and with it the script ends.
-  abbrev pub EndsAt : World → CallLine → ℕ → Association → World → Type 0
-  EndsAt w (lines.Bind name group) at b v =
-      IsFree w name × (asked : ℕ) × AsksGroup w group asked × (at ≡ length w.associations) × BindsInVain interface name asked b × Loses w name (w.associations ++ b ∷ []) b v
-  EndsAt w (lines.Start name op_name text) at b v =
-      (a : Association) × (op : ℕ) × (m : Msg) × MayStart w name op_name text at a op m × IsCutOff a (DidCall op m) b × Loses w name (slice_set w.associations at b) b v
-  EndsAt w (lines.Cancel name) at b v = (a : Association) × HasCall w name at a × IsCutOff a DidCancel b × Loses w name (slice_set w.associations at b) b v
-  EndsAt w (lines.Wait name) at b v = (a : Association) × HasCall w name at a × GoesUnheard interface a b × Loses w name (slice_set w.associations at b) b v
-  EndsAt w (lines.Close name) at b v = ⊥
+  -- At a line the connection at that place is lost, as the line puts something or waits for an answer, and with it the script ends. The
+  -- connection was as in a when that began, and is as in b.
+  abbrev pub EndsAt : World → CallLine → ℕ → Association → Association → World → Type 0
+  EndsAt w (lines.Bind name group) at a b v =
+      IsFree w name × (asked : ℕ) × AsksGroup w group asked × (at ≡ length w.associations) × BindsInVain interface (fresh interface name) asked a b × Loses w name (w.associations ++ b ∷ []) b v
+  EndsAt w (lines.Start name op_name text) at a b v =
+      (op : ℕ) × (m : Msg) × MayStart w name op_name text at a op m × IsCutOff a (DidCall op m) b × Loses w name (slice_set w.associations at b) b v
+  EndsAt w (lines.Cancel name) at a b v = HasCall w name at a × IsCutOff a DidCancel b × Loses w name (slice_set w.associations at b) b v
+  EndsAt w (lines.Wait name) at a b v = HasCall w name at a × GoesUnheard interface a b × Loses w name (slice_set w.associations at b) b v
+  EndsAt w (lines.Close name) at a b v = ⊥
 
 -- ---- why
 
--- A link that was as in a and is as in b failed; or its peer ended, or it was quiet as often as ends a wait, with no whole
--- PDU left in the octets that came; or these are no PDU's; or the last PDU breaks the protocol.
-pub data IsGone (a b : Shown) (rest : List ℕ) (events : List ClientEvent) : Type 0 where
-  failed : Rose a.faults b.faults → IsGone a b rest events
-  ended : IsPartial rest → Rose a.ends b.ends → IsNothing b.left → IsGone a b rest events
-  quiet : IsPartial rest → RoseBy most_quiets a.quiets b.quiets → IsGone a b rest events
-  cut : (fault : PduFault) → IsStop rest fault → IsGone a b rest events
-  broken : (before : List ClientEvent) → (p : Pdu) → (fault : ClientFault) → events ≡ before ++ Received p (Some (TBroken fault)) ∷ [] → IsGone a b rest events
+-- Since a link was as in a, when a put or a wait began, this happened on its connection, and it is as in b: it failed in that put or
+-- wait; or the wait told nothing, and in it the peer ended, or the link was quiet as often as ends a wait, with no whole PDU left in
+-- the octets that came, or these are no PDU's; or the last PDU of the wait breaks the protocol.
+pub data IsGone (a b : Shown) (rest : List ℕ) (since : List ClientEvent) : Type 0 where
+  failed : Rose a.faults b.faults → IsGone a b rest since
+  ended : AreSilent since → IsPartial rest → Rose a.ends b.ends → IsNothing b.left → IsGone a b rest since
+  quiet : AreSilent since → IsPartial rest → RoseBy most_quiets a.quiets b.quiets → IsGone a b rest since
+  cut : AreSilent since → (fault : PduFault) → IsStop rest fault → IsGone a b rest since
+  broken : (before : List ClientEvent) → (p : Pdu) → (fault : ClientFault) → AreSilent before → since ≡ before ++ Received p (Some (TBroken fault)) ∷ [] → IsGone a b rest since
 
--- the link of a connection that is lost
-abbrev pub IsLostOn : TableForm → Association → Shown → Shown → Type 0
-IsLostOn interface s a b = (spoken : Spoken interface a b s.events s.pending) × IsGone a b spoken.fed.rest s.events
+-- The connection that was as in a over a link that was new as in `new`, and then as in `from`, is lost, and they are as in b and `now`.
+pub record IsLostFrom (interface : TableForm) (a b : Association) (new from now : Shown) : Type 0 where
+  pub before : Spoken interface new from a.events a.pending
+  pub spoken : Spoken interface new now b.events b.pending
+  pub since : List ClientEvent
+  pub happened : b.events ≡ a.events ++ since
+  pub gone : IsGone from now spoken.fed.rest since

@@ -58,15 +58,15 @@ module _ {K : Type 0} (shows : K → Shown) where
   Runs interface at first p now w = Stands shows interface p w × Opened at first (length p.channels.items) now
 
   -- the connection that is lost is that of the channel at its place
-  abbrev pub HasLost : TableForm → Player K → ℕ → Association → Type 0
-  HasLost interface p place b = (c : Channel K) × (slice_get p.channels.items place ≡ Some c) × HoldsLost shows interface c b
+  abbrev pub HasLost : TableForm → Player K → ℕ → Association → Association → Type 0
+  HasLost interface p place a b = (c : Channel K) × (slice_get p.channels.items place ≡ Some c) × (from : Shown) × HoldsLost shows interface from a c b
 
   -- what a line comes to: it is played, it may not come, a connection is lost at it, the dial fails, or memory runs out
   abbrev pub LineEnds : TableForm → Address → DialShown K → World → CallLine → Result Bool Stop → DialShown K → Player K → DialShown K → Type 0
   LineEnds interface at first w line (Ok true) before p now = (v : World) × Steps interface w line v × Runs interface at first p now v
   LineEnds interface at first w line (Ok false) before p now = Runs interface at first p now w × IsBarred w line
   LineEnds interface at first w line (Err stops.Lost) before p now =
-      (v : World) × (place : ℕ) × (b : Association) × EndsAt interface w line place b v × (slice_get v.associations place ≡ Some b) × Runs interface at first p now v × HasLost interface p place b
+      (v : World) × (place : ℕ) × (a : Association) × (b : Association) × EndsAt interface w line place a b v × (slice_get v.associations place ≡ Some b) × Runs interface at first p now v × HasLost interface p place a b
   LineEnds interface at first w line (Err stops.Dial) before p now = DialsFor w line × Rose before.faults now.faults × Runs interface at first p now w
   LineEnds interface at first w line (Err stops.Memory) before p now = Opened at first (length p.channels.items) now
 
@@ -126,7 +126,7 @@ module _ {K : Type 0} (shows : K → Shown) where
   AllEnds interface at text first ends.Done p now = (w : World) × IsPlayed interface text w × (w.failed ≡ false) × Runs interface at first p now w
   AllEnds interface at text first ends.Failed p now = (w : World) × IsPlayed interface text w × (w.failed ≡ true) × Runs interface at first p now w
   AllEnds interface at text first ends.Lost p now =
-      (w : World) × (place : ℕ) × (b : Association) × IsPlayedUpTo interface text place b w × (slice_get w.associations place ≡ Some b) × Runs interface at first p now w × HasLost interface p place b
+      (w : World) × (place : ℕ) × (a : Association) × (b : Association) × IsPlayedUpTo interface text place a b w × (slice_get w.associations place ≡ Some b) × Runs interface at first p now w × HasLost interface p place a b
   AllEnds interface at text first (ends.Line n) p now =
       (w : World) × (lines : List CallLine) × (rest : List ℕ) × LeadsTo interface text lines w rest × (n ≡ length lines + 1) × HasNoNext interface w rest × Runs interface at first p now w
   AllEnds interface at text first ends.DialFault p now =

@@ -14,7 +14,7 @@ use Rattle.client_script.specs.declared.calling.CallEnd.{CallEnd}
 use Rattle.client_script.specs.declared.calling.CallEnd.TheVariants as ends
 use Rattle.client_script.specs.Worlds.{Association, World, nothing_yet}
 use Rattle.client_script.specs.Steps.{Steps, IsBarred, DialsFor}
-use Rattle.client_script.specs.Losses.{EndsAt, IsLostOn}
+use Rattle.client_script.specs.Losses.{EndsAt, IsLostFrom}
 
 unfoldable pub text_of_lines : List CallLine → List ℕ
 text_of_lines lines = flat_map line_text lines
@@ -46,8 +46,8 @@ module _ (interface : TableForm) where
   abbrev pub HasNoNext : World → List ℕ → Type 0
   HasNoNext w rest = (BeginsWithNoLine rest × (rest ≢ [])) ⊎ ((line : CallLine) × (after : List ℕ) × BeginsWith line after rest × IsBarred w line)
 
-  -- it does up to a line at which the connection at that place is lost
-  pub record IsPlayedUpTo (text : List ℕ) (at : ℕ) (b : Association) (v : World) : Type 0 where
+  -- it does up to a line at which the connection at that place, which was as in a when the line put something or waited, is lost
+  pub record IsPlayedUpTo (text : List ℕ) (at : ℕ) (a b : Association) (v : World) : Type 0 where
     pub lines : List CallLine
     pub before : World
     pub rest : List ℕ
@@ -55,7 +55,7 @@ module _ (interface : TableForm) where
     pub line : CallLine
     pub after : List ℕ
     pub begins : BeginsWith line after rest
-    pub ends : EndsAt interface before line at b v
+    pub ends : EndsAt interface before line at a b v
 
 -- Links were opened to the address, as many as these, which were given back in their order.
 pub record GivesLinks {K : Type 0} (a : DialShown K) (at : Address) (links : List K) (b : DialShown K) : Type 0 where
@@ -63,13 +63,19 @@ pub record GivesLinks {K : Type 0} (a : DialShown K) (at : Address) (links : Lis
   pub back : b.back ≡ option_map (λ before. before ++ links) a.back
 
 module _ {K : Type 0} (shows : K → Shown) (interface : TableForm) where
-  -- Over a link that was new, this happened on the connection.
-  abbrev pub IsLinkOf : Association → K → Type 0
-  IsLinkOf a link = (new : Shown) × IsNew new × Spoken interface new (shows link) a.events a.pending
+  -- Over a link that was new, this happened on the connection; it is closed where a line closed that.
+  pub record IsLinkOf (a : Association) (link : K) : Type 0 where
+    pub new : Shown
+    pub is_new : IsNew new
+    pub spoken : Spoken interface new (shows link) a.events a.pending
+    pub closed : (shows link).closed ≡ a.is_closed
 
-  -- the link over which a connection was lost
-  abbrev pub IsLostLink : Association → K → Type 0
-  IsLostLink a link = (new : Shown) × IsNew new × IsLostOn interface a new (shows link)
+  -- the link over which a connection was lost that was as in a before
+  pub record IsLostLink (a b : Association) (link : K) : Type 0 where
+    pub new : Shown
+    pub is_new : IsNew new
+    pub from : Shown
+    pub lost : IsLostFrom interface a b new from (shows link)
 
   -- A link was opened to the address for each connection, and these were given back in the order of the connections.
   pub record GivesBack (a : DialShown K) (at : Address) (associations : List Association) (links : List K) (b : DialShown K) : Type 0 where
@@ -82,8 +88,8 @@ module _ {K : Type 0} (shows : K → Shown) (interface : TableForm) where
   Ends text at a out ends.Done b = (w : World) × (links : List K) × IsPlayed interface text w × (w.failed ≡ false) × (out ≡ w.out) × GivesBack a at w.associations links b
   Ends text at a out ends.Failed b = (w : World) × (links : List K) × IsPlayed interface text w × (w.failed ≡ true) × (out ≡ w.out) × GivesBack a at w.associations links b
   Ends text at a out ends.Lost b =
-      (w : World) × (links : List K) × (place : ℕ) × (lost : Association) × (link : K) × IsPlayedUpTo interface text place lost w × (out ≡ w.out) × GivesBack a at w.associations links b
-      × (slice_get w.associations place ≡ Some lost) × (slice_get links place ≡ Some link) × IsLostLink lost link
+      (w : World) × (links : List K) × (place : ℕ) × (before : Association) × (lost : Association) × (link : K) × IsPlayedUpTo interface text place before lost w × (out ≡ w.out) × GivesBack a at w.associations links b
+      × (slice_get w.associations place ≡ Some lost) × (slice_get links place ≡ Some link) × IsLostLink before lost link
   Ends text at a out (ends.Line n) b =
       (w : World) × (links : List K) × (lines : List CallLine) × (rest : List ℕ) × LeadsTo interface text lines w rest × (n ≡ length lines + 1) × HasNoNext interface w rest × (out ≡ w.out) × GivesBack a at w.associations links b
   Ends text at a out ends.DialFault b =

@@ -11,7 +11,7 @@ use Rattle.client_link.specs.Wires.{Spoken, Lived}
 use Rattle.client_script.specs.declared.channel.Channel.{Channel}
 use Rattle.client_script.specs.declared.player.Player.{Player}
 use Rattle.client_script.specs.Worlds.{Association, World}
-use Rattle.client_script.specs.Losses.{IsLostOn}
+use Rattle.client_script.specs.Losses.{IsLostFrom}
 
 -- the channel is bound by that name
 pub record IsBoundAs {K : Type 0} (name : ℕ) (c : Channel K) : Type 0 where
@@ -28,16 +28,17 @@ module _ {K : Type 0} (shows : K → Shown) where
   pub record Holds (interface : TableForm) (c : Channel K) (a : Association) : Type 0 where
     pub name : c.name ≡ a.name
     pub is_open : c.is_open ≡ a.is_open
+    pub closed : (shows c.wire.link).closed ≡ a.is_closed
     pub group : c.group ≡ a.group
     pub first : IsNew (shows c.wire.first.value)
     pub spoken : Spoken interface (shows c.wire.first.value) (shows c.wire.link) a.events a.pending
     pub lived : a.is_open ≡ true → Lived shows interface c.wire a.events a.state [] × (a.pending ≡ [])
 
-  -- it is that connection, and is lost
-  pub record HoldsLost (interface : TableForm) (c : Channel K) (a : Association) : Type 0 where
-    pub holds : Holds interface c a
-    pub at : state c.wire.client ≡ a.state
-    pub lost : IsLostOn interface a (shows c.wire.first.value) (shows c.wire.link)
+  -- it is that connection, and is lost, which was as in a over a link that was as in `from`
+  pub record HoldsLost (interface : TableForm) (from : Shown) (a : Association) (c : Channel K) (b : Association) : Type 0 where
+    pub holds : Holds interface c b
+    pub at : state c.wire.client ≡ b.state
+    pub lost : IsLostFrom interface a b (shows c.wire.first.value) from (shows c.wire.link)
 
   -- a player stands for a world
   pub record Stands (interface : TableForm) (p : Player K) (w : World) : Type 0 where

@@ -87,6 +87,10 @@ pub record HasCall (w : World) (name at : ℕ) (a : Association) : Type 0 where
   pub bound : IsBound w name at a
   pub calling : is_calling a.state ≡ true
 
+-- it is open no more, and its link is closed
+abbrev pub closing : Association → Association
+closing a = record a { is_open = false; is_closed = true }
+
 -- something is begun on the connection at a place
 abbrev pub Begins : World → ℕ → Association → (List ℕ → ClientEvent) → World → Type 0
 Begins w at a event v =
@@ -133,4 +137,4 @@ module _ (interface : TableForm) where
   Steps w (lines.Wait name) v =
       (at : ℕ) × (a : Association) × HasCall w name at a × (outcome : Outcome) × (b : Association) × Hears interface a outcome b × Prints w name outcome (slice_set w.associations at b) v
   Steps w (lines.Close name) v =
-      (at : ℕ) × (a : Association) × IsBound w name at a × (v ≡ record w { associations = slice_set w.associations at (record a { is_open = false }) })
+      (at : ℕ) × (a : Association) × IsBound w name at a × (v ≡ record w { associations = slice_set w.associations at (closing a) })

@@ -5,11 +5,12 @@ use Rattle.ndr_table.specs.Tables.{TableForm}
 use Rattle.client_core.specs.States.{ClientState, at_start, is_bound}
 use Rattle.client_core.specs.Histories.{ClientEvent}
 
--- A connection: its name; whether it was neither closed nor lost; the group that its server told; what happened on it, and the
--- state where that led; and the octets that were sent and not put.
+-- A connection: its name; whether it was neither closed nor lost, and whether it was closed; the group that its server told; what
+-- happened on it, and the state where that led; and the octets that were sent and not put.
 pub record Association : Type 0 where
   pub name : ℕ
   pub is_open : Bool
+  pub is_closed : Bool
   pub group : ℕ
   pub events : List ClientEvent
   pub state : ClientState
@@ -28,7 +29,7 @@ nothing_yet = record { associations = []; known = []; out = []; failed = false }
 
 -- a connection on which nothing happened
 abbrev pub fresh : TableForm → ℕ → Association
-fresh interface name = record { name = name; is_open = true; group = 0; events = []; state = at_start interface; pending = [] }
+fresh interface name = record { name = name; is_open = true; is_closed = false; group = 0; events = []; state = at_start interface; pending = [] }
 
 -- something happened on it
 abbrev pub with_event : Association → ClientEvent → ClientState → Association

@@ -6,13 +6,13 @@ ghost use Rattle.ndr_table.specs.Shown.{shown};
 ghost use Rattle.client_core.specs.Calls.{IsMessage};
 ghost use Rattle.client_core.specs.States.{is_bound, is_calling};
 ghost use Rattle.client_core.specs.States as states;
-ghost use Rattle.client_core.specs.Histories.ClientEvent.{DidBind, DidCancel};
+ghost use Rattle.client_core.specs.Histories.ClientEvent.{DidBind};
 ghost use Rattle.client_core.specs.State.{state};
 ghost use Rattle.client_link.specs.Wires.{IsOpen};
 ghost use Rattle.client_script.specs.Worlds.{fresh};
 ghost use Rattle.client_script.specs.Shows.{Holds};
 ghost use Rattle.client_script.specs.Steps as spec;
-ghost use Rattle.client_script.specs.Channels.{BeginsOn, StartsOn, HearsOn, BindsOn, FromEach, Halts, Silences, IsWaited, IsTellable};
+ghost use Rattle.client_script.specs.Channels.{BeginsOn, StartsOn, CancelsOn, WaitsOn, BindsOn, ClosesOn, FromEach, Halts, Silences, IsWaited, IsTellable};
 
 use client_link::{BeginFault, Stop as Deaf, Told, Wire};
 use ndr_table::Table;
@@ -82,7 +82,7 @@ impl<K: Link> Channel<K> {
     fn begin_bind(&mut self, group: u32) -> Result<(), Halt>
         requires open { IsOpen K.shows self.old.wire.link }
         requires free { is_bound (state self.old.wire.client) ≡ false }
-        ensures begins { FromEach K.shows self.old (λ interface a. BeginsOn K.shows interface a (DidBind group) ⊥ result self.new) }
+        ensures begins { FromEach K.shows self.old (λ interface a. BeginsOn K.shows self.old interface a (DidBind group) ⊥ result self.new) }
         ensures open { IsOpen K.shows self.new.wire.link }
         ensures short { IfErr result (λ halt. halt ≢ Halt.TooLong) }
         ensures name { self.new.name ≡ self.old.name }
@@ -140,7 +140,7 @@ impl<K: Link> Channel<K> {
         requires open { IsOpen K.shows self.old.wire.link }
         requires calling { is_calling (state self.old.wire.client) ≡ true }
         ensures name { self.new.name ≡ self.old.name }
-        ensures begins { FromEach K.shows self.old (λ interface a. BeginsOn K.shows interface a DidCancel ⊥ result self.new) }
+        ensures begins { CancelsOn K.shows self.old result self.new }
     {
         match self.wire.cancel() {
             Ok(()) => Ok(()),
@@ -169,7 +169,7 @@ impl<K: Link> Channel<K> {
     /// protocol, and `Halt::Memory` where memory runs out.
     pub fn wait(&mut self) -> Result<Told, Halt>
         requires { IsOpen K.shows self.old.wire.link }
-        ensures hears { FromEach K.shows self.old (λ interface a. HearsOn K.shows interface a result self.new) }
+        ensures hears { WaitsOn K.shows self.old result self.new }
         ensures waited { IsWaited result }
         ensures name { self.new.name ≡ self.old.name }
     {
@@ -183,10 +183,10 @@ impl<K: Link> Channel<K> {
         }
     }
 
-    /// Closes it.
+    /// Closes it, and its link.
     pub fn close(&mut self)
         requires { IsOpen K.shows self.old.wire.link }
-        ensures closes { FromEach K.shows self.old (λ interface a. Holds K.shows interface self.new (record a { is_open = false })) }
+        ensures closes { ClosesOn K.shows self.old self.new }
         ensures name { self.new.name ≡ self.old.name }
     {
         self.is_open = false;

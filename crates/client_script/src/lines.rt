@@ -1,13 +1,12 @@
 //! The lines of a script, each played over the links of a dial.
 ghost use Rattle.std.specs.Prelude.{◌≡◌, ◌≢◌, ◌<◌, true, false, length, Ok, Some, MatchOption};
 ghost use Rattle.ndr_table.specs.Shown.{shown};
-ghost use Rattle.client_core.specs.Histories.ClientEvent.{DidCancel};
 ghost use Rattle.client_core.specs.States.{is_calling};
 ghost use Rattle.client_core.specs.State.{state};
 ghost use Rattle.client_link.specs.Wires.{IsOpen};
 ghost use Rattle.client_script.specs.declared.line.CallLine.TheVariants as lines;
-ghost use Rattle.client_script.specs.Shows.{Holds, HasWorld, IsThere, IsNowhere, IsIndex};
-ghost use Rattle.client_script.specs.Channels.{FromEach, BeginsOn, MayStartOn, StartsOn, HearsOn, IsWaited};
+ghost use Rattle.client_script.specs.Shows.{HasWorld, IsThere, IsNowhere, IsIndex};
+ghost use Rattle.client_script.specs.Channels.{MayStartOn, StartsOn, CancelsOn, WaitsOn, ClosesOn, IsWaited};
 ghost use Rattle.client_script.specs.Players.{HasAt, Touches, Answered, Begun, Unbegun, StopsBy, LosesAt, AsksOf, AsksNone, IsCalling, IsIdle};
 ghost use Rattle.client_script.specs.Plays.{DialsNew, Adds, PlaysLine, PlaysAnywhere, BindsTo};
 
@@ -202,14 +201,14 @@ impl<K: Link> Player<K> {
 
     fn cancel_at(&mut self, at: usize) -> Result<(), Halt>
         requires { HasAt self.old at (λ c. IsOpen K.shows c.wire.link × (is_calling (state c.wire.client) ≡ true)) }
-        ensures { Touches self.old at (λ c d. FromEach K.shows c (λ interface a. BeginsOn K.shows interface a DidCancel ⊥ result d)) self.new }
+        ensures { Touches self.old at (λ c d. CancelsOn K.shows c result d) self.new }
     {
         self.channels[at].cancel()
     }
 
     fn wait_at(&mut self, at: usize) -> Result<Told, Halt>
         requires { HasAt self.old at (λ c. IsOpen K.shows c.wire.link) }
-        ensures touches { Touches self.old at (λ c d. FromEach K.shows c (λ interface a. HearsOn K.shows interface a result d)) self.new }
+        ensures touches { Touches self.old at (λ c d. WaitsOn K.shows c result d) self.new }
         ensures waited { IsWaited result }
     {
         self.channels[at].wait()
@@ -217,7 +216,7 @@ impl<K: Link> Player<K> {
 
     fn close_at(&mut self, at: usize)
         requires { HasAt self.old at (λ c. IsOpen K.shows c.wire.link) }
-        ensures { Touches self.old at (λ c d. FromEach K.shows c (λ interface a. Holds K.shows interface d (record a { is_open = false }))) self.new }
+        ensures { Touches self.old at (λ c d. ClosesOn K.shows c d) self.new }
     {
         self.channels[at].close();
     }

@@ -1,4 +1,14 @@
-pub mod Drafts
+pub mod Collecting
+pub mod Declarations
 pub mod Fitting
-pub mod Joins
+pub mod Listed
+pub mod Making
+pub mod Nothing
+pub mod Quiet
+pub mod Rows
+pub mod Said
 pub mod Sounds
+pub mod Standing
+pub mod Suiting
+pub mod Tables
+pub mod Walked

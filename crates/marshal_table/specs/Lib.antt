@@ -1,1 +1,6 @@
-pub mod Lists
+pub mod Bodies
+pub mod Interfaces
+pub mod Shapes
+pub mod Stands
+pub mod Suits
+pub mod Wholes

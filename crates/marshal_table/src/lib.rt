@@ -2,12 +2,18 @@
 //! "Transfer Syntax NDR").
 #![tactic(auto)]
 
+mod bodies;
 mod checked;
+mod draft;
 mod interface;
-mod listing;
+mod laws;
+mod numbers;
 mod operations;
-mod params;
+mod said;
+mod shapes;
 mod tables;
+mod terms;
 
 pub use checked::build;
+pub use laws::{bodies_suit, operations_suit};
 pub use ndr_table::{Bounds, HandleUse, HandleUses, Op, Ops, Param, Params, Table, Uses};

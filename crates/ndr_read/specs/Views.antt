@@ -1,4 +1,5 @@
 -- Where a reader stands, and what it read, as the definitions see them.
+use Rattle.std.specs.declared.alloc.Global.{Global}
 use Rattle.std.specs.declared.vec.Vec.{Vec}
 use Rattle.std.specs.Prelude.{ℕ, true, List, [], ◌∷◌, ◌++◌, Option, Result}
 use Rattle.ndr_value.specs.declared.value.Value.{Value}
@@ -60,7 +61,7 @@ abbrev pub Builds : Result Value ReadError → Flat → Tail → Built → Type 
 Builds result flat tail built = Gives (λ v. (val v, ends (cursor_of flat) (last_of tail))) result built
 
 -- the same of values in a row
-abbrev pub BuildsAll : Result (Vec Value) ReadError → Flat → Tail → Row → Type 0
+abbrev pub BuildsAll : Result (Vec Value Global) ReadError → Flat → Tail → Row → Type 0
 BuildsAll result flat tail row = Gives (λ vs. (vals vs.items, ends (cursor_of flat) (last_of tail))) result row
 
 -- the same of a value without referents

@@ -6,7 +6,8 @@ ghost use Rattle.ndr_value.specs.Values.{val, vals};
 ghost use Rattle.ndr_table.specs.Aligned.{is_last};
 ghost use Rattle.ndr_table.specs.Ordered.{is_size};
 ghost use Rattle.ndr_model.specs.Written as spec;
-ghost use Rattle.ndr_write.specs.Views.{octets_only, under, Adds, flat_of, one_of, struct_of, union_of, LaidOut, IsAligned, union_form};
+ghost use Rattle.ndr_agree.specs.Views.{union_form};
+ghost use Rattle.ndr_write.specs.Views.{octets_only, under, Adds, flat_of, one_of, struct_of, union_of, LaidOut, IsAligned};
 
 use crate::arrays::put_counts;
 use crate::bytes::flat_octets;

@@ -14,7 +14,7 @@ use Rattle.idl_check.specs.declared.fault.CheckFault.TheVariants.{Rule}
 use Rattle.idl_check.specs.Firsts.{IsCause as IsBreach}
 use Rattle.idl_print.specs.Canonical.{canonical_text}
 use Rattle.ndr_table.specs.Tables.{TableForm}
-use Rattle.idl_tables.specs.Interfaces.{table_of, tabled}
+use Rattle.marshal_table.specs.Interfaces.{table_of, tabled}
 use Rattle.rpc_app.specs.declared.command.Command.{Command}
 use Rattle.rpc_app.specs.declared.command.Command.TheVariants.{Replay, Idl, Audit}
 use Rattle.rpc_app.specs.Audits.{IsAudited}

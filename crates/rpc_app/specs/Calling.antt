@@ -21,6 +21,9 @@ pub record Dialling (K : Type 0) : Type 0 where
   pub before : DialShown K
   pub after : DialShown K
 
+abbrev pub dialling_from : {K Q : Type 0} → (Q → DialShown K) → Q → Q → Dialling K
+dialling_from shows old new = record { before = shows old; after = shows new }
+
 -- nothing was done with it
 abbrev pub IsUndialled : {K : Type 0} → Dialling K → Type 0
 IsUndialled dial = dial.after ≡ dial.before

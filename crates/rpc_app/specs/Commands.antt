@@ -9,7 +9,7 @@ use Rattle.idl_reader.specs.Causes.{IsCause}
 use Rattle.idl_rules.specs.Broken.{NoneBroken, IsLeastBreach}
 use Rattle.idl_print.specs.Canonical.{canonical_text}
 use Rattle.ndr_table.specs.Tables.{TableForm}
-use Rattle.idl_tables.specs.Interfaces.{tabled}
+use Rattle.marshal_table.specs.Interfaces.{tabled}
 use Rattle.rpc_app.specs.declared.command.Command.{Command}
 use Rattle.rpc_app.specs.declared.command.Command.TheVariants.{Replay, Idl, Audit}
 use Rattle.rpc_app.specs.Audits.{AreGood, IsAudited, HasBreach, DepartsAtJournalLine}

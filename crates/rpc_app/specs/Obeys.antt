@@ -22,6 +22,13 @@ pub record Output : Type 0 where
   pub had : Option (List ℕ)
   pub has : Option (List ℕ)
 
+-- the same of a shelf and of an output by what their objects tell, as they were and as they are
+abbrev pub shelf_from : {F : Type 0} → (F → Option Files) → (F → ℕ) → F → F → Shelf
+shelf_from files faults old new = record { files = files old; before = faults old; after = faults new }
+
+abbrev pub output_from : {S : Type 0} → (S → ℕ) → (S → Option (List ℕ)) → S → S → Output
+output_from faults written old new = record { before = faults old; after = faults new; had = written old; has = written new }
+
 -- it is as it was; it has gained a text, or a front of one
 abbrev pub IsKept : Output → Type 0
 IsKept o = o.has ≡ o.had

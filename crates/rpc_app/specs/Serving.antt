@@ -18,6 +18,9 @@ pub record Doorway (K : Type 0) : Type 0 where
   pub before : DoorShown K
   pub after : DoorShown K
 
+abbrev pub doorway_from : {K D : Type 0} → (D → DoorShown K) → D → D → Doorway K
+doorway_from shows old new = record { before = shows old; after = shows new }
+
 -- nothing was done with it
 abbrev pub IsUnused : {K : Type 0} → Doorway K → Type 0
 IsUnused door = door.after ≡ door.before

@@ -3,11 +3,12 @@ ghost use Rattle.std.specs.Prelude.{◌≡◌, ◌≢◌, ◌≤◌, IfOk, IfErr
 ghost use Rattle.ndr_table.specs.Shown.{shown};
 ghost use Rattle.client_script.specs.declared.calling.CallEnd.TheVariants as ends;
 ghost use Rattle.rpc_app.specs.Calling as spec;
-ghost use Rattle.rpc_app.specs.Calling.{HasInterface, RefusesCall, IsSaid, IsTold, CallsWith, CallsFor, printed_of};
+ghost use Rattle.rpc_app.specs.Calling.{HasInterface, RefusesCall, IsSaid, IsTold, CallsWith, CallsFor, printed_of, dialling_from};
 ghost use Rattle.rpc_app.specs.Commands.{call_limit};
 ghost use Rattle.rpc_app.specs.Making.{WhyNot};
 ghost use Rattle.rpc_app.specs.Runs.{IsLoaded};
 ghost use Rattle.rpc_app.specs.Words.{told_caller};
+ghost use Rattle.rpc_app.specs.Obeys.{shelf_from, output_from};
 
 use crate::limits::CALL_LIMIT;
 use crate::make::line_refusal;
@@ -72,7 +73,7 @@ fn printed(alloc: Global, end: CallEnd, told: Octets) -> Result<Octets, NoMemory
 
 /// Puts what is printed of a script that ended so.
 fn put_text<S: Sink>(out: &mut S, text: &Octets, end: CallEnd) -> u8
-    ensures { IsSaid (record { before = S.faults out.old; after = S.faults out.new; had = S.written out.old; has = S.written out.new })
+    ensures { IsSaid (output_from S.faults S.written out.old out.new)
         text.now (spec.status_of end) result }
 {
     end_with(out, text.as_slice(), status_of(end))
@@ -80,7 +81,7 @@ fn put_text<S: Sink>(out: &mut S, text: &Octets, end: CallEnd) -> u8
 
 /// Puts what a script told.
 fn put_called<S: Sink>(alloc: Global, called: Called, out: &mut S) -> u8
-    ensures { IsTold (record { before = S.faults out.old; after = S.faults out.new; had = S.written out.old; has = S.written out.new })
+    ensures { IsTold (output_from S.faults S.written out.old out.new)
         called.end result called.out }
 {
     let Called { out: told, end } = called;
@@ -99,8 +100,8 @@ fn call_with<Q: Dial, S: Sink>(
     out: &mut S,
 ) -> u8
     ensures { CallsWith Q.Link.shows (shown files.now.table) files.now.script.items at
-        (record { before = Q.shows dial.old; after = Q.shows dial.new })
-        (record { before = S.faults out.old; after = S.faults out.new; had = S.written out.old; has = S.written out.new })
+        (dialling_from Q.shows dial.old dial.new)
+        (output_from S.faults S.written out.old out.new)
         result }
 {
     let called = call(alloc, &files.table, files.script.as_slice(), at, dial);
@@ -116,9 +117,9 @@ pub fn call_for<F: Shelf, Q: Dial, S: Sink>(
     out: &mut S,
 ) -> u8
     ensures { CallsFor Q.Link.shows (told_caller task.entry)
-        (record { files = F.files shelf.old; before = F.faults shelf.old; after = F.faults shelf.new })
-        (record { before = Q.shows dial.old; after = Q.shows dial.new })
-        (record { before = S.faults out.old; after = S.faults out.new; had = S.written out.old; has = S.written out.new })
+        (shelf_from F.files F.faults shelf.old shelf.new)
+        (dialling_from Q.shows dial.old dial.new)
+        (output_from S.faults S.written out.old out.new)
         result }
 {
     match call_files(alloc, task, shelf) {

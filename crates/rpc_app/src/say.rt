@@ -3,6 +3,7 @@ ghost use Rattle.std.specs.Prelude.{◌≡◌, ◌⊎◌, ◌<◌};
 ghost use Rattle.rpc_base.specs.Causes.{Rose};
 ghost use Rattle.rpc_app.specs.Calling.{IsSaid};
 ghost use Rattle.rpc_app.specs.Runs.{Gains, GainsFront, EndsEarly};
+ghost use Rattle.rpc_app.specs.Obeys.{output_from};
 
 use rpc_base::{Sink, put_all};
 
@@ -22,7 +23,7 @@ pub fn refuse<S: Sink>(out: &mut S, text: &[u8], status: u8) -> u8
 
 /// Puts a text behind which the program ends with that status, and answers it; where the output fails 4, which 7 outweighs.
 pub fn end_with<S: Sink>(out: &mut S, text: &[u8], status: u8) -> u8
-    ensures { IsSaid (record { before = S.faults out.old; after = S.faults out.new; had = S.written out.old; has = S.written out.new })
+    ensures { IsSaid (output_from S.faults S.written out.old out.new)
         text.now status result }
 {
     if put_all(out, text).is_ok() {

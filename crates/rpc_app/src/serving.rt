@@ -3,8 +3,9 @@ ghost use Rattle.std.specs.Prelude.{◌≡◌, ◌⊎◌, ◌≤◌};
 ghost use Rattle.rpc_base.specs.Causes.{Rose};
 ghost use Rattle.rpc_app.specs.Runs.{Gains, GainsFront};
 ghost use Rattle.server_command.specs.Tables.{shown_by};
-ghost use Rattle.rpc_app.specs.Serving.{IsPut, ServesWith, ServesFor};
+ghost use Rattle.rpc_app.specs.Serving.{IsPut, ServesWith, ServesFor, doorway_from};
 ghost use Rattle.rpc_app.specs.Words.{told_server};
+ghost use Rattle.rpc_app.specs.Obeys.{shelf_from, output_from};
 
 use crate::say::{print, refuse};
 use crate::task::{TaskFault, echo_of};
@@ -20,8 +21,8 @@ use std::thread::Threads;
 /// Puts what was printed of the connections.
 fn put_served<S: Sink, L: Sink>(printed: &Printed, out: &mut S, log: &mut L) -> u8
     ensures { IsPut
-        (record { before = S.faults out.old; after = S.faults out.new; had = S.written out.old; has = S.written out.new })
-        (record { before = L.faults log.old; after = L.faults log.new; had = L.written log.old; has = L.written log.new })
+        (output_from S.faults S.written out.old out.new)
+        (output_from L.faults L.written log.old log.new)
         printed.now.out printed.now.log printed.now.status result }
 {
     let put = print(printed.out.as_slice(), printed.log.as_slice(), out, log);
@@ -63,9 +64,9 @@ where
     L: Sink,
     requires { task.most ≤ 1000000 }
     ensures { ServesWith D.Link.shows (shown_by (λ t. t) echo) (told_server task.entry) boot
-        (record { before = D.shows door.old; after = D.shows door.new })
-        (record { before = S.faults out.old; after = S.faults out.new; had = S.written out.old; has = S.written out.new })
-        (record { before = L.faults log.old; after = L.faults log.new; had = L.written log.old; has = L.written log.new })
+        (doorway_from D.shows door.old door.new)
+        (output_from S.faults S.written out.old out.new)
+        (output_from L.faults L.written log.old log.new)
         result }
 {
     match serve(*rt, alloc, boot, echo, door, task.at, task.most) {
@@ -95,10 +96,10 @@ where
     L: Sink,
     requires { task.most ≤ 1000000 }
     ensures { ServesFor D.Link.shows (told_server task.entry) boot
-        (record { files = F.files shelf.old; before = F.faults shelf.old; after = F.faults shelf.new })
-        (record { before = D.shows door.old; after = D.shows door.new })
-        (record { before = S.faults out.old; after = S.faults out.new; had = S.written out.old; has = S.written out.new })
-        (record { before = L.faults log.old; after = L.faults log.new; had = L.written log.old; has = L.written log.new })
+        (shelf_from F.files F.faults shelf.old shelf.new)
+        (doorway_from D.shows door.old door.new)
+        (output_from S.faults S.written out.old out.new)
+        (output_from L.faults L.written log.old log.new)
         result }
 {
     match echo_of(alloc, task.idl, shelf) {

@@ -1,6 +1,9 @@
 //! The top call: does what the words ask, over the outside that is handed in.
 ghost use Rattle.std.specs.Prelude.{◌≡◌, map, string_bytes};
 ghost use Rattle.rpc_app.specs.Running.{Comes, IsLeft, RunsAs};
+ghost use Rattle.rpc_app.specs.Obeys.{shelf_from, output_from};
+ghost use Rattle.rpc_app.specs.Serving.{doorway_from};
+ghost use Rattle.rpc_app.specs.Calling.{dialling_from};
 
 use crate::calling::call_for;
 use crate::carry::carry_out;
@@ -34,9 +37,9 @@ pub fn obey<'a, F: Shelf, S: Sink, L: Sink>(
     log: &mut L,
 ) -> Obeyed<'a>
     ensures comes { Comes (map string_bytes words.now)
-        (record { files = F.files shelf.old; before = F.faults shelf.old; after = F.faults shelf.new })
-        (record { before = S.faults out.old; after = S.faults out.new; had = S.written out.old; has = S.written out.new })
-        (record { before = L.faults log.old; after = L.faults log.new; had = L.written log.old; has = L.written log.new })
+        (shelf_from F.files F.faults shelf.old shelf.new)
+        (output_from S.faults S.written out.old out.new)
+        (output_from L.faults L.written log.old log.new)
         result }
     ensures unused { IsLeft result → (shelf.new ≡ shelf.old) × (out.new ≡ out.old) × (log.new ≡ log.old) }
 {
@@ -76,11 +79,11 @@ where
     S: Sink,
     L: Sink,
     ensures { RunsAs D.Link.shows Q.Link.shows (map string_bytes words.now) boot
-        (record { files = F.files shelf.old; before = F.faults shelf.old; after = F.faults shelf.new })
-        (record { before = D.shows door.old; after = D.shows door.new })
-        (record { before = Q.shows dial.old; after = Q.shows dial.new })
-        (record { before = S.faults out.old; after = S.faults out.new; had = S.written out.old; has = S.written out.new })
-        (record { before = L.faults log.old; after = L.faults log.new; had = L.written log.old; has = L.written log.new })
+        (shelf_from F.files F.faults shelf.old shelf.new)
+        (doorway_from D.shows door.old door.new)
+        (dialling_from Q.shows dial.old dial.new)
+        (output_from S.faults S.written out.old out.new)
+        (output_from L.faults L.written log.old log.new)
         result }
 {
     match obey(alloc, words, shelf, out, log) {

@@ -1,5 +1,5 @@
 //! Doors, where others call.
-ghost use Rattle.rpc_outside.specs.Doors.{DoorShown, Listens, Nexts, HasOut, Backs};
+ghost use Rattle.rpc_outside.specs.Doors.{DoorShown, DoorSame, Listens, Nexts, HasOut, Backs};
 
 use crate::address::Address;
 use crate::link::Link;
@@ -32,4 +32,8 @@ pub trait Door {
     fn back(&mut self, link: Self::Link)
         requires { HasOut (shows self.old).out }
         ensures { Backs (shows self.old) link (shows self.new) };
+
+    /// Lets nobody else in: no further link is wanted. Those that are out stay as they are.
+    fn shut(&mut self)
+        ensures { DoorSame (shows self.old) (shows self.new) };
 }

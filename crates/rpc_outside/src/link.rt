@@ -3,6 +3,7 @@ ghost use Rattle.std.specs.Prelude.{◌≡◌, ◌<◌, false, length};
 ghost use Rattle.rpc_outside.specs.Links.{Shown, Takes, Puts, Closes};
 
 use rpc_base::Failed;
+use std::sync::Wait;
 
 /// What a take on a link gave.
 #[derive(Clone, Copy, Debug, PartialEq, Eq)]
@@ -15,7 +16,9 @@ pub enum Taken {
     End,
 }
 
-/// A link to a peer, over which octets go both ways. No call is made on it once it is closed.
+/// A link to a peer, over which octets go both ways. Nothing is taken, put or closed on it once it is closed.
+///
+/// A take may wait for octets. How long, no clause says. A number that is rung ends it, where the link listens to that number.
 pub trait Link: Send + Drop {
     /// Its counts, what it tells, and whether it is closed.
     ghost shows: { Self → Shown };
@@ -44,4 +47,19 @@ pub trait Link: Send + Drop {
     fn close(&mut self)
         requires is_open { (shows self.old).closed ≡ false }
         ensures { Closes (shows self.old) (shows self.new) };
+
+    /// From now on a take doesn't wait for octets.
+    fn hasten(&self) {}
+
+    /// From now on a take waits until octets come or the number is rung, as it may have been before. Answers whether it does;
+    /// else a take doesn't wait.
+    fn listen<R: Wait>(&self, _rt: &R, _number: u32) -> bool {
+        false
+    }
+
+    /// From now on a take waits as it did at first: no number that is rung ends it.
+    fn unlisten<R: Wait>(&self, _rt: &R) {}
+
+    /// Rings a number for all links that listen to it and came from the same door.
+    fn ring<R: Wait>(&self, _rt: &R, _number: u32) {}
 }

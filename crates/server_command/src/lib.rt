@@ -25,6 +25,7 @@ pub use journals::put_journals;
 pub use laws::{
     answers_stay, folds_tell, joins_are_taken, members_last, others_follow, room_is_taken,
 };
+pub use over::serve_over;
 pub use printed::Printed;
 pub use status::status_of;
 pub use texts::{connection_line, stats_line};

@@ -14,8 +14,15 @@ use std::alloc::Global;
 use std::sync::{Arc, Wait};
 use std::thread::Threads;
 
-/// A server of that boot word listens at the address and serves up to so many connections.
-pub(crate) fn serve_over<R, S, D>(
+/// A server of that boot word listens at the address and serves up to so many connections that come to the door, side by
+/// side, with that service, whatever its interfaces are (C706, "Connection-oriented RPC protocol machines", server). After
+/// the last it gives the links back, and answers what is printed. `tally` is what the service's management tells of.
+///
+/// # Errors
+///
+/// `Failed` where the door failed: nothing is to be printed, since it doesn't listen or there is no memory for more.
+/// `Memory` where there is no memory.
+pub fn serve_over<R, S, D>(
     rt: R,
     alloc: Global,
     boot: u64,

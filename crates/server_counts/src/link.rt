@@ -9,7 +9,7 @@ use rpc_base::Failed;
 use rpc_outside::{Link, Taken};
 use std::alloc::Global;
 use std::marker::Model;
-use std::sync::Arc;
+use std::sync::{Arc, Wait};
 
 /// A link that counts the packets of what comes from its peer and of what is put on it. Contracts see it as the link
 /// inside.
@@ -86,5 +86,21 @@ impl<K: Link> Link for CountLink<K> {
 
     fn close(&mut self) {
         self.link.close();
+    }
+
+    fn hasten(&self) {
+        self.link.hasten();
+    }
+
+    fn listen<R: Wait>(&self, rt: &R, number: u32) -> bool {
+        self.link.listen(rt, number)
+    }
+
+    fn unlisten<R: Wait>(&self, rt: &R) {
+        self.link.unlisten(rt);
+    }
+
+    fn ring<R: Wait>(&self, rt: &R, number: u32) {
+        self.link.ring(rt, number);
     }
 }

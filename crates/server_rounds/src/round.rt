@@ -77,8 +77,8 @@ impl<S: Service, K: Link> Serving<S, CountLink<K>> {
         }
     }
 
-    /// Serves up to so many connections that come to the door.
-    #[tactic(auto, using(crate::proofs::Doors::hands_start, crate::proofs::Doors::goes_on, crate::proofs::Doors::goes_out))]
+    /// Serves up to so many connections that come to the door, which is shut behind the last.
+    #[tactic(auto, using(crate::proofs::Doors::hands_start, crate::proofs::Doors::goes_on, crate::proofs::Doors::goes_out, crate::proofs::Doors::hands_same))]
     fn accept_all<R: Wait + Threads + Send + Sync + Copy + 'static, D: Door<Link = K>>(
         &mut self,
         rt: R,
@@ -101,12 +101,13 @@ impl<S: Service, K: Link> Serving<S, CountLink<K>> {
         ensures stop { Stops (D.shows door.old) (D.shows door.new) most (length (links_of self.new)) result }
     {
         for count in 0..most {
-            self.sweep(&rt, alloc, &**hub, count);
+            self.tidy(&rt, alloc, &**hub, count);
             match self.accept_next(rt, alloc, service, hub, door, tally) {
                 Some(stop) => return stop,
                 None => {}
             }
         }
+        door.shut();
         Stop::Done
     }
 }
@@ -135,8 +136,8 @@ impl<S: Service, K: Link> Serving<S, K> {
 }
 
 /// Serves up to so many connections that come to the door, each in a thread of its own, and waits until all of them are
-/// over. Where no thread can be started for one, this thread serves it. Each link counts the packets on it, and adds them
-/// to the tally too. The pass is of the hub.
+/// over. Behind the last the door is shut. One for which no thread can be started is closed for want of memory. Each link counts
+/// the packets on it, and adds them to the tally too. The pass is of the hub.
 pub fn serve<R, S, D>(
     rt: R,
     alloc: Global,

@@ -12,7 +12,7 @@ use group_hub::{Hub, Pass};
 use rpc_outside::Link;
 use server_calls::Service;
 use server_ends::Finished;
-use server_run::serve_connection;
+use server_run::{serve_connection, turn_away};
 use std::alloc::Global;
 use std::snapshot::Snapshot;
 use std::sync::atomic::{AtomicBool, Ordering};
@@ -58,7 +58,7 @@ impl<S: Service, K: Link> Promise<Finished<K>> for Promised<S, K> {
 pub(crate) enum Place<S: Service, K: Link> {
     /// In a thread of its own.
     There(PromisedHandle<Finished<K>, Promised<S, K>>),
-    /// It was served where no thread could be started.
+    /// It is over, and its thread, if it had one, was joined.
     Here(Finished<K>),
 }
 
@@ -71,11 +71,12 @@ pub(crate) struct Running<S: Service, K: Link> {
     over: Arc<AtomicBool, Global>,
 }
 
-/// Serves a connection to its end, whose link is new.
+/// Serves a connection to its end, whose link is new, or closes it at once for want of memory.
 fn serve_one<R: Wait + Threads + Sync, S: Service + Sync, K: Link>(
     rt: &R,
     service: &S,
     hub: &Hub,
+    is_turned_away: bool,
     pass: Pass,
     link: K,
 ) -> Finished<K>
@@ -84,11 +85,14 @@ fn serve_one<R: Wait + Threads + Sync, S: Service + Sync, K: Link>(
     ensures pass { IsPassOf hub.now result.pass }
     ensures finishes { Finishes K.shows (S.may service.now) (S.tables service.now) hub.now.boot pass (K.shows link) result }
 {
+    if is_turned_away {
+        return turn_away(service, hub, pass, link);
+    }
     let table = service.served();
     serve_connection(rt, service.alloc(), hub, pass, link, table, service)
 }
 
-/// Serves a connection, in whatever thread this is.
+/// Serves a connection in a thread of its own, unless it is said to be over already, as where no thread could be started.
 fn serve_there<R: Wait + Threads + Sync + Copy, S: Service + Sync + Drop, K: Link>(
     rt: R,
     service: Arc<S, Global>,
@@ -101,13 +105,15 @@ fn serve_there<R: Wait + Threads + Sync + Copy, S: Service + Sync + Drop, K: Lin
     requires new { IsNew (K.shows link) }
     ensures { IsServed K.shows (S.may (arc_value service)) (S.tables (arc_value service)) (arc_value hub) pass link result }
 {
-    let finished = serve_one(&rt, &*service, &*hub, pass, link);
+    let is_turned_away = over.load(Ordering::SeqCst);
+    let finished = serve_one(&rt, &*service, &*hub, is_turned_away, pass, link);
     over.store(true, Ordering::SeqCst);
     finished
 }
 
 impl<S: Service, K: Link> Running<S, K> {
-    /// Serves a connection in a thread of its own, or in this one where none can be started.
+    /// Serves a connection in a thread of its own. Where none can be started it is turned away, which another one can be served
+    /// beside.
     pub(crate) fn start<R: Wait + Threads + Send + Sync + Copy + 'static>(
         rt: R,
         service: &Arc<S, Global>,
@@ -133,7 +139,7 @@ impl<S: Service, K: Link> Running<S, K> {
             Arc::try_clone(hub),
             Arc::try_clone(&over),
         ) else {
-            let place = Place::Here(serve_one(&rt, &**service, &**hub, pass, link));
+            let place = Place::Here(serve_one(&rt, &**service, &**hub, true, pass, link));
             return Running {
                 place,
                 promise,
@@ -151,13 +157,21 @@ impl<S: Service, K: Link> Running<S, K> {
             { serve_there(rt, mine, theirs, flag, pass, link) },
         ) {
             Ok(child) => Place::There(child),
-            Err(refused) => Place::Here((refused.value)()),
+            Err(refused) => {
+                over.store(true, Ordering::SeqCst);
+                Place::Here((refused.value)())
+            }
         };
         Running {
             place,
             promise,
             over,
         }
+    }
+
+    /// Whether the connection is over.
+    pub(crate) fn is_over(&self) -> bool {
+        self.over.load(Ordering::SeqCst)
     }
 
     /// Joins its thread, where the connection is over.

@@ -1,5 +1,5 @@
 //! A round in the middle.
-ghost use Rattle.std.specs.Prelude.{◌≡◌, ◌+◌, ◌<◌, ◌≤◌, ◌++◌, [], ◌∷◌, vec_len, vec_capacity, OnOk};
+ghost use Rattle.std.specs.Prelude.{◌≡◌, ◌+◌, ◌<◌, ◌≤◌, ◌++◌, [], ◌∷◌, vec_len, vec_capacity, OnOk, IsTrue};
 ghost use Rattle.std.specs.Arc.{arc_value};
 ghost use Rattle.std.specs.VecDeque.{deque_len, deque_capacity};
 ghost use Rattle.rpc_outside.specs.Links.{IsNew};
@@ -22,6 +22,10 @@ use std::thread::Threads;
 
 /// Behind how many connections the threads of those that are over are joined. A thread that isn't joined keeps its stack.
 const SWEEP: u32 = 64;
+
+/// For each so many that are looked at, they are joined once less often, so that a connection costs no more looks the more there
+/// are.
+const MANY: usize = 1_024;
 
 /// The connections of a round so far: those that are over, and behind them those that are being served.
 #[derive(Drop)]
@@ -107,9 +111,42 @@ impl<S: Service, K: Link> Serving<S, K> {
         self.finished.push_reserved(settled);
     }
 
+    /// Whether the first of those that are being served is over.
+    fn is_first_over(&self) -> bool
+        ensures { IsTrue result → 0 < deque_len self.now.running }
+    {
+        match self.running.front() {
+            Some(running) => running.is_over(),
+            None => false,
+        }
+    }
+
+    /// Takes in those at the front that are over.
+    pub(crate) fn settle_over<R: Threads>(&mut self, rt: &R, hub: &Hub)
+        requires serving { IsServing K.shows S.may S.tables hub.now self.old }
+        ensures serving { IsServing K.shows S.may S.tables hub.now self.new }
+        ensures keeps { Keeps self.old self.new }
+        ensures links { links_of self.new ≡ links_of self.old }
+    {
+        while self.is_first_over() {
+            self.settle_first(rt, hub);
+        }
+    }
+
+    /// Takes in those that are over at the front, and joins the threads of others now and then.
+    pub(crate) fn tidy<R: Threads>(&mut self, rt: &R, alloc: Global, hub: &Hub, count: u32)
+        requires serving { IsServing K.shows S.may S.tables hub.now self.old }
+        ensures serving { IsServing K.shows S.may S.tables hub.now self.new }
+        ensures keeps { Keeps self.old self.new }
+        ensures links { links_of self.new ≡ links_of self.old }
+    {
+        self.settle_over(rt, hub);
+        self.sweep(rt, alloc, hub, count);
+    }
+
     /// Behind so many connections joins the threads of those that are over, wherever they stand, where it is time
     /// for that and there is memory for it.
-    pub(crate) fn sweep<R: Threads>(&mut self, rt: &R, alloc: Global, hub: &Hub, count: u32)
+    fn sweep<R: Threads>(&mut self, rt: &R, alloc: Global, hub: &Hub, count: u32)
         requires serving { IsServing K.shows S.may S.tables hub.now self.old }
         ensures serving { IsServing K.shows S.may S.tables hub.now self.new }
         ensures keeps { Keeps self.old self.new }
@@ -117,7 +154,8 @@ impl<S: Service, K: Link> Serving<S, K> {
         ensures len { deque_len self.new.running ≡ deque_len self.old.running }
     {
         let _ = hub;
-        if count % SWEEP != 0 {
+        let each = self.running.len() / MANY + 1;
+        if count % SWEEP != 0 || (count / SWEEP) as usize % each != 0 {
             return;
         }
         let Ok(swept) = VecDeque::with_capacity(alloc, self.running.len()) else {

@@ -12,7 +12,7 @@ use denote.Ref.{ShrRef}
 use denote.Struct.Field.{u32-field, u64-field}
 use Rattle.std.specs.contracts.alloc.Global as Global
 use Rattle.std.specs.contracts.option.Option as Option
-use Rattle.std.specs.contracts.sync.atomic.AtomicBool as AtomicBool
+use Rattle.std.specs.contracts.sync.atomic.AtomicU64 as AtomicU64
 use Rattle.group_hub.specs.contracts.hub.Hub as Hub
 use Rattle.group_hub.specs.contracts.pass.Pass as Pass
 use denote.Param.Send.{IsSend, IsSync, sendable, recorded_send, struct_send, shr_send}
@@ -63,8 +63,8 @@ u32_send = search sendable depth 40
 row_send : IsSend (Array (Option.the_row u64-field.row) 4)
 row_send = search (owners, sendable) depth 40 fits 20000
 
-bool_sync : IsSync AtomicBool.the_row
-bool_sync = search (owners, sendable) depth 40 fits 20000
+word_sync : IsSync AtomicU64.the_row
+word_sync = search (owners, sendable) depth 40 fits 20000
 
-pub work_send : (ν : Sym) (R M : RattleType) (σ τ υ α δ ρ : Lft) → IsSync R → IsSync M → IsSend (TupleAt ν (Global.the_row ∷ ShrRef (named 6) σ Served.the_row ∷ ShrRef (named 7) τ M ∷ ShrRef (named 8) υ Hub.the_row ∷ u32-field.row ∷ u32-field.row ∷ ShrRef (named 9) α Asked.the_row ∷ Array (Option.the_row u64-field.row) 4 ∷ ShrRef (named 10) δ AtomicBool.the_row ∷ ShrRef (named 11) ρ R ∷ Pass.the_row ∷ Message.the_row ∷ Message.the_row ∷ Room.the_row ∷ []))
-work_send ν R M σ τ υ α δ ρ r m = captured_send ν Global.the_row (ShrRef (named 6) σ Served.the_row) (ShrRef (named 7) τ M) (ShrRef (named 8) υ Hub.the_row) u32-field.row u32-field.row (ShrRef (named 9) α Asked.the_row) (Array (Option.the_row u64-field.row) 4) (ShrRef (named 10) δ AtomicBool.the_row) (ShrRef (named 11) ρ R) Pass.the_row Message.the_row Message.the_row Room.the_row global_send (shr_send (named 6) σ Served.the_row served_sync) (shr_send (named 7) τ M m) (shr_send (named 8) υ Hub.the_row hub_sync) u32_send u32_send (shr_send (named 9) α Asked.the_row asked_sync) row_send (shr_send (named 10) δ AtomicBool.the_row bool_sync) (shr_send (named 11) ρ R r) pass_send message_send message_send room_send
+pub work_send : (ν : Sym) (R M : RattleType) (σ τ υ α δ ρ : Lft) → IsSync R → IsSync M → IsSend (TupleAt ν (Global.the_row ∷ ShrRef (named 6) σ Served.the_row ∷ ShrRef (named 7) τ M ∷ ShrRef (named 8) υ Hub.the_row ∷ u32-field.row ∷ u32-field.row ∷ ShrRef (named 9) α Asked.the_row ∷ Array (Option.the_row u64-field.row) 4 ∷ ShrRef (named 10) δ AtomicU64.the_row ∷ ShrRef (named 11) ρ R ∷ Pass.the_row ∷ Message.the_row ∷ Message.the_row ∷ Room.the_row ∷ []))
+work_send ν R M σ τ υ α δ ρ r m = captured_send ν Global.the_row (ShrRef (named 6) σ Served.the_row) (ShrRef (named 7) τ M) (ShrRef (named 8) υ Hub.the_row) u32-field.row u32-field.row (ShrRef (named 9) α Asked.the_row) (Array (Option.the_row u64-field.row) 4) (ShrRef (named 10) δ AtomicU64.the_row) (ShrRef (named 11) ρ R) Pass.the_row Message.the_row Message.the_row Room.the_row global_send (shr_send (named 6) σ Served.the_row served_sync) (shr_send (named 7) τ M m) (shr_send (named 8) υ Hub.the_row hub_sync) u32_send u32_send (shr_send (named 9) α Asked.the_row asked_sync) row_send (shr_send (named 10) δ AtomicU64.the_row word_sync) (shr_send (named 11) ρ R r) pass_send message_send message_send room_send

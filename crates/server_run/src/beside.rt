@@ -72,7 +72,9 @@ fn start<'s, E, R: Wait + Threads + Sync, M: Manager + Sync>(
             ensures { WorksByRow (M.tables server.entry.manager.now) (M.may server.entry.manager.now) server.entry.hub.now running.entry.group running.entry.call running.entry.asked.now running.entry.row result }
         {
             let (server, running) = (Server { ..server }, RunningCall { ..running });
-            work(rt, server, running, Task { ..task })
+            let worked = work(rt, server, running, Task { ..task });
+            running.done.wake_all();
+            worked
         },
     ) {
         Ok(child) => Started::There(child),
@@ -97,24 +99,30 @@ fn run_in_scope<'s, E, R: Wait + Threads + Sync, K: Link, M: Manager + Sync>(
     let Server { hub, manager, .. } = server;
     let RunningCall { call, asked, .. } = running;
     match start(scope, rt, server, running, task) {
-        Started::There(child) => match watch(rt, server, &mut line, running, cookies) {
-            Watched::Done(orphaned) => {
-                let worked = child.join(rt);
-                Beside::On(line, orphaned, worked)
+        Started::There(child) => {
+            line.wire.link.hasten();
+            match watch(rt, server, &mut line, running, cookies) {
+                Watched::Done(orphaned) => {
+                    line.wire.link.unlisten(rt);
+                    let worked = child.join(rt);
+                    Beside::On(line, orphaned, worked)
+                }
+                Watched::Stop(why) => {
+                    let (gone, wire) = line.leave_running(
+                        rt, hub, manager, why, call, asked, cookies,
+                    );
+                    let (link, ending) = close(wire, why);
+                    let worked = child.join(rt);
+                    let departed = Departed {
+                        gone,
+                        link,
+                        why,
+                        ending,
+                    };
+                    Beside::Left(departed, worked)
+                }
             }
-            Watched::Stop(why) => {
-                let (gone, wire) = line.leave_running(rt, hub, manager, why, call, asked, cookies);
-                let (link, ending) = close(wire, why);
-                let worked = child.join(rt);
-                let departed = Departed {
-                    gone,
-                    link,
-                    why,
-                    ending,
-                };
-                Beside::Left(departed, worked)
-            }
-        },
+        }
         Started::Here(worked) => Beside::On(line, false, worked),
     }
 }

@@ -21,14 +21,10 @@ use server_ends::Finished;
 use server_steps::{Fault, Heard, Line, Server, Stop};
 use std::sync::Wait;
 use std::sync::atomic::AtomicU64;
-use std::thread;
 use std::thread::Threads;
 use std::time::Duration;
 
-/// How many turns are given to other threads before a call that waits rests between its looks.
-const TURNS: u32 = 1_000;
-
-/// How long it then rests, in milliseconds.
+/// How long a call that waits rests between two looks where its link doesn't, in milliseconds.
 const REST: u64 = 1;
 
 /// What came of a call that waits.
@@ -53,18 +49,14 @@ pub(crate) enum Went<K: Link> {
     Over(Finished<K>),
 }
 
-/// Gives other threads a turn, or a while after so many turns where something came that has to wait: then no look at the link
-/// takes any time, and a call that waits for long would keep a processor busy.
-fn rest<R: Wait>(rt: &R, turns: &mut u32, is_held: bool) {
-    *turns = turns.saturating_add(1);
-    if is_held && *turns > TURNS {
-        AtomicU64::new(0).park_timeout(rt, 0, Duration::from_millis(REST));
-    } else {
-        thread::yield_now();
-    }
+/// Rests a while. A call that waits does so where a look at its link takes no time: the link can't listen, or isn't looked at since
+/// what came has to wait.
+fn rest<R: Wait>(rt: &R) {
+    AtomicU64::new(0).park_timeout(rt, 0, Duration::from_millis(REST));
 }
 
-/// Waits until a call is taken or denied, and hears meanwhile whether it is called off.
+/// Waits until a call is taken or denied, and hears meanwhile whether it is called off. A call that can't be taken at once has its
+/// link listen to its group.
 fn await_turn<R: Wait, K: Link, M: Manager>(
     rt: &R,
     server: Server<'_, M>,
@@ -77,7 +69,7 @@ fn await_turn<R: Wait, K: Link, M: Manager>(
     ensures awaits { Awaits K.shows M.may M.tables server.entry call asked.now result line.new }
 {
     let Server { hub, manager, .. } = server;
-    let mut turns = 0;
+    let (mut is_waiting, mut listens) = (false, false);
     for _ in rt.forever() {
         match line.take(rt, hub, manager, call, asked) {
             Taking::Run(row, serial) => return Awaited::Run(row, serial),
@@ -87,8 +79,16 @@ fn await_turn<R: Wait, K: Link, M: Manager>(
             Taking::Dropped => unreachable!(),
             Taking::Wait(_) => {}
         }
+        if !is_waiting {
+            is_waiting = true;
+            listens = line.wire.link.listen(rt, line.group);
+        }
         match line.hear_waiting(hub, manager, call, asked) {
-            Heard::Nothing => rest(rt, &mut turns, line.wire.conn.must_wait()),
+            Heard::Nothing => {
+                if !listens || line.wire.conn.must_wait() {
+                    rest(rt);
+                }
+            }
             Heard::Does(Act::Cancel(_)) => {
                 line.cancel(rt, hub, manager, call);
                 return Awaited::Told(Reply::Never(Status::NCA_S_FAULT_CANCEL));
@@ -146,11 +146,19 @@ fn serve_ready<R: Wait + Threads + Sync, K: Link, M: Manager + Sync>(
     let mut line = line;
     let call = match line.accept(rt, server.hub, server.manager, given, marked) {
         Ok(call) => call,
-        Err(status) => return answer(server, line, &Reply::Never(status)),
+        Err(status) => {
+            line.wire.link.ring(rt, line.group);
+            return answer(server, line, &Reply::Never(status));
+        }
     };
-    let (row, serial) = match await_turn(rt, server, &mut line, call, &asked) {
+    let awaited = await_turn(rt, server, &mut line, call, &asked);
+    line.wire.link.unlisten(rt);
+    let (row, serial) = match awaited {
         Awaited::Run(row, serial) => (row, serial),
-        Awaited::Told(reply) => return answer(server, line, &reply),
+        Awaited::Told(reply) => {
+            line.wire.link.ring(rt, line.group);
+            return answer(server, line, &reply);
+        }
         Awaited::Stop(why) => return Went::Stop(line, why),
     };
     let taken = TakenCall {

@@ -23,8 +23,8 @@ use std::alloc::Global;
 use std::sync::Wait;
 use std::thread::Threads;
 
-/// A connection for which there is no memory at all.
-fn unserved<K: Link, M: Manager>(_manager: &M, _hub: &Hub, pass: Pass, link: K) -> Finished<K>
+/// Closes a connection without serving it, for want of memory.
+pub fn turn_away<K: Link, M: Manager>(_manager: &M, _hub: &Hub, pass: Pass, link: K) -> Finished<K>
     requires pass { IsPassOf _hub.now pass }
     requires open { (K.shows link).closed ≡ false }
     ensures pass { IsPassOf _hub.now result.pass }
@@ -78,6 +78,7 @@ fn finish<R: Wait, K: Link, M: Manager>(
 {
     let mut line = line;
     line.leave(rt, hub, manager, why);
+    line.wire.link.ring(rt, line.group);
     let Line {
         wire,
         pass,
@@ -140,11 +141,11 @@ pub fn serve_connection<R: Wait + Threads + Sync, K: Link, M: Manager + Sync>(
 {
     let ids = match table.ids(alloc) {
         Ok(ids) => ids,
-        Err(_) => return unserved(manager, hub, pass, link),
+        Err(_) => return turn_away(manager, hub, pass, link),
     };
     let wire = match Wire::new(alloc, link, ids.as_slice()) {
         Ok(wire) => wire,
-        Err(link) => return unserved(manager, hub, pass, link),
+        Err(link) => return turn_away(manager, hub, pass, link),
     };
     let server = Server {
         alloc,

@@ -5,6 +5,9 @@
 //! that was taken runs there too where its manager says that it is brief, else in a worker, a thread of its own, whose pass
 //! only asks. The connection's thread hears meanwhile whether the call is called off, and joins the worker. It takes in the
 //! pass with which the call asked before it enters the call's end.
+//!
+//! A connection rests in a take of its link. While a call waits, its link listens to the number of its group, which is rung
+//! behind each entry of the group that ends a call.
 #![tactic(auto)]
 
 mod beside;
@@ -14,4 +17,4 @@ mod connection;
 mod running;
 mod watching;
 
-pub use connection::serve_connection;
+pub use connection::{serve_connection, turn_away};

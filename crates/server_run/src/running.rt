@@ -13,7 +13,7 @@ use server_calls::{Manager, Room, first_cookies};
 use server_ends::Finished;
 use server_steps::{Gone, Line, RunningCall, Server, Task, Worked};
 use std::sync::Wait;
-use std::sync::atomic::AtomicBool;
+use std::sync::atomic::AtomicU64;
 use std::thread::Threads;
 
 /// A call that was taken, with what was made ready for it.
@@ -68,6 +68,7 @@ fn finish_departed<R: Wait, K: Link, M: Manager>(
         retired,
         ..
     } = gone;
+    link.ring(rt, group);
     Finished {
         link,
         pass,
@@ -103,7 +104,7 @@ pub(crate) fn run_call<R: Wait + Threads + Sync, K: Link, M: Manager + Sync>(
     let asked = &asked;
     let cookies = first_cookies(&row, asked.slots.len());
     let pass = line.split_pass(hub, manager, call, asked, cookies);
-    let done = AtomicBool::new(false);
+    let done = AtomicU64::new(0);
     let running = RunningCall {
         group: line.group,
         call,
@@ -120,6 +121,7 @@ pub(crate) fn run_call<R: Wait + Threads + Sync, K: Link, M: Manager + Sync>(
     match run_beside(rt, server, line, running, cookies, task) {
         Beside::On(mut line, orphaned, worked) => {
             let reply = line.end(rt, hub, manager, call, asked, cookies, orphaned, worked);
+            line.wire.link.ring(rt, line.group);
             Ran::On(line, reply)
         }
         Beside::Left(departed, worked) => {

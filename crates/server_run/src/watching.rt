@@ -9,11 +9,11 @@ use rpc_outside::Link;
 use server_calls::Manager;
 use server_steps::{Fault, Heard, Line, RunningCall, Server, Stop};
 use std::sync::Wait;
-use std::sync::atomic::{AtomicBool, Ordering};
-use std::thread;
+use std::sync::atomic::{AtomicU64, Ordering};
+use std::time::Duration;
 
-/// How many turns a call is given to end before its connection's link is looked at, which may take a while.
-const TURNS: u32 = 1_000;
+/// How long a call is waited for between two looks at its connection's link, in milliseconds.
+const TURN: u64 = 10;
 
 /// What came of a call that runs.
 #[derive(Drop)]
@@ -24,15 +24,12 @@ pub(crate) enum Watched {
     Stop(Stop),
 }
 
-/// Gives other threads some turns, until the call is done: whether it is.
-fn is_soon_done(done: &AtomicBool) -> bool {
-    for _ in 0..TURNS {
-        if done.load(Ordering::SeqCst) {
-            return true;
-        }
-        thread::yield_now();
+/// Waits a turn at most until the call is done: whether it is.
+fn is_soon_done<R: Wait>(rt: &R, done: &AtomicU64) -> bool {
+    if done.load(Ordering::SeqCst) == 0 {
+        done.park_timeout(rt, 0, Duration::from_millis(TURN));
     }
-    false
+    done.load(Ordering::SeqCst) != 0
 }
 
 /// Hears whether a running call is called off, until it is done or something came that has to wait for its end.
@@ -52,7 +49,7 @@ pub(crate) fn watch<R: Wait, K: Link, M: Manager>(
     let RunningCall { call, asked, .. } = running;
     let mut orphaned = false;
     for _ in rt.forever() {
-        if is_soon_done(running.done) || line.wire.conn.must_wait() {
+        if is_soon_done(rt, running.done) || line.wire.conn.must_wait() {
             return Watched::Done(orphaned);
         }
         match line.hear_running(hub, manager, call, asked, cookies, orphaned) {

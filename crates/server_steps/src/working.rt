@@ -11,7 +11,7 @@ use server_calls::{Answered, Manager, Room, first_cookies, run};
 use std::alloc::{AllocError, Global};
 use std::snapshot::Snapshot;
 use std::sync::Wait;
-use std::sync::atomic::{AtomicBool, Ordering};
+use std::sync::atomic::{AtomicU64, Ordering};
 use std::thread::Promise;
 
 /// What serves the calls of a connection: the tables of the interfaces, their manager, and the hub of the groups.
@@ -39,8 +39,8 @@ pub struct RunningCall<'a> {
     pub asked: &'a Asked,
     /// The row of its cookies.
     pub row: CookieRow,
-    /// Whether it is done. No clause speaks of it.
-    pub done: &'a AtomicBool,
+    /// 1 once it is done, else 0. No clause speaks of it.
+    pub done: &'a AtomicU64,
 }
 
 /// What a call uses up as it runs: a pass that has seen it accepted and entered nothing, its message, once for its manager
@@ -114,7 +114,7 @@ pub fn work<R: Wait, M: Manager>(
         room,
         &mut probe,
     );
-    running.done.store(true, Ordering::SeqCst);
+    running.done.store(1, Ordering::SeqCst);
     let pass = probe.into_pass(server.hub, running.group, running.call);
     Worked { answered, pass }
 }

@@ -8,6 +8,7 @@ use rpc_outside::{Address, Dial, Door, Link, Taken, put_all};
 use std::alloc::Global;
 use std::io::{Read, Write};
 use std::net::{Ipv4Addr, Shutdown, TcpListener, TcpStream};
+use std::sync::Wait;
 use std::test::*;
 use std::{io, thread};
 
@@ -52,6 +53,21 @@ fn fails<K: Link>(link: &mut K) -> bool
     false
 }
 
+/// Whether each of some rings ends a take.
+fn hears<R: Wait, K: Link>(rt: &R, listening: &mut K, ringing: &K) -> Result<bool, Failed>
+    requires is_open { (K.shows listening.old).closed ≡ false }
+    ensures is_open { (K.shows listening.new).closed ≡ false }
+{
+    let mut buffer = [0u8; 8];
+    for _ in 0..1_000 {
+        ringing.ring(rt, 7);
+        if listening.take(&mut buffer)? != Taken::Quiet {
+            return Ok(false);
+        }
+    }
+    Ok(true)
+}
+
 #[test]
 fn octets_and_an_end_come_over_a_door(rt: HostRuntime) -> Result<(), Fail> {
     let port = free_port(&rt)?;
@@ -62,7 +78,9 @@ fn octets_and_an_end_come_over_a_door(rt: HostRuntime) -> Result<(), Fail> {
         return Err(Fail::new("nobody called"));
     };
     let mut buffer = [0u8; 16];
+    link.hasten();
     assert_eq!(rt; link.take(&mut buffer)?, Taken::Quiet);
+    link.unlisten(&rt);
     client.write_all(b"question")?;
     assert_eq!(rt; next_of(&mut link, &mut buffer)?, Taken::Bytes(8));
     assert_eq!(rt; &buffer[..8], b"question".as_slice());
@@ -73,6 +91,41 @@ fn octets_and_an_end_come_over_a_door(rt: HostRuntime) -> Result<(), Fail> {
     let mut answer = Vec::new(rt.alloc());
     client.read_to_end(&mut answer)?;
     assert_eq!(rt; answer.as_slice(), b"answer".as_slice());
+    door.back(link);
+    Ok(())
+}
+
+#[test]
+fn a_ring_ends_a_take(rt: HostRuntime) -> Result<(), Fail> {
+    let port = free_port(&rt)?;
+    let mut door = SocketDoor::new(&rt, rt.alloc());
+    door.listen(at(port))?;
+    let _first = TcpStream::connect(&rt, (Ipv4Addr::LOCALHOST, port))?;
+    let _second = TcpStream::connect(&rt, (Ipv4Addr::LOCALHOST, port))?;
+    let (Some(mut listening), Some(ringing)) = (door.next()?, door.next()?) else {
+        return Err(Fail::new("nobody called"));
+    };
+    let mut buffer = [0u8; 8];
+    assert!(rt; listening.listen(&rt, 7));
+    assert_eq!(rt; listening.take(&mut buffer)?, Taken::Quiet);
+    assert!(rt; hears(&rt, &mut listening, &ringing)?);
+    listening.unlisten(&rt);
+    Ok(())
+}
+
+#[test]
+fn a_door_that_is_shut_lets_nobody_in(rt: HostRuntime) -> Result<(), Fail> {
+    let port = free_port(&rt)?;
+    let mut door = SocketDoor::new(&rt, rt.alloc());
+    door.listen(at(port))?;
+    let client = TcpStream::connect(&rt, (Ipv4Addr::LOCALHOST, port))?;
+    let Some(link) = door.next()? else {
+        return Err(Fail::new("nobody called"));
+    };
+    door.shut();
+    assert!(rt; TcpStream::connect(&rt, (Ipv4Addr::LOCALHOST, port)).is_err());
+    assert!(rt; matches!(door.next(), Err(OutFault::Failed)));
+    drop(client);
     door.back(link);
     Ok(())
 }

@@ -1,6 +1,6 @@
 use Rattle.std.proofs.Common.{◌≡◌, map, drop}
 use Rattle.idl_forms.specs.Forms.{file_form}
-use Rattle.idl_tables.specs.Interfaces.{first_in, version_in}
+use Rattle.marshal_table.specs.Interfaces.{first_in, version_in}
 use Rattle.marshal_table.proofs.interface.first_version.Given as goal
 
 -- what is left of the attributes has the answer

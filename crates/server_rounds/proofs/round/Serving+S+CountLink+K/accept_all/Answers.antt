@@ -6,10 +6,10 @@ use Rattle.server_rounds.proofs.round.«Serving+S+CountLink+K».accept_all.Goals
 pub loop-count-preserved : goal.loop-count-preserved
 loop-count-preserved g c =
     let was = c.loop-count.invariant in
-    let on = stays_on (g.D.Door.shows c.args.door.now) (g.D.Door.shows c.loop-count.door) (g.D.Door.shows c.accept_next.new.door) (links_of c.loop-count.self) (links_of c.sweep.new.self)
-    (links_of c.accept_next.new.self) c.loop-count.count was.2 was.3 c.sweep.ensures.links c.in-None.ensures.goes in (
+    let on = stays_on (g.D.Door.shows c.args.door.now) (g.D.Door.shows c.loop-count.door) (g.D.Door.shows c.accept_next.new.door) (links_of c.loop-count.self) (links_of c.tidy.new.self)
+    (links_of c.accept_next.new.self) c.loop-count.count was.2 was.3 c.tidy.ensures.links c.in-None.ensures.goes in (
       c.accept_next.ensures.serving,
-      record { service = c.accept_next.ensures.keeps.service ∙ (c.sweep.ensures.keeps.service ∙ was.1.service); first = c.accept_next.ensures.keeps.first ∙ (c.sweep.ensures.keeps.first ∙ was.1.first) },
+      record { service = c.accept_next.ensures.keeps.service ∙ (c.tidy.ensures.keeps.service ∙ was.1.service); first = c.accept_next.ensures.keeps.first ∙ (c.tidy.ensures.keeps.first ∙ was.1.first) },
       on.0,
       on.1,
     )

@@ -1,0 +1,127 @@
+//! The service with which connections are served.
+ghost use Rattle.std.specs.Prelude.{◌≡◌, ◌≤◌, IfOk, length};
+ghost use Rattle.ndr_table.specs.Shown.{shown};
+ghost use Rattle.manager_api.specs.Served.{tables_in};
+ghost use Rattle.desk_service.specs.Calls.{ids_in};
+ghost use Rattle.hello_server.specs.Calls as spec;
+
+use crate::endpoints::endpoint_map;
+use crate::managed::{manage, run_down_managed};
+use crate::offered::{ENDPOINTS, HELLO, tables_with};
+use desk_counts::Tally;
+use desk_locks::Locked;
+use desk_text::TextService;
+use epm_manager::EpmDesk;
+use handle_model::{CookieRow, Due};
+use hello_desk::Hello;
+use manager_api::{Answer, Probe, Served};
+use ndr_table::Table;
+use ndr_value::Message;
+use rpc_base::{Items, NoMemory, SyntaxId};
+use rpc_outside::Address;
+use server_calls::{Manager, Service};
+use std::alloc::Global;
+use std::sync::{Arc, Wait};
+
+/// Hello, the endpoint map and management. Hello and the map keep what their calls left, each behind a lock of its own;
+/// management keeps nothing.
+#[derive(Drop)]
+pub struct HelloService {
+    alloc: Global,
+    hello: TextService<Hello>,
+    endpoints: Locked<EpmDesk>,
+    ids: Items<SyntaxId>,
+    tally: Arc<Tally, Global>,
+    served: Served,
+    ghost offered: { tables_in served ≡ spec.tables_with (shown hello.table) },
+    ghost told: { ids ≡ ids_in (spec.tables_with (shown hello.table)) },
+    ghost few: { length ids ≤ 16 },
+}
+
+/// A service that threads may share.
+fn shared<S: Service + Send + Sync + Drop + 'static>(service: S) -> S
+    ensures { result ≡ service }
+{
+    service
+}
+
+impl HelloService {
+    /// The service before the first call, with hello's interface as that table. Each interface is registered in the endpoint
+    /// map at the address. Management tells the numbers of `tally`.
+    ///
+    /// # Errors
+    ///
+    /// `NoMemory` where there is no memory for the interfaces' tables or the map's entries.
+    pub fn new(
+        alloc: Global,
+        at: Address,
+        hello: Table,
+        tally: Arc<Tally, Global>,
+    ) -> Result<HelloService, NoMemory>
+        ensures { IfOk result (λ service. shown service.hello.table ≡ shown hello) }
+    {
+        let served = tables_with(alloc, &hello)?;
+        let ids = served.ids(alloc)?;
+        let endpoints = endpoint_map(alloc, ids.as_slice(), at)?;
+        Ok(shared(HelloService {
+            alloc,
+            hello: TextService::new(alloc, hello, Hello::new()),
+            endpoints: Locked::new(endpoints),
+            ids,
+            tally,
+            served,
+        }))
+    }
+}
+
+impl Manager for HelloService {
+    ghost use Rattle.hello_server.specs.Calls.{hello_of, tables_with, May};
+
+    ghost tables = { λ service. tables_with (hello_of service) };
+
+    ghost may = { λ service call told answer. May (hello_of service) call told answer };
+
+    fn call<R: Wait, P: Probe>(
+        &self,
+        rt: &R,
+        iface: u16,
+        op: u16,
+        message: Message,
+        cookies: CookieRow,
+        probe: &mut P,
+    ) -> Answer {
+        match iface {
+            HELLO => self.hello.answer(rt, iface, op, &message, &cookies),
+            ENDPOINTS => self
+                .endpoints
+                .answer(rt, iface, op, message, cookies, probe),
+            _ => {
+                let (ids, tally) = (&self.ids, &self.tally);
+                manage(self.alloc, ids, tally, iface, op, message, cookies, probe)
+            }
+        }
+    }
+
+    fn is_brief(&self, iface: u16, op: u16, stub: usize) -> bool {
+        self.hello.is_brief(iface, op, stub)
+    }
+
+    fn rundown<R: Wait>(&self, rt: &R, due: Due) {
+        // A handle's kind is its interface's number times 65,536, and the number of its type.
+        match due.kind() / (1 << 16) {
+            0 => self.hello.run_down(rt, due),
+            1 => self.endpoints.run_down(rt, due),
+            _ => run_down_managed(self.alloc, due),
+        }
+    }
+}
+
+impl Service for HelloService {
+    fn served(&self) -> &Served {
+        &self.served
+    }
+
+    fn alloc(&self) -> Global {
+        self.alloc
+    }
+}

@@ -1,6 +1,0 @@
-pub mod Alike
-pub mod Bodies
-pub mod Interfaces
-pub mod Laws
-pub mod Stands
-pub mod Wholes

@@ -1,0 +1,13 @@
+use Rattle.std.specs.Prelude.{◌≡◌}
+use Rattle.std.specs.VecDeque.{deque_len}
+use Rattle.server_rounds.specs.Serving.{IsServing, Keeps, links_of}
+use Rattle.server_rounds.proofs.serving.Serving.settle_over.Given as goal
+
+abbrev pub invariant-loop-self : goal.invariant-loop-self
+invariant-loop-self g l =
+    IsServing g.K.Link.shows g.S.Manager.may g.S.Manager.tables l.hub l.self
+    × Keeps l.initial.self l.self
+    × (links_of l.self ≡ links_of l.initial.self)
+
+abbrev pub decreases-loop-self : goal.decreases-loop-self
+decreases-loop-self g l = deque_len l.self.running
