@@ -91,7 +91,7 @@ def idl_texts():
 
 def journals():
     texts = []
-    for name in found("bench/crates/cases_journal/data/journals_*.txt"):
+    for name in found("crates/cases/data/journals_*.txt"):
         for case in cases(name):
             lines = [it for it in case.split("\n") if re.match(r"(group|base|base-call|join|accept|take|deny|cancel|orphan|end|leave|shut)\b", it)]
             if lines:

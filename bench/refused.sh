@@ -83,11 +83,13 @@ files() { # WHAT WORDS..
 # Connects and goes.
 visit() { (exec 3<>"/dev/tcp/127.0.0.1/$port") 2>/dev/null; }
 
-# A caller's lines are those of its calls, but for one refusal, fault or loss at most that comes from refused memory.
+# A caller's lines are those of its calls, but for one refusal, fault or loss at most that comes from refused memory. Where its
+# bind was refused, its next line departs.
 is_less() { # SAID
     awk '
         /^1 (bound 1|done \(\$(h[12]|null), 0\)|fault 1c00001a not-run)$/ { next }
         /^1 (refused 1|fault 1c00001b (run|not-run)|lost)$/ { if (!wanted++) next }
+        /^refused: script line [0-9]+$/ { if (wanted) next }
         { exit bad = 1 }
         END { exit bad }' "$1"
 }
@@ -174,7 +176,7 @@ servers() {
         if start_refused "$block"; then
             said=0
             timeout 90 "$program" call "127.0.0.1:$port" "$data/probe.idl" "$data/probe.calls" >"$work/said" 2>/dev/null || said=$?
-            case $said in 0 | 6 | 7 | 8) ;; *) fail "serve, block $block: its caller ends with $said" ;; esac
+            case $said in 0 | 6 | 7 | 8) ;; 2) grep -qx "1 refused 1" "$work/said" || fail "serve, block $block: its caller ends with 2" ;; *) fail "serve, block $block: its caller ends with $said" ;; esac
             is_less "$work/said" || fail "serve, block $block: its caller prints $(tail -n 1 "$work/said")"
             # (the server waits for its one connection, if the caller's never came)
             if kill -0 "$server" 2>/dev/null; then visit || true; fi
