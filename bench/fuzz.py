@@ -72,7 +72,7 @@ def named(text):
 def pdus():
     """The PDUs that have names in the files of cases."""
     known = {}
-    for name in found("crates/cases/data/pdus_*.txt", "crates/cases/data/conns_*.txt", "bench/crates/cases_runs/data/runs_scripts.txt"):
+    for name in found("crates/cases/data/pdus_*.txt", "crates/cases/data/conns_*.txt", "crates/cases_runs/data/runs_scripts.txt"):
         known.update((it, None) for it in named(read(name).decode()).values() if len(it) >= 16 and it[0] == 5)
     return list(known)
 
@@ -115,7 +115,7 @@ def spelled(line, names):
 
 def scripts():
     texts = [read(name) for name in found("crates/dcerpc/data/*.script")]
-    for name in found("bench/crates/cases_runs/data/runs_scripts.txt"):
+    for name in found("crates/cases_runs/data/runs_scripts.txt"):
         names = named(read(name).decode())
         for case in cases(name):
             lines = [spelled(it[1:], names) for it in case.split("\n") if re.match(r"\|(boot|open|send|run|finish|lose)\b", it)]

@@ -30,28 +30,24 @@ renamed() {
 # The files of a crate, without what is made of them.
 sources() { (cd "$1" && find . -type f -not -path './out/*'); }
 
-# The desk stands among the crates, the server as text under bench/crates.
-for from in crates/hello_desk bench/crates/hello_server; do
+for from in crates/hello_desk crates/hello_server; do
     while IFS= read -r file; do
         to=crates/${name}_${from##*_}/${file//hello/$name}
         to=${to//Hello/$type}
-        case $to in *.rt.txt | *.antt.txt) to=${to%.txt} ;; esac
         mkdir -p "$(dirname "$to")"
         renamed "$from/$file" >"$to"
     done < <(sources "$from")
 done
 
-# A line of crates.txt for each, after hello's; the server's last, since it stands on more.
+# A line of crates.txt for each, after hello's.
 listed=$(mktemp)
 trap 'rm -f "$listed"' EXIT
 while IFS= read -r line; do
     printf '%s\n' "$line"
     case $line in
-        hello_desk[\ :]*) printf '%s\n' "${line//hello/$name}" ;;
+        hello_desk[\ :]* | hello_server[\ :]*) printf '%s\n' "${line//hello/$name}" ;;
     esac
 done <crates.txt >"$listed"
-line=$(grep -E '^hello_server( |:)' bench/lines.txt)
-printf '%s\n' "${line//hello/$name}" >>"$listed"
 cat "$listed" >crates.txt
 
 printf 'crates/%s_desk and crates/%s_server: the interface %s has the identifier %s\n' "$name" "$name" "$name" "$uuid"

@@ -13,6 +13,7 @@ use Rattle.clap.specs.declared.error.kind.ErrorKind.TheVariants.{OutOfMemory}
 use Rattle.clap.specs.declared.parser.matches.ArgMatches.{ArgMatches}
 use Rattle.app_words.specs.declared.command.Asked.{Asked}
 use Rattle.app_words.specs.Asks.{AsksFor, AsksForNothing, IsLine, Line, ReadsLine, call_line, file_line, line_of, load_line, replay_line, serve_line}
+use Rattle.app_words.specs.Found.{ReadsReplay, ReadsPlain, ReadsLoad, ReadsServe, ReadsCall}
 use Rattle.app_words.specs.Usage.{Command, call, commands, load, of_file, program, replay, serve}
 use Rattle.app_words.proofs.Commands.{In, OptionsFound, command_of}
 use Rattle.app_words.proofs.Lines.{AreOptions, Given}
@@ -45,25 +46,11 @@ answers words (Some a) t h = record {
 
 -- ---- the clauses of the reader, command by command
 
-abbrev ReadsFile : ArgMatches → Option Asked → Text → (Text → List Row → Line) → Type 0
-ReadsFile m o name line = (file : Text) (rows : List Row) → subcommand_rows_of m ≡ Some (name, rows) → first_of (codes "FILE") rows ≡ Some file → ReadsLine (line file rows) o
-
-abbrev ReadsNumbers : ArgMatches → Option Asked → Type 0
-ReadsNumbers m o = (number steps : Text) (rows : List Row) → subcommand_rows_of m ≡ Some (codes "load", rows) → first_of (codes "NUMBER") rows ≡ Some number → first_of (codes "N") rows ≡ Some steps → ReadsLine (load_line number steps) o
-
-abbrev ReadsServe : ArgMatches → Option Asked → Type 0
-ReadsServe m o = (address connections : Text) (rows : List Row) → subcommand_rows_of m ≡ Some (codes "serve", rows) → first_of (codes "ADDRESS") rows ≡ Some address
-    → first_of (codes "connections") rows ≡ Some connections → ReadsLine (serve_line address connections (first_of (codes "idl") rows)) o
-
-abbrev ReadsCall : ArgMatches → Option Asked → Type 0
-ReadsCall m o = (address idl script : Text) (rows : List Row) → subcommand_rows_of m ≡ Some (codes "call", rows) → first_of (codes "ADDRESS") rows ≡ Some address → first_of (codes "IDL") rows ≡ Some idl
-    → first_of (codes "SCRIPT") rows ≡ Some script → ReadsLine (call_line address idl script) o
-
 pub record Clauses (m : ArgMatches) (o : Option Asked) : Type 0 where
-  pub replays : ReadsFile m o (codes "replay") (λ file rows. replay_line file (first_of (codes "idl") rows))
-  pub idls : ReadsFile m o (codes "idl") (λ file rows. file_line (codes "idl") file)
-  pub audits : ReadsFile m o (codes "audit") (λ file rows. file_line (codes "audit") file)
-  pub loads : ReadsNumbers m o
+  pub replays : ReadsReplay m o
+  pub idls : ReadsPlain (codes "idl") m o
+  pub audits : ReadsPlain (codes "audit") m o
+  pub loads : ReadsLoad m o
   pub serves : ReadsServe m o
   pub calls : ReadsCall m o
 
@@ -89,7 +76,7 @@ module _ (m : ArgMatches) (o : Option Asked) (clauses : Clauses m o) where
   of_replay word (f ∷ []) (g ∷ []) rows e count a met found options =
       subst (λ l. ReadsLine l o) (one_option word (f ∷ []) (codes "idl") g (first_of (codes "idl") rows) (codes "replay") e a.0 options.0) (clauses.replays f rows met found.0)
 
-  of_files : (name : Text) → ReadsFile m o name (λ file rows. file_line name file) → Reads (of_file name)
+  of_files : (name : Text) → ReadsPlain name m o → Reads (of_file name)
   of_files name reads word [] opts rows e count a met found options = absurd (omega (arith, count))
   of_files name reads word (f ∷ x ∷ more) opts rows e count a met found options = absurd (omega (arith, count))
   of_files name reads word (f ∷ []) (g ∷ gs) rows e count a met found options = absurd a

@@ -1,4 +1,4 @@
--- What `clap` asks behind the last word: that nothing is lacking.
+-- What `clap` asks after the last word: that nothing is lacking.
 use Rattle.std.proofs.Common.{◌≡◌, ◌∙◌, ◌&&◌, ◌||◌, Bool, true, false, true≢false, ℕ, suc, List, [], ◌∷◌, ◌++◌, refl, sym, ap, ap₂, Option, Some, None, cond, fold, is_some, not}
 use Rattle.std.specs.List.{AllByRecursion, list_any}
 use Rattle.clap.specs.Kinds.{Kinds, or_else}

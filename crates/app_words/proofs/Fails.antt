@@ -28,7 +28,7 @@ module _ (c : Command) (rows : List Row) (pending : Option (Text × List Text)) 
   pub last_fails : (waiting : Waiting) (place : ℕ) → Fails (faults (leaf c) (waits (held rows pending) waiting place false) [])
   last_fails waiting place = last (waits (held rows pending) waiting place false) refl
 
-  -- behind `--`
+  -- after `--`
   pub fails_behind : (waiting : Waiting) (place : ℕ) (words : List Text) → Place c place → Fails (faults (leaf c) (waits (held rows pending) waiting place true) words)
   fails_behind waiting place [] p = last (waits (held rows pending) waiting place true) refl
   fails_behind waiting place (x ∷ xs) (takes id hit) =

@@ -1,4 +1,4 @@
--- A command's lines, and what the words behind its first say.
+-- A command's lines, and what the words after its first say.
 use Rattle.std.proofs.Common.{◌≡◌, ◌∙◌, ◌+◌, ◌≤◌, ◌||◌, ◌&&◌, append_assoc, Bool, true, false, true≢false, List, [], ◌∷◌, ◌++◌, length, map, refl, sym, subst, ap, ap₂, arith, Option, Some, None, cond, is_some, flat_map, option_to_list, inl, inr, ◌⊎◌}
 use Rattle.std.specs.Prelude.{IsPermutation, ⊤}
 use Rattle.std.specs.List.{list_any}

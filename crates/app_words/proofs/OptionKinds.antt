@@ -99,7 +99,7 @@ long_kind os word l = by (cases_Bool (knows os (name_and_value l.text).0))
 not_dashes : (word : Text) → bytes_eq word (codes "--") ≡ false → word ≡ codes "--" → ⊥
 not_dashes word d e = true≢false (sym (ap (λ w. bytes_eq w (codes "--")) e) ∙ d)
 
--- the text behind two hyphens
+-- the text after two hyphens
 abbrev text_of : Text → Text
 text_of (a ∷ b ∷ rest) = rest
 text_of other = []

@@ -1,4 +1,4 @@
--- A number and what stands behind its mark.
+-- A number and what stands after its mark.
 use Rattle.std.proofs.Common.{◌≡◌, ℕ, ◌+◌, ◌%◌, ◌<◌, ◌≤◌, ◌^◌, List, [], ◌∷◌, ◌++◌, refl, ap, ap₂, sym, ◌∙◌, arith, All, decimal, ◌⊎◌, inl, inr}
 use Rattle.std.proofs.lemmas.List.Elements.{All-cons, All-nil, All-append}
 use Rattle.std.proofs.lemmas.Fmt.{decimal_by_steps, decimal_injective}
@@ -62,7 +62,7 @@ begins x fits = begins_with x.0 x.1 fits
 one_number : (a b : ℕ) → a < 2 ^ 64 → b < 2 ^ 64 → decimal a ≡ decimal b → a ≡ b
 one_number a b low less e = decimal_injective a b low less e
 
--- a number and what stands behind its mark
+-- a number and what stands after its mark
 one_part : (c a b : ℕ) (more rest : List ℕ) → (c < 48 ⊎ 58 ≤ c) → a < 2 ^ 8 → b < 2 ^ 8 → decimal a ++ (c ∷ more) ≡ decimal b ++ (c ∷ rest) → (a ≡ b) × (more ≡ rest)
 one_part c a b more rest mark small few e =
     let same = parts c a more (decimal b) rest mark small (no_mark c b mark few) e in

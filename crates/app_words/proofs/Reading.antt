@@ -93,7 +93,7 @@ module _ (c : Command) where
   abbrev behind : Stage c → List Text → Wish
   behind s rest ops opts = (s.met ++ rest ≡ ops) × (s.vals ≡ opts)
 
-  -- ---- behind the last word
+  -- ---- after the last word
 
   found : (ids ops : List Text) (us : Uses) → AreMet ids ops us → AreFound ids ops (rows_of us)
   found [] [] us m = tt
@@ -165,7 +165,7 @@ module _ (c : Command) where
           let g = given c.operands c.options s.uses l in
           done_with s trailing said (no_more s.left s.done s.uses s.fresh (subst (λ ids. AreGiven ids s.uses) s.split g.0)) g.1 asks only l
 
-  -- ---- behind `--`
+  -- ---- after `--`
 
   too_many : (met : List Text) (word : Text) (more ops : List Text) (n : ℕ) → length met ≡ n → met ++ word ∷ more ≡ ops → length ops ≡ n → ⊥
   too_many met word more ops n whole e count =
@@ -204,7 +204,7 @@ module _ (c : Command) where
         operand_walk c s.rows s.pending s.uses (place_of s) id trailing word o s.usable (small_place s id more e) (hits s id more e)
         ∙ ap (λ p. at (held (rows_of s.uses) (Some (id, word ∷ []))) p trailing) (sym (longer s id more word e))
 
-    -- every word behind it is an operand
+    -- every word after it is an operand
     abbrev Behind : List Text → Type 0
     Behind rest = (s : Stage c) → Reading (stands s true) rest (behind s rest)
 
@@ -323,7 +323,7 @@ module _ (c : Command) where
         no_word : (v : Text) (ws : List Text) → [] ≡ v ∷ ws → ⊥
         no_word v ws e = absurd (cc)
 
-    -- what the words behind the next one say, whatever was read
+    -- what the words after the next one say, whatever was read
     abbrev Later : List Text → Type 0
     Later [] = ⊤
     Later (v ∷ rest) = Next rest

@@ -27,7 +27,7 @@ AreNames os = (name : Text) → knows os name ≡ true → IsName name
 pub mark_is : (name value : Text) → name ++ codes "=" ++ value ≡ name ++ 61 ∷ value
 mark_is name value = append_assoc name (codes "=") value
 
--- a name isn't one with a value behind `=`
+-- a name isn't one with a value after `=`
 no_value : (name other value : Text) → IsName name → name ≡ other ++ codes "=" ++ value → ⊥
 no_value name other value n e = no_cut 61 other value name n.mark (e ∙ mark_is other value)
 

@@ -78,7 +78,7 @@ module _ (c : Command) where
 
   -- ---- an operand
 
-  -- in front of `--` a word is one by its form, behind it any word is
+  -- in front of `--` a word is one by its form, after it any word is
   abbrev pub Plain : Bool → Text → Type 0
   Plain true word = ⊤
   Plain false word = IsOperand word
@@ -129,7 +129,7 @@ module _ (c : Command) where
       turned h h idle place trailing word value (plain_fault h trailing word o) (plain_met h place trailing word o)
       ∙ ap (λ r. option_map_or (λ a. positional_fault (rules_of c) false a h) r (stray_fault (leaf c))) none
 
-  -- the same behind `--`, whatever waits
+  -- the same after `--`, whatever waits
   pub behind_faults : (rows : List Row) (pending : Option (Text × List Text)) (waiting : Waiting) (place : ℕ) (id word : Text) → arg_by_index (rules_of c) place ≡ Some (built id None (Some place) true)
       → turn_fault (leaf c) [] (waits (held rows pending) waiting place true) word ≡ settle_fault (rules_of c) false (held rows pending)
   behind_faults rows pending waiting place id word hit =
@@ -237,7 +237,7 @@ module _ (c : Command) where
       stepped h (record (settled (rules_of c) h) { pending = Some (b.name, []) }) idle place false word (next (option b.name)) (bare_met h place word b)
       ∙ ap (λ rs. waits (held rs (Some (b.name, []))) (option b.name) place false) u.rows_are
 
-  -- ---- the word behind it
+  -- ---- the word after it
 
   value_fault : (h : Held) (name word : Text) → IsOperand word → word_fault (leaf c) [] false (option name) word h ≡ []
   value_fault h name word o = rw (o.dashes, o.long, o.short) refl

@@ -52,12 +52,12 @@ pub record IsNoCommand (words : List Text) : Type 0 where
 abbrev pub Outcome : List Text → Type 0
 Outcome words = IsAsked words ⊎ IsNoCommand words
 
--- ---- behind the word of a command
+-- ---- after the word of a command
 
 abbrev stopped_at : Text → List Text → Walk
 stopped_at name rest = record (walk_from nothing_held) { stopped = Some (name, rest) }
 
--- the faults behind a walk of the program's own words
+-- the faults after a walk of the program's own words
 abbrev faults_after : Walk → Kinds
 faults_after w = or_else (entered_fault whole w.stopped)
     (or_else (settle_fault whole.top.rules whole.top.args_override_self w.held)
@@ -81,7 +81,7 @@ is_command d (inr (inr (inr (inr (inr (inl e)))))) = subst IsCommand (sym e) (re
 is_command d (inr (inr (inr (inr (inr (inr e)))))) = absurd e
 
 module _ (d : Command) (among : In d commands) where
-  -- the words behind its word are left to it
+  -- the words after its word are left to it
   first_step : walked whole.top.rules names (walk_from nothing_held) d.word ≡ stopped_at d.word []
   unfolding walked
   first_step =
@@ -126,7 +126,7 @@ module _ (d : Command) (among : In d commands) where
   entered_is : (rest : List Text) → subcommand_of program (d.word ∷ rest) ≡ Some (d.word, rows_after (leaf d).rules [] rest)
   entered_is rest = ap (λ (w : Walk). entered whole w.stopped) (left rest) ∙ ap (option_map (λ s. rows_at s rest)) ((is_command d among).found ∙ is_leaf)
 
-  -- ---- what the words behind it say
+  -- ---- what the words after it say
 
   line_same : (l m : Line) → l.word ≡ m.word → l.operands ≡ m.operands → l.options ≡ m.options → l ≡ m
   line_same l m e f g = ap₂ (line_by l.word) f g ∙ ap (λ w. line_by w m.operands m.options) e

@@ -63,7 +63,7 @@ pub unmoved : (name other v : Text) (xs : Uses) → bytes_eq other name ≡ fals
 unmoved name other v xs e =
     value_append name xs ((other, v) ∷ []) ∙ ap (λ b. first_some (value_of name xs) (cond b (Some v) None)) e ∙ some_first (value_of name xs)
 
--- uses that tell the same of a name tell the same behind one use more
+-- uses that tell the same of a name tell the same after one use more
 pub told_alike : (name : Text) (p : Text × Text) (xs ys : Uses) → value_of name xs ≡ value_of name ys → value_of name (xs ++ p ∷ []) ≡ value_of name (ys ++ p ∷ [])
 told_alike name p xs ys e =
     value_append name xs (p ∷ []) ∙ ap (λ o. first_some o (value_of name (p ∷ []))) e ∙ sym (value_append name ys (p ∷ []))

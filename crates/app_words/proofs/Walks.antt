@@ -17,7 +17,7 @@ waits held waiting place trailing = record { held = held; waiting = waiting; pos
 abbrev pub at : Held → ℕ → Bool → Walk
 at held place trailing = waits held idle place trailing
 
--- the faults behind a walk in which nothing fails, and what it found
+-- the faults after a walk in which nothing fails, and what it found
 abbrev pub faults_after : Shape → Held → Kinds
 faults_after s h = or_else (settle_fault s.rules s.args_override_self h)
     (or_else (defaults_fault (settled s.rules h).rows s.rules) (check_fault s (finished s.rules h) false))

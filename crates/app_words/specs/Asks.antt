@@ -14,7 +14,7 @@ is_option [] = false
 is_option (c ∷ []) = false
 is_option (c ∷ d ∷ rest) = c == 45
 
--- An argument in front of `--`: an operand, or an option by its name, with its value in the next word or behind `=`.
+-- An argument in front of `--`: an operand, or an option by its name, with its value in the next word or after `=`.
 pub data Argument : Type 0 where
   operand : Text → Argument
   valued : Text → Text → Argument
@@ -42,7 +42,7 @@ option_in (operand word) = []
 option_in (valued name value) = (name, value) ∷ []
 option_in (joined name value) = (name, value) ∷ []
 
--- `--` and the operands behind it, where they are given
+-- `--` and the operands after it, where they are given
 abbrev pub behind : Option (List Text) → List Text
 behind None = []
 behind (Some words) = codes "--" ∷ words

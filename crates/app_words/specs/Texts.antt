@@ -5,7 +5,7 @@ use Rattle.std.specs.Prelude.{◌≡◌, ℕ, ◌<◌, ◌^◌, List, [], ◌∷
 abbrev pub Host : Type 0
 Host = List ℕ × ℕ
 
--- the numbers, with a full stop between each two, and behind a colon the port
+-- the numbers, with a full stop between each two, and after a colon the port
 unfoldable pub address_text : List ℕ → ℕ → List ℕ
 address_text [] port = decimal port
 address_text (n ∷ []) port = decimal n ++ (58 ∷ decimal port)

@@ -5,7 +5,7 @@ ghost use Rattle.app_words.specs.Texts.{FitsHost, host_text, Tail, FitsTail, tai
 
 use base_words::{cut_at, read_u8, read_u16};
 
-/// The last number, and the port behind the colon.
+/// The last number, and the port after the colon.
 fn read_last(text: &[u8]) -> Option<(u8, u16)>
     ensures { Reads FitsTail tail_text text.now result }
 {

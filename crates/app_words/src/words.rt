@@ -1,7 +1,7 @@
 //! What the words ask.
-ghost use Rattle.std.specs.Prelude.{◌≡◌, ℕ, List, Some, map, option_map, string_bytes, codes, IfOk, IfSome, IfNone};
-ghost use Rattle.clap.specs.Words.{Row, first_of, subcommand_rows_of};
-ghost use Rattle.app_words.specs.Asks.{AsksFor, AsksForNothing, ReadsLine, line_of, replay_line, file_line, load_line, serve_line, call_line};
+ghost use Rattle.std.specs.Prelude.{◌≡◌, Some, map, option_map, string_bytes, codes, IfOk, IfSome, IfNone};
+ghost use Rattle.app_words.specs.Asks.{AsksFor, AsksForNothing, ReadsLine, line_of, load_line, serve_line, call_line};
+ghost use Rattle.app_words.specs.Found.{ReadsReplay, ReadsPlain, ReadsLoad, ReadsServe, ReadsCall};
 
 use crate::command::Asked;
 use crate::read_address;
@@ -59,21 +59,12 @@ fn call_of<'a>(address: &str, idl: &'a str, script: &'a str) -> Option<Asked<'a>
 
 /// The command that `clap` found, with its operands and its options.
 fn found<'a>(matches: &ArgMatches<'a>) -> Option<Asked<'a>>
-    ensures replay { (file : List ℕ) (rows : List Row) → subcommand_rows_of matches.now ≡ Some (codes "replay", rows)
-        → first_of (codes "FILE") rows ≡ Some file → ReadsLine (replay_line file (first_of (codes "idl") rows)) result }
-    ensures idl { (file : List ℕ) (rows : List Row) → subcommand_rows_of matches.now ≡ Some (codes "idl", rows)
-        → first_of (codes "FILE") rows ≡ Some file → ReadsLine (file_line (codes "idl") file) result }
-    ensures audit { (file : List ℕ) (rows : List Row) → subcommand_rows_of matches.now ≡ Some (codes "audit", rows)
-        → first_of (codes "FILE") rows ≡ Some file → ReadsLine (file_line (codes "audit") file) result }
-    ensures load { (number steps : List ℕ) (rows : List Row) → subcommand_rows_of matches.now ≡ Some (codes "load", rows)
-        → first_of (codes "NUMBER") rows ≡ Some number → first_of (codes "N") rows ≡ Some steps
-        → ReadsLine (load_line number steps) result }
-    ensures serve { (address connections : List ℕ) (rows : List Row) → subcommand_rows_of matches.now ≡ Some (codes "serve", rows)
-        → first_of (codes "ADDRESS") rows ≡ Some address → first_of (codes "connections") rows ≡ Some connections
-        → ReadsLine (serve_line address connections (first_of (codes "idl") rows)) result }
-    ensures call { (address idl script : List ℕ) (rows : List Row) → subcommand_rows_of matches.now ≡ Some (codes "call", rows)
-        → first_of (codes "ADDRESS") rows ≡ Some address → first_of (codes "IDL") rows ≡ Some idl
-        → first_of (codes "SCRIPT") rows ≡ Some script → ReadsLine (call_line address idl script) result }
+    ensures replay { ReadsReplay matches.now result }
+    ensures idl { ReadsPlain (codes "idl") matches.now result }
+    ensures audit { ReadsPlain (codes "audit") matches.now result }
+    ensures load { ReadsLoad matches.now result }
+    ensures serve { ReadsServe matches.now result }
+    ensures call { ReadsCall matches.now result }
 {
     let (name, arguments) = matches.subcommand()?;
     match name {

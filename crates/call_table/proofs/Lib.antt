@@ -2,6 +2,7 @@ pub mod Calls
 pub mod Counts
 pub mod Follows
 pub mod Found
+pub mod Keyed
 pub mod Marks
 pub mod Nearest
 pub mod Order

@@ -1,6 +1,6 @@
 -- Edits of the rows at the place of a call.
-use Rattle.std.proofs.Common.{◌≡◌, ℕ, zero, suc, ◌+◌, ◌^◌, ◌≤◌, ◌<◌, Bool, true, false, min, Option, Some, None, List, [], ◌∷◌, ◌++◌, length, map, ◌-◌, take, set, get_or, refl, sym, ◌∙◌, ap, subst, arith, inl, inr}
-use Rattle.std.specs.Prelude.{Vec, vec_len, vec_capacity}
+use Rattle.std.proofs.Common.{◌≡◌, ℕ, zero, suc, ◌+◌, ◌^◌, ◌≤◌, ◌<◌, Bool, true, false, min, Option, Some, None, List, [], ◌∷◌, ◌++◌, length, map, ◌-◌, take, get_or, refl, sym, ◌∙◌, ap, subst, arith, inl, inr}
+use Rattle.std.specs.Prelude.{Vec, vec_len}
 use Rattle.std.specs.declared.alloc.Global.{Global}
 use Rattle.std.specs.List.{list_any, filter, find, position, All}
 use Rattle.std.specs.Option.{option_map}
@@ -14,6 +14,7 @@ use Rattle.handle_model.specs.Journal.{least, lesser}
 use Rattle.call_table.specs.declared.row.Row.{Row}
 use Rattle.call_table.specs.Rows.{is_call, is_other, is_below, is_waiting, waits_at, runs_at, row_at, slots_in, slots_at, over, calls, taken, at_call, with_start, no_cookies}
 use Rattle.call_table.specs.Kept.{Rises, AllFew, IsRow, IsKept, blank}
+use Rattle.call_table.specs.Keys.{StoredRows}
 
 -- PLACES
 
@@ -106,18 +107,6 @@ above_kept low k f (x ∷ rows) r lt =
     let first = r.0 in
     let other : is_call k x ≡ false = elim (eqb_tells x.call k) [ inl e ↦ let same = e.1 in absurd (omega arith) | inr e ↦ e.0 ] in
     rw (other, above_kept (x.call + 1) k f rows r.2 (omega arith)) refl
-
-pub mark_at : (f : Row → Row) (low : ℕ) (rows : List Row) (k i : ℕ) (x : Row) → Rises low rows → IsRow rows k i → x ≡ get_or rows i x → set rows i (f x) ≡ map (at_call k f) rows
-mark_at f low [] k i x r w e = let lt = w.within in absurd (omega arith)
-mark_at f low (y ∷ rows) k zero x r w e =
-    let t = head_call k y y rows w in
-    let here = w.here y in
-    let s : y.call ≡ k = here in
-    rw (t, above_kept (y.call + 1) k f rows r.2 (omega arith)) (ap (λ z. f z ∷ rows) e)
-mark_at f low (y ∷ rows) k (suc i) x r w e =
-    let t = tail_row k i y rows w in
-    let off = earlier low k i y rows r t in
-    rw off (ap (λ zs. y ∷ zs) (mark_at f (y.call + 1) rows k i x r.2 t e))
 
 -- the row at its place is the row of the call
 pub row_place : (low : ℕ) (rows : List Row) (k i : ℕ) (x : Row) → Rises low rows → IsRow rows k i → x ≡ get_or rows i x → row_at rows k ≡ Some x
@@ -238,9 +227,8 @@ waits_push (y ∷ rows) x = let more = waits_push rows x in elim (cases_Bool y.r
 
 -- THE INVARIANT
 
-pub marked : (rows rows' : Vec Row Global) (lists : Vec (List (Option ℕ)) Global) (room k i : ℕ) (f : Row → Row) (x : Row) → IsKept rows lists room → Marks f → ((r : Row) → (f r).runs ≡ r.runs) → IsRow rows.items k i → x ≡ get_or rows.items i x → rows'.items ≡ set rows.items i (f x) → vec_len rows' ≡ vec_len rows → vec_capacity rows' ≡ vec_capacity rows → IsKept rows' lists room
-marked rows rows' lists room k i f x s m n w e q len cap =
-    let same = q ∙ mark_at f 0 rows.items k i x s.rises w e in
+pub marked : (rows rows' : StoredRows) (lists : Vec (List (Option ℕ)) Global) (room k : ℕ) (f : Row → Row) → IsKept rows lists room → Marks f → ((r : Row) → (f r).runs ≡ r.runs) → rows'.items ≡ map (at_call k f) rows.items → rows'.room ≡ rows.room → IsKept rows' lists room
+marked rows rows' lists room k f s m n same more =
     let wait = ap (λ (xs : List Row). length (filter is_waiting xs)) same ∙ same_waits k f rows.items n in
     let enough = s.enough in
     let places = s.places in
@@ -252,9 +240,8 @@ marked rows rows' lists room k i f x s m n w e q len cap =
       blanks = s.blanks;
     }
 
-pub begun : (rows rows' : Vec Row Global) (lists lists' : Vec (List (Option ℕ)) Global) (room k i : ℕ) (x : Row) → IsKept rows lists room → waits_at rows.items k ≡ true → IsRow rows.items k i → x ≡ get_or rows.items i x → rows'.items ≡ set rows.items i (taken x) → vec_len rows' ≡ vec_len rows → vec_capacity rows' ≡ vec_capacity rows → vec_len lists' + 1 ≡ vec_len lists → lists'.items ≡ take (vec_len lists - 1) lists.items → IsKept rows' lists' room
-begun rows rows' lists lists' room k i x s h w e q len cap one rest =
-    let same = q ∙ mark_at taken 0 rows.items k i x s.rises w e in
+pub begun : (rows rows' : StoredRows) (lists lists' : Vec (List (Option ℕ)) Global) (room k : ℕ) → IsKept rows lists room → waits_at rows.items k ≡ true → rows'.items ≡ with_start k rows.items → rows'.room ≡ rows.room → vec_len lists' + 1 ≡ vec_len lists → lists'.items ≡ take (vec_len lists - 1) lists.items → IsKept rows' lists' room
+begun rows rows' lists lists' room k s h same more one rest =
     let m : Marks taken = record { call = λ r. refl; slots = λ r. refl } in
     let wait = ap (λ (xs : List Row). length (filter is_waiting xs)) same in
     let less = one_waits k rows.items h in
@@ -268,8 +255,8 @@ begun rows rows' lists lists' room k i x s h w e q len cap one rest =
       blanks = subst (All (λ b. b ≡ blank)) (sym rest) (All-take (λ b. b ≡ blank) (vec_len lists - 1) lists.items s.blanks);
     }
 
-pub filtered : (rows rows' : Vec Row Global) (lists : Vec (List (Option ℕ)) Global) (room : ℕ) (p : Row → Bool) → IsKept rows lists room → rows'.items ≡ filter p rows.items → vec_len rows' ≤ vec_len rows → vec_capacity rows' ≡ vec_capacity rows → IsKept rows' lists room
-filtered rows rows' lists room p s q len cap =
+pub filtered : (rows rows' : StoredRows) (lists : Vec (List (Option ℕ)) Global) (room : ℕ) (p : Row → Bool) → IsKept rows lists room → rows'.items ≡ filter p rows.items → rows'.room ≡ rows.room → IsKept rows' lists room
+filtered rows rows' lists room p s q more =
     let wait = ap (λ (xs : List Row). length (filter is_waiting xs)) q in
     let less = waits_filter p rows.items in
     let enough = s.enough in
@@ -282,8 +269,8 @@ filtered rows rows' lists room p s q len cap =
       blanks = s.blanks;
     }
 
-pub added : (rows rows' : Vec Row Global) (lists : Vec (List (Option ℕ)) Global) (room room' : ℕ) (x : Row) → IsKept rows lists room → room' + 1 ≡ room → over x.call rows.items ≡ true → x.call < 2 ^ 32 → length x.slots ≤ 4 → rows'.items ≡ rows.items ++ x ∷ [] → vec_len rows' ≡ vec_len rows + 1 → vec_capacity rows ≤ vec_capacity rows' → IsKept rows' lists room'
-added rows rows' lists room room' x s less o small few q len cap =
+pub added : (rows rows' : StoredRows) (lists : Vec (List (Option ℕ)) Global) (room room' : ℕ) (x : Row) → IsKept rows lists room → room' + 1 ≡ room → over x.call rows.items ≡ true → x.call < 2 ^ 32 → length x.slots ≤ 4 → rows'.items ≡ rows.items ++ x ∷ [] → rows'.room + 1 ≡ rows.room → IsKept rows' lists room'
+added rows rows' lists room room' x s less o small few q one =
     let wait = ap (λ (xs : List Row). length (filter is_waiting xs)) q in
     let more = waits_push rows.items x in
     let enough = s.enough in
@@ -299,7 +286,7 @@ added rows rows' lists room room' x s less o small few q len cap =
 -- COOKIES
 
 -- while a call waits there is a list for it
-pub some_list : (rows : Vec Row Global) (lists : Vec (List (Option ℕ)) Global) (room k : ℕ) → IsKept rows lists room → waits_at rows.items k ≡ true → 0 < vec_len lists
+pub some_list : (rows : StoredRows) (lists : Vec (List (Option ℕ)) Global) (room k : ℕ) → IsKept rows lists room → waits_at rows.items k ≡ true → 0 < vec_len lists
 some_list rows lists room k s h = let one = one_waits k rows.items h in let enough = s.enough in omega arith
 
 -- what holds of all holds of the last

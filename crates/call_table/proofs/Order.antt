@@ -1,10 +1,12 @@
 -- Rows by rising number: the last one has the greatest.
-use Rattle.std.proofs.Common.{◌≡◌, ℕ, ◌+◌, ◌≤◌, Bool, true, false, ◌||◌, not, nat_lt, List, [], ◌∷◌, ◌++◌, length, refl, ◌∙◌, ap, arith, inl, inr}
-use Rattle.std.specs.List.{list_any, filter}
+use Rattle.std.proofs.Common.{◌≡◌, ℕ, zero, suc, ◌+◌, ◌<◌, ◌≤◌, Bool, true, false, ◌||◌, not, nat_lt, List, [], ◌∷◌, ◌++◌, length, get_or, take, drop, refl, sym, ◌∙◌, ap, arith, inl, inr}
+use Rattle.std.specs.List.{list_any, filter, remove}
 use Rattle.std.proofs.lemmas.Bool.{cases_Bool, ltb-true, lt-ltb}
 use Rattle.call_table.specs.declared.row.Row.{Row}
-use Rattle.call_table.specs.Rows.{is_below, is_waiting, over}
+use Rattle.call_table.specs.Rows.{is_below, is_waiting, over, stays, left}
 use Rattle.call_table.specs.Kept.{Rises}
+use Rattle.handle_model.proofs.Rest.{rest_none}
+use Rattle.call_table.proofs.Walks.{cut_at}
 
 last_above : (low : ℕ) (xs : List Row) (x : Row) → Rises low (xs ++ x ∷ []) → low ≤ x.call
 last_above low [] x r = r.0
@@ -32,6 +34,23 @@ last_below xs x k rows e r =
     twice : (b : Bool) → not (not b) ≡ b
     twice true = refl
     twice false = refl
+
+pub last_row : (rows : List Row) (x : Row) (k n : ℕ) → n + 1 ≡ length rows → x ≡ get_or rows n x → Rises 0 rows → nat_lt x.call k ≡ over k rows
+last_row rows x k n len e r =
+    let rest : drop (n + 1) rows ≡ [] = rest_none rows (n + 1) (omega arith) in
+    let all = take_rest rows n x (omega arith) e rest in
+    sym (last_below (take n rows) x k rows all r)
+  where
+    take_rest : (rows : List Row) (n : ℕ) (x : Row) → n < length rows → x ≡ get_or rows n x → drop (n + 1) rows ≡ [] → rows ≡ take n rows ++ x ∷ []
+    take_rest rows n x lt e rest =
+        let one : suc n ≡ n + 1 = omega arith in
+        cut_at rows n x lt ∙ (ap (λ ys. take n rows ++ get_or rows n x ∷ ys) (ap (λ m. drop m rows) one ∙ rest) ∙ ap (λ y. take n rows ++ y ∷ []) (sym e))
+
+-- the waiting calls of a connection go, the last first
+pub left_step : (c i : ℕ) (rows : List Row) (x : Row) → i < length rows → x ≡ get_or (take (suc i) rows ++ left c (drop (suc i) rows)) i x → stays c x ≡ false → remove (take (suc i) rows ++ left c (drop (suc i) rows)) i ≡ take i rows ++ left c (drop i rows)
+left_step c i [] x lt e s = absurd (omega arith)
+left_step c zero (y ∷ rows) x lt e s = let off : stays c y ≡ false = ap (stays c) (sym e) ∙ s in rw off refl
+left_step c (suc i) (y ∷ rows) x lt e s = ap (λ ys. y ∷ ys) (left_step c i rows x (omega arith) e s)
 
 -- no more wait than there are
 pub waits_few : (rows : List Row) → length (filter is_waiting rows) ≤ length rows

@@ -1,9 +1,10 @@
 -- What always holds of the fields of a table.
-use Rattle.std.specs.Prelude.{◌≡◌, ℕ, ◌+◌, ◌<◌, ◌≤◌, ◌^◌, Option, None, List, [], ◌∷◌, length, filter, slice_index_or, Vec, vec_len, vec_capacity}
+use Rattle.std.specs.Prelude.{◌≡◌, ℕ, ◌+◌, ◌<◌, ◌≤◌, ◌^◌, Option, None, List, [], ◌∷◌, length, filter, slice_index_or, Vec, vec_len}
 use Rattle.std.specs.List.{All}
 use Rattle.std.specs.declared.alloc.Global.{Global}
 use Rattle.call_table.specs.declared.row.Row.{Row}
 use Rattle.call_table.specs.Rows.{is_waiting}
+use Rattle.call_table.specs.Keys.{StoredRows}
 
 -- the numbers rise, from this one on, and have 32 bits
 abbrev pub Rises : ℕ → List Row → Type 0
@@ -24,10 +25,10 @@ pub record IsRow (rows : List Row) (k i : ℕ) : Type 0 where
   pub within : i < length rows
   pub here : (d : Row) → (slice_index_or rows i d).call ≡ k
 
--- what may still come has a place among the rows, and each call that may yet start a list for its cookies
-pub record IsKept (rows : Vec Row Global) (lists : Vec (List (Option ℕ)) Global) (room : ℕ) : Type 0 where
+-- what may still come has room among the rows, and each call that may yet start a list for its cookies
+pub record IsKept (rows : StoredRows) (lists : Vec (List (Option ℕ)) Global) (room : ℕ) : Type 0 where
   pub rises : Rises 0 rows.items
   pub few : AllFew rows.items
-  pub places : vec_len rows + room ≤ vec_capacity rows
+  pub places : room ≤ rows.room
   pub enough : length (filter is_waiting rows.items) + room ≤ vec_len lists
   pub blanks : All (λ b. b ≡ blank) lists.items

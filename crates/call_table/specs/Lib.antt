@@ -1,5 +1,6 @@
 pub mod Based
 pub mod Kept
+pub mod Keys
 pub mod Laws
 pub mod Queues
 pub mod Rows

@@ -8,6 +8,7 @@ ghost use Rattle.call_table.specs.Rows.{running_places};
 ghost use Rattle.call_table.specs.Based as spec;
 
 use crate::row::Row;
+use crate::row_table::RowTable;
 use handle_model::{Asked, Base, BaseCall, BaseCalls, Entry};
 use rpc_base::{Items, NoMemory};
 use std::alloc::Global;
@@ -22,12 +23,13 @@ pub fn stored_calls(
     alloc: Global,
     base: &Base,
     entries: &[Entry],
-    rows: &[Row],
+    rows: &RowTable,
 ) -> Result<BaseCalls, NoMemory>
-    ensures { IfOk result (λ calls. calls ≡ spec.stored_calls base.now entries.now rows.now) }
+    ensures { IfOk result (λ calls. calls ≡ spec.stored_calls base.now entries.now rows.now.items) }
 {
     let mut calls = Items::new(alloc);
-    for row in rows {
+    for at in 0..rows.len() {
+        let row = rows.row(at);
         if let Some(asked) = stored(base, entries, row) {
             calls.push(BaseCall {
                 call: row.call,
@@ -73,15 +75,16 @@ fn asked_at(entries: &[Entry], at: u128) -> Option<&Asked>
 
 /// The least place of the Accept of a running call.
 #[tactic(auto, using(handle_model::proofs::Rest::resting))]
-pub fn least_place(rows: &[Row]) -> Option<u128>
-    ensures { result ≡ least (running_places rows.now) }
+pub fn least_place(rows: &RowTable) -> Option<u128>
+    ensures { result ≡ least (running_places rows.now.items) }
 {
     let mut found = None;
     let mut at = rows.len();
     while at > 0 {
         at -= 1;
-        if rows[at].runs {
-            found = Some(lesser_place(rows[at].place, found));
+        let row = rows.row(at);
+        if row.runs {
+            found = Some(lesser_place(row.place, found));
         }
     }
     found

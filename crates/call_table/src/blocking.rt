@@ -7,17 +7,17 @@ ghost use Rattle.call_table.specs.Rows.{calls, blocker_of};
 
 use crate::blocks::Blockers;
 use crate::queues::{CallQueues, queue_of};
-use crate::row::Row;
+use crate::row_table::RowTable;
 use crate::seek::place;
 use handle_model::Slot;
 
 /// The least running call that clashes with these slots, else the least waiting one below the call.
-pub fn blocker_of(slots: &[Slot], call: u32, rows: &[Row], queues: &CallQueues) -> Option<u32>
-    requires rise { Rises 0 rows.now }
-    requires queued { queues.now.calls ≡ map spec.queued rows.now }
-    ensures { result ≡ blocker_of slots.now call rows.now }
+pub fn blocker_of(slots: &[Slot], call: u32, rows: &RowTable, queues: &CallQueues) -> Option<u32>
+    requires rise { Rises 0 rows.now.items }
+    requires queued { queues.now.calls ≡ map spec.queued rows.now.items }
+    ensures { result ≡ blocker_of slots.now call rows.now.items }
 {
-    if rows.is_empty() {
+    if rows.len() == 0 {
         return None;
     }
     match least_blocker(Blockers::Running, slots, slots, rows, queues) {
@@ -31,13 +31,13 @@ fn least_blocker(
     kind: Blockers,
     slots: &[Slot],
     named: &[Slot],
-    rows: &[Row],
+    rows: &RowTable,
     queues: &CallQueues,
 ) -> Option<u32>
-    requires rise { Rises 0 rows.now }
-    requires queued { queues.now.calls ≡ map spec.queued rows.now }
-    requires some { 0 < length rows.now }
-    ensures { result ≡ least (calls (filter (λ r. spec.shares named.now r && spec.blocks kind slots.now r) rows.now)) }
+    requires rise { Rises 0 rows.now.items }
+    requires queued { queues.now.calls ≡ map spec.queued rows.now.items }
+    requires some { 0 < length rows.now.items }
+    ensures { result ≡ least (calls (filter (λ r. spec.shares named.now r && spec.blocks kind slots.now r) rows.now.items)) }
 {
     let Some((slot, later)) = named.split_first() else {
         return None;
@@ -54,19 +54,19 @@ fn first_blocker(
     kind: Blockers,
     slots: &[Slot],
     queue: u32,
-    rows: &[Row],
+    rows: &RowTable,
     queues: &CallQueues,
 ) -> Option<u32>
-    requires rise { Rises 0 rows.now }
-    requires queued { queues.now.calls ≡ map spec.queued rows.now }
-    requires some { 0 < length rows.now }
+    requires rise { Rises 0 rows.now.items }
+    requires queued { queues.now.calls ≡ map spec.queued rows.now.items }
+    requires some { 0 < length rows.now.items }
     requires queue { queue < 64 }
-    ensures { result ≡ least (calls (filter (λ r. spec.is_in queue (spec.queued r) && spec.blocks kind slots.now r) rows.now)) }
+    ensures { result ≡ least (calls (filter (λ r. spec.is_in queue (spec.queued r) && spec.blocks kind slots.now r) rows.now.items)) }
 {
     let mut after = None;
     while let Some(call) = queues.next(queue, after) {
         let at = place(rows, call);
-        if rows[at].blocks(kind, slots) {
+        if rows.row(at).blocks(kind, slots) {
             return Some(call);
         }
         after = Some(at);

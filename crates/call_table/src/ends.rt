@@ -37,7 +37,7 @@ impl CallTable {
         ensures room { self.new.room ≡ self.old.room }
         ensures steps { steps.new ≤ steps.old + 12 }
     {
-        match seek(self.rows.as_slice(), call) {
+        match seek(&self.rows, call) {
             Some(at) => self.remove(at, steps),
             None => {}
         }
@@ -50,9 +50,9 @@ impl CallTable {
         ensures freed { result + spec.owed_of self.new.rows ≡ spec.owed_of self.old.rows }
         ensures room { self.new.room ≡ self.old.room }
     {
-        let before = owed_of(self.rows.as_slice());
+        let before = owed_of(&self.rows);
         self.leave_all::<Brand>(conn, Blank::new(1));
-        before - owed_of(self.rows.as_slice())
+        before - owed_of(&self.rows)
     }
 
     fn leave_all<L: Ledger>(&mut self, conn: u32, blank: Blank)
@@ -65,7 +65,7 @@ impl CallTable {
         let mut at = self.rows.len();
         while at > 0 {
             at -= 1;
-            if !self.rows[at].stays(conn) {
+            if !self.rows.row(at).stays(conn) {
                 self.remove(at, &mut steps);
             }
         }

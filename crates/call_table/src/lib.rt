@@ -11,6 +11,7 @@ mod laws;
 mod lists;
 mod queues;
 mod row;
+mod row_table;
 mod rows;
 mod seek;
 mod table;

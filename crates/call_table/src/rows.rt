@@ -1,4 +1,4 @@
-//! The rows as a slice.
+//! All rows.
 ghost use Rattle.std.specs.Prelude.{◌≡◌, true, map, IfOk};
 ghost use Rattle.std.specs.List.{list_all};
 ghost use Rattle.handle_model.specs.Sound.{is_within};
@@ -9,6 +9,7 @@ ghost use Rattle.call_table.specs.Rows as spec;
 
 use crate::queues::CallQueues;
 use crate::row::{CallSlots, Row};
+use crate::row_table::RowTable;
 use handle_model::Base;
 use rpc_base::NoMemory;
 use std::alloc::Global;
@@ -18,12 +19,13 @@ use std::alloc::Global;
 /// # Errors
 /// `NoMemory` where memory runs out.
 #[tactic(auto, using(handle_model::proofs::Rest::resting))]
-pub fn rows_of(alloc: Global, base: &Base) -> Result<Vec<Row>, NoMemory>
+pub fn rows_of(alloc: Global, base: &Base) -> Result<RowTable, NoMemory>
     requires { list_all (is_within base.now) base.now.calls ≡ true }
     ensures { IfOk result (λ rows. rows.items ≡ base_rows base.now) }
 {
-    let mut rows = Vec::new(alloc);
+    let mut rows = RowTable::new(alloc);
     for call in base.calls.as_slice() {
+        rows.reserve(1)?;
         rows.push(Row {
             call: call.call,
             conn: call.asked.conn,
@@ -32,7 +34,7 @@ pub fn rows_of(alloc: Global, base: &Base) -> Result<Vec<Row>, NoMemory>
             runs: call.taken,
             cancelled: call.cancelled,
             orphaned: call.orphaned,
-        })?;
+        });
     }
     Ok(rows)
 }
@@ -42,13 +44,14 @@ pub fn rows_of(alloc: Global, base: &Base) -> Result<Vec<Row>, NoMemory>
 /// # Errors
 /// `NoMemory` where memory runs out.
 #[tactic(auto, using(handle_model::proofs::Rest::resting))]
-pub fn queued_rows(alloc: Global, rows: &[Row]) -> Result<CallQueues, NoMemory>
-    requires { AllFew rows.now }
-    ensures { IfOk result (λ queues. queues.calls ≡ map queued rows.now) }
+pub fn queued_rows(alloc: Global, rows: &RowTable) -> Result<CallQueues, NoMemory>
+    requires { AllFew rows.now.items }
+    ensures { IfOk result (λ queues. queues.calls ≡ map queued rows.now.items) }
 {
     let mut queues = CallQueues::new(alloc);
     queues.reserve(rows.len())?;
-    for row in rows {
+    for at in 0..rows.len() {
+        let row = rows.row(at);
         queues.join(row.call, row.slots.as_slice());
     }
     Ok(queues)
@@ -56,24 +59,25 @@ pub fn queued_rows(alloc: Global, rows: &[Row]) -> Result<CallQueues, NoMemory>
 
 /// How many entries may still come of the calls.
 #[tactic(auto, using(handle_model::proofs::Rest::resting))]
-pub fn owed_of(rows: &[Row]) -> usize
-    ensures { result ≡ spec.owed_of rows.now }
+pub fn owed_of(rows: &RowTable) -> usize
+    requires { Rises 0 rows.now.items }
+    ensures { result ≡ spec.owed_of rows.now.items }
 {
     let mut total = 0;
-    for row in rows {
-        total += row.owed();
+    for at in 0..rows.len() {
+        total += rows.row(at).owed();
     }
     total
 }
 
 /// Whether the numbers are all below this one: the last one is.
-#[tactic(auto, using(crate::proofs::Order::last_below))]
-pub fn all_below(rows: &[Row], call: u32) -> bool
-    requires { Rises 0 rows.now }
-    ensures { result ≡ spec.over call rows.now }
+pub fn all_below(rows: &RowTable, call: u32) -> bool
+    requires { Rises 0 rows.now.items }
+    ensures { result ≡ spec.over call rows.now.items }
 {
-    match rows.split_last() {
-        Some((row, _)) => row.call < call,
-        None => true,
+    let count = rows.len();
+    if count == 0 {
+        return true;
     }
+    rows.row(count - 1).call < call
 }

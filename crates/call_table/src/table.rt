@@ -14,6 +14,7 @@ use crate::held::OpenRows;
 use crate::lists::{cut, fill};
 use crate::queues::CallQueues;
 use crate::row::{CallSlots, Row};
+use crate::row_table::RowTable;
 use crate::rows::{all_below, owed_of, queued_rows, rows_of};
 use crate::seek::{place, row_of};
 use crate::tally::Tally;
@@ -25,7 +26,7 @@ use std::marker::Model;
 /// The waiting and running calls of a group: a row of each, and the queues in which they stand.
 #[derive(Drop)]
 pub struct CallTable {
-    pub(crate) rows: Vec<Row>,
+    pub(crate) rows: RowTable,
     pub(crate) queues: CallQueues,
     lists: Vec<Cookies>,
     room: usize,
@@ -62,7 +63,7 @@ impl OpenRows for CallTable {
     fn is_free(&self, call: u32, slots: &[Slot]) -> bool
         ensures { IsTrue result ↔ (blocker_of slots.now call self.now.rows ≡ None) }
     {
-        blocker_of(slots, call, self.rows.as_slice(), &self.queues).is_none()
+        blocker_of(slots, call, &self.rows, &self.queues).is_none()
     }
 }
 
@@ -74,7 +75,7 @@ impl CallTable {
         ensures { result ≡ record { rows = []; room = 0 } }
     {
         CallTable {
-            rows: Vec::new(alloc),
+            rows: RowTable::new(alloc),
             queues: CallQueues::new(alloc),
             lists: Vec::new(alloc),
             room: 0,
@@ -97,8 +98,8 @@ impl CallTable {
         let rows = rows_of(alloc, base)?;
         let mut lists = Vec::new(alloc);
         fill(alloc, &mut lists, rows.len())?;
-        let queues = queued_rows(alloc, rows.as_slice())?;
-        let tally = Tally::of(rows.as_slice());
+        let queues = queued_rows(alloc, &rows)?;
+        let tally = Tally::of(&rows);
         Ok(CallTable {
             rows,
             queues,
@@ -136,7 +137,7 @@ impl CallTable {
     pub fn row(&self, call: u32) -> Option<&Row>
         ensures { option_copied result ≡ spec.row_at self.now.rows call }
     {
-        row_of(self.rows.as_slice(), call)
+        row_of(&self.rows, call)
     }
 
     /// The call that stands in the way of a waiting call: the least running one that uses a handle
@@ -145,14 +146,9 @@ impl CallTable {
         requires { spec.waits_at self.now.rows call ≡ true }
         ensures { result ≡ spec.conflict_of self.now.rows call }
     {
-        let at = place(self.rows.as_slice(), call);
-        let row = &self.rows[at];
-        blocker_of(
-            row.slots.as_slice(),
-            call,
-            self.rows.as_slice(),
-            &self.queues,
-        )
+        let at = place(&self.rows, call);
+        let row = self.rows.row(at);
+        blocker_of(row.slots.as_slice(), call, &self.rows, &self.queues)
     }
 
     /// How many calls wait or run.
@@ -180,14 +176,14 @@ impl CallTable {
     pub fn is_below(&self, call: u32) -> bool
         ensures { result ≡ spec.over call self.now.rows }
     {
-        all_below(self.rows.as_slice(), call)
+        all_below(&self.rows, call)
     }
 
     /// The least place of the Accept of a running call.
     pub fn least_place(&self) -> Option<u128>
         ensures { result ≡ least (spec.running_places self.now.rows) }
     {
-        least_place(self.rows.as_slice())
+        least_place(&self.rows)
     }
 
     /// The calls as a base has them: what they asked stands in that base, or in their Accepts among the
@@ -203,7 +199,7 @@ impl CallTable {
     ) -> Result<BaseCalls, NoMemory>
         ensures { IfOk result (λ calls. calls ≡ stored_calls base.now entries.now self.now.rows) }
     {
-        stored_calls(alloc, base, entries, self.rows.as_slice())
+        stored_calls(alloc, base, entries, &self.rows)
     }
 
     /// What a call asked: it stands in that base, or in its Accept among the entries since then.
@@ -220,7 +216,7 @@ impl CallTable {
     pub fn owed(&self) -> usize
         ensures { result ≡ spec.owed_of self.now.rows }
     {
-        owed_of(self.rows.as_slice())
+        owed_of(&self.rows)
     }
 
     /// How many handles the waiting and running calls may issue.
@@ -250,7 +246,7 @@ impl CallTable {
         };
         self.tally.enter(&row);
         self.queues.join(call, slots.as_slice());
-        self.rows.push(row).unwrap();
+        self.rows.push(row);
     }
 
     /// A waiting call runs from now on. The answer has a place for the cookie of each of its slots.
@@ -260,11 +256,10 @@ impl CallTable {
         ensures rows { self.new.rows ≡ spec.with_start call self.old.rows }
         ensures room { self.new.room ≡ self.old.room }
     {
-        let at = place(self.rows.as_slice(), call);
-        let row = &mut self.rows[at];
-        row.runs = true;
+        let at = place(&self.rows, call);
+        let count = self.rows.row(at).slots.as_slice().len();
+        self.rows.start(at);
         self.tally.running += 1;
-        let count = row.slots.as_slice().len();
         cut(self.lists.pop().unwrap(), count)
     }
 
@@ -274,9 +269,8 @@ impl CallTable {
         ensures rows { self.new.rows ≡ spec.with_cancel call self.old.rows }
         ensures room { self.new.room ≡ self.old.room }
     {
-        let at = place(self.rows.as_slice(), call);
-        let row = &mut self.rows[at];
-        row.cancelled = true;
+        let at = place(&self.rows, call);
+        self.rows.cancel(at);
     }
 
     /// A running call is orphaned.
@@ -285,8 +279,7 @@ impl CallTable {
         ensures rows { self.new.rows ≡ spec.with_orphan call self.old.rows }
         ensures room { self.new.room ≡ self.old.room }
     {
-        let at = place(self.rows.as_slice(), call);
-        let row = &mut self.rows[at];
-        row.orphaned = true;
+        let at = place(&self.rows, call);
+        self.rows.orphan(at);
     }
 }

@@ -4,6 +4,7 @@ ghost use Rattle.call_table.specs.Kept.{AllFew, Rises};
 ghost use Rattle.call_table.specs.Tally as spec;
 
 use crate::row::Row;
+use crate::row_table::RowTable;
 
 /// How many handles the calls may issue, and how many calls run.
 #[derive(Drop)]
@@ -25,14 +26,14 @@ impl Tally {
 
     /// Of these calls.
     #[tactic(auto, using(handle_model::proofs::Rest::resting))]
-    pub fn of(rows: &[Row]) -> Tally
-        requires rise { Rises 0 rows.now }
-        requires few { AllFew rows.now }
-        ensures { spec.IsTally rows.now result }
+    pub fn of(rows: &RowTable) -> Tally
+        requires rise { Rises 0 rows.now.items }
+        requires few { AllFew rows.now.items }
+        ensures { spec.IsTally rows.now.items result }
     {
         let mut tally = Tally::new();
-        for row in rows {
-            tally.enter(row);
+        for at in 0..rows.len() {
+            tally.enter(rows.row(at));
         }
         tally
     }

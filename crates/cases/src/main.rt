@@ -17,6 +17,7 @@ fn of_octets(alloc: Global, subject: &str, text: &str) -> Result<Option<Told>, C
         "streams" => cases_wire::streams(alloc, text)?,
         "contexts" => cases_wire::contexts(alloc, text)?,
         "conns" => cases_wire::conns(alloc, text)?,
+        "multiplexed" => cases_wire::multiplexed(alloc, text)?,
         "towers" => cases_wire::towers(alloc, text)?,
         _ => return Ok(None),
     };

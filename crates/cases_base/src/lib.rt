@@ -6,6 +6,7 @@
 //! lines behind it. What is told is how many cases there were, and each that came to something else than its lines say.
 #![tactic(auto)]
 
+mod books;
 mod fault;
 mod names;
 mod octets;
@@ -15,6 +16,7 @@ mod told;
 mod walk;
 mod words;
 
+pub use books::{Book, Story, StoryLine, read_book};
 pub use fault::CasesFault;
 pub use names::Names;
 pub use octets::{are_octets, octets_of};

@@ -105,11 +105,12 @@ fn put_table(alloc: Global, text: &[u8], into: &mut Vec<u8>) -> Result<(), NoMem
     let Ok(tree) = read_idl(alloc, text) else {
         return put(b"no tree", into);
     };
-    let Ok(checked) = check(alloc, &tree) else {
-        return put(b"not legal", into);
-    };
-    match build(alloc, &checked) {
-        Ok(_) => put(b"a table", into),
-        Err(_) => put(b"no table", into),
+    match check(alloc, &tree) {
+        Ok(checked) => match build(alloc, &checked) {
+            Ok(_) => put(b"a table", into),
+            Err(_) => put(b"no table", into),
+        },
+        Err(CheckFault::Rule { .. }) => put(b"not legal", into),
+        Err(CheckFault::Memory) => put(b"no table", into),
     }
 }

@@ -1,2 +1,3 @@
+mod Queued
 pub mod Sets
 pub mod Since

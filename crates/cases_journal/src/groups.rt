@@ -10,11 +10,13 @@ mod due;
 mod folds;
 mod open;
 mod rounds;
+mod waits;
 
 use crate::escapes::put_joined;
 use crate::groups::answer::Answer;
 use crate::groups::calls::{issued, make, visits};
 use crate::groups::folds::put_folded;
+use crate::groups::waits::{refilled, thinned};
 use base_words::put;
 use cases_base::{CasesFault, Names, Plays, Step, Told, first_word, played};
 use group_core::Group;
@@ -86,8 +88,10 @@ fn repeated(words: &str) -> (u32, &str) {
 /// What one call comes to.
 fn called(alloc: Global, group: &mut Group, call: &str) -> Result<Answer, NoMemory> {
     let (word, rest) = first_word(call);
-    if word == "cancelled" {
-        return given_up(alloc, group, rest);
+    match word {
+        "cancelled" => return given_up(alloc, group, rest),
+        "thinned" => return of_queue(alloc, rest),
+        _ => {}
     }
     let Ok(number) = rest.parse::<u32>() else {
         return made(alloc, group, call);
@@ -95,10 +99,20 @@ fn called(alloc: Global, group: &mut Group, call: &str) -> Result<Answer, NoMemo
     match word {
         "issue" => issued(alloc, group, number),
         "visits" => visits(alloc, group, number),
+        "refilled" => refilled(alloc, number),
         "asked" => Ok(Answer::Asked(group.asked(number))),
         "stage" => Ok(Answer::Stage(group.stage(number))),
         "entry" => entry_at(alloc, group, number as usize),
         _ => made(alloc, group, call),
+    }
+}
+
+/// What stands in a queue of so many calls, once every second is taken out.
+fn of_queue(alloc: Global, words: &str) -> Result<Answer, NoMemory> {
+    let (count, queue) = first_word(words);
+    match (count.parse::<u32>(), queue.parse::<u32>()) {
+        (Ok(count), Ok(queue)) => thinned(alloc, count, queue),
+        _ => Ok(Answer::Unread),
     }
 }
 

@@ -9,7 +9,7 @@ mod pdu_rows;
 mod stream_rows;
 mod tower_rows;
 
-pub use conn_stories::conns;
+pub use conn_stories::{conns, multiplexed};
 pub use context_stories::contexts;
 pub use field_rows::fields;
 pub use pdu_rows::pdus;

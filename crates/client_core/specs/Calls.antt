@@ -1,4 +1,4 @@
--- What a caller begins: what it sends, and the state behind it. Want of memory changes nothing.
+-- What a caller begins: what it sends, and the state after it. Want of memory changes nothing.
 use Rattle.std.specs.Prelude.{◌≡◌, ℕ, Bool, true, false, Option, Some, None, Result, Ok, Err, List, [], ◌∷◌, ◌++◌, length, slice_get, ⊤}
 use Rattle.rpc_base.specs.declared.identifiers.Order.TheVariants.{Little}
 use Rattle.pdu_codec.specs.Pdus.{pdu_octets}

@@ -156,7 +156,7 @@ RunsShort s p (bodies.Response b) n =
     (out_with s p.call_id ≡ Some outs.Call) × (c : Calling) × (s.call ≡ Some c) × RunsShortAt s c (answer_fragment p b) n
 RunsShort s p _ n = ⊥
 
--- What a PDU tells, and the state behind it.
+-- What a PDU tells, and the state after it.
 abbrev pub Hears : ClientState → Pdu → Result (Option Told) NoMemory → ClientState → Type 0
 Hears s p (Ok t) n = HearsBody s p p.body (option_map told t) n
 Hears s p (Err _) n = RunsShort s p p.body n

@@ -45,7 +45,7 @@ request_flags true first last = maybe_flag + flags_of first last
 request_flags false first last = flags_of first last
 
 -- A fragment of a request: its piece of the stub, and how many octets of the stub later fragments have. The last one has
--- nothing behind it. The hint is the number of octets in it and in later ones.
+-- nothing after it. The hint is the number of octets in it and in later ones.
 abbrev pub request_head : ℕ → Bool → Bool → List ℕ → ℕ → FragmentHead
 request_head id maybe first piece later =
     record { flags = request_flags maybe first (later == 0); order = Little; call_id = id; alloc_hint = length piece + later; context = 0 }

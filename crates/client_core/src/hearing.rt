@@ -64,7 +64,7 @@ fn drop_id(ids: &mut Vec<u32>, call_id: u32)
 
 impl Client {
     /// Hears a PDU of the server: what it tells, if anything. `None` where it is a shutdown, where nothing is
-    /// out with its call id, and where it is a fragment of the response behind which others are to come.
+    /// out with its call id, and where it is a fragment of the response after which others are to come.
     ///
     /// # Errors
     ///

@@ -34,7 +34,7 @@ fn flags_of(maybe: bool, first: bool, last: bool) -> u8
 }
 
 impl Request {
-    /// Adds a fragment with a piece of the stub, behind which there are so many octets. The piece is copied once.
+    /// Adds a fragment with a piece of the stub, after which there are so many octets. The piece is copied once.
     fn put_fragment(
         self,
         first: bool,

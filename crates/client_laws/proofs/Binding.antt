@@ -44,7 +44,7 @@ use Rattle.client_laws.proofs.Responses.{all_cut}
 abbrev bind_body : SyntaxId → ℕ → BindBody
 bind_body syntax group = record { max_xmit = most_fragment; max_recv = most_fragment; group = group; elements = offer syntax 0 }
 
-is_bind : (syntax : SyntaxId) (group : ℕ) → FitsSyntax syntax → group < 2 ^ 32 → IsPdu (bind_pdu syntax group) (pdu_octets (bind_pdu syntax group))
+pub is_bind : (syntax : SyntaxId) (group : ℕ) → FitsSyntax syntax → group < 2 ^ 32 → IsPdu (bind_pdu syntax group) (pdu_octets (bind_pdu syntax group))
 is_bind syntax group fits small =
     pdu_written (bind_pdu syntax group) (record {
       flags = omega arith;
@@ -58,18 +58,18 @@ is_bind syntax group fits small =
     }) (bind_writable syntax group fits)
 
 -- nothing is being joined before the first PDU
-none_open : (first : Fragment) (behind : List Pdu) → IsOpen [] first behind → ⊥
+pub none_open : (first : Fragment) (behind : List Pdu) → IsOpen [] first behind → ⊥
 none_open first behind o = omega (arith, ap length o.whole, length-append o.before (o.opener ∷ behind))
 
 -- what the interface is answered
 abbrev accepting : ContextResult
 accepting = record { result = acceptance; reason = 0; transfer = ndr }
 
-results_are : (ids : List SyntaxId) (syntax : SyntaxId) (number : ℕ) → serving ids syntax ≡ Some number → results_after ids [] (offer syntax 0) ≡ accepting ∷ []
+pub results_are : (ids : List SyntaxId) (syntax : SyntaxId) (number : ℕ) → serving ids syntax ≡ Some number → results_after ids [] (offer syntax 0) ≡ accepting ∷ []
 unfolding results_after verdict
 results_are ids syntax number served = rw served refl
 
-accepted_are : (ids : List SyntaxId) (syntax : SyntaxId) (number : ℕ) → serving ids syntax ≡ Some number → contexts ids (offer syntax 0) ≡ record { context = 0; interface = number } ∷ []
+pub accepted_are : (ids : List SyntaxId) (syntax : SyntaxId) (number : ℕ) → serving ids syntax ≡ Some number → contexts ids (offer syntax 0) ≡ record { context = 0; interface = number } ∷ []
 unfolding contexts_after verdict
 accepted_are ids syntax number served = rw served refl
 
@@ -103,7 +103,7 @@ goes ids syntax group fits small =
 abbrev ack_pdu : SyntaxId → ℕ → ℕ → List ContextResult → Pdu
 ack_pdu syntax group id results = bind_ack (binder_of syntax group) only_frag (record { max_xmit = most_fragment; max_recv = most_fragment; group = id }) results
 
-is_ack : (syntax : SyntaxId) (group id : ℕ) → id < 2 ^ 32 → IsPdu (ack_pdu syntax group id (accepting ∷ [])) (pdu_octets (ack_pdu syntax group id (accepting ∷ [])))
+pub is_ack : (syntax : SyntaxId) (group id : ℕ) → id < 2 ^ 32 → IsPdu (ack_pdu syntax group id (accepting ∷ [])) (pdu_octets (ack_pdu syntax group id (accepting ∷ [])))
 is_ack syntax group id small =
     let p = ack_pdu syntax group id (accepting ∷ []) in
     pdu_written p (record {

@@ -40,7 +40,7 @@ abbrev pub Begins : Bool → List ℕ → Type 0
 Begins true so_far = so_far ≡ []
 Begins false so_far = ⊤
 
-joins : (id op : ℕ) (maybe first : Bool) (so_far piece : List ℕ) (later : ℕ) → Begins first so_far
+pub joins : (id op : ℕ) (maybe first : Bool) (so_far piece : List ℕ) (later : ℕ) → Begins first so_far
     → with_fragment (run_at id op maybe first so_far) (fragment_with id op maybe first piece later) ≡ whole_request id op maybe (so_far ++ piece)
 unfolding joined_of
 joins id op maybe true so_far piece later none =
@@ -51,7 +51,7 @@ joins id op maybe false so_far piece later none =
     let last = eqb later 0 in
     (λ i. record { call_id = id; order = Little; context = 0; op = op; maybe = maybe; cancel = not_cancelled maybe false last i; stub = so_far ++ piece })
 
-taken : (id op : ℕ) (maybe first : Bool) (so_far piece : List ℕ) (later : ℕ) → Begins first so_far → length so_far + length piece ≤ most_stub
+pub taken : (id op : ℕ) (maybe first : Bool) (so_far piece : List ℕ) (later : ℕ) → Begins first so_far → length so_far + length piece ≤ most_stub
     → IsTaken (run_at id op maybe first so_far) (fragment_with id op maybe first piece later)
 taken id op maybe true so_far piece later none short =
     (says_first maybe true (eqb later 0), tt, omega (arith, ap length (ap (λ (j : Joined). j.stub) (joins id op maybe true so_far piece later none)), length-append so_far piece, short))
@@ -83,7 +83,7 @@ pub record AsksCall (m : ConnState) (j : Joined) : Type 0 where
   pub bound : is_bound (last ∷ between.past) ≡ true
   pub joining : IsJoining (reverse (last ∷ between.past)) None
 
-joining_on : (past : List Pdu) (p : Pdu) (run new : Option Joined) → IsJoining (reverse past) run → Changes run p p.body new → IsJoining (reverse (p ∷ past)) new
+pub joining_on : (past : List Pdu) (p : Pdu) (run new : Option Joined) → IsJoining (reverse past) run → Changes run p p.body new → IsJoining (reverse (p ∷ past)) new
 joining_on past p run new h c = subst (λ (ps : List Pdu). IsJoining ps new) (sym (reverse-cons p past)) (runs_go_on (reverse past) p run new h c)
 
 pub positive : (n : ℕ) → 0 < n → eqb n 0 ≡ false

@@ -3,5 +3,9 @@ pub mod Binding
 pub mod Ending
 pub mod Fragments
 pub mod Joining
+pub mod Keeping
+pub mod Partly
+pub mod Requesting
 pub mod Responses
+pub mod Sending
 pub mod Telling

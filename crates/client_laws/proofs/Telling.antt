@@ -110,7 +110,7 @@ no_departure s c o caller m stub j why r is joined (p, found, known, that) =
     no_fault why (read_stub s.interface.types o Response caller.order (Some c.message) stub) m (r.read s.interface.types o Response caller.order (Some c.message) stub m r.is_op is) known there
 
 -- A fragment that joins and isn't the last tells nothing.
-inner : (s n : ClientState) (c : Calling) (run : Option Joined) (f : Fragment) (t : Option Outcome) → c.joining ≡ Ok run → IsTaken run f → is_last f ≡ false → AnswersCall s c f t n
+pub inner : (s n : ClientState) (c : Calling) (run : Option Joined) (f : Fragment) (t : Option Outcome) → c.joining ≡ Ok run → IsTaken run f → is_last f ≡ false → AnswersCall s c f t n
     → (t ≡ None) × (n ≡ joined_so_far s c (Ok (Some (with_fragment run f))))
 inner s n c run f None at taken unended (joining, adds, is) =
     let added : AddsFragment (Ok run) f (Ok None) joining = subst (λ (x : Result (Option Joined) JoinFault). AddsFragment x f (Ok None) joining) at adds in
@@ -155,7 +155,7 @@ same_call : (a : Option Calling) (c d : Calling) → a ≡ Some c → a ≡ Some
 same_call a c d h k = cc (h, k)
 
 -- what is heard of a fragment
-heard_as : (s n : ClientState) (c : Calling) (caller : Caller) (f : Fragment) (t : Option Outcome) → IsOut s c → caller.call_id ≡ c.id → HearsResponse s (out_with s caller.call_id) f t n → AnswersCall s c f t n
+pub heard_as : (s n : ClientState) (c : Calling) (caller : Caller) (f : Fragment) (t : Option Outcome) → IsOut s c → caller.call_id ≡ c.id → HearsResponse s (out_with s caller.call_id) f t n → AnswersCall s c f t n
 heard_as s n c caller f t o same h =
     let (d, call, answers) : HearsResponse s (Some outs.Call) f t n = subst (λ (x : Option begun.Out). HearsResponse s x f t n) (ap (out_with s) same ∙ out_is s c o) h in
     subst (λ (x : Calling). AnswersCall s x f t n) (same_call s.call c d o.call call) answers

@@ -1,2 +1,4 @@
 pub mod Ends
 pub mod Meeting
+pub mod Parts
+pub mod Sending

@@ -4,4 +4,7 @@
 
 mod laws;
 
-pub use laws::{answers_are_told, binds_meet, calls_meet, requests_arrive};
+pub use laws::{
+    answers_are_told, asks_are_sent, binds_meet, calls_meet, replies_tell_last, requests_arrive,
+    sent_asks,
+};

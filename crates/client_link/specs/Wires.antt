@@ -138,3 +138,8 @@ module _ {K : Type 0} (shows : K → Shown) where
           (before : List ClientEvent) × (p : Pdu) × (n : ClientState) × AreSilent before × Lived w (events ++ (before ++ Received p (Some (told t)) ∷ [])) n []
       Waits old (Err stop.Memory) w = (before : List ClientEvent) × AreSilent before × Stopped w (events ++ before)
       Waits old (Err why) w = (before : List ClientEvent) × (n : ClientState) × AreSilent before × Lived w (events ++ before) n [] × Cause why old w
+
+  -- Whatever has happened on the connection, with no octets still to be put, was followed by that: it was begun, or why it wasn't.
+  abbrev pub HasBegun : (List ℕ → ClientEvent) → (ClientState → Type 0) → Wire K → Result Unit BeginFault → Wire K → Type 0
+  HasBegun event Long old result w =
+      (interface : TableForm) (events : List ClientEvent) (m : ClientState) → Lived interface old events m [] → Begins interface events m event (Long m) old result w

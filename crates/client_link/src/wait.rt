@@ -45,7 +45,7 @@ const MOST: usize = 4096;
 /// How many quiets of the link end a wait.
 const MOST_QUIETS: u32 = 6000;
 
-/// Why nothing more is heard behind a fault of the octets.
+/// Why nothing more is heard after a fault of the octets.
 fn stop_of(fault: PduFault) -> Stop
     ensures { ((result ≡ Stop.Memory) × (fault ≡ PduFault.Memory)) ⊎ ((result ≡ Stop.Cut) × (fault ≢ PduFault.Memory)) }
 {

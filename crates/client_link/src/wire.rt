@@ -1,14 +1,12 @@
 //! A connection on its link, and what it begins.
-ghost use Rattle.std.specs.Prelude.{◌≡◌, ◌≢◌, ◌<◌, ◌^◌, ℕ, List, [], ⊤, Ok, Err, false, true, length, slice_get, IfErr};
+ghost use Rattle.std.specs.Prelude.{◌≡◌, ◌≢◌, ◌<◌, [], Ok, Err, false, true, IfErr};
 ghost use Rattle.ndr_table.specs.Shown.{shown};
-ghost use Rattle.ndr_table.specs.Tables.{OpForm, TableForm};
 ghost use Rattle.ndr_value.specs.Values.{msg};
-ghost use Rattle.client_core.specs.Calls.{IsMessage, asking};
-ghost use Rattle.client_core.specs.States.{ClientState, at_start, is_bound, is_calling};
-ghost use Rattle.client_core.specs.Histories.{ClientEvent};
+ghost use Rattle.client_core.specs.Calls.{IsMessage};
+ghost use Rattle.client_core.specs.States.{at_start, is_bound, is_calling};
 ghost use Rattle.client_core.specs.Histories.ClientEvent.{DidBind, DidCall, DidCancel};
 ghost use Rattle.client_core.specs.State.{state};
-ghost use Rattle.client_link.specs.Wires.{IsOpen, Stays, Lived, Begins, IsTooLong};
+ghost use Rattle.client_link.specs.Wires.{IsOpen, Stays, Lived, HasBegun, IsTooLong};
 
 use client_core::Client;
 use ndr_codec::EncodeFault;
@@ -86,8 +84,7 @@ impl<K: Link> Wire<K> {
         requires free { is_bound (state self.old.client) ≡ false }
         requires open { IsOpen K.shows self.old.link }
         ensures stays { Stays self.old self.new }
-        ensures begins { (interface : TableForm) (events : List ClientEvent) (m : ClientState) → Lived K.shows interface self.old events m []
-            → Begins K.shows interface events m (DidBind group) ⊥ self.old result self.new }
+        ensures begins { HasBegun K.shows (DidBind group) (λ m. ⊥) self.old result self.new }
         ensures short { IfErr result (λ fault. fault ≢ BeginFault.TooLong) }
         ensures open { IsOpen K.shows self.new.link }
     {
@@ -108,8 +105,7 @@ impl<K: Link> Wire<K> {
         requires message { IsMessage (state self.old.client).interface op (msg message.now) }
         requires open { IsOpen K.shows self.old.link }
         ensures stays { Stays self.old self.new }
-        ensures begins { (interface : TableForm) (events : List ClientEvent) (m : ClientState) → Lived K.shows interface self.old events m []
-            → Begins K.shows interface events m (DidCall op (msg message.now)) (IsTooLong m.interface op (msg message.now)) self.old result self.new }
+        ensures begins { HasBegun K.shows (DidCall op (msg message.now)) (λ m. IsTooLong m.interface op (msg message.now)) self.old result self.new }
         ensures open { IsOpen K.shows self.new.link }
     {
         let octets = match self.client.call(op, message) {
@@ -130,8 +126,7 @@ impl<K: Link> Wire<K> {
         requires calling { is_calling (state self.old.client) ≡ true }
         requires open { IsOpen K.shows self.old.link }
         ensures stays { Stays self.old self.new }
-        ensures begins { (interface : TableForm) (events : List ClientEvent) (m : ClientState) → Lived K.shows interface self.old events m []
-            → Begins K.shows interface events m DidCancel ⊥ self.old result self.new }
+        ensures begins { HasBegun K.shows DidCancel (λ m. ⊥) self.old result self.new }
         ensures open { IsOpen K.shows self.new.link }
     {
         let octets = self.client.cancel()?;

@@ -92,7 +92,7 @@ module _ {K : Type 0} where
       up.0 x.name ∙ (ap (λ (b : Bool). cond b (Some at) (get nat_cmp old x.name)) (is_at_is name x.name)
       ∙ (other_by (name == x.name) (Some at) (get nat_cmp old x.name) name x.name refl (λ f. nowhere k x here (record { named = sym f; is_open = bound.is_open; bound = bound.bound })) ∙ is k x here bound))
 
-  -- one of a name of which none is bound stands behind the others
+  -- one of a name of which none is bound stands after the others
   pub index_push : (old new : BTreeMap ℕ ℕ) (cs ds : List (Channel K)) (name : ℕ) (d : Channel K) → ds ≡ cs ++ d ∷ [] → d.name ≡ name → IsNowhere name cs → Updates nat_cmp old new name (Some (length cs)) → IsIndex old cs → IsIndex new ds
   index_push old new cs ds name d e named nowhere up is k x here bound =
       elim (push_or cs k d x (subst (λ (l : List (Channel K)). slice_get l k ≡ Some x) e here)) [

@@ -188,7 +188,7 @@ module _ {K : Type 0} (shows : K → Shown) where
 
   -- ---- a connection binds
 
-  -- where a new channel was put behind the others
+  -- where a new channel was put after the others
   pub record Put (p q : Player K) (d : Channel K) (at : ℕ) : Type 0 where
     pub channels : q.channels.items ≡ p.channels.items ++ d ∷ []
     pub place : at ≡ length p.channels.items

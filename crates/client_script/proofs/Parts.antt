@@ -43,7 +43,7 @@ reads_body body name rest (Err x) e none h = tt
 HasNo-connection : (c : ℕ) → IsConnection c → HasNo 32 (decimal c)
 HasNo-connection c fits = HasNo-ink 32 (decimal c) (omega arith) (ink_decimal c (omega arith))
 
--- a connection's number, and what stands behind the space after it
+-- a connection's number, and what stands after the space after it
 pub number_of_cut : (c : ℕ) (more number rest : List ℕ) → IsConnection c → HasNo 32 number → decimal c ++ (32 ∷ more) ≡ number ++ (32 ∷ rest) → (decimal c ≡ number) × (more ≡ rest)
 number_of_cut c more number rest fits none e = same_cut 32 (decimal c) number more rest (HasNo-connection c fits) none e
 

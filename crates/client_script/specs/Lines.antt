@@ -50,7 +50,7 @@ name_of (Cancel c) = codes "cancel"
 name_of (Wait c) = codes "wait"
 name_of (Close c) = codes "close"
 
--- and what stands behind the space after it
+-- and what stands after the space that follows it
 abbrev pub rest_of : CallLine → List ℕ
 rest_of (Bind c group) = decimal c ++ (32 ∷ group_text group)
 rest_of (Start c name values) = decimal c ++ (32 ∷ (name ++ (32 ∷ values)))

@@ -100,6 +100,10 @@ Begins w at a event v =
 abbrev pub HasNoCall : World → ℕ → Type 0
 HasNoCall w name = IsFree w name ⊎ ((at : ℕ) × (a : Association) × IsBound w name at a × (is_calling a.state ≡ false))
 
+-- the text is that of a request, which is a message of the operation
+abbrev pub IsMessageOf : TableForm → ℕ → List WireHandle → List ℕ → Msg → Type 0
+IsMessageOf interface op known text m = IsRequestOf interface op known m text × IsMessage interface op m
+
 -- Why the text is that of no message of the operation: it is that of no request, or that of one that isn't a message of it.
 pub data IsNoMessage (interface : TableForm) (op : ℕ) (known : List WireHandle) (text : List ℕ) : Type 0 where
   no_request : ((m : Msg) → IsRequestOf interface op known m text → ⊥) → IsNoMessage interface op known text

@@ -4,7 +4,7 @@
 //! Call scripts: the texts that write down the calls of a caller, a line for each step.
 //!
 //! `bind C new`, `bind C with D`, `start C OP (v, v)`, `cancel C`, `wait C`, `close C`. A line that is read is written as
-//! the very octets that were read. What a `start` line carries behind the name of its operation is judged by the
+//! the very octets that were read. What a `start` line carries after the name of its operation is judged by the
 //! operation's table.
 #![tactic(auto)]
 

@@ -2,12 +2,11 @@
 ghost use Rattle.std.specs.Prelude.{◌≡◌, ◌<◌, ◌++◌, ◌||◌, ℕ, List, [], false, length, slice_get, option_copied, MatchBool, MatchOption, IfOk, OnOk};
 ghost use Rattle.ndr_table.specs.Shown.{shown};
 ghost use Rattle.ndr_value.specs.Values.{msg};
-ghost use Rattle.client_core.specs.Calls.{IsMessage};
 ghost use Rattle.client_core.specs.States as states;
 ghost use Rattle.client_core.specs.State.{state};
 ghost use Rattle.client_texts.specs.Answers.{IsLine};
 ghost use Rattle.client_script.specs.Steps as spec;
-ghost use Rattle.client_script.specs.Steps.{HasOp, IsRequestOf, IsNoMessage};
+ghost use Rattle.client_script.specs.Steps.{HasOp, IsMessageOf, IsNoMessage};
 ghost use Rattle.client_script.specs.Shows.{IsThere, IsNowhere, IsIndex};
 ghost use Rattle.client_script.specs.Channels.{IsTellable};
 ghost use Rattle.client_script.specs.Losses.{lost_text};
@@ -91,7 +90,7 @@ fn message_of(
 ) -> Result<Option<Message>, NoMemory>
     ensures { IfOk result (λ found. MatchOption found
         (IsNoMessage (state client.now).interface op known.now text.now)
-        (λ m. IsRequestOf (state client.now).interface op known.now (msg m) text.now × IsMessage (state client.now).interface op (msg m))) }
+        (λ m. IsMessageOf (state client.now).interface op known.now text.now (msg m))) }
 {
     let table = client.table();
     let Some(form) = table.op(op) else {

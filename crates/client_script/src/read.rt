@@ -16,7 +16,7 @@ fn read_connection(text: &[u8]) -> Option<u32>
     Some(number as u32)
 }
 
-/// The connection behind `with`.
+/// The connection after `with`.
 fn read_with(text: &[u8]) -> Option<u32>
     ensures { Reads IsConnection with_text text.now result }
 {
@@ -39,7 +39,7 @@ fn read_group(text: &[u8]) -> Option<Option<u32>>
     Some(Some(other))
 }
 
-/// What stands behind `bind`.
+/// What stands after `bind`.
 fn read_bind(text: &[u8]) -> Option<(u32, Option<u32>)>
     ensures { Reads FitsBind bind_text text.now result }
 {
@@ -49,7 +49,7 @@ fn read_bind(text: &[u8]) -> Option<(u32, Option<u32>)>
     Some((connection, group))
 }
 
-/// What stands behind `start`.
+/// What stands after `start`.
 fn read_start(text: &[u8]) -> Option<(u32, &[u8], &[u8])>
     ensures { MatchOption result ((c : ℕ) (name values : List ℕ) → FitsStart c name → start_text c name values ≡ text.now → ⊥) (λ x. FitsStart x.0 x.1.now × (start_text x.0 x.1.now x.2.now ≡ text.now)) }
 {
@@ -59,7 +59,7 @@ fn read_start(text: &[u8]) -> Option<(u32, &[u8], &[u8])>
     Some((connection, name, values))
 }
 
-/// A line by its first word and what stands behind the space after it.
+/// A line by its first word, and what stands after the space that follows it.
 fn read_named(alloc: Global, name: &[u8], rest: &[u8]) -> Result<Option<CallLine>, NoMemory>
     ensures { IfOk result (Reads FitsLine parts_of (name.now ∷ rest.now ∷ [])) }
 {

@@ -103,7 +103,7 @@ module _ (known : List WireHandle) (few : length known < 2 ^ 64) where
   pub small_place : (w : WireHandle) → is_among known w ≡ true → place known w < 2 ^ 64
   small_place w h = let m = (at_place known w h).most in omega (arith, m, few)
 
-  -- of what begins with a name: which, and what stands behind it
+  -- of what begins with a name: which, and what stands after it
   same_by : (b c : Bool) (w v : WireHandle) (x y : List ℕ) → is_null w ≡ b → is_null v ≡ c → has_name known w ≡ true → has_name known v ≡ true → heads_digit x ≡ false → heads_digit y ≡ false → name known w ++ x ≡ name known v ++ y → (w ≡ v) × (x ≡ y)
   same_by true true w v x y n m h k hx hy e =
       let f : codes "null" ++ x ≡ codes "null" ++ y = sym (ap (λ (l : List ℕ). l ++ x) (null_name known w n)) ∙ (e ∙ ap (λ (l : List ℕ). l ++ y) (null_name known v m)) in

@@ -16,7 +16,7 @@ pub done_result : {E : Type 0} (r : Result Bool E) (known : List WireHandle) (m 
 done_result (Ok b) known m old mid new e w = done_said b known m old mid new e w
 done_result (Err f) known m old mid new e w = tt
 
--- the number in front, and the line feed behind
+-- the number in front, and the line feed after
 pub tells : (b : Bool) (known : List WireHandle) (connection : ℕ) (outcome : Outcome) (old first second new : List ℕ) → first ≡ old ++ decimal connection → Said b known outcome first second → new ≡ second ++ 10 ∷ []
     → WritesLine b known connection outcome old new
 tells true known connection outcome old first second new e s f = (

@@ -28,7 +28,7 @@ none_of [] others ws n e o = e ∙ o
 none_of (v ∷ vs) others ws n e o = absurd cc
 
 module _ (types : List Form) (before : Aims) (text : List ℕ) where
-  -- the heap is the items that were read, and others that stand behind them
+  -- the heap is the items that were read, and others that stand after them
   pub record Left (front : List Value) (met : Aims) (rest : List ℕ) (vs : Vals) : Type 0 where
     pub others : Vals
     pub items : AreItems types met (length front) others

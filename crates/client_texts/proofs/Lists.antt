@@ -136,7 +136,7 @@ module _ (types : List Form) where
   none_sized = tt
 
   module _ (all : List ParamForm) (text : List ℕ) where
-    -- the row is the values that were read, and others that stand behind them
+    -- the row is the values that were read, and others that stand after them
     pub record Others (front : List Value) (left : List ParamForm) (rest : List ℕ) (vs : Vals) (end : List ℕ) : Type 0 where
       pub others : Vals
       pub each : EachTyped types (2 ^ 32) 0 (inwards left) others

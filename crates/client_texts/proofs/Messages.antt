@@ -9,7 +9,7 @@ use Rattle.client_texts.specs.Texts.{NamedFrom, IsRow, IsRequestText}
 use Rattle.client_texts.proofs.Listed.{listed_is, heap_is}
 use Rattle.client_texts.proofs.Once.{one_values}
 
--- the heap is what is listed behind its word
+-- the heap is what is listed after its word
 pub heap_found : {E V : Type 0} (r : Result (Option V) E) (view : V → Vals) (types : List Form) (aims before : Aims) (text list : List ℕ) → text ≡ codes " heap [" ++ list → aims ≡ before
     → IfOk r (λ found. MatchOption found ((vs : Vals) → AreListed types aims vs list → ⊥) (λ v. AreListed types aims (view v) list))
     → IfOk r (λ found. MatchOption found ((vs : Vals) → IsHeap types before vs text → ⊥) (λ v. IsHeap types before (view v) text))

@@ -28,7 +28,7 @@ pub some_long : (xs : List ℕ) (b : Bool) → b ≡ (length xs == 0) → b ≡ 
 some_long [] b e f none = let g : false ≡ true = sym f ∙ e in absurd cc
 some_long (x ∷ xs) b e f none = absurd cc
 
--- what stands behind a word, or doesn't
+-- what stands after a word, or doesn't
 pub stripped : {X : Type 0} (view : X → List ℕ) (found : Option X) (word text : List ℕ)
     → MatchOption found (pointwise nat_eq (take (length word) text) word ≡ false) (λ x. (pointwise nat_eq (take (length word) text) word ≡ true) × (view x ≡ drop (length word) text) × (length (view x) + length word ≡ length text))
     → MatchOption found ((rest : List ℕ) → text ≡ word ++ rest → ⊥) (λ x. text ≡ word ++ view x)

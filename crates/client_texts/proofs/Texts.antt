@@ -115,7 +115,7 @@ module _ (known wires : List WireHandle) (named : (k : ℕ) (w : WireHandle) →
   front : (a x rest : List ℕ) → list_all calm a ≡ true → HasNames (x ++ rest) → HasNames ((a ++ x) ++ rest)
   front a x rest h n = subst HasNames (sym (append_assoc a x rest)) (others a (x ++ rest) h n)
 
-  -- and with calm octets behind
+  -- and with calm octets after
   back : (x a rest : List ℕ) → HasNames (x ++ (a ++ rest)) → HasNames ((x ++ a) ++ rest)
   back x a rest n = subst HasNames (sym (append_assoc x a rest)) n
 

@@ -1,4 +1,4 @@
--- The heaps of requests: items that stand behind a row of values, and to which full pointers (`@N`) lead.
+-- The heaps of requests: items that stand after a row of values, and to which full pointers (`@N`) lead.
 use Rattle.std.specs.Prelude.{◌≡◌, ◌≢◌, ℕ, suc, ◌^◌, ◌==◌, List, [], ◌∷◌, ◌++◌, length, Option, Some, None, if◌then◌else◌, codes}
 use Rattle.ndr_value.specs.Forms.{Form, Forms, no_form, then_form, Body}
 use Rattle.ndr_value.specs.Values.{Val, VStruct, VUnion, VArray, VPtr, VFull, Vals, no_val, then_val}
@@ -11,7 +11,7 @@ use Rattle.value_text.specs.Texts.{list_text, AllSized}
 abbrev pub Aims : Type 0
 Aims = List (ℕ × Form)
 
--- what a shape is behind its names and references
+-- what a shape is where its names and references lead
 abbrev pub named : List Form → Form → Form
 named types s = plain types (length types) s
 
@@ -50,7 +50,7 @@ abbrev pub AreItems : List Form → Aims → ℕ → Vals → Type 0
 AreItems types before n no_val = Unit {0}
 AreItems types before n (then_val v vs) = (s : Form) × (first_aim before n ≡ Some s) × Typed types (2 ^ 32) 0 s v × AreItems types (before ++ aims types s v) (suc n) vs
 
--- what stands of a heap behind the values, where it has items
+-- what stands of a heap after the values, where it has items
 unfoldable pub heap_text : Vals → List ℕ
 heap_text no_val = []
 heap_text (then_val v vs) = codes " heap [" ++ (list_text (then_val v vs) ++ codes "]")
@@ -61,7 +61,11 @@ pub record IsHeap (types : List Form) (before : Aims) (vs : Vals) (text : List �
   pub sized : AllSized vs
   pub whole : text ≡ heap_text vs
 
--- The same behind the opening bracket, of a heap that has items. Only private clauses speak of this
+-- the text of the heap of such values, one for each of the shapes
+abbrev pub IsHeapOf : List Form → Forms → Vals → Vals → List ℕ → Type 0
+IsHeapOf types shapes values vs text = IsHeap types (each_aims types shapes values) vs text
+
+-- The same after the opening bracket, of a heap that has items. Only private clauses speak of this
 pub record AreListed (types : List Form) (before : Aims) (vs : Vals) (text : List ℕ) : Type 0 where
   pub items : AreItems types before 0 vs
   pub sized : AllSized vs

@@ -1,5 +1,6 @@
 pub mod AnswerLaws
 pub mod Answers
+pub mod Found
 pub mod Handles
 pub mod Heaps
 pub mod Index

@@ -61,7 +61,7 @@ pub record IsRow (types : List Form) (shapes : Forms) (vs : Vals) (text rest : L
   pub sized : AllSized vs
   pub whole : text ≡ row_text vs ++ rest
 
--- The text of a request's message: one value for each of the shapes, and behind them the items of its heap, where it has any. Each item
+-- The text of a request's message: one value for each of the shapes, and after them the items of its heap, where it has any. Each item
 -- is of the shape that the first full pointer to it points to, of those in the values and in the items before it. Its handles have their
 -- names among those that came.
 pub record IsRequestText (types : List Form) (shapes : Forms) (known : List WireHandle) (m : Msg) (text : List ℕ) : Type 0 where

@@ -20,7 +20,7 @@ pub(crate) struct Aim<'a> {
     pub shape: &'a Shape,
 }
 
-// What stands behind references.
+// What references lead to.
 fn refs_off(shape: &Shape) -> &Shape
     ensures { form result.now ≡ judged.behind_refs (form shape.now) }
 {
@@ -40,7 +40,7 @@ fn type_of<'a>(types: &'a [Shape], shape: &Shape) -> Option<&'a Shape>
     }
 }
 
-/// The shape behind references and at most that many names.
+/// The shape to which references and at most that many names lead.
 fn plain_shape<'a>(types: &'a [Shape], shape: &'a Shape, names: usize) -> &'a Shape
     ensures { form result.now ≡ judged.plain (map form types.now) names (form shape.now) }
 {

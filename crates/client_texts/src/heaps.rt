@@ -1,10 +1,11 @@
-//! The items of heaps, behind rows of values.
-ghost use Rattle.std.specs.Prelude.{◌≡◌, ◌≢◌, ◌++◌, ◌∷◌, [], List, ℕ, map, codes, true, false, OnOk, IfOk, MatchBool, MatchOption, None, Some};
+//! The items of heaps, after rows of values.
+ghost use Rattle.std.specs.Prelude.{◌≡◌, ◌++◌, ◌∷◌, [], map, codes, true, false, OnOk, IfOk, MatchBool, MatchOption, None, Some};
 ghost use Rattle.ndr_value.specs.Forms.{form, types_of};
-ghost use Rattle.ndr_value.specs.Values.{Vals, val, vals};
+ghost use Rattle.ndr_value.specs.Values.{val, vals};
 ghost use Rattle.ndr_table.specs.Tables.{param_form};
 ghost use Rattle.client_texts.specs.Texts.{inwards};
-ghost use Rattle.client_texts.specs.Heaps.{Aims, each_aims, aims, first_aim, AreListed, IsHeap};
+ghost use Rattle.client_texts.specs.Heaps.{Aims, aims, first_aim, AreListed, IsHeapOf};
+ghost use Rattle.client_texts.specs.Found.{ReadsText};
 ghost use Rattle.client_texts.specs.Pointers.{aim_of, HasFirsts};
 ghost use Rattle.client_texts.specs.Renaming.{is_none};
 
@@ -72,16 +73,14 @@ fn are_all(items: &[Value], text: &[u8]) -> bool
     !items.is_empty() && matches!(text, [b']'])
 }
 
-// Items up to the closing bracket, behind such full pointers.
+// Items up to the closing bracket, after such full pointers.
 fn read_items<'a>(
     alloc: Global,
     types: &'a Shapes,
     before: &[Aim<'a>],
     text: &[u8],
 ) -> Result<Option<Values>, NoMemory>
-    ensures { IfOk result (λ found. MatchOption found
-        ((vs : Vals) → AreListed (types_of types.now.items) (map aim_of before.now) vs text.now → ⊥)
-        (λ vs. AreListed (types_of types.now.items) (map aim_of before.now) (vals vs.items) text.now)) }
+    ensures { IfOk result (λ found. ReadsText found (λ vs. AreListed (types_of types.now.items) (map aim_of before.now) vs text.now) (λ x. vals x.items)) }
 {
     let mut firsts = BTreeMap::new(alloc);
     note(&mut firsts, before)?;
@@ -102,7 +101,7 @@ fn read_items<'a>(
     Ok(Some(items))
 }
 
-/// The heap that stands behind the values of the parameters that go in.
+/// The heap that stands after the values of the parameters that go in.
 pub(crate) fn read_heap(
     alloc: Global,
     types: &Shapes,
@@ -110,9 +109,8 @@ pub(crate) fn read_heap(
     values: &[Value],
     text: &[u8],
 ) -> Result<Option<Values>, NoMemory>
-    ensures { IfOk result (λ found. MatchOption found
-        ((vs : Vals) → IsHeap (types_of types.now.items) (each_aims (types_of types.now.items) (inwards (map param_form params.now)) (vals values.now)) vs text.now → ⊥)
-        (λ vs. IsHeap (types_of types.now.items) (each_aims (types_of types.now.items) (inwards (map param_form params.now)) (vals values.now)) (vals vs.items) text.now)) }
+    ensures { IfOk result (λ found. ReadsText found
+        (λ vs. IsHeapOf (types_of types.now.items) (inwards (map param_form params.now)) (vals values.now) vs text.now) (λ x. vals x.items)) }
 {
     if text.is_empty() {
         return Ok(Some(Vec::new(alloc)));

@@ -1,9 +1,10 @@
-//! Values of a list, one behind the other.
+//! Values of a list, one after the other.
 ghost use Rattle.std.specs.Prelude.{◌≡◌, ◌≢◌, ◌++◌, List, ℕ, OnOk, IfOk, MatchOption};
 ghost use Rattle.ndr_value.specs.Forms.{form, types_of};
-ghost use Rattle.ndr_value.specs.Values.{Val, val};
+ghost use Rattle.ndr_value.specs.Values.{val};
 ghost use Rattle.value_text.specs.declared.departure.TextFault.TheVariants.{Memory};
 ghost use Rattle.client_texts.specs.Renaming.{item_mark, ItemStands};
+ghost use Rattle.client_texts.specs.Found.{ReadsFront};
 
 use crate::names::behind;
 use ndr_value::{Shape, Shapes, Value};
@@ -11,7 +12,7 @@ use rpc_base::NoMemory;
 use std::alloc::Global;
 use value_text::{TextFault, read_value};
 
-/// What stands behind the comma and the space in front of an item, which the first one hasn't.
+/// What stands after the comma and the space in front of an item, which the first one hasn't.
 fn behind_comma(first: bool, text: &[u8]) -> Option<&[u8]>
     ensures { MatchOption result ((rest : List ℕ) → text.now ≡ item_mark first ++ rest → ⊥) (λ rest. text.now ≡ item_mark first ++ rest.now) }
 {
@@ -32,7 +33,7 @@ fn unless_memory(fault: TextFault) -> Result<(), NoMemory>
     }
 }
 
-/// The value behind others, and what stands behind it.
+/// The value after others, and what stands after it.
 pub(crate) fn read_item<'a>(
     alloc: Global,
     types: &Shapes,
@@ -40,9 +41,8 @@ pub(crate) fn read_item<'a>(
     first: bool,
     text: &'a [u8],
 ) -> Result<Option<(Value, &'a [u8])>, NoMemory>
-    ensures { IfOk result (λ found. MatchOption found
-        ((v : Val) (rest : List ℕ) → ItemStands (types_of types.now.items) (form shape.now) first text.now v rest → ⊥)
-        (λ x. ItemStands (types_of types.now.items) (form shape.now) first text.now (val x.0) x.1.now)) }
+    ensures { IfOk result (λ found. ReadsFront found
+        (ItemStands (types_of types.now.items) (form shape.now) first text.now) (λ x. val x.0) (λ x. x.1.now)) }
 {
     let Some(text) = behind_comma(first, text) else {
         return Ok(None);

@@ -1,10 +1,9 @@
 //! Texts of values with the places of handles, and with their names.
-ghost use Rattle.std.specs.Prelude.{◌≡◌, ◌++◌, ◌∷◌, ◌<◌, ◌^◌, length, List, ℕ, Some, false, true, IfOk, MatchOption, All, slice_get, codes, decimal};
+ghost use Rattle.std.specs.Prelude.{◌≡◌, ◌++◌, ◌∷◌, ◌<◌, ◌^◌, length, List, ℕ, Some, false, true, IfOk, MatchOption, All};
 ghost use Rattle.rpc_base.specs.declared.identifiers.WireHandle.{WireHandle};
 ghost use Rattle.value_text.specs.Marks as marks;
 ghost use Rattle.client_texts.specs.Handles as spec;
-ghost use Rattle.client_texts.specs.Texts.{NamedFrom};
-ghost use Rattle.client_texts.specs.Renaming.{Renames};
+ghost use Rattle.client_texts.specs.Renaming.{Renames, CameAt, NoneCameAt, HeadsName, HeadsNoName, IsUnnamed, IsOnlyNamed, IsWireAt, NoWireAt};
 
 use crate::handles::Handles;
 use base_words::{cut_at, put, put_decimal, read_u64};
@@ -12,7 +11,7 @@ use ndr_value::Wires;
 use rpc_base::{NoMemory, WireHandle};
 use std::alloc::Global;
 
-/// What stands behind an octet.
+/// What stands after an octet.
 pub(crate) fn behind(octet: u8, text: &[u8]) -> Option<&[u8]>
     ensures { MatchOption result ((rest : List ℕ) → text.now ≡ octet ∷ rest → ⊥) (λ rest. text.now ≡ octet ∷ rest.now) }
 {
@@ -20,7 +19,7 @@ pub(crate) fn behind(octet: u8, text: &[u8]) -> Option<&[u8]>
     if *first == octet { Some(rest) } else { None }
 }
 
-/// What stands behind a word.
+/// What stands after a word.
 pub(crate) fn behind_all<'a>(word: &[u8], text: &'a [u8]) -> Option<&'a [u8]>
     ensures { MatchOption result ((rest : List ℕ) → text.now ≡ word.now ++ rest → ⊥) (λ rest. text.now ≡ word.now ++ rest.now) }
 {
@@ -37,7 +36,7 @@ fn heads_digit(text: &[u8]) -> bool
     }
 }
 
-/// The digits at the front of a text, and what stands behind them.
+/// The digits at the front of a text, and what stands after them.
 fn cut_digits(text: &[u8]) -> (&[u8], &[u8])
     ensures text { text.now ≡ result.0.now ++ result.1.now }
     ensures digits { All (λ c. marks.is_digit c ≡ true) result.0.now }
@@ -53,9 +52,7 @@ fn cut_digits(text: &[u8]) -> (&[u8], &[u8])
 fn came_at(known: &Handles, count: usize, digits: &[u8]) -> Option<WireHandle>
     requires { count ≡ length known.now }
     ensures few { length known.now < 2 ^ 64 }
-    ensures found { MatchOption result
-        ((w : WireHandle) → spec.is_null w ≡ false → spec.has_name known.now w ≡ true → decimal (spec.place known.now w) ≡ digits.now → ⊥)
-        (λ w. (spec.is_null w ≡ false) × (spec.has_name known.now w ≡ true) × (decimal (spec.place known.now w) ≡ digits.now)) }
+    ensures found { MatchOption result (NoneCameAt known.now digits.now) (CameAt known.now digits.now) }
 {
     let number = read_u64(digits)?;
     let at = number.checked_sub(1)? as usize;
@@ -69,13 +66,11 @@ fn came_at(known: &Handles, count: usize, digits: &[u8]) -> Option<WireHandle>
     Some(wire)
 }
 
-/// The handle whose name stands at the front of a text, and what stands behind it.
+/// The handle whose name stands at the front of a text, and what stands after it.
 #[tactic(auto, unfolding(crate::specs::Handles::name))]
 fn read_name<'a>(known: &Handles, text: &'a [u8]) -> Option<(WireHandle, &'a [u8])>
     ensures few { length known.now < 2 ^ 64 }
-    ensures found { MatchOption result
-        ((w : WireHandle) (rest : List ℕ) → text.now ≡ spec.name known.now w ++ rest → marks.heads_digit rest ≡ false → spec.has_name known.now w ≡ true → ⊥)
-        (λ x. (text.now ≡ spec.name known.now x.0 ++ x.1.now) × (marks.heads_digit x.1.now ≡ false) × (spec.has_name known.now x.0 ≡ true)) }
+    ensures found { MatchOption result (HeadsNoName known.now text.now) (λ x. HeadsName known.now text.now x.0 x.1.now) }
 {
     let count = known.len();
     if let Some(rest) = behind_all(b"null", text) {
@@ -96,9 +91,7 @@ pub(crate) fn with_places(
     known: &Handles,
     text: &[u8],
 ) -> Result<Option<(Vec<u8>, Wires)>, NoMemory>
-    ensures { IfOk result (λ found. MatchOption found
-        ((wires : List WireHandle) (places : List ℕ) → NamedFrom known.now 0 wires places text.now → ⊥)
-        (λ x. NamedFrom known.now 0 x.1 x.0.items text.now × ((wires : List WireHandle) (places : List ℕ) → NamedFrom known.now 0 wires places text.now → (wires ≡ x.1) × (places ≡ x.0.items)))) }
+    ensures { IfOk result (λ found. MatchOption found (IsUnnamed known.now text.now) (λ x. IsOnlyNamed known.now x.1 x.0.items text.now)) }
 {
     let mut plain = Vec::new(alloc);
     let mut wires = Wires::new(alloc);
@@ -171,9 +164,7 @@ pub(crate) fn put_named(
 /// The handle at the place that is written so.
 fn wire_at(wires: &[WireHandle], digits: &[u8]) -> Option<WireHandle>
     ensures few { length wires.now < 2 ^ 64 }
-    ensures found { MatchOption result
-        ((k : ℕ) (w : WireHandle) → decimal k ≡ digits.now → slice_get wires.now k ≡ Some w → ⊥)
-        (λ w. (k : ℕ) × (decimal k ≡ digits.now) × (slice_get wires.now k ≡ Some w)) }
+    ensures found { MatchOption result (NoWireAt wires.now digits.now) (IsWireAt wires.now digits.now) }
 {
     let count = wires.len();
     let at = read_u64(digits)? as usize;

@@ -1,10 +1,11 @@
 //! Rows of values in brackets.
-ghost use Rattle.std.specs.Prelude.{◌≡◌, ◌++◌, List, ℕ, map, OnOk, IfOk, MatchOption};
+ghost use Rattle.std.specs.Prelude.{◌≡◌, ◌++◌, map, OnOk, IfOk};
 ghost use Rattle.ndr_value.specs.Forms.{types_of};
-ghost use Rattle.ndr_value.specs.Values.{Vals, Msg, vals, msg};
+ghost use Rattle.ndr_value.specs.Values.{vals, msg};
 ghost use Rattle.ndr_table.specs.Tables.{param_form};
 ghost use Rattle.value_text.specs.Texts.{list_text, more_text};
 ghost use Rattle.client_texts.specs.Texts.{row_text, Writes, IsRow, IsRequestText, inwards};
+ghost use Rattle.client_texts.specs.Found.{ReadsText, ReadsFront};
 
 use crate::handles::Handles;
 use crate::heaps::read_heap;
@@ -29,7 +30,7 @@ fn put_list(alloc: Global, values: &[Value], into: &mut Vec<u8>) -> Result<(), N
     put_more(alloc, others, into)
 }
 
-/// Adds those behind the first.
+/// Adds those after the first.
 #[tactic(auto, unfolding(value_text::specs::Texts::value_text))]
 fn put_more(alloc: Global, values: &[Value], into: &mut Vec<u8>) -> Result<(), NoMemory>
     ensures { OnOk result (into.new.items ≡ into.old.items ++ more_text (vals values.now)) }
@@ -72,7 +73,7 @@ pub fn put_row(
     put_named(alloc, known, message.wires.as_slice(), &plain, into)
 }
 
-/// Values of the shapes of the parameters that go in, in brackets, with a comma and a space between each two, and what stands behind
+/// Values of the shapes of the parameters that go in, in brackets, with a comma and a space between each two, and what stands after
 /// them.
 fn read_values<'a>(
     alloc: Global,
@@ -80,9 +81,8 @@ fn read_values<'a>(
     params: &[Param],
     text: &'a [u8],
 ) -> Result<Option<(Values, &'a [u8])>, NoMemory>
-    ensures { IfOk result (λ found. MatchOption found
-        ((vs : Vals) (rest : List ℕ) → IsRow (types_of types.now.items) (inwards (map param_form params.now)) vs text.now rest → ⊥)
-        (λ x. IsRow (types_of types.now.items) (inwards (map param_form params.now)) (vals x.0.items) text.now x.1.now)) }
+    ensures { IfOk result (λ found. ReadsFront found
+        (λ vs rest. IsRow (types_of types.now.items) (inwards (map param_form params.now)) vs text.now rest) (λ x. vals x.0.items) (λ x. x.1.now)) }
 {
     let Some(mut rest) = behind(b'(', text) else {
         return Ok(None);
@@ -106,7 +106,7 @@ fn read_values<'a>(
     }
 }
 
-/// The message of a request that a text has: one value for each parameter that goes in, in order, in brackets, and behind them
+/// The message of a request that a text has: one value for each parameter that goes in, in order, in brackets, and after them
 /// ` heap ` and the items of its heap in square brackets, where it has any. Each item is of the shape that the first full pointer to
 /// it points to, of those that stand before it. Handles stand by their names among those that came, and are the message's in the
 /// order in which they stand. `None` where the text is that of no such message.
@@ -121,9 +121,8 @@ pub fn read_row(
     known: &Handles,
     text: &[u8],
 ) -> Result<Option<Message>, NoMemory>
-    ensures { IfOk result (λ found. MatchOption found
-        ((m : Msg) → IsRequestText (types_of types.now.items) (inwards (map param_form params.now)) known.now m text.now → ⊥)
-        (λ m. IsRequestText (types_of types.now.items) (inwards (map param_form params.now)) known.now (msg m) text.now)) }
+    ensures { IfOk result (λ found. ReadsText found
+        (λ m. IsRequestText (types_of types.now.items) (inwards (map param_form params.now)) known.now m text.now) msg) }
 {
     let Some((plain, wires)) = with_places(alloc, known, text)? else {
         return Ok(None);

@@ -17,6 +17,10 @@ pub trait Steps: Rundown {
     ghost step: { Self → Call → Step Self };
 
     /// The answer. Nothing changes.
+    ///
+    /// # Errors
+    ///
+    /// `NoMemory` where there is no memory for the answer.
     fn answer(
         &self,
         alloc: Global,
@@ -28,6 +32,10 @@ pub trait Steps: Rundown {
         ensures { IfOk result (λ a. ans a ≡ (step self.now (record { iface = iface; op = op; message = msg message.now; cookies = cookies.now })).answer) };
 
     /// Keeps what the call leaves, once it has its answer.
+    ///
+    /// # Errors
+    ///
+    /// `NoMemory` where there is no memory for what is left; then nothing has changed.
     fn keep(
         &mut self,
         iface: u16,

@@ -8,6 +8,9 @@ use Rattle.idl_rules.specs.Least.{least, lesser}
 use Rattle.idl_check.specs.declared.firsts.Breach.{Breach}
 use Rattle.idl_rules.specs.Broken.{IsLeastBreach, NoneBroken}
 use Rattle.idl_rules.proofs.Twins.{broken_too}
+use Rattle.idl_outline.specs.Names.{Past}
+use Rattle.idl_outline.specs.Outline.{outline}
+use Rattle.idl_check.specs.Outlined.{IsOutlined}
 use Rattle.idl_check.specs.Firsts.{first_place, IsFirstBelow, IsFirst}
 
 -- ---- the least of a list
@@ -88,6 +91,7 @@ least_breach t b h = record {
 pub none_in_copy : (copy t : Ast) → Same copy t → NoneBroken t → NoneBroken copy
 none_in_copy copy t same h = record { none = λ number at b. h.none number at (broken_too copy t same number at b) }
 
-pub ruleset kept = (none_in_copy)
+pub kept_copy : (copy t : Ast) (past : Past) → Same copy t → NoneBroken t → past ≡ outline (tree_form t) → IsOutlined copy past
+kept_copy copy t past same h e = record { sound = none_in_copy copy t same h; outlined = e ∙ sym (ap outline same) }
 
 pub ruleset found = (none_broken, least_breach)

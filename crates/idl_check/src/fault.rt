@@ -10,7 +10,8 @@ pub enum CheckFault {
     /// rule is broken, and at it the least number.
     #[error("rule {number} is broken at octet {at}")]
     Rule { number: u8, at: usize },
-    /// Memory ran out.
+    /// Memory ran out, or a type has more than 1,024 pointers and arrays, or more than 64 where it is used
+    /// by its name.
     #[error("out of memory")]
     Memory,
 }

@@ -33,8 +33,10 @@ fn judged(alloc: Global, past: &Outline, event: &Event) -> Result<Firsts, NoMemo
     })
 }
 
-fn judged_events(alloc: Global, outline: Outline) -> Result<Firsts, NoMemory>
-    ensures { IfOk result (λ f. f ≡ spec.firsts_of outline) }
+// The outline is put together again as its events are judged.
+fn judged_events(alloc: Global, outline: Outline) -> Result<(Firsts, Outline), NoMemory>
+    ensures firsts { IfOk result (λ p. p.0 ≡ spec.firsts_of outline) }
+    ensures outline { IfOk result (λ p. p.1 ≡ outline) }
 {
     let mut events = outline.into_events().into_vec();
     events.reverse();
@@ -44,7 +46,7 @@ fn judged_events(alloc: Global, outline: Outline) -> Result<Firsts, NoMemory>
         firsts = judged(alloc, &past, &event)?.or(firsts);
         past.happen(event)?;
     }
-    Ok(firsts)
+    Ok((firsts, past))
 }
 
 fn judged_file(alloc: Global, tree: &Ast) -> Result<Firsts, NoMemory>
@@ -57,12 +59,17 @@ fn judged_file(alloc: Global, tree: &Ast) -> Result<Firsts, NoMemory>
     })
 }
 
-/// The first breach of each rule.
-pub(crate) fn judged_tree(alloc: Global, tree: &Ast, outline: Outline) -> Result<Firsts, NoMemory>
+/// The first breach of each rule, and the outline again.
+pub(crate) fn judged_tree(
+    alloc: Global,
+    tree: &Ast,
+    outline: Outline,
+) -> Result<(Firsts, Outline), NoMemory>
     requires { outline ≡ outlines.outline (tree_form tree.now) }
-    ensures { IfOk result (λ f. spec.Gives (spec.first_place (tree_form tree.now)) f) }
+    ensures firsts { IfOk result (λ p. spec.Gives (spec.first_place (tree_form tree.now)) p.0) }
+    ensures outline { IfOk result (λ p. p.1 ≡ outline) }
 {
-    let events = judged_events(alloc, outline)?;
+    let (events, past) = judged_events(alloc, outline)?;
     let file = judged_file(alloc, tree)?;
-    Ok(file.or(events))
+    Ok((file.or(events), past))
 }

@@ -33,7 +33,7 @@ pub(crate) fn is_two_pointers(field: &Field, declared: &Declared) -> bool
     ensures { result ≡ spec.is_two_pointers field.now declared.now }
 {
     is_typedef(field.place)
-        && (declared.stars >= 2 || declared.stars == 1 && is_pointer_layer(field.spec.outer))
+        && (declared.stars >= 2 || declared.stars == 1 && is_pointer_layer(field.spec.outer()))
 }
 
 fn is_bad_size(size: Option<Num>) -> bool

@@ -67,7 +67,7 @@ pub fn outside_profile(past: &Outline, event: &Event) -> Option<usize>
             value: number,
         } => place_if(!base_holds(*base, value_of(*number)), name.at),
         Event::Single(field) => field_place(field),
-        Event::Body(fields) => listed_place(fields.as_slice()),
+        Event::Body { fields, .. } => listed_place(fields.as_slice()),
         Event::Call { result, parameters } => {
             lesser(field_place(result), listed_place(parameters.as_slice()))
         }

@@ -5,19 +5,18 @@ ghost use Rattle.idl_outline.specs.declared.event.Event.{Event};
 ghost use Rattle.idl_rules.specs.Least.{least};
 ghost use Rattle.idl_rules.specs.UnionTag as spec;
 
-use idl_outline::{Bare, Core, DataType, Declared, Event, Field, Label, Tag};
+use idl_outline::{Bare, Core, Declared, Event, Field, Label, Tag, TagType};
 use idl_rules::{
-    Saying, by_value, has, int_holds, is_tag_core, is_unknown, lesser, place_if, repeated,
-    value_of, within,
+    Saying, has, int_holds, is_tag_core, is_unknown, lesser, place_if, repeated, value_of, within,
 };
 use idl_tree::Num;
 use rpc_base::NoMemory;
 use std::alloc::Global;
 
-fn is_bad_tag(ty: DataType) -> bool
+fn is_bad_tag(ty: TagType) -> bool
     ensures { result ≡ spec.is_bad_tag ty }
 {
-    !(is_unknown(ty.core) || is_tag_core(ty.core) && by_value(ty))
+    !(is_unknown(ty.core) || is_tag_core(ty.core) && ty.by_value)
 }
 
 fn tag_place(tag: Tag) -> Option<usize>
@@ -42,22 +41,23 @@ fn core_holds(core: Core, number: i128) -> bool
     match core {
         Core::Boolean => within(0, 2, number),
         Core::Char => within(0, 256, number),
+        Core::Text(_) => within(0, 256, number),
         Core::Int { unsigned, size } => int_holds(unsigned, size, number),
         Core::Enum(count) => enum_holds(count, number),
         _ => true,
     }
 }
 
-fn value_outside(ty: DataType, at: usize, number: Option<Num>) -> Option<usize>
+fn value_outside(ty: TagType, at: usize, number: Option<Num>) -> Option<usize>
     ensures { result ≡ least (spec.value_outside ty at number) }
 {
     match number {
         None => None,
-        Some(number) => place_if(by_value(ty) && !core_holds(ty.core, value_of(number)), at),
+        Some(number) => place_if(ty.by_value && !core_holds(ty.core, value_of(number)), at),
     }
 }
 
-fn outside(ty: DataType, label: &Label) -> Option<usize>
+fn outside(ty: TagType, label: &Label) -> Option<usize>
     ensures { result ≡ least (spec.outside ty label.now) }
 {
     match label {
@@ -67,7 +67,7 @@ fn outside(ty: DataType, label: &Label) -> Option<usize>
 }
 
 #[tactic(auto, using(idl_rules::proofs::Leasts::leasts))]
-fn all_outside(ty: DataType, labels: &[Label]) -> Option<usize>
+fn all_outside(ty: TagType, labels: &[Label]) -> Option<usize>
     ensures { result ≡ least (flat_map (spec.outside ty) labels.now) }
 {
     let mut found = None;
@@ -148,7 +148,7 @@ pub fn union_tag(alloc: Global, event: &Event) -> Result<Option<usize>, NoMemory
     match event {
         Event::Union { tag, labels } => Ok(labels_place(alloc, *tag, labels.as_slice())?),
         Event::Single(field) => Ok(untagged(field)),
-        Event::Body(fields) => Ok(each_untagged(fields.as_slice())),
+        Event::Body { fields, .. } => Ok(each_untagged(fields.as_slice())),
         Event::Call { result, parameters } => Ok(lesser(
             untagged(result),
             each_untagged(parameters.as_slice()),

@@ -5,3 +5,4 @@ pub mod Outline
 pub mod Parts
 pub mod Specs
 pub mod Types
+pub mod Within

@@ -16,6 +16,7 @@ use Rattle.idl_names.specs.declared.place.Place.TheVariants as places
 use Rattle.idl_names.specs.Attributes.{says, says_handle}
 use Rattle.idl_names.specs.Symbols.{number_of}
 use Rattle.idl_names.specs.Declarators.{all_pointed, label_number}
+use Rattle.idl_outline.specs.declared.ty.Core.TheVariants as cores
 use Rattle.idl_outline.specs.declared.ty.DataType.{DataType}
 use Rattle.idl_outline.specs.declared.field.Size.{Size}
 use Rattle.idl_outline.specs.declared.field.Size.TheVariants as given_sizes
@@ -29,8 +30,8 @@ use Rattle.idl_outline.specs.declared.event.Label.{Label}
 use Rattle.idl_outline.specs.declared.event.Label.TheVariants as labels
 use Rattle.idl_outline.specs.declared.event.Event.TheVariants as events
 use Rattle.idl_outline.specs.declared.setting.Setting.{Setting}
-use Rattle.idl_outline.specs.Types.{unknown, struct_type}
-use Rattle.idl_outline.specs.Names.{Past, constants_of, tag_named, declared_all, ends_open}
+use Rattle.idl_outline.specs.Types.{bare, unknown, struct_type}
+use Rattle.idl_outline.specs.Names.{Past, constants_of, bodies, tag_named, declared_all, ends_open}
 
 -- where the type void may stand: as an operation's result, and in a typedef of context handles
 abbrev pub may_be_void : Place → AttrForms → Bool
@@ -119,15 +120,23 @@ abbrev pub names_past : ℕ → List Ident → Past → Past
 names_past n [] p = p
 names_past n (i ∷ is) p = names_past (n + 1) is (events.EnumName i (number_of i n) ∷ p)
 
-abbrev pub struct_past : Option Ident → Bool → Past → Past
-struct_past None itself p = p
-struct_past (Some i) itself p = events.StructBegins i itself ∷ p
+-- number: that of the structure whose body begins
+abbrev pub struct_past : Option Ident → Bool → ℕ → Past → Past
+struct_past None itself number p = p
+struct_past (Some i) itself number p = events.StructBegins i itself number ∷ p
 
 abbrev pub struct_end : Option Ident → List Field → Past → Past
-struct_end None fs p = events.Body fs ∷ p
-struct_end (Some i) fs p = events.StructEnds i (ends_open fs) ∷ events.Body fs ∷ p
+struct_end None fs p = events.Body None fs ∷ p
+struct_end (Some i) fs p = events.StructEnds i (ends_open fs) (bodies p) ∷ events.Body None fs ∷ p
 
 -- the field of a spec that was read up to the past p
 abbrev pub field_of : Pk → Place → AttrForms → List Attribute → DataType → Bare → List Dtor → Past → Field
 field_of default place as' marks t b ds p =
-    record { place = place; attributes = marks; spec = t; bare = b; declared = declared_all p place default as' t ds }
+    record { place = place; attributes = marks; spec = t; bare = b; labels = []; declared = declared_all p place default as' t ds }
+
+abbrev pub with_labels : List Label → Field → Field
+with_labels ls f = record f { labels = ls }
+
+-- an arm without a member declares nothing
+abbrev pub empty_field : List Label → Field
+empty_field ls = record { place = places.Arm; attributes = []; spec = bare cores.Void; bare = bares.No; labels = ls; declared = [] }

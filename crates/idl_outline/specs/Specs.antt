@@ -1,8 +1,7 @@
 -- The outline's reader of specs and what they hold, and what it has of them. X_past is the past behind an X, for the past before it; what
 -- an X stands for is said of the past before it.
-use Rattle.std.specs.Prelude.{ℕ, List, [], ◌∷◌, map, length}
+use Rattle.std.specs.Prelude.{ℕ, ◌+◌, List, [], ◌∷◌, map, length, Option, Some, None}
 use Rattle.std.specs.List.{flat_map}
-use Rattle.std.specs.Option.{option_to_list}
 use Rattle.idl_tree.specs.declared.leaf.Pk.{Pk}
 use Rattle.idl_forms.specs.Forms.{SpecForm, a_spec, KindForm, OfBase, OfName, OfVoid, OfHandle, OfStatus, OfTag, OfEnum, SwitchForm, MemberForm, MemberForms, ArmForm, ArmForms, AttrKindForm, OfIn, OfOut, OfPointer, OfText, OfIdempotent, OfMaybe, OfSizeIs, OfMaxIs, OfLengthIs, OfSwitchIs, OfRange, AttrForm, AttrForms, no_attr}
 use Rattle.idl_names.specs.declared.place.Place.{Place}
@@ -21,10 +20,11 @@ use Rattle.idl_outline.specs.declared.event.Tag.TheVariants as tags
 use Rattle.idl_outline.specs.declared.event.Label.{Label}
 use Rattle.idl_outline.specs.declared.event.Event.TheVariants as events
 use Rattle.idl_outline.specs.declared.setting.Setting.{Setting}
-use Rattle.idl_outline.specs.Types.{bare, unknown, core_of, or_unknown}
-use Rattle.idl_outline.specs.Names.{Past, type_named, tag_given, ends_open}
+use Rattle.idl_outline.specs.Types.{bare, unknown, core_of, of_tag, or_unknown}
+use Rattle.idl_outline.specs.Names.{Past, bodies, type_named, tag_given, ends_open}
 use Rattle.idl_outline.specs.Holding.{tag_holds}
-use Rattle.idl_outline.specs.Parts.{setting_at, bare_spec, is_switched, size_of, sizes_past, labels_past, labels_of, tag_used_past, tag_used_type, void_past, other_tag_past, names_past, struct_past, struct_end, field_of}
+use Rattle.idl_outline.specs.Within.{members_within}
+use Rattle.idl_outline.specs.Parts.{setting_at, bare_spec, is_switched, size_of, sizes_past, labels_past, labels_of, tag_used_past, tag_used_type, void_past, other_tag_past, names_past, struct_past, struct_end, field_of, with_labels, empty_field}
 
 -- ---- what the reader makes of the parts
 
@@ -72,29 +72,33 @@ field_in default place x = field_of default place (attrs_of x.0) (map attribute_
 abbrev pub fields_in : Pk → List (ReadMember Past DataType Mark) → List Field
 fields_in default ms = map (field_in default places.Member) ms
 
-abbrev pub field_in_arm : Pk → ReadArm Past DataType Mark → List Field
-field_in_arm default a = map (field_in default places.Arm) (option_to_list a.member)
-
 abbrev pub labels_in_arm : ReadArm Past DataType Mark → List Label
 labels_in_arm a = labels_of a.known a.labels
 
+abbrev pub arm_field_with : Pk → List Label → Option (ReadMember Past DataType Mark) → Field
+arm_field_with default ls None = empty_field ls
+arm_field_with default ls (Some x) = with_labels ls (field_in default places.Arm x)
+
+abbrev pub field_in_arm : Pk → ReadArm Past DataType Mark → Field
+field_in_arm default a = arm_field_with default (labels_in_arm a) a.member
+
 -- the past behind the arms of a union, with what gives it its tag
 abbrev pub union_end : Pk → Tag → List (ReadArm Past DataType Mark) × Past → Past
-union_end default t arms = events.Union t (flat_map labels_in_arm arms.0) ∷ events.Body (flat_map (field_in_arm default) arms.0) ∷ arms.1
+union_end default t arms = events.Union t (flat_map labels_in_arm arms.0) ∷ events.Body (Some t) (map (field_in_arm default) arms.0) ∷ arms.1
 
 abbrev pub outline_reader : Reader Past DataType Mark Setting Tag
 outline_reader = record {
   around = λ default place as' ds xs. setting_at default place as' ds (tag_given (map attribute_in xs));
   leaf = λ g at k p. (leaf_type g k p, leaf_past g at k p);
-  struct_begins = λ tag ms p. struct_past tag (tag_holds tag ms) p;
-  struct_ends = λ default tag ms inside. (bare (cores.Struct (ends_open (fields_in default inside.0))), struct_end tag (fields_in default inside.0) inside.1);
+  struct_begins = λ tag ms p. struct_past tag (tag_holds tag ms) (bodies p + members_within ms) p;
+  struct_ends = λ default tag ms inside. (bare (cores.Struct (ends_open (fields_in default inside.0)) (bodies inside.1)), struct_end tag (fields_in default inside.0) inside.1);
   union_begins = other_tag_past;
-  union_ends = λ default s arms t inside. (bare (cores.Union (is_switched s)), union_end default t inside);
+  union_ends = λ default s arms t inside. (bare (cores.Union (is_switched s) (bodies inside.1)), union_end default t inside);
   given = λ g. g.given;
   -- a switch's spec is a field that declares nothing
-  switched = λ default s i spec. (tags.Switch i.at spec.0, events.Single (field_of default places.Alone no_attr [] spec.0 (bare_spec s) [] spec.1) ∷ spec.1);
+  switched = λ default s i spec. (tags.Switch i.at (of_tag spec.0), events.Single (field_of default places.Alone no_attr [] spec.0 (bare_spec s) [] spec.1) ∷ spec.1);
   mark = mark;
-  switch_type = λ s t. marks.SwitchType (begin_of s) t;
+  switch_type = λ s t. marks.SwitchType (begin_of s) (of_tag t);
   labelled = labels_past;
   sized = sizes_past;
 }
@@ -153,7 +157,7 @@ member_fields default ms p = fields_in default (walk.members_at outline_reader d
 abbrev pub arm_past : Pk → ArmForm → Past → Past
 arm_past default a p = (walk.arm_at outline_reader default a p).1
 
-abbrev pub arm_field : Pk → ArmForm → Past → List Field
+abbrev pub arm_field : Pk → ArmForm → Past → Field
 arm_field default a p = field_in_arm default (walk.arm_at outline_reader default a p).0
 
 abbrev pub arm_label : Pk → ArmForm → Past → List Label
@@ -163,7 +167,7 @@ abbrev pub arms_past : Pk → ArmForms → Past → Past
 arms_past default as' p = (walk.arms_at outline_reader default as' p).1
 
 abbrev pub arm_fields : Pk → ArmForms → Past → List Field
-arm_fields default as' p = flat_map (field_in_arm default) (walk.arms_at outline_reader default as' p).0
+arm_fields default as' p = map (field_in_arm default) (walk.arms_at outline_reader default as' p).0
 
 -- the labels of all arms
 abbrev pub arm_labels : Pk → ArmForms → Past → List Label

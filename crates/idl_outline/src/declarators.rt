@@ -1,17 +1,21 @@
 //! What attributes and declarators declare.
-ghost use Rattle.std.specs.Prelude.{◌≡◌, reverse, IfOk, OnOk, MatchOption, ◌∷◌, []};
+ghost use Rattle.std.specs.Prelude.{◌≡◌, ◌+◌, reverse, IfOk, OnOk, MatchOption, ◌∷◌, []};
 ghost use Rattle.idl_forms.specs.Forms.{attrs_form};
 ghost use Rattle.idl_outline.specs.Names as spec;
 ghost use Rattle.idl_outline.specs.Parts as parts;
 ghost use Rattle.idl_outline.specs.Types as types;
 
-use crate::event::{Event, Tag};
+use crate::event::{Event, Labels, Tag};
 use crate::field::{Attribute, Attributes, Bare, Declared, Field, Mark, NameRef, Size};
+use crate::manner::Manner;
 use crate::outline::Outline;
 use crate::setting::Setting;
 use crate::ty::{Core, DataType, Layer};
-use crate::types::declared_type;
-use idl_names::{Place, Word, all_pointed, copy_name, extent_of, outer_class, says};
+use crate::types::{bare, declared_type};
+use idl_names::{
+    Place, Word, all_pointed, copy_name, extent_of, is_serialised, or_class, outer_class,
+    pointer_given, says,
+};
 use idl_tree::{ArraySize, Attr, Dtor, Pk, SizeRef};
 use rpc_base::{Items, NoMemory};
 use std::alloc::Global;
@@ -60,37 +64,64 @@ fn declared(
     alloc: Global,
     outline: &Outline,
     handle: bool,
-    class: Pk,
-    ty: DataType,
+    kind: usize,
+    manner: Manner,
+    ty: &DataType,
     dtor: &Dtor,
 ) -> Result<Declared, NoMemory>
-    ensures { IfOk result (λ d. d ≡ spec.declared outline.now handle class ty dtor.now) }
+    ensures { IfOk result (λ d. d ≡ spec.declared outline.now handle kind manner ty.now dtor.now) }
 {
     let name = copy_name(alloc, &dtor.name)?;
     let extent = extent_of(outline.constants(), &dtor.array);
+    let ty = declared_type(alloc, handle, kind, manner, dtor.stars, extent, ty)?;
     Ok(Declared {
         name,
         stars: dtor.stars,
         extent,
-        ty: declared_type(handle, class, dtor.stars, extent, ty),
+        ty,
     })
 }
 
+// `first`: the number of the first declarator's type of context handles, where they are such.
 fn each_declared(
     alloc: Global,
     outline: &Outline,
     handle: bool,
-    class: Pk,
-    ty: DataType,
+    first: usize,
+    manner: Manner,
+    ty: &DataType,
     dtors: &[Dtor],
 ) -> Result<Items<Declared>, NoMemory>
-    ensures { IfOk result (λ ds. ds ≡ spec.each_declared outline.now handle class ty dtors.now) }
+    ensures { IfOk result (λ ds. ds ≡ spec.each_declared outline.now handle first manner ty.now dtors.now) }
 {
-    let mut all = Vec::new(alloc);
+    let mut all = Items::new(alloc);
+    let mut kind = first;
     for dtor in dtors {
-        all.push(declared(alloc, outline, handle, class, ty, dtor)?)?;
+        all.push(declared(alloc, outline, handle, kind, manner, ty, dtor)?)?;
+        kind = next(kind)?;
     }
-    Ok(Items::from_vec(all))
+    Ok(all)
+}
+
+fn next(number: usize) -> Result<usize, NoMemory>
+    ensures { IfOk result (λ n. n ≡ number + 1) }
+{
+    match number.checked_add(1) {
+        Some(next) => Ok(next),
+        None => Err(NoMemory),
+    }
+}
+
+fn manner_of(default: Pk, place: Place, attrs: &[Attr]) -> Manner
+    ensures { result ≡ spec.manner_of default place (attrs_form attrs.now) }
+{
+    Manner {
+        inner: default,
+        outer: outer_class(default, place, attrs),
+        element: or_class(pointer_given(attrs), default),
+        text: says(attrs, Word::Text),
+        serialised: is_serialised(attrs),
+    }
 }
 
 fn declared_all(
@@ -99,14 +130,14 @@ fn declared_all(
     default: Pk,
     place: Place,
     attrs: &[Attr],
-    ty: DataType,
+    ty: &DataType,
     dtors: &[Dtor],
 ) -> Result<Items<Declared>, NoMemory>
-    ensures { IfOk result (λ ds. ds ≡ spec.declared_all outline.now place default (attrs_form attrs.now) ty dtors.now) }
+    ensures { IfOk result (λ ds. ds ≡ spec.declared_all outline.now place default (attrs_form attrs.now) ty.now dtors.now) }
 {
     let handle = is_typedef(place) && says(attrs, Word::Handle);
-    let class = outer_class(default, place, attrs);
-    each_declared(alloc, outline, handle, class, ty, dtors)
+    let manner = manner_of(default, place, attrs);
+    each_declared(alloc, outline, handle, outline.kinds(), manner, ty, dtors)
 }
 
 /// The field of a spec, its attributes and its declarators. `attrs`: these attributes in the tree. The
@@ -129,33 +160,48 @@ pub fn field_with(
 ) -> Result<Field, NoMemory>
     ensures { IfOk result (λ f. f ≡ parts.field_of default place (attrs_form attrs.now) attributes ty bare dtors.now outline.now) }
 {
-    let declared = declared_all(alloc, outline, default, place, attrs, ty, dtors)?;
+    let declared = declared_all(alloc, outline, default, place, attrs, &ty, dtors)?;
     Ok(Field {
         place,
         attributes,
         spec: ty,
         bare,
+        labels: Labels::new(alloc),
         declared,
     })
+}
+
+/// The field of an arm that has no member.
+pub fn empty_field(alloc: Global, labels: Labels) -> Field
+    ensures { result ≡ parts.empty_field labels }
+{
+    Field {
+        place: Place::Arm,
+        attributes: Attributes::new(alloc),
+        spec: bare(alloc, Core::Void),
+        bare: Bare::No,
+        labels,
+        declared: Items::new(alloc),
+    }
 }
 
 fn open_core(core: Core) -> bool
     ensures { result ≡ types.open_core core }
 {
     match core {
-        Core::Struct { open } => open,
+        Core::Struct { open, .. } => open,
         _ => false,
     }
 }
 
-fn is_open(ty: DataType) -> bool
-    ensures { result ≡ types.is_open ty }
+fn is_open(ty: &DataType) -> bool
+    ensures { result ≡ types.is_open ty.now }
 {
-    match ty.outer {
+    match ty.outer() {
         None => open_core(ty.core),
         Some(layer) => match layer {
             Layer::OpenArray => true,
-            Layer::Array => false,
+            Layer::Array(_) => false,
             Layer::Pointer(_) => false,
         },
     }
@@ -178,7 +224,7 @@ fn last_open(declared: &[Declared]) -> bool
 {
     match last_declared(declared) {
         None => false,
-        Some((last, _)) => is_open(last.ty),
+        Some((last, _)) => is_open(&last.ty),
     }
 }
 

@@ -1,6 +1,7 @@
 //! What one spec declares: its attributes, its type and its declarators.
 
-use crate::ty::DataType;
+use crate::event::Labels;
+use crate::ty::{DataType, TagType};
 use idl_names::{Extent, Place};
 use idl_tree::{Ident, Num, Pk};
 use rpc_base::Items;
@@ -36,7 +37,7 @@ pub enum Mark {
     LengthIs(Size),
     SwitchIs(NameRef),
     /// The octet where its spec begins, and the type.
-    SwitchType { spec_at: usize, ty: DataType },
+    SwitchType { spec_at: usize, ty: TagType },
     /// The lowest and the highest number.
     Range(Num, Num),
 }
@@ -77,6 +78,8 @@ pub struct Field {
     /// The type of the spec.
     pub spec: DataType,
     pub bare: Bare,
+    /// The labels of a union's arm.
+    pub labels: Labels,
     pub declared: Items<Declared>,
 }
 

@@ -4,6 +4,7 @@ ghost use Rattle.idl_outline.specs.Names as spec;
 ghost use Rattle.idl_outline.specs.Kept.{shown};
 
 use crate::event::Event;
+use crate::manner::Structure;
 use crate::ty::DataType;
 use idl_names::{SymbolTable, Tag, declare};
 use rpc_base::{Names, NoMemory};
@@ -12,8 +13,8 @@ use std::alloc::Global;
 /// What is declared.
 #[derive(Drop)]
 pub(crate) struct Known {
-    /// What names stand for; of a structure, whether a conformant array ends it.
-    pub(crate) symbols: SymbolTable<DataType, bool>,
+    /// What names stand for.
+    pub(crate) symbols: SymbolTable<DataType, Structure>,
     /// The names of operations.
     pub(crate) operations: Names<()>,
     /// The tags of unions and enumerations.
@@ -42,16 +43,24 @@ impl Known {
         ensures unchanged { OnErr result (shown self.new ≡ shown self.old) }
     {
         match event {
-            Event::Typedef { name, ty } => self.symbols.with_type(alloc, name, *ty),
+            Event::Typedef { name, ty } => {
+                let ty = ty.copy(alloc)?;
+                self.symbols.with_type(alloc, name, ty)
+            }
             Event::Constant { name, value, .. } => self.symbols.with_constant(alloc, name, *value),
             Event::EnumName { name, value } => self.symbols.with_constant(alloc, name, *value),
             Event::Operation(name) => declare(&mut self.operations, alloc, name, ()),
-            Event::StructBegins { tag, .. } => {
-                let (whole, known) = (false, false);
+            Event::StructBegins { tag, number, .. } => {
+                let (whole, number) = (false, *number);
+                let known = Structure {
+                    ends_open: false,
+                    number,
+                };
                 self.symbols.with_tag(alloc, tag, Tag { whole, known })
             }
-            Event::StructEnds { tag, open } => {
-                let (whole, known) = (true, *open);
+            Event::StructEnds { tag, open, number } => {
+                let (whole, ends_open, number) = (true, *open, *number);
+                let known = Structure { ends_open, number };
                 self.symbols.with_tag(alloc, tag, Tag { whole, known })
             }
             Event::OtherTag(name) => declare(&mut self.others, alloc, name, ()),
@@ -60,7 +69,7 @@ impl Known {
             | Event::ConstantUsed(_)
             | Event::VoidUsed(_)
             | Event::Union { .. }
-            | Event::Body(_)
+            | Event::Body { .. }
             | Event::Single(_)
             | Event::Call { .. } => Ok(()),
         }

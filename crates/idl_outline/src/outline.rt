@@ -1,5 +1,5 @@
 //! The events of an interface's text, and what its names stand for.
-ghost use Rattle.std.specs.Prelude.{◌≡◌, ◌∷◌, [], reverse, OnOk};
+ghost use Rattle.std.specs.Prelude.{◌≡◌, ◌∷◌, [], reverse, OnOk, option_copied};
 ghost use Rattle.std.specs.List.{count_by};
 ghost use Rattle.rpc_base.specs.Named.{at_name};
 ghost use Rattle.idl_outline.specs.Kept as kept;
@@ -7,7 +7,8 @@ ghost use Rattle.idl_outline.specs.Names as spec;
 
 use crate::event::{Event, Events};
 use crate::known::Known;
-use crate::ty::DataType;
+use crate::manner::Structure;
+use crate::ty::{Core, DataType};
 use idl_tree::Num;
 use rpc_base::{Names, NoMemory};
 use std::alloc::Global;
@@ -22,6 +23,8 @@ pub struct Outline {
     known: Known,
     operations: usize,
     typedefs: usize,
+    bodies: usize,
+    kinds: usize,
 }
 
 impl Model for Outline {
@@ -33,7 +36,7 @@ impl Model for Outline {
 
     ghost view = { λ o. reverse o.events.items };
 
-    ghost invariant = { λ o. IsKept (reverse o.events.items) o.known o.operations o.typedefs };
+    ghost invariant = { λ o. IsKept (reverse o.events.items) o.known o.operations o.typedefs o.bodies o.kinds };
 }
 
 fn one_if(condition: bool) -> usize
@@ -54,6 +57,27 @@ fn is_typedef(event: &Event) -> bool
     matches!(event, Event::Typedef { .. })
 }
 
+fn is_body(event: &Event) -> bool
+    ensures { result ≡ spec.is_body event.now }
+{
+    matches!(event, Event::Body { .. })
+}
+
+fn is_handle_core(core: Core) -> bool
+    ensures { result ≡ spec.is_handle_core core }
+{
+    matches!(core, Core::ContextHandle { .. })
+}
+
+fn is_kind(event: &Event) -> bool
+    ensures { result ≡ spec.is_kind event.now }
+{
+    match event {
+        Event::Typedef { ty, .. } => is_handle_core(ty.core),
+        _ => false,
+    }
+}
+
 impl Outline {
     /// An outline without events. It takes no memory.
     pub fn new(alloc: Global) -> Outline
@@ -65,6 +89,8 @@ impl Outline {
             known: Known::new(alloc),
             operations: 0,
             typedefs: 0,
+            bodies: 0,
+            kinds: 0,
         }
     }
 
@@ -79,11 +105,15 @@ impl Outline {
     {
         let operations = self.operations + one_if(is_operation(&event));
         let typedefs = self.typedefs + one_if(is_typedef(&event));
+        let bodies = self.bodies + one_if(is_body(&event));
+        let kinds = self.kinds + one_if(is_kind(&event));
         self.events.reserve(1)?;
         self.known.hear(self.alloc, &event)?;
         self.events.push(event)?;
         self.operations = operations;
         self.typedefs = typedefs;
+        self.bodies = bodies;
+        self.kinds = kinds;
         Ok(())
     }
 
@@ -94,6 +124,13 @@ impl Outline {
         Events::from_vec(self.events)
     }
 
+    /// The events, the oldest first.
+    pub fn events(&self) -> &[Event]
+        ensures { reverse result.now ≡ self.now }
+    {
+        &self.events
+    }
+
     /// The numbers that names stand for.
     pub fn constants(&self) -> &Names<Num>
         ensures { at_name result.now ≡ spec.constants_of self.now }
@@ -102,10 +139,10 @@ impl Outline {
     }
 
     /// The type that a name stands for: that of its newest typedef.
-    pub fn type_named(&self, name: &[u8]) -> Option<DataType>
-        ensures { result ≡ spec.type_named name.now self.now }
+    pub fn type_named(&self, name: &[u8]) -> Option<&DataType>
+        ensures { option_copied result ≡ spec.type_named name.now self.now }
     {
-        self.known.symbols.type_named(name).copied()
+        self.known.symbols.type_named(name)
     }
 
     /// The number that a name stands for: that of its newest declaration as a constant or an
@@ -116,9 +153,9 @@ impl Outline {
         self.known.symbols.constant_named(name)
     }
 
-    /// Whether a conformant array ends the structure for which a tag stands; None where it stands for
-    /// none. `pointed`: it stands behind a pointer, as it has to inside of the structure's own body.
-    pub fn tag_named(&self, pointed: bool, name: &[u8]) -> Option<bool>
+    /// The structure for which a tag stands; None where it stands for none. `pointed`: it stands behind
+    /// a pointer, as it has to inside of the structure's own body.
+    pub fn tag_named(&self, pointed: bool, name: &[u8]) -> Option<Structure>
         ensures { result ≡ spec.tag_named pointed name.now self.now }
     {
         self.known.symbols.tag_named(pointed, name)
@@ -152,5 +189,19 @@ impl Outline {
         ensures { result ≡ count_by spec.is_typedef_event self.now }
     {
         self.typedefs
+    }
+
+    /// The number of bodies of structures and unions that have ended.
+    pub fn bodies(&self) -> usize
+        ensures { result ≡ spec.bodies self.now }
+    {
+        self.bodies
+    }
+
+    /// The number of types of context handles.
+    pub fn kinds(&self) -> usize
+        ensures { result ≡ spec.kinds self.now }
+    {
+        self.kinds
     }
 }

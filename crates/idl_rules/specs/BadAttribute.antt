@@ -16,6 +16,7 @@ use Rattle.idl_outline.specs.declared.field.Declared.{Declared}
 use Rattle.idl_outline.specs.declared.field.Field.{Field}
 use Rattle.idl_outline.specs.declared.event.Event.{Event}
 use Rattle.idl_outline.specs.declared.event.Event.TheVariants as events
+use Rattle.idl_outline.specs.Types.{outer}
 use Rattle.idl_rules.specs.Places.{at_if, repeats}
 use Rattle.idl_rules.specs.Ranges.{may_range}
 use Rattle.idl_rules.specs.Types.{by_value, is_unknown, is_char, is_void, is_handle_t, is_context_handle, is_open_struct, is_bare_union, is_pointer_layer, is_open_layer, is_ref, is_ref_layer, is_single, is_open_extent, is_typedef, is_operation, is_parameter, is_member, is_arm, is_listed, says_in, says_out, says_string, says_most, says_maybe, has}
@@ -134,7 +135,7 @@ lacks_direction f d = not (has says_in f || has says_out f) && not (is_handle_t 
 
 -- a pointer that a typedef brought, which isn't ref
 abbrev pub is_brought_pointer : Declared → Bool
-is_brought_pointer d = not (has_star d) && (is_pointer_layer d.ty.outer && not (is_ref_layer d.ty.outer))
+is_brought_pointer d = not (has_star d) && (is_pointer_layer (outer d.ty) && not (is_ref_layer (outer d.ty)))
 
 abbrev pub is_bad_parameter : Field → Declared → Bool
 is_bad_parameter f d = lacks_direction f d || (is_out_alone f && is_brought_pointer d)
@@ -157,7 +158,7 @@ abbrev pub is_open_by_value : Field → Bool
 is_open_by_value f = by_value f.spec && is_open_struct f.spec.core
 
 abbrev pub is_bad_element : Field → Declared → Bool
-is_bad_element f d = not (is_single d.extent) && (d.stars == 0 && (is_open_layer f.spec.outer || is_open_by_value f))
+is_bad_element f d = not (is_single d.extent) && (d.stars == 0 && (is_open_layer (outer f.spec) || is_open_by_value f))
 
 abbrev pub is_bad_struct : Field → Bool → Declared → Bool
 is_bad_struct f followed d = (is_single d.extent && d.stars == 0) && (is_open_by_value f && ((is_member f.place && followed) || is_arm f.place))
@@ -198,7 +199,7 @@ call_places r ps = field_places r false ++ (flat_map (maybe_places r ps) r.attri
 
 abbrev pub bad_attribute : List Event → Event → List ℕ
 bad_attribute past (events.Single f) = field_places f false
-bad_attribute past (events.Body fs) = each_field fs
+bad_attribute past (events.Body tag fs) = each_field fs
 bad_attribute past (events.Call r ps) = call_places r ps
 bad_attribute past _ = []
 

@@ -34,7 +34,7 @@ abbrev pub names_again : List Field → List ℕ
 names_again fs = repeats same_name place_of (names_of fs)
 
 abbrev pub listed_again : Event → List ℕ
-listed_again (events.Body fs) = names_again fs
+listed_again (events.Body tag fs) = names_again fs
 listed_again (events.Call r ps) = names_again ps
 listed_again _ = []
 

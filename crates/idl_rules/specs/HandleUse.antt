@@ -8,6 +8,7 @@ use Rattle.idl_outline.specs.declared.event.Tag.{Tag}
 use Rattle.idl_outline.specs.declared.event.Tag.TheVariants as tags
 use Rattle.idl_outline.specs.declared.event.Event.{Event}
 use Rattle.idl_outline.specs.declared.event.Event.TheVariants as events
+use Rattle.idl_outline.specs.Types.{outer}
 use Rattle.idl_rules.specs.Places.{at_if}
 use Rattle.idl_rules.specs.Types.{by_value, is_unknown, is_void, is_handle_t, is_context_handle, is_one_pointer, is_ref_layer, is_single, is_typedef, is_parameter, says_in, says_out, says_handle, has}
 
@@ -20,7 +21,7 @@ is_bad_handle_type f d =
 abbrev pub is_good_use : Field → Declared → Bool
 is_good_use f d =
     is_parameter f.place
-    && ((has says_in f && (not (has says_out f) && by_value d.ty)) || (has says_out f && (is_one_pointer d.ty && is_ref_layer d.ty.outer)))
+    && ((has says_in f && (not (has says_out f) && by_value d.ty)) || (has says_out f && (is_one_pointer d.ty && is_ref_layer (outer d.ty))))
 
 abbrev pub is_bad_use : Field → Declared → Bool
 is_bad_use f d = is_context_handle f.spec.core && not (is_good_use f d)
@@ -47,7 +48,7 @@ tag_places tags.Missing = []
 
 abbrev pub handle_use : List Event → Event → List ℕ
 handle_use past (events.Single f) = field_places false f
-handle_use past (events.Body fs) = flat_map (field_places false) fs
+handle_use past (events.Body tag fs) = flat_map (field_places false) fs
 handle_use past (events.Call r ps) = field_places false r ++ parameter_places ps
 handle_use past (events.Union t ls) = tag_places t
 handle_use past _ = []

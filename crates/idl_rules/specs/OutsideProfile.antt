@@ -20,6 +20,7 @@ use Rattle.idl_outline.specs.declared.event.Event.{Event}
 use Rattle.idl_outline.specs.declared.event.Event.TheVariants as events
 use Rattle.idl_names.specs.Declarators.{value_of}
 use Rattle.idl_outline.specs.Names.{is_operation, is_typedef_event}
+use Rattle.idl_outline.specs.Types.{outer}
 use Rattle.idl_rules.specs.Places.{at_if}
 use Rattle.idl_rules.specs.Types.{is_typedef, is_pointer_layer}
 use Rattle.idl_rules.specs.Numbers.{within, int_holds}
@@ -51,7 +52,7 @@ too_many_places fs = place_if (slice_get (declared_of fs) 255)
 -- ---- fields
 
 abbrev pub is_two_pointers : Field → Declared → Bool
-is_two_pointers f d = is_typedef f.place && (nat_le 2 d.stars || (d.stars == 1 && is_pointer_layer f.spec.outer))
+is_two_pointers f d = is_typedef f.place && (nat_le 2 d.stars || (d.stars == 1 && is_pointer_layer (outer f.spec)))
 
 abbrev pub is_bad_size : Option Num → Bool
 is_bad_size None = false
@@ -95,6 +96,6 @@ outside_profile past (events.Typedef i t) = at_if (is_too_many is_typedef_event 
 outside_profile past (events.EnumName i n) = at_if (n.value == 65535) i.at
 outside_profile past (events.Constant base i n) = at_if (not (base_holds base (value_of n))) i.at
 outside_profile past (events.Single f) = field_places f
-outside_profile past (events.Body fs) = listed_places fs
+outside_profile past (events.Body tag fs) = listed_places fs
 outside_profile past (events.Call r ps) = field_places r ++ listed_places ps
 outside_profile past _ = []

@@ -9,6 +9,7 @@ use Rattle.idl_outline.specs.declared.ty.Core.TheVariants as cores
 use Rattle.idl_outline.specs.declared.field.Declared.{Declared}
 use Rattle.idl_outline.specs.declared.field.Field.{Field}
 use Rattle.idl_names.specs.Declarators.{value_of}
+use Rattle.idl_outline.specs.Types.{outer, deeper}
 use Rattle.idl_rules.specs.Numbers.{int_holds}
 use Rattle.idl_rules.specs.Types.{by_value, is_unknown, is_ref_layer, is_parameter}
 
@@ -21,7 +22,7 @@ holds_both low high _ = false
 
 -- a value, or a Ref to one
 abbrev pub is_value_or_ref : DataType → Bool
-is_value_or_ref t = by_value t || (is_ref_layer t.outer && not t.deeper)
+is_value_or_ref t = by_value t || (is_ref_layer (outer t) && not (deeper t))
 
 abbrev pub is_ranged : Num → Num → Declared → Bool
 is_ranged low high d = is_unknown d.ty.core || (is_value_or_ref d.ty && holds_both low high d.ty.core)

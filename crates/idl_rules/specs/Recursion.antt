@@ -6,5 +6,5 @@ use Rattle.idl_outline.specs.declared.event.Event.TheVariants as events
 use Rattle.idl_rules.specs.Places.{at_if}
 
 abbrev pub recursion : List Event → Event → List ℕ
-recursion past (events.StructBegins i itself) = at_if itself i.at
+recursion past (events.StructBegins i itself number) = at_if itself i.at
 recursion past _ = []

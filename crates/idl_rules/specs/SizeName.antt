@@ -58,6 +58,6 @@ listed_places list f = field_places (list_for list f) f
 
 abbrev pub size_name : List Event → Event → List ℕ
 size_name past (events.Single f) = field_places [] f
-size_name past (events.Body fs) = flat_map (listed_places fs) fs
+size_name past (events.Body tag fs) = flat_map (listed_places fs) fs
 size_name past (events.Call r ps) = field_places [] r ++ flat_map (listed_places ps) ps
 size_name past _ = []

@@ -15,6 +15,7 @@ use Rattle.idl_names.specs.declared.place.Extent.TheVariants as extents
 use Rattle.idl_outline.specs.declared.field.Mark.{Mark}
 use Rattle.idl_outline.specs.declared.field.Mark.TheVariants as marks
 use Rattle.idl_outline.specs.declared.field.Field.{Field}
+use Rattle.idl_outline.specs.Types.{outer, deeper}
 use Rattle.idl_rules.specs.declared.asked.Asked.{Asked}
 use Rattle.idl_rules.specs.declared.asked.Asked.TheVariants as kinds
 use Rattle.idl_rules.specs.declared.asked.Saying.{Saying}
@@ -22,7 +23,7 @@ use Rattle.idl_rules.specs.declared.asked.Saying.TheVariants as sayings
 
 -- neither a pointer nor an array
 abbrev pub by_value : DataType → Bool
-by_value t = is_none t.outer
+by_value t = is_none (outer t)
 
 abbrev pub is_unknown : Core → Bool
 is_unknown cores.Unknown = true
@@ -30,6 +31,7 @@ is_unknown _ = false
 
 abbrev pub is_char : Core → Bool
 is_char cores.Char = true
+is_char (cores.Text text) = true
 is_char _ = false
 
 abbrev pub is_void : Core → Bool
@@ -41,7 +43,7 @@ is_handle_t cores.HandleT = true
 is_handle_t _ = false
 
 abbrev pub is_context_handle : Core → Bool
-is_context_handle cores.ContextHandle = true
+is_context_handle (cores.ContextHandle kind serialised) = true
 is_context_handle _ = false
 
 abbrev pub is_integer : Core → Bool
@@ -52,6 +54,7 @@ is_integer _ = false
 abbrev pub is_tag_core : Core → Bool
 is_tag_core (cores.Int unsigned size) = not (unsigned && size == 8)
 is_tag_core cores.Char = true
+is_tag_core (cores.Text text) = true
 is_tag_core cores.Boolean = true
 is_tag_core (cores.Enum count) = true
 is_tag_core _ = false
@@ -63,12 +66,12 @@ is_asked kinds.Tag c = is_tag_core c
 
 -- a structure that a conformant array ends
 abbrev pub is_open_struct : Core → Bool
-is_open_struct (cores.Struct o) = o
+is_open_struct (cores.Struct o number) = o
 is_open_struct _ = false
 
 -- a union without a switch
 abbrev pub is_bare_union : Core → Bool
-is_bare_union (cores.Union switched) = not switched
+is_bare_union (cores.Union switched number) = not switched
 is_bare_union _ = false
 
 abbrev pub is_pointer_layer : Option Layer → Bool
@@ -89,7 +92,7 @@ is_ref _ = false
 
 -- one pointer to what has no further ones
 abbrev pub is_one_pointer : DataType → Bool
-is_one_pointer t = is_pointer_layer t.outer && not t.deeper
+is_one_pointer t = is_pointer_layer (outer t) && not (deeper t)
 
 abbrev pub is_single : Extent → Bool
 is_single extents.Single = true

@@ -4,7 +4,7 @@ use Rattle.std.specs.Prelude.{ℕ, ◌+◌, ◌-◌, Bool, true, false, not, ◌
 use Rattle.std.specs.List.{flat_map}
 use Rattle.std.specs.Ordering.{int_eq}
 use Rattle.idl_tree.specs.declared.leaf.Num.{Num}
-use Rattle.idl_outline.specs.declared.ty.DataType.{DataType}
+use Rattle.idl_outline.specs.declared.ty.TagType.{TagType}
 use Rattle.idl_outline.specs.declared.ty.Core.{Core}
 use Rattle.idl_outline.specs.declared.ty.Core.TheVariants as cores
 use Rattle.idl_outline.specs.declared.field.Bare.{Bare}
@@ -24,8 +24,8 @@ use Rattle.idl_rules.specs.Types.{by_value, is_unknown, is_tag_core, says_switch
 
 -- ---- the type of the tag
 
-abbrev pub is_bad_tag : DataType → Bool
-is_bad_tag t = not (is_unknown t.core || (is_tag_core t.core && by_value t))
+abbrev pub is_bad_tag : TagType → Bool
+is_bad_tag t = not (is_unknown t.core || (is_tag_core t.core && t.by_value))
 
 abbrev pub tag_places : Tag → List ℕ
 tag_places (tags.Switch at t) = at_if (is_bad_tag t) at
@@ -56,15 +56,16 @@ enum_holds count z = within (pos 0) (pos count) z
 abbrev pub core_holds : Core → ℤ → Bool
 core_holds cores.Boolean z = within (pos 0) (pos 2) z
 core_holds cores.Char z = within (pos 0) (pos 256) z
+core_holds (cores.Text text) z = within (pos 0) (pos 256) z
 core_holds (cores.Int unsigned size) z = int_holds unsigned size z
 core_holds (cores.Enum count) z = enum_holds count z
 core_holds _ z = true
 
-abbrev pub value_outside : DataType → ℕ → Option Num → List ℕ
+abbrev pub value_outside : TagType → ℕ → Option Num → List ℕ
 value_outside t at None = []
-value_outside t at (Some n) = at_if (by_value t && not (core_holds t.core (value_of n))) at
+value_outside t at (Some n) = at_if (t.by_value && not (core_holds t.core (value_of n))) at
 
-abbrev pub outside : DataType → Label → List ℕ
+abbrev pub outside : TagType → Label → List ℕ
 outside t (labels.Case at n) = value_outside t at n
 outside t (labels.Default at) = []
 
@@ -95,6 +96,6 @@ labels_places t ls = tag_places t ++ (repeats same_label label_place ls ++ outsi
 abbrev pub union_tag : List Event → Event → List ℕ
 union_tag past (events.Union t ls) = labels_places t ls
 union_tag past (events.Single f) = field_places f
-union_tag past (events.Body fs) = flat_map field_places fs
+union_tag past (events.Body tag fs) = flat_map field_places fs
 union_tag past (events.Call r ps) = field_places r ++ flat_map field_places ps
 union_tag past _ = []

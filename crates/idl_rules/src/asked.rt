@@ -6,10 +6,10 @@ use idl_outline::{Core, DataType, Extent, Field, Layer, Mark, Place};
 use idl_tree::Pk;
 
 /// Whether it is neither a pointer nor an array.
-pub fn by_value(ty: DataType) -> bool
-    ensures { result ≡ spec.by_value ty }
+pub fn by_value(ty: &DataType) -> bool
+    ensures { result ≡ spec.by_value ty.now }
 {
-    ty.outer.is_none()
+    ty.outer().is_none()
 }
 
 /// Whether it is what an undeclared name stands for.
@@ -19,11 +19,11 @@ pub fn is_unknown(core: Core) -> bool
     matches!(core, Core::Unknown)
 }
 
-/// Whether it is char.
+/// Whether it is char, or a string of it.
 pub fn is_char(core: Core) -> bool
     ensures { result ≡ spec.is_char core }
 {
-    matches!(core, Core::Char)
+    matches!(core, Core::Char | Core::Text(_))
 }
 
 /// Whether it is void.
@@ -44,7 +44,7 @@ pub fn is_handle_t(core: Core) -> bool
 pub fn is_context_handle(core: Core) -> bool
     ensures { result ≡ spec.is_context_handle core }
 {
-    matches!(core, Core::ContextHandle)
+    matches!(core, Core::ContextHandle { .. })
 }
 
 /// Whether it is an integer.
@@ -62,6 +62,7 @@ pub fn is_tag_core(core: Core) -> bool
     match core {
         Core::Int { unsigned, size } => !(unsigned && size == 8),
         Core::Char => true,
+        Core::Text(_) => true,
         Core::Boolean => true,
         Core::Enum(_) => true,
         _ => false,
@@ -91,7 +92,7 @@ pub fn is_open_struct(core: Core) -> bool
     ensures { result ≡ spec.is_open_struct core }
 {
     match core {
-        Core::Struct { open } => open,
+        Core::Struct { open, .. } => open,
         _ => false,
     }
 }
@@ -101,7 +102,7 @@ pub fn is_bare_union(core: Core) -> bool
     ensures { result ≡ spec.is_bare_union core }
 {
     match core {
-        Core::Union { switched } => !switched,
+        Core::Union { switched, .. } => !switched,
         _ => false,
     }
 }
@@ -114,7 +115,7 @@ pub fn is_pointer_layer(layer: Option<Layer>) -> bool
         None => false,
         Some(layer) => match layer {
             Layer::Pointer(_) => true,
-            Layer::Array => false,
+            Layer::Array(_) => false,
             Layer::OpenArray => false,
         },
     }
@@ -127,7 +128,7 @@ pub fn is_ref_layer(layer: Option<Layer>) -> bool
     match layer {
         None => false,
         Some(layer) => match layer {
-            Layer::Array => false,
+            Layer::Array(_) => false,
             Layer::OpenArray => false,
             Layer::Pointer(class) => match class {
                 Pk::Ref => true,
@@ -146,7 +147,7 @@ pub fn is_open_layer(layer: Option<Layer>) -> bool
         None => false,
         Some(layer) => match layer {
             Layer::OpenArray => true,
-            Layer::Array => false,
+            Layer::Array(_) => false,
             Layer::Pointer(_) => false,
         },
     }
@@ -160,10 +161,10 @@ pub fn is_ref(class: Pk) -> bool
 }
 
 /// Whether it is one pointer to what has no further pointers or arrays.
-pub fn is_one_pointer(ty: DataType) -> bool
-    ensures { result ≡ spec.is_one_pointer ty }
+pub fn is_one_pointer(ty: &DataType) -> bool
+    ensures { result ≡ spec.is_one_pointer ty.now }
 {
-    is_pointer_layer(ty.outer) && !ty.deeper
+    is_pointer_layer(ty.outer()) && !ty.is_deeper()
 }
 
 /// Whether a declarator is no array.

@@ -106,7 +106,7 @@ fn listed_again(alloc: Global, event: &Event) -> Result<Option<usize>, NoMemory>
     ensures { IfOk result (λ at. at ≡ least (spec.listed_again event.now)) }
 {
     match event {
-        Event::Body(fields) => Ok(names_again(alloc, fields.as_slice())?),
+        Event::Body { fields, .. } => Ok(names_again(alloc, fields.as_slice())?),
         Event::Call { parameters, .. } => Ok(names_again(alloc, parameters.as_slice())?),
         _ => Ok(None),
     }

@@ -32,16 +32,16 @@ fn holds_both(low: Num, high: Num, core: Core) -> bool
     }
 }
 
-fn is_value_or_ref(ty: DataType) -> bool
-    ensures { result ≡ spec.is_value_or_ref ty }
+fn is_value_or_ref(ty: &DataType) -> bool
+    ensures { result ≡ spec.is_value_or_ref ty.now }
 {
-    by_value(ty) || is_ref_layer(ty.outer) && !ty.deeper
+    by_value(ty) || is_ref_layer(ty.outer()) && !ty.is_deeper()
 }
 
 fn is_ranged(low: Num, high: Num, declared: &Declared) -> bool
     ensures { result ≡ spec.is_ranged low high declared.now }
 {
-    let ty = declared.ty;
+    let ty = &declared.ty;
     is_unknown(ty.core) || is_value_or_ref(ty) && holds_both(low, high, ty.core)
 }
 

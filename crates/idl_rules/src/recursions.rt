@@ -12,7 +12,11 @@ pub fn recursion(event: &Event) -> Option<usize>
     ensures { (past : List Event) → result ≡ least (spec.recursion past event.now) }
 {
     match event {
-        Event::StructBegins { tag, holds_itself } => place_if(*holds_itself, tag.at),
+        Event::StructBegins {
+            tag,
+            holds_itself,
+            ..
+        } => place_if(*holds_itself, tag.at),
         _ => None,
     }
 }

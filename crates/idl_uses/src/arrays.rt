@@ -36,7 +36,7 @@ fn is_bad_array(field: &Field, said: Said, followed: bool, declared: &Declared) 
 fn is_open_by_value(field: &Field) -> bool
     ensures { result ≡ spec.is_open_by_value field.now }
 {
-    by_value(field.spec) && is_open_struct(field.spec.core)
+    by_value(&field.spec) && is_open_struct(field.spec.core)
 }
 
 fn is_bad_element(field: &Field, declared: &Declared) -> bool
@@ -44,7 +44,7 @@ fn is_bad_element(field: &Field, declared: &Declared) -> bool
 {
     !is_single(declared.extent)
         && declared.stars == 0
-        && (is_open_layer(field.spec.outer) || is_open_by_value(field))
+        && (is_open_layer(field.spec.outer()) || is_open_by_value(field))
 }
 
 fn is_bad_struct(field: &Field, followed: bool, declared: &Declared) -> bool

@@ -151,7 +151,7 @@ pub fn bad_attribute(alloc: Global, event: &Event) -> Result<Option<usize>, NoMe
 {
     match event {
         Event::Single(field) => Ok(field_place(alloc, field, false)?),
-        Event::Body(fields) => Ok(each_field(alloc, fields.as_slice())?),
+        Event::Body { fields, .. } => Ok(each_field(alloc, fields.as_slice())?),
         Event::Call { result, parameters } => Ok(call_place(alloc, result, parameters.as_slice())?),
         _ => Ok(None),
     }

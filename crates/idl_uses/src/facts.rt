@@ -69,7 +69,7 @@ fn has_declarator(field: &Field) -> bool
 fn is_char_spec(field: &Field) -> bool
     ensures { result ≡ rule.is_char_spec field.now }
 {
-    is_unknown(field.spec.core) || is_char(field.spec.core) && by_value(field.spec)
+    is_unknown(field.spec.core) || is_char(field.spec.core) && by_value(&field.spec)
 }
 
 fn all_plain_open(text: bool, declared: &[Declared]) -> bool
@@ -123,7 +123,7 @@ fn is_pointed(field: &Field) -> bool
 fn is_out_value(declared: &Declared) -> bool
     ensures { result ≡ rule.is_out_value declared.now }
 {
-    let ty = declared.ty;
+    let ty = &declared.ty;
     by_value(ty) && !(is_context_handle(ty.core) || is_unknown(ty.core))
 }
 

@@ -17,7 +17,7 @@ fn is_bad_handle_type(field: &Field, said: Said, declared: &Declared) -> bool
     requires { said ≡ facts.said_by field.now }
     ensures { result ≡ spec.is_bad_handle_type field.now declared.now }
 {
-    let ty = field.spec;
+    let ty = &field.spec;
     is_typedef(field.place)
         && said.handle
         && !(is_unknown(ty.core)
@@ -31,8 +31,8 @@ fn is_good_use(field: &Field, said: Said, declared: &Declared) -> bool
     requires { said ≡ facts.said_by field.now }
     ensures { result ≡ spec.is_good_use field.now declared.now }
 {
-    let ty = declared.ty;
-    let by_pointer = is_one_pointer(ty) && is_ref_layer(ty.outer);
+    let ty = &declared.ty;
+    let by_pointer = is_one_pointer(ty) && is_ref_layer(ty.outer());
     is_parameter(field.place)
         && (said.inward && !said.outward && by_value(ty) || said.outward && by_pointer)
 }
@@ -47,7 +47,7 @@ fn is_bad_use(field: &Field, said: Said, declared: &Declared) -> bool
 fn is_bad_binding(first: bool, field: &Field, declared: &Declared) -> bool
     ensures { result ≡ spec.is_bad_binding first field.now declared.now }
 {
-    is_handle_t(field.spec.core) && !(first && by_value(declared.ty))
+    is_handle_t(field.spec.core) && !(first && by_value(&declared.ty))
 }
 
 fn declared_place(first: bool, field: &Field, said: Said, declared: &Declared) -> Option<usize>
@@ -115,7 +115,7 @@ pub fn handle_use(event: &Event) -> Option<usize>
     match event {
         Event::Union { tag, .. } => tag_place(*tag),
         Event::Single(field) => field_place(false, field),
-        Event::Body(fields) => each_place(fields.as_slice()),
+        Event::Body { fields, .. } => each_place(fields.as_slice()),
         Event::Call { result, parameters } => lesser(
             field_place(false, result),
             parameter_place(parameters.as_slice()),

@@ -84,7 +84,7 @@ fn joined(a: Offer, b: Offer) -> Offer
 fn is_of(asked: Asked, star: bool, field: &Field, declared: &Declared) -> bool
     ensures { result ≡ rule.is_of asked star field.now declared.now }
 {
-    let ty = declared.ty;
+    let ty = &declared.ty;
     let fits = if star {
         is_parameter(field.place) && is_one_pointer(ty)
     } else {

@@ -40,7 +40,7 @@ fn lacks_direction(field: &Field, said: Said, declared: &Declared) -> bool
 fn is_brought_pointer(declared: &Declared) -> bool
     ensures { result ≡ rule.is_brought_pointer declared.now }
 {
-    let outer = declared.ty.outer;
+    let outer = declared.ty.outer();
     !has_star(declared) && is_pointer_layer(outer) && !is_ref_layer(outer)
 }
 

@@ -147,7 +147,7 @@ pub fn size_name(alloc: Global, event: &Event) -> Result<Option<usize>, NoMemory
 {
     match event {
         Event::Single(field) => Ok(alone(alloc, field)?),
-        Event::Body(fields) => Ok(each_place(alloc, fields.as_slice())?),
+        Event::Body { fields, .. } => Ok(each_place(alloc, fields.as_slice())?),
         Event::Call { result, parameters } => {
             let own = alone(alloc, result)?;
             let each = each_place(alloc, parameters.as_slice())?;

@@ -24,7 +24,8 @@ fn types_declared(
 {
     for one in declared {
         let name = copy_name(alloc, &one.name)?;
-        outline.happen(Event::Typedef { name, ty: one.ty })?;
+        let ty = one.ty.copy(alloc)?;
+        outline.happen(Event::Typedef { name, ty })?;
     }
     Ok(())
 }

@@ -6,5 +6,6 @@ mod declarations;
 mod holding;
 mod specs;
 mod used;
+mod within;
 
 pub use declarations::outline;

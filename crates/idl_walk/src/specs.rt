@@ -3,6 +3,7 @@ ghost use Rattle.std.specs.Prelude.{◌≡◌, [], ◌∷◌, ◌++◌, false, I
 ghost use Rattle.idl_outline.specs.declared.ty.Core.TheVariants as cores;
 ghost use Rattle.idl_forms.specs.Forms.{spec_form, kind_form, member_form, members_form, switch_form, arm_form, arms_form, attr_kind_form, attr_form, attrs_form, OfStruct, OfUnion, no_switch, OfSwitchType};
 ghost use Rattle.idl_names.specs.declared.place.Place.TheVariants as places;
+ghost use Rattle.idl_outline.specs.Names as names;
 ghost use Rattle.idl_outline.specs.Types as types;
 ghost use Rattle.idl_outline.specs.Specs as walks;
 
@@ -13,7 +14,8 @@ use crate::used::{
 use idl_names::{Place, copy_name};
 use idl_outline::{
     Attribute, Attributes, Core, DataType, Event, Field, Fields, Labels, Mark, NameRef, Outline,
-    Setting, Tag, bare, core_of, field_with, setting_alone, setting_of, size, tag_given,
+    Setting, Tag, bare, core_of, empty_field, field_with, setting_alone, setting_of, size,
+    tag_given,
 };
 use idl_tree::{ArmNode, Attr, AttrKind, Ident, Member, Pk, Spec, SpecKind, Switch};
 use rpc_base::NoMemory;
@@ -46,11 +48,11 @@ fn kind_walked(
     ensures past { OnOk result (outline.new ≡ walks.kind_past setting at (kind_form kind.now) outline.old) }
 {
     match kind {
-        SpecKind::Base(base) => Ok(bare(core_of(*base))),
+        SpecKind::Base(base) => Ok(bare(alloc, core_of(*base))),
         SpecKind::Named(name) => named(alloc, name, outline),
-        SpecKind::Void => void(setting, at, outline),
-        SpecKind::HandleT => Ok(bare(Core::HandleT)),
-        SpecKind::ErrorStatus => Ok(bare(Core::ErrorStatus)),
+        SpecKind::Void => void(alloc, setting, at, outline),
+        SpecKind::HandleT => Ok(bare(alloc, Core::HandleT)),
+        SpecKind::ErrorStatus => Ok(bare(alloc, Core::ErrorStatus)),
         SpecKind::Struct { tag, members } => match members {
             None => tag_used(alloc, setting, tag, outline),
             Some(members) => Ok(structure(alloc, setting, tag, members, outline)?),
@@ -60,8 +62,7 @@ fn kind_walked(
             Some(switch) => {
                 other_tag(alloc, tag, outline)?;
                 let given = switch_walked(alloc, setting, switch, outline)?;
-                union_body(alloc, setting.default, given, arms, outline)?;
-                Ok(bare(Core::Union { switched: true }))
+                union_body(alloc, setting.default, true, given, arms, outline)
             }
         },
         SpecKind::Enum { tag, names } => enumeration(alloc, tag, names, outline),
@@ -92,12 +93,11 @@ fn bare_union(
     arms: &[ArmNode],
     outline: &mut Outline,
 ) -> Result<DataType, NoMemory>
-    ensures ty { IfOk result (λ t. t ≡ types.bare (cores.Union false)) }
+    ensures ty { IfOk result (λ t. t ≡ walks.kind_type setting 0 (OfUnion tag.now no_switch (arms_form arms.now)) outline.old) }
     ensures past { OnOk result (outline.new ≡ walks.kind_past setting 0 (OfUnion tag.now no_switch (arms_form arms.now)) outline.old) }
 {
     other_tag(alloc, tag, outline)?;
-    union_body(alloc, setting.default, setting.given, arms, outline)?;
-    Ok(bare(Core::Union { switched: false }))
+    union_body(alloc, setting.default, false, setting.given, arms, outline)
 }
 
 #[cycle(walk)]
@@ -113,6 +113,7 @@ fn switch_walked(
     let inner = setting_alone(setting.default);
     let spec: &Spec = &switch.spec;
     let ty = spec_walked(alloc, inner, spec, outline)?;
+    let of_tag = ty.of_tag();
     let none = Attributes::new(alloc);
     let bare = bare_spec(spec);
     let field = field_with(
@@ -129,25 +130,33 @@ fn switch_walked(
     outline.happen(Event::Single(field))?;
     Ok(Tag::Switch {
         at: switch.name.at,
-        ty,
+        ty: of_tag,
     })
 }
 
+// The body of a union, and its type. `switched`: it has a switch.
 #[cycle(walk)]
 fn union_body(
     alloc: Global,
     default: Pk,
+    switched: bool,
     tag: Tag,
     arms: &[ArmNode],
     outline: &mut Outline,
-) -> Result<(), NoMemory>
-    ensures { OnOk result (outline.new ≡ walks.union_past default tag (arms_form arms.now) outline.old) }
+) -> Result<DataType, NoMemory>
+    ensures ty { IfOk result (λ t. t ≡ types.bare (cores.Union switched (names.bodies (walks.arms_past default (arms_form arms.now) outline.old)))) }
+    ensures past { OnOk result (outline.new ≡ walks.union_past default tag (arms_form arms.now) outline.old) }
 {
     let mut fields = Fields::new(alloc);
     let mut labels = Labels::new(alloc);
     arms_walked(alloc, default, arms, &mut fields, &mut labels, outline)?;
-    outline.happen(Event::Body(fields))?;
-    outline.happen(Event::Union { tag, labels })
+    let number = outline.bodies();
+    outline.happen(Event::Body {
+        tag: Some(tag),
+        fields,
+    })?;
+    outline.happen(Event::Union { tag, labels })?;
+    Ok(bare(alloc, Core::Union { switched, number }))
 }
 
 #[cycle(walk)]
@@ -165,45 +174,36 @@ fn arms_walked(
     ensures past { OnOk result (outline.new ≡ walks.arms_past default (arms_form arms.now) outline.old) }
 {
     for arm in arms {
-        arm_walked(alloc, default, arm, fields, labels, outline)?;
+        let own = labels_read(alloc, &arm.labels, outline)?;
+        labels.append(own.as_slice())?;
+        let field = arm_walked(alloc, default, arm, own, outline)?;
+        fields.push(field)?;
     }
     Ok(())
 }
 
+// The field of an arm behind these labels.
 #[cycle(walk)]
 fn arm_walked(
     alloc: Global,
     default: Pk,
     arm: &ArmNode,
-    fields: &mut Fields,
-    labels: &mut Labels,
+    labels: Labels,
     outline: &mut Outline,
-) -> Result<(), NoMemory>
-    ensures fields { OnOk result (fields.new ≡ fields.old ++ walks.arm_field default (arm_form arm.now) outline.old) }
-    ensures labels { OnOk result (labels.new ≡ labels.old ++ walks.arm_label default (arm_form arm.now) outline.old) }
+) -> Result<Field, NoMemory>
+    requires { labels ≡ walks.arm_label default (arm_form arm.now) outline.old }
+    ensures field { IfOk result (λ f. f ≡ walks.arm_field default (arm_form arm.now) outline.old) }
     ensures past { OnOk result (outline.new ≡ walks.arm_past default (arm_form arm.now) outline.old) }
 {
-    labels_read(&arm.labels, labels, outline)?;
     labels_used(alloc, &arm.labels, outline)?;
     match &arm.member {
-        None => Ok(()),
-        Some(member) => arm_member(alloc, default, member, fields, outline),
+        None => Ok(empty_field(alloc, labels)),
+        Some(member) => {
+            let mut field = member_walked(alloc, default, Place::Arm, member, outline)?;
+            field.labels = labels;
+            Ok(field)
+        }
     }
-}
-
-#[cycle(walk)]
-fn arm_member(
-    alloc: Global,
-    default: Pk,
-    member: &Member,
-    fields: &mut Fields,
-    outline: &mut Outline,
-) -> Result<(), NoMemory>
-    ensures fields { OnOk result (fields.new ≡ fields.old ++ walks.member_field default places.Arm (member_form member.now) outline.old ∷ []) }
-    ensures past { OnOk result (outline.new ≡ walks.member_past default places.Arm (member_form member.now) outline.old) }
-{
-    let field = member_walked(alloc, default, Place::Arm, member, outline)?;
-    fields.push(field)
 }
 
 #[cycle(walk)]
@@ -335,6 +335,6 @@ fn switch_type(
     let ty = spec_walked(alloc, inner, spec, outline)?;
     Ok(Mark::SwitchType {
         spec_at: spec.at,
-        ty,
+        ty: ty.of_tag(),
     })
 }

@@ -1,14 +1,16 @@
 //! The uses of names, and what is declared without a part of its own kind.
-ghost use Rattle.std.specs.Prelude.{◌≡◌, ◌∷◌, ◌++◌, length, IfOk, OnOk};
+ghost use Rattle.std.specs.Prelude.{◌≡◌, ◌∷◌, ◌++◌, ◌+◌, length, IfOk, OnOk, None};
 ghost use Rattle.idl_outline.specs.declared.ty.Core.TheVariants as cores;
 ghost use Rattle.idl_outline.specs.declared.event.Event.TheVariants as events;
 ghost use Rattle.idl_forms.specs.Forms.{spec_form, members_form, attrs_form};
 ghost use Rattle.idl_outline.specs.Names as names;
 ghost use Rattle.idl_outline.specs.Types as types;
 ghost use Rattle.idl_outline.specs.Holding as held;
+ghost use Rattle.idl_outline.specs.Within as inside;
 ghost use Rattle.idl_outline.specs.Parts as parts;
 
 use crate::holding;
+use crate::within::{add, members_within};
 use idl_names::{Place, copy_name, label_number, number_of};
 use idl_outline::{
     Attributes, Bare, Core, DataType, Event, Field, Fields, Label, Labels, Outline, Setting, bare,
@@ -17,6 +19,10 @@ use idl_outline::{
 use idl_tree::{Attr, Dtor, Ident, Label as LabelNode, LabelKind, Member, Pk, Spec, SpecKind};
 use rpc_base::NoMemory;
 use std::alloc::Global;
+
+/// The most pointers and arrays of a type that is used by its name. A type with more is refused as want of
+/// memory where its name is used, since each use has them in memory again.
+const MOST_NAMED_LAYERS: usize = 64;
 
 /// A name that is used as a type.
 pub(crate) fn named(
@@ -27,21 +33,29 @@ pub(crate) fn named(
     ensures ty { IfOk result (λ t. t ≡ types.or_unknown (names.type_named name.now.text outline.old)) }
     ensures past { OnOk result (outline.new ≡ events.TypeUsed name.now ∷ outline.old) }
 {
-    let ty = named_type(outline, name);
+    let ty = named_type(alloc, outline, name)?;
+    if ty.layers.as_slice().len() > MOST_NAMED_LAYERS {
+        return Err(NoMemory);
+    }
     let used = copy_name(alloc, name)?;
     outline.happen(Event::TypeUsed(used))?;
     Ok(ty)
 }
 
 /// The word `void` as a type.
-pub(crate) fn void(setting: Setting, at: usize, outline: &mut Outline) -> Result<DataType, NoMemory>
+pub(crate) fn void(
+    alloc: Global,
+    setting: Setting,
+    at: usize,
+    outline: &mut Outline,
+) -> Result<DataType, NoMemory>
     ensures ty { IfOk result (λ t. t ≡ types.bare cores.Void) }
     ensures past { OnOk result (outline.new ≡ parts.void_past setting at outline.old) }
 {
     if !setting.void_allowed {
         outline.happen(Event::VoidUsed(at))?;
     }
-    Ok(bare(Core::Void))
+    Ok(bare(alloc, Core::Void))
 }
 
 /// A structure's tag, where it is used.
@@ -55,9 +69,9 @@ pub(crate) fn tag_used(
     ensures past { OnOk result (outline.new ≡ parts.tag_used_past setting tag.now outline.old) }
 {
     match tag {
-        None => Ok(bare(Core::Unknown)),
+        None => Ok(bare(alloc, Core::Unknown)),
         Some(tag) => {
-            let ty = tagged_type(outline, setting.pointed, tag);
+            let ty = tagged_type(alloc, outline, setting.pointed, tag);
             let tag = copy_name(alloc, tag)?;
             outline.happen(Event::TagUsed {
                 tag,
@@ -75,14 +89,19 @@ pub(crate) fn structure_begins(
     members: &[Member],
     outline: &mut Outline,
 ) -> Result<(), NoMemory>
-    ensures { OnOk result (outline.new ≡ parts.struct_past tag.now (held.tag_holds tag.now (members_form members.now)) outline.old) }
+    ensures { OnOk result (outline.new ≡ parts.struct_past tag.now (held.tag_holds tag.now (members_form members.now)) (names.bodies outline.old + inside.members_within (members_form members.now)) outline.old) }
 {
     match tag {
         None => Ok(()),
         Some(tag) => {
             let holds_itself = holding::holds_itself(tag.text.as_slice(), members);
+            let number = add(outline.bodies(), members_within(members)?)?;
             let tag = copy_name(alloc, tag)?;
-            outline.happen(Event::StructBegins { tag, holds_itself })
+            outline.happen(Event::StructBegins {
+                tag,
+                holds_itself,
+                number,
+            })
         }
     }
 }
@@ -90,21 +109,23 @@ pub(crate) fn structure_begins(
 fn tag_ends(
     alloc: Global,
     tag: &Option<Ident>,
-    ends_open: bool,
+    ends: bool,
     fields: Fields,
     outline: &mut Outline,
 ) -> Result<(), NoMemory>
-    requires { ends_open ≡ names.ends_open fields }
+    requires { ends ≡ names.ends_open fields }
     ensures { OnOk result (outline.new ≡ parts.struct_end tag.now fields outline.old) }
 {
-    outline.happen(Event::Body(fields))?;
+    let number = outline.bodies();
+    outline.happen(Event::Body { tag: None, fields })?;
     match tag {
         None => Ok(()),
         Some(tag) => {
             let tag = copy_name(alloc, tag)?;
             outline.happen(Event::StructEnds {
                 tag,
-                open: ends_open,
+                open: ends,
+                number,
             })
         }
     }
@@ -117,12 +138,13 @@ pub(crate) fn structure_ends(
     fields: Fields,
     outline: &mut Outline,
 ) -> Result<DataType, NoMemory>
-    ensures ty { IfOk result (λ t. t ≡ types.bare (cores.Struct (names.ends_open fields))) }
+    ensures ty { IfOk result (λ t. t ≡ types.bare (cores.Struct (names.ends_open fields) (names.bodies outline.old))) }
     ensures past { OnOk result (outline.new ≡ parts.struct_end tag.now fields outline.old) }
 {
     let open = ends_open(fields.as_slice());
+    let number = outline.bodies();
     tag_ends(alloc, tag, open, fields, outline)?;
-    Ok(bare(Core::Struct { open }))
+    Ok(bare(alloc, Core::Struct { open, number }))
 }
 
 /// The tag of a union or an enumeration.
@@ -167,7 +189,7 @@ pub(crate) fn enumeration(
 {
     other_tag(alloc, tag, outline)?;
     enum_names(alloc, list, outline)?;
-    Ok(bare(Core::Enum(list.len())))
+    Ok(bare(alloc, Core::Enum(list.len())))
 }
 
 fn label(outline: &Outline, at: usize, kind: &LabelKind) -> Label
@@ -186,19 +208,20 @@ fn label(outline: &Outline, at: usize, kind: &LabelKind) -> Label
     }
 }
 
-/// Adds the labels of an arm to those of its union.
+/// The labels of an arm.
 #[tactic(auto, using(crate::proofs::Walks::lists))]
 pub(crate) fn labels_read(
+    alloc: Global,
     list: &[LabelNode],
-    labels: &mut Labels,
     outline: &Outline,
-) -> Result<(), NoMemory>
-    ensures { OnOk result (labels.new ≡ labels.old ++ parts.labels_of outline.now list.now) }
+) -> Result<Labels, NoMemory>
+    ensures { IfOk result (λ ls. ls ≡ parts.labels_of outline.now list.now) }
 {
+    let mut labels = Labels::new(alloc);
     for one in list {
         labels.push(label(outline, one.at, &one.what))?;
     }
-    Ok(())
+    Ok(labels)
 }
 
 fn label_used(alloc: Global, kind: &LabelKind, outline: &mut Outline) -> Result<(), NoMemory>

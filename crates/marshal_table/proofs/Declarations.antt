@@ -1,4 +1,4 @@
--- Each name that a declaration of an interface that keeps the rules uses stands for something where its table reads it.
+-- Each name that a declaration of an interface that keeps the rules uses stands for something where its outline reads it.
 use Rattle.std.proofs.Common.{◌≡◌, ℕ, List, [], ◌∷◌, ◌++◌, Bool, true, false, Option, refl, ap, sym, subst, ◌∙◌}
 use Rattle.std.specs.Prelude.{◌==◌, ◌||◌, ◌&&◌, is_some, bytes_eq, if◌then◌else◌}
 use Rattle.std.specs.List.{list_any, flat_map}
@@ -7,18 +7,20 @@ use Rattle.idl_tree.specs.declared.leaf.Ident.{Ident}
 use Rattle.idl_tree.specs.declared.leaf.Pk.{Pk}
 use Rattle.idl_tree.specs.declared.leaf.Dtor.{Dtor}
 use Rattle.idl_tree.specs.declared.declaration.Ast.{Ast}
-use Rattle.idl_outline.specs.declared.ty.Core.TheVariants as cores
-use Rattle.idl_outline.specs.declared.field.NameRef.{NameRef}
+use Rattle.idl_names.specs.declared.place.Extent.{Extent}
 use Rattle.idl_names.specs.declared.place.Place.{Place}
 use Rattle.idl_names.specs.declared.place.Place.TheVariants as places
 use Rattle.idl_names.specs.Members.{lone_member, result_member, param_member}
+use Rattle.idl_names.specs.Attributes.{pointer_default}
+use Rattle.idl_names.specs.Declarators.{extent_of}
+use Rattle.idl_outline.specs.declared.ty.Core.TheVariants as cores
+use Rattle.idl_outline.specs.declared.manner.Manner.{Manner}
+use Rattle.idl_outline.specs.declared.field.NameRef.{NameRef}
 use Rattle.idl_outline.specs.declared.field.Field.{Field}
 use Rattle.idl_outline.specs.declared.event.Event.TheVariants as events
 use Rattle.idl_forms.specs.Forms as idl
-use Rattle.idl_outline.specs.Names.{Past, constants_of}
-use Rattle.idl_outline.specs.Types.{bare}
-use Rattle.idl_names.specs.Attributes.{outer_class, pointer_default}
-use Rattle.idl_names.specs.Declarators.{extent_of}
+use Rattle.idl_outline.specs.Names.{Past, constants_of, manner_of}
+use Rattle.idl_outline.specs.Types.{bare, is_characters, own_core, declared_as}
 use Rattle.idl_outline.specs.Specs.{attrs_past, member_past, member_field}
 use Rattle.idl_outline.specs.Outline.{types_past, own_past, params_past, param_fields, named_past, op_past, decl_past, decls_past, outline}
 use Rattle.idl_rules.specs.declared.asked.Asked.{Asked}
@@ -28,15 +30,11 @@ use Rattle.idl_rules.specs.Types.{is_unknown, is_asked}
 use Rattle.idl_rules.specs.BadAttribute as bad
 use Rattle.idl_rules.specs.SizeName as size
 use Rattle.idl_rules.specs.Broken.{NoneBroken}
-use Rattle.idl_scopes.specs.Scopes.{Scope, nothing_known}
-use Rattle.idl_shapes.specs.Specs.{sense_at}
-use Rattle.marshal_table.specs.Interfaces.{Draft, is_binding, listed_name, param_names, decl_at, nothing_declared, first_in, uuid_in}
-use Rattle.marshal_table.specs.Stands.{is_among, member_stands, params_stand, decl_stands, decls_stand, EachNameStands}
+use Rattle.marshal_table.specs.Interfaces.{first_in, uuid_in}
+use Rattle.marshal_table.specs.Stands.{is_binding, listed_name, param_names, is_among, member_stands, params_stand, decl_stands, decls_stand, EachNameStands}
 use Rattle.marshal_table.proofs.Quiet.{types_behind, params_quiet, decls_behind}
-use Rattle.marshal_table.proofs.Listed.{nil_left, nil_right, none_among}
-use Rattle.marshal_table.proofs.Handles.{as_core}
-use Rattle.marshal_table.proofs.Known.{Agree, member_agrees, decl_agrees}
-use Rattle.marshal_table.proofs.Said.{there, both, Offered}
+use Rattle.marshal_table.proofs.Nothing.{nil_left, nil_right, none_among}
+use Rattle.marshal_table.proofs.Found.{there, both, Offered}
 use Rattle.marshal_table.proofs.Standing.{Kept, kept_tail, kept_before, offer_names, left_among, right_among, Fits, fits, AllFit, first_fits, others_fit, member_stand}
 
 -- ---- a field of its own: a typedef's, that of a spec without a declarator, or that of an operation's result
@@ -49,15 +47,15 @@ result_fits r ps p c =
     fits [] false r (nil_left (bad.field_places r false) _ (nil_left (bad.call_places r ps) (gathered bad.bad_attribute p) c.attributes))
     (nil_left (size.field_places [] r) _ (nil_left (size.field_places [] r ++ flat_map (size.listed_places ps) ps) (gathered size.size_name p) c.sizes))
 
-own_stands : (k : Pk) (place : Place) (m : idl.MemberForm) (p : Past) (q : Scope) → Agree p q → Kept (member_past k place m p) → Fits [] false (member_field k place m p) → member_stands k [] m q ≡ true
-own_stands k place m p q h c f = member_stand k k place [] false [] m p q h c (λ asked n e. absurd cc) f
+own_stands : (k : Pk) (place : Place) (m : idl.MemberForm) (p : Past) → Kept (member_past k place m p) → Fits [] false (member_field k place m p) → member_stands k place [] m p ≡ true
+own_stands k place m p c f = member_stand k place [] false [] m p c (λ asked n e. absurd cc) f
 
-decl_own : (k : Pk) (place : Place) (m : idl.MemberForm) (p : Past) (q : Scope) → Agree p q → Kept (own_past k place m p) → member_stands k [] m q ≡ true
-decl_own k place m p q h c =
+decl_own : (k : Pk) (place : Place) (m : idl.MemberForm) (p : Past) → Kept (own_past k place m p) → member_stands k place [] m p ≡ true
+decl_own k place m p c =
     let f : Field = member_field k place m p in
     let z : Past = member_past k place m p in
     let all : Past = types_past f.declared z in
-    own_stands k place m p q h (kept_before z all (types_behind f.declared z) (kept_tail (events.Single f) all c)) (single_fits f all c)
+    own_stands k place m p (kept_before z all (types_behind f.declared z) (kept_tail (events.Single f) all c)) (single_fits f all c)
 
 -- ---- parameters
 
@@ -65,20 +63,27 @@ spec_binds : (s : idl.SpecForm) → is_binding s ≡ true → (at : ℕ) × (s �
 spec_binds (idl.a_spec at idl.OfHandle) e = (at, refl)
 spec_binds (idl.a_spec at _) e = absurd cc
 
-params_stand_all : (k : Pk) (names : List Ident) (list : List Field) (ns : List idl.ParamForm) (p : Past) (q : Scope) → Agree p q → Kept (params_past k ns p) → ((f : Field) → Offered list f names) → AllFit list (param_fields k ns p)
-    → params_stand k names ns q ≡ true
-params_stand_all k names list [] p q h c o f = refl
-params_stand_all k names list (n ∷ ns) p q h c o f =
+params_stand_all : (k : Pk) (names : List Ident) (list : List Field) (ns : List idl.ParamForm) (p : Past) → Kept (params_past k ns p) → ((f : Field) → Offered list f names) → AllFit list (param_fields k ns p)
+    → params_stand k names ns p ≡ true
+params_stand_all k names list [] p c o f = refl
+params_stand_all k names list (n ∷ ns) p c o f =
     let field : Field = member_field k places.Parameter (param_member n) p in
     let r : Past = member_past k places.Parameter (param_member n) p in
     let rest : List Field = param_fields k ns r in
     let fit : Fits list (bad.is_more rest) field = first_fits list field rest f in
-    let z : Scope = (sense_at k (param_member n) q).1 in
-    both (member_stands k names (param_member n) q) (params_stand k names ns z)
-    (member_stand k k places.Parameter list (bad.is_more rest) names (param_member n) p q h (kept_before r (params_past k ns r) (params_quiet k ns r).behind c) (o field) fit)
-    (params_stand_all k names list ns r z (member_agrees k places.Parameter k (param_member n) p q h) c o (others_fit list field rest f))
+    both (member_stands k places.Parameter names (param_member n) p) (params_stand k names ns r)
+    (member_stand k places.Parameter list (bad.is_more rest) names (param_member n) p (kept_before r (params_past k ns r) (params_quiet k ns r).behind c) (o field) fit)
+    (params_stand_all k names list ns r c o (others_fit list field rest f))
 
 -- ---- the names that parameters offer are those that are listed: a handle_t is of no type that is asked for
+
+-- no string is made of a handle_t
+binding_text : (b : Bool) → (b && is_characters (bare cores.HandleT)) ≡ false
+binding_text true = refl
+binding_text false = refl
+
+binding_core : (m : Manner) (n : ℕ) (e : Extent) → (declared_as m n e (bare cores.HandleT)).core ≡ cores.HandleT
+binding_core m n e = ap (λ (b : Bool). own_core b n e cores.HandleT) (binding_text m.text)
 
 not_asked : (asked : Asked) → is_asked asked cores.HandleT ≡ false
 not_asked asks.Integer = refl
@@ -92,7 +97,7 @@ never true false false x y e f = refl
 
 no_offer : (k : Pk) (as' : idl.AttrForms) (at : ℕ) (d : Dtor) (p : Past) (asked : Asked) (f : Field) (n : NameRef) → size.offers asked f n (member_field k places.Parameter (idl.a_member as' (idl.a_spec at idl.OfHandle) (d ∷ [])) p) ≡ false
 no_offer k as' at d p asked f n =
-    let core = as_core (outer_class k places.Parameter as') d.stars (extent_of (constants_of (attrs_past k as' p)) d.array) (bare cores.HandleT) in
+    let core = binding_core (manner_of k places.Parameter as') d.stars (extent_of (constants_of (attrs_past k as' p)) d.array) in
     never (bytes_eq d.name.text n.name.text) _ _ _ _ (ap is_unknown core) (ap (is_asked asked) core ∙ not_asked asked)
 
 opposite : false ≡ true → ⊥
@@ -128,35 +133,31 @@ call_fits r ps p c =
       sizes = nil_right (size.field_places [] r) (flat_map (size.listed_places ps) ps) sizes;
     }
 
-op_stands : (k : Pk) (r : idl.MemberForm) (name : Ident) (ns : List idl.ParamForm) (p : Past) (d : Scope) → Agree p d → Kept (op_past k r name ns p)
-    → (member_stands k [] r d && params_stand k (param_names ns) ns (sense_at k r d).1) ≡ true
-op_stands k r name ns p d h c =
+op_stands : (k : Pk) (r : idl.MemberForm) (name : Ident) (ns : List idl.ParamForm) (p : Past) → Kept (op_past k r name ns p)
+    → (member_stands k places.Operation [] r p && params_stand k (param_names ns) ns (named_past k r name p)) ≡ true
+op_stands k r name ns p c =
     let q : Past = named_past k r name p in
     let ps : List Field = param_fields k ns q in
     let all : Past = params_past k ns q in
     let result : Field = member_field k places.Operation r p in
-    let z : Scope = (sense_at k r d).1 in
     let inside : Kept all = kept_tail (events.Call result ps) all c in
     let before : Kept (member_past k places.Operation r p) = kept_tail (events.Operation name) (member_past k places.Operation r p) (kept_before q all (params_quiet k ns q).behind inside) in
-    both (member_stands k [] r d) (params_stand k (param_names ns) ns z) (own_stands k places.Operation r p d h before (result_fits result ps all c))
-    (params_stand_all k (param_names ns) ps ns q z (member_agrees k places.Operation k r p d h) inside (λ f asked n e. params_offer k ns q asked f n e) (call_fits result ps all c))
+    both (member_stands k places.Operation [] r p) (params_stand k (param_names ns) ns q) (own_stands k places.Operation r p before (result_fits result ps all c))
+    (params_stand_all k (param_names ns) ps ns q inside (λ f asked n e. params_offer k ns q asked f n e) (call_fits result ps all c))
 
 -- ---- declarations
 
-decl_stand : (k : Pk) (x : idl.DeclKindForm) (p : Past) (d : Scope) → Agree p d → Kept (decl_past k x p) → decl_stands k x d ≡ true
-decl_stand k (idl.OfConst base name value) p d h c = refl
-decl_stand k (idl.OfTypedef as' s ds) p d h c = decl_own k places.Typedef (idl.a_member as' s ds) p d h c
-decl_stand k (idl.OfLone as' s) p d h c = decl_own k places.Alone (lone_member as' s) p d h c
-decl_stand k (idl.OfOp as' s name void ps) p d h c = op_stands k (result_member as' s name) name ps p d h c
+decl_stand : (k : Pk) (x : idl.DeclKindForm) (p : Past) → Kept (decl_past k x p) → decl_stands k x p ≡ true
+decl_stand k (idl.OfConst base name value) p c = refl
+decl_stand k (idl.OfTypedef as' s ds) p c = decl_own k places.Typedef (idl.a_member as' s ds) p c
+decl_stand k (idl.OfLone as' s) p c = decl_own k places.Alone (lone_member as' s) p c
+decl_stand k (idl.OfOp as' s name void ps) p c = op_stands k (result_member as' s name) name ps p c
 
-pub decls_kept : (k : Pk) (xs : List idl.DeclForm) (p : Past) → Kept (decls_past k xs p) → Kept p
-decls_kept k xs p c = kept_before p (decls_past k xs p) (decls_behind k xs p) c
-
-decls_stand_all : (k : Pk) (xs : List idl.DeclForm) (d : Draft) (p : Past) → Agree p d.scope → Kept (decls_past k xs p) → decls_stand k xs d ≡ true
-decls_stand_all k [] d p h c = refl
-decls_stand_all k (x ∷ xs) d p h c =
-    both (decl_stands k x.what d.scope) (decls_stand k xs (decl_at k x.what d)) (decl_stand k x.what p d.scope h (decls_kept k xs (decl_past k x.what p) c))
-    (decls_stand_all k xs (decl_at k x.what d) (decl_past k x.what p) (decl_agrees k x.what p d h) c)
+decls_stand_all : (k : Pk) (xs : List idl.DeclForm) (p : Past) → Kept (decls_past k xs p) → decls_stand k xs p ≡ true
+decls_stand_all k [] p c = refl
+decls_stand_all k (x ∷ xs) p c =
+    let q : Past = decl_past k x.what p in
+    both (decl_stands k x.what p) (decls_stand k xs q) (decl_stand k x.what p (kept_before q (decls_past k xs q) (decls_behind k xs q) c)) (decls_stand_all k xs q c)
 
 -- ---- the interface
 
@@ -183,12 +184,9 @@ uuid_there tree none =
     let file = nil_left (bad.bad_file (idl.tree_form tree)) (gathered bad.bad_attribute (outline (idl.tree_form tree))) (none_among _ (λ at there. none.none 3 at (record { there = there }))) in
     there (list_any bad.is_uuid (idl.tree_form tree).attributes) (idl.tree_form tree).name.at (nil_right (repeats bad.same_file_kind bad.file_place (idl.tree_form tree).attributes) _ file)
 
-pub nothing_agrees : Agree [] nothing_known
-nothing_agrees = record { types = λ name. refl; constants = λ name. refl; tags = λ name. refl }
-
 pub each_name_stands : (tree : Ast) → NoneBroken tree → EachNameStands tree
 each_name_stands tree none =
     record {
       identified = uuid_found (idl.tree_form tree).attributes (uuid_there tree none);
-      declared = decls_stand_all (pointer_default (idl.tree_form tree).attributes) (idl.tree_form tree).decls nothing_declared [] nothing_agrees (kept_tree tree none);
+      declared = decls_stand_all (pointer_default (idl.tree_form tree).attributes) (idl.tree_form tree).decls [] (kept_tree tree none);
     }

@@ -1,22 +1,26 @@
--- What fits a table: shapes of declarators, rows of members, arms.
-use Rattle.std.proofs.Common.{◌≡◌, ℕ, zero, suc, ◌-◌, ◌<◌, ◌≤◌, List, [], ◌∷◌, ◌++◌, map, refl, arith, Bool, true, false, Option, None, Some}
-use Rattle.std.specs.Prelude.{◌==◌, ◌&&◌, ◌||◌, nat_lt, if◌then◌else◌}
-use Rattle.std.specs.List.{list_any}
+-- What fits a table: shapes of types and declarators, rows of members, arms. A shape fits where the types that it names are below near, and
+-- behind pointers below far.
+use Rattle.std.proofs.Common.{◌≡◌, ℕ, zero, suc, ◌-◌, ◌<◌, ◌≤◌, List, [], ◌∷◌, ◌++◌, refl, sym, subst, ◌∙◌, arith, Bool, true, false, Option, None}
+use Rattle.std.specs.Prelude.{◌==◌, ◌&&◌, nat_lt, if◌then◌else◌}
 use Rattle.std.proofs.lemmas.Grind.{common_steps}
 use Rattle.idl_tree.specs.declared.leaf.Pk.{Pk}
 use Rattle.idl_tree.specs.declared.leaf.Pk.TheVariants as pks
-use Rattle.idl_tree.specs.declared.leaf.Dtor.{Dtor}
 use Rattle.idl_names.specs.declared.place.Extent.{Extent}
 use Rattle.idl_names.specs.declared.place.Extent.TheVariants as extents
+use Rattle.idl_outline.specs.declared.ty.Core.{Core}
+use Rattle.idl_outline.specs.declared.ty.Core.TheVariants as cores
+use Rattle.idl_outline.specs.declared.ty.Text.TheVariants as texts
+use Rattle.idl_outline.specs.declared.ty.Layer.{Layer}
+use Rattle.idl_outline.specs.declared.ty.Layer.TheVariants as layers
+use Rattle.idl_outline.specs.declared.ty.DataType.{DataType}
+use Rattle.idl_outline.specs.declared.manner.Manner.{Manner}
+use Rattle.idl_outline.specs.Types.{chain, pointers, in_array, outermost, text_array, declared_type, is_char_core, is_characters}
 use Rattle.ndr_value.specs.declared.shape.Count.{Count}
-use Rattle.ndr_value.specs.Forms.{Form, OfNamed, OfStruct, OfUnion, OfArray, OfText, OfRef, OfUnique, OfFull, Forms, no_form, then_form, Body, empty, holds, ArmForms, no_arm, then_arm}
+use Rattle.ndr_value.specs.Forms.{Form, OfNamed, OfStruct, OfUnion, OfArray, Forms, no_form, then_form, Body, empty, holds, ArmForms, no_arm, then_arm}
 use Rattle.ndr_table.specs.Ordered.{is_below, each_below, arms_below, body_below}
-use Rattle.idl_tree.specs.declared.leaf.Num.{Num}
-use Rattle.idl_scopes.specs.declared.said.Terms.{Terms}
-use Rattle.idl_names.specs.Symbols.{ByName}
-use Rattle.idl_names.specs.Declarators.{extent_of}
-use Rattle.idl_scopes.specs.Declarators.{pointer, chain, array, text, outermost, tied, if_tied, by_value, target, shaped, declared}
-use Rattle.idl_shapes.specs.Specs.{Face, row, arm_row, held}
+use Rattle.marshal_table.specs.declared.said.Terms.{Terms}
+use Rattle.marshal_table.specs.Shapes.{core_form, pointer, layer, layered, counted, own_layers, by_extent}
+use Rattle.marshal_table.specs.Bodies.{Face, row, arm_row, held}
 
 pub both_of : (a b : Bool) → (a && b) ≡ true → (a ≡ true) × (b ≡ true)
 both_of true true e = (refl, refl)
@@ -62,77 +66,132 @@ mutual
   body_more near more far le empty e = e
   body_more near more far le (holds s) e = fits_more near more far le s e
 
--- ---- what names a tag
+-- ---- types
 
-tied_fits : (near far : ℕ) (c : Count) (s : Form) → is_below near far s ≡ true → is_below near far (tied c s) ≡ true
-tied_fits near far c (OfArray kind s) e = tied_fits near far c s e
-tied_fits near far c (OfRef s) e = tied_fits far far c s e
-tied_fits near far c (OfUnique s) e = tied_fits far far c s e
-tied_fits near far c (OfFull s) e = tied_fits far far c s e
-tied_fits near far c _ e = e
+-- a type whose names fit
+abbrev pub TypeFits : ℕ → ℕ → List Layer → Core → Type 0
+TypeFits near far ls c = is_below near far (layered ls (core_form None c)) ≡ true
 
-if_tied_fits : (near far : ℕ) (o : Option Count) (s : Form) → is_below near far s ≡ true → is_below near far (if_tied o s) ≡ true
-if_tied_fits near far None s e = e
-if_tied_fits near far (Some c) s e = tied_fits near far c s e
+pointer_fits : (near far : ℕ) (class : Pk) (s : Form) → is_below near far (pointer class s) ≡ is_below far far s
+pointer_fits near far pks.Ref s = refl
+pointer_fits near far pks.Unique s = refl
+pointer_fits near far pks.Ptr s = refl
 
--- ---- declarators: what stands behind a pointer may be any type
+-- what names a tag is no name of a type
+core_any : (near far : ℕ) (o : Option Count) (c : Core) → is_below near far (core_form o c) ≡ is_below near far (core_form None c)
+core_any near far o (cores.Text texts.Pointed) = refl
+core_any near far o (cores.Text (texts.Fixed n)) = refl
+core_any near far o (cores.Text texts.Open) = refl
+core_any near far o (cores.Int true size) = refl
+core_any near far o (cores.Int false size) = refl
+core_any near far o cores.Boolean = refl
+core_any near far o cores.Byte = refl
+core_any near far o cores.Char = refl
+core_any near far o cores.ErrorStatus = refl
+core_any near far o (cores.Enum n) = refl
+core_any near far o (cores.Struct ends number) = refl
+core_any near far o (cores.Union switched number) = refl
+core_any near far o cores.Void = refl
+core_any near far o cores.HandleT = refl
+core_any near far o (cores.ContextHandle kind serialised) = refl
+core_any near far o cores.Unknown = refl
 
-pick : (near far : ℕ) (b : Bool) (x y : Form) → is_below near far x ≡ true → is_below near far y ≡ true → is_below near far (if b then x else y) ≡ true
-pick near far true x y p q = p
-pick near far false x y p q = q
+layers_any : (near far : ℕ) (o : Option Count) (ls : List Layer) (c : Core) → is_below near far (layered ls (core_form o c)) ≡ is_below near far (layered ls (core_form None c))
+layers_any near far o [] c = core_any near far o c
+layers_any near far o (layers.Pointer class ∷ ls) c = pointer_fits near far class (layered ls (core_form o c)) ∙ (layers_any far far o ls c ∙ sym (pointer_fits near far class (layered ls (core_form None c))))
+layers_any near far o (layers.Array n ∷ ls) c = layers_any near far o ls c
+layers_any near far o (layers.OpenArray ∷ ls) c = layers_any near far o ls c
 
-pointer_fits : (near far : ℕ) (class : Pk) (s : Form) → is_below far far s ≡ true → is_below near far (pointer class s) ≡ true
-pointer_fits near far pks.Ref s e = e
-pointer_fits near far pks.Unique s e = e
-pointer_fits near far pks.Ptr s e = e
+-- counts change nothing
+counted_any : (near far : ℕ) (t : Terms) (l : Layer) (s : Form) → is_below near far (counted t l s) ≡ is_below near far (layer l s)
+counted_any near far t (layers.Pointer class) s = refl
+counted_any near far t (layers.Array n) s = refl
+counted_any near far t layers.OpenArray s = refl
 
-chain_fits : (far : ℕ) (class : Pk) (n : ℕ) (s : Form) → is_below far far s ≡ true → is_below far far (chain class n s) ≡ true
-chain_fits far class zero s e = e
-chain_fits far class (suc n) s e = pointer_fits far far class (chain class n s) (chain_fits far class n s e)
+own_any : (near far : ℕ) (t : Terms) (ls : List Layer) (s : Form) → is_below near far (own_layers t ls s) ≡ is_below near far (layered ls s)
+own_any near far t [] s = refl
+own_any near far t (l ∷ ls) s = counted_any near far t l (layered ls s)
 
-array_fits : (near far : ℕ) (t : Terms) (x : Extent) (s : Form) → is_below near far s ≡ true → is_below near far (array t x s) ≡ true
-array_fits near far t extents.Single s e = e
-array_fits near far t extents.Open s e = e
-array_fits near far t (extents.Fixed size) s e = e
+extent_any : (near far : ℕ) (t : Terms) (e : Extent) (ls : List Layer) (s : Form) → is_below near far (by_extent t e ls s) ≡ is_below near far (layered ls s)
+extent_any near far t extents.Single ls s = refl
+extent_any near far t extents.Open ls s = own_any near far t ls s
+extent_any near far t (extents.Fixed size) ls s = own_any near far t ls s
 
-text_fits : (near far : ℕ) (x : Extent) → is_below near far (text x) ≡ true
-text_fits near far extents.Single = refl
-text_fits near far extents.Open = refl
-text_fits near far (extents.Fixed size) = refl
+-- a declarator of a type that fits
+pub shape_fits : (near far : ℕ) (t : Terms) (e : Extent) (ls : List Layer) (c : Core) → TypeFits near far ls c → is_below near far (by_extent t e ls (core_form t.switch c)) ≡ true
+shape_fits near far t e ls c h = extent_any near far t e ls (core_form t.switch c) ∙ (layers_any near far t.switch ls c ∙ h)
 
-shaped_any : (near far : ℕ) (t : Terms) (x : Extent) (b : Bool) (m : ℕ) (s : Form) → (b ≡ true → is_below near far s ≡ true) → is_below far far s ≡ true
-    → is_below near far (if b then by_value t x s else array t x (if b then target t s else pointer (outermost t x) (chain t.inner m (target t s)))) ≡ true
-shaped_any near far t x true m s here e = pick near far t.text (text x) (array t x s) (text_fits near far x) (array_fits near far t x s (here refl))
-shaped_any near far t x false m s here e =
-    array_fits near far t x (pointer (outermost t x) (chain t.inner m (target t s)))
-    (pointer_fits near far (outermost t x) (chain t.inner m (target t s)) (chain_fits far t.inner m (target t s) (pick far far t.text (OfText None) s refl e)))
+-- ---- what a declarator adds to a type
 
-pub declared_fits : (near far : ℕ) (t : Terms) (cs : ByName Num) (s : Form) (d : Dtor) → ((d.stars == 0) ≡ true → is_below near far s ≡ true) → is_below far far s ≡ true
-    → is_below near far (declared t cs s d) ≡ true
-declared_fits near far t cs s d here e =
-    if_tied_fits near far t.switch (shaped t (extent_of cs d.array) d.stars s) (shaped_any near far t (extent_of cs d.array) (d.stars == 0) (d.stars - 1) s here e)
+array_fits : (near far : ℕ) (e : Extent) (ls : List Layer) (c : Core) → TypeFits near far ls c → TypeFits near far (in_array e ls) c
+array_fits near far extents.Single ls c h = h
+array_fits near far extents.Open ls c h = h
+array_fits near far (extents.Fixed size) ls c h = h
+
+chain_fits : (far : ℕ) (class : Pk) (n : ℕ) (ls : List Layer) (c : Core) → TypeFits far far ls c → TypeFits far far (chain class n ls) c
+chain_fits far class zero ls c h = h
+chain_fits far class (suc n) ls c h = pointer_fits far far class (layered (chain class n ls) (core_form None c)) ∙ chain_fits far class n ls c h
+
+pointers_if : (near far : ℕ) (b : Bool) (inner outer : Pk) (m : ℕ) (ls : List Layer) (c : Core) → (b ≡ true → TypeFits near far ls c) → TypeFits far far ls c
+    → TypeFits near far (if b then ls else layers.Pointer outer ∷ chain inner m ls) c
+pointers_if near far true inner outer m ls c here there = here refl
+pointers_if near far false inner outer m ls c here there = pointer_fits near far outer (layered (chain inner m ls) (core_form None c)) ∙ chain_fits far inner m ls c there
+
+char_fits : (near far : ℕ) (b : Bool) (e : Extent) → TypeFits near far [] (if b then text_array e cores.Char else cores.Text texts.Pointed)
+char_fits near far true extents.Single = refl
+char_fits near far true extents.Open = refl
+char_fits near far true (extents.Fixed size) = refl
+char_fits near far false e = refl
+
+-- a string of characters names no type
+layers_of_char : (near far : ℕ) (b : Bool) (e : Extent) (ls : List Layer) → TypeFits near far ls cores.Char → TypeFits near far ls (if b then text_array e cores.Char else cores.Text texts.Pointed)
+layers_of_char near far b e [] h = char_fits near far b e
+layers_of_char near far b e (layers.Pointer class ∷ ls) h =
+    let c : Core = if b then text_array e cores.Char else cores.Text texts.Pointed in
+    pointer_fits near far class (layered ls (core_form None c)) ∙ layers_of_char far far b e ls (sym (pointer_fits near far class (layered ls (core_form None cores.Char))) ∙ h)
+layers_of_char near far b e (layers.Array n ∷ ls) h = layers_of_char near far b e ls h
+layers_of_char near far b e (layers.OpenArray ∷ ls) h = layers_of_char near far b e ls h
+
+is_char_there : (t : DataType) (b : Bool) → (b && is_characters t) ≡ true → t.core ≡ cores.Char
+is_char_there t b e = char_core t.core (left_of (is_char_core t.core) _ (right_of b (is_characters t) e))
+  where
+    right_of : (a b : Bool) → (a && b) ≡ true → b ≡ true
+    right_of true b e = e
+    right_of false b e = absurd cc
+
+    left_of : (a b : Bool) → (a && b) ≡ true → a ≡ true
+    left_of true b e = refl
+    left_of false b e = absurd cc
+
+    char_core : (c : Core) → is_char_core c ≡ true → c ≡ cores.Char
+    char_core cores.Char e = refl
+    char_core _ e = absurd cc
+
+-- by value the type that is declared fits where that of the spec does; behind a pointer any type may stand
+plain_fits : (near far : ℕ) (m : Manner) (n : ℕ) (e : Extent) (t : DataType) → ((n == 0) ≡ true → TypeFits near far t.layers t.core) → TypeFits far far t.layers t.core
+    → TypeFits near far (in_array e (pointers m.inner (outermost m e) n t.layers)) t.core
+plain_fits near far m n e t here there =
+    array_fits near far e (pointers m.inner (outermost m e) n t.layers) t.core (pointers_if near far (n == 0) m.inner (outermost m e) (n - 1) t.layers t.core here there)
+
+with_fits : (near far : ℕ) (b z : Bool) (m : Manner) (n : ℕ) (e : Extent) (t : DataType) → (n == 0) ≡ z → (b ≡ true → t.core ≡ cores.Char) → TypeFits near far (in_array e (pointers m.inner (outermost m e) n t.layers)) t.core
+    → TypeFits near far (if b && z then [] else in_array e (pointers m.inner (outermost m e) n t.layers)) (if b then (if z then text_array e t.core else cores.Text texts.Pointed) else t.core)
+with_fits near far false z m n e t same char h = h
+with_fits near far true true m n e t same char h =
+    subst (λ (c : Core). TypeFits near far [] (text_array e c)) (sym (char refl)) (char_fits near far true e)
+with_fits near far true false m n e t same char h =
+    layers_of_char near far false e (in_array e (pointers m.inner (outermost m e) n t.layers)) (subst (λ (c : Core). TypeFits near far (in_array e (pointers m.inner (outermost m e) n t.layers)) c) (char refl) h)
+
+pub declared_fits : (near far : ℕ) (handle : Bool) (kind : ℕ) (m : Manner) (n : ℕ) (e : Extent) (t : DataType) → ((n == 0) ≡ true → TypeFits near far t.layers t.core) → TypeFits far far t.layers t.core
+    → TypeFits near far (declared_type handle kind m n e t).layers (declared_type handle kind m n e t).core
+declared_fits near far true kind m n e t here there = refl
+declared_fits near far false kind m n e t here there =
+    with_fits near far (m.text && is_characters t) (n == 0) m n e t refl (is_char_there t m.text) (plain_fits near far m n e t here there)
 
 -- ---- rows
 
 abbrev pub AllFit : ℕ → ℕ → List Form → Type 0
 AllFit near far [] = Unit {0}
 AllFit near far (s ∷ ss) = (is_below near far s ≡ true) × AllFit near far ss
-
-pub or_left : (a b : Bool) → a ≡ true → (a || b) ≡ true
-or_left true b e = refl
-or_left false b e = absurd cc
-
-pub or_right : (a b : Bool) → b ≡ true → (a || b) ≡ true
-or_right true b e = refl
-or_right false b e = e
-
-pub all_declared : (near far : ℕ) (t : Terms) (cs : ByName Num) (s : Form) (ds : List Dtor) → (list_any (λ d. d.stars == 0) ds ≡ true → is_below near far s ≡ true) → is_below far far s ≡ true
-    → AllFit near far (map (declared t cs s) ds)
-all_declared near far t cs s [] here e = tt
-all_declared near far t cs s (d ∷ ds) here e = (
-  declared_fits near far t cs s d (λ h. here (or_left (d.stars == 0) (list_any (λ x. x.stars == 0) ds) h)) e,
-  all_declared near far t cs s ds (λ h. here (or_right (d.stars == 0) (list_any (λ x. x.stars == 0) ds) h)) e,
-)
 
 pub all_more : (near more far : ℕ) → near ≤ more → (ss : List Form) → AllFit near far ss → AllFit more far ss
 all_more near more far le [] h = tt

@@ -1,7 +1,6 @@
--- Between two places of a text no operation and no name of a type is declared: specs, attributes, members and arms declare none.
-use Rattle.std.proofs.Common.{◌≡◌, ℕ, ◌+◌, List, [], ◌∷◌, ◌++◌, Option, None, Some, Bool, true, false, refl, ap, sym, subst, ◌∙◌, append_assoc}
+-- Between two places of a text no operation is declared: specs, attributes, members and arms declare none.
+use Rattle.std.proofs.Common.{◌≡◌, ℕ, ◌+◌, List, [], ◌∷◌, ◌++◌, Option, None, Some, Bool, true, false, refl, ap, sym, subst, ◌∙◌, append_assoc, append-nil}
 use Rattle.std.specs.Prelude.{if◌then◌else◌}
-use Rattle.std.specs.List.{count_by}
 use Rattle.idl_tree.specs.declared.leaf.Ident.{Ident}
 use Rattle.idl_tree.specs.declared.leaf.Pk.{Pk}
 use Rattle.idl_tree.specs.declared.leaf.ArraySize.{ArraySize}
@@ -22,10 +21,12 @@ use Rattle.idl_outline.specs.declared.event.Event.{Event}
 use Rattle.idl_outline.specs.declared.event.Event.TheVariants as events
 use Rattle.idl_outline.specs.declared.setting.Setting.{Setting}
 use Rattle.idl_forms.specs.Forms as idl
-use Rattle.idl_outline.specs.Names.{Past, is_operation, type_named}
+use Rattle.idl_outline.specs.Names.{Past, bodies}
+use Rattle.idl_outline.specs.Within.{members_within}
 use Rattle.idl_outline.specs.Parts.{size_past, array_past, sizes_past, label_past, labels_past, tag_used_past, other_tag_past, names_past, struct_past, struct_end}
 use Rattle.idl_outline.specs.Holding.{tag_holds}
 use Rattle.idl_outline.specs.Specs.{outline_reader, leaf_past, field_in, fields_in, spec_past, switch_past, attr_past, attrs_past, member_past, member_field, members_past, arms_past}
+use Rattle.marshal_table.specs.Interfaces.{collected, op_in}
 use Rattle.idl_outline.specs.Outline.{outline_text, types_past, own_past, params_past, decls_past}
 
 -- the later past has the earlier one behind further events
@@ -33,11 +34,10 @@ pub record Behind (p q : Past) : Type 0 where
   pub more : List Event
   pub is : q ≡ more ++ p
 
--- none of which declares an operation or the name of a type
+-- none of which declares an operation
 pub record Quiet (p q : Past) : Type 0 where
   pub behind : Behind p q
-  pub none : count_by is_operation q ≡ count_by is_operation p
-  pub types : (name : List ℕ) → type_named name q ≡ type_named name p
+  pub none : collected op_in q ≡ collected op_in p
 
 pub stays_behind : (p : Past) → Behind p p
 stays_behind p = record { more = []; is = refl }
@@ -57,13 +57,16 @@ pub back : (P : Past → Type 0) → ((e : Event) (p : Past) → P (e ∷ p) →
 back P tail p q a h = all_back P tail p a.more (subst P a.is h)
 
 pub stays : (p : Past) → Quiet p p
-stays p = record { behind = stays_behind p; none = refl; types = λ name. refl }
+stays p = record { behind = stays_behind p; none = refl }
 
 pub then_quiet : (p q r : Past) → Quiet p q → Quiet q r → Quiet p r
-then_quiet p q r a b = record { behind = then_behind p q r a.behind b.behind; none = b.none ∙ a.none; types = λ name. b.types name ∙ a.types name }
+then_quiet p q r a b = record { behind = then_behind p q r a.behind b.behind; none = b.none ∙ a.none }
 
-pub one_more : (e : Event) (p q : Past) → count_by is_operation (e ∷ q) ≡ count_by is_operation q → ((name : List ℕ) → type_named name (e ∷ q) ≡ type_named name q) → Quiet p q → Quiet p (e ∷ q)
-one_more e p q h t a = record { behind = more_behind e p q a.behind; none = h ∙ a.none; types = λ name. t name ∙ a.types name }
+pub no_more : (e : Event) (q : Past) → op_in e ≡ [] → collected op_in (e ∷ q) ≡ collected op_in q
+no_more e q h = ap (λ xs. collected op_in q ++ xs) h ∙ append-nil (collected op_in q)
+
+pub one_more : (e : Event) (p q : Past) → op_in e ≡ [] → Quiet p q → Quiet p (e ∷ q)
+one_more e p q h a = record { behind = more_behind e p q a.behind; none = no_more e q h ∙ a.none }
 
 -- ---- small parts
 
@@ -71,7 +74,7 @@ array_quiet : (s : ArraySize) (p : Past) → Quiet p (array_past s p)
 array_quiet sizes.Empty p = stays p
 array_quiet sizes.Star p = stays p
 array_quiet (sizes.Number n) p = stays p
-array_quiet (sizes.Named i) p = one_more (events.ConstantUsed i) p p refl (λ name. refl) (stays p)
+array_quiet (sizes.Named i) p = one_more (events.ConstantUsed i) p p refl (stays p)
 
 size_quiet : (o : Option ArraySize) (p : Past) → Quiet p (size_past o p)
 size_quiet None p = stays p
@@ -83,7 +86,7 @@ sizes_quiet (d ∷ ds) p = then_quiet p (size_past d.array p) (sizes_past ds (si
 
 pub label_quiet : (l : LabelKind) (p : Past) → Quiet p (label_past l p)
 label_quiet (label_kinds.Number n) p = stays p
-label_quiet (label_kinds.Named i) p = one_more (events.ConstantUsed i) p p refl (λ name. refl) (stays p)
+label_quiet (label_kinds.Named i) p = one_more (events.ConstantUsed i) p p refl (stays p)
 label_quiet label_kinds.Default p = stays p
 
 pub labels_quiet : (ls : List LabelNode) (p : Past) → Quiet p (labels_past ls p)
@@ -92,34 +95,34 @@ labels_quiet (l ∷ ls) p = then_quiet p (label_past l.what p) (labels_past ls (
 
 void_quiet : (b : Bool) (at : ℕ) (p : Past) → Quiet p (if b then p else events.VoidUsed at ∷ p)
 void_quiet true at p = stays p
-void_quiet false at p = one_more (events.VoidUsed at) p p refl (λ name. refl) (stays p)
+void_quiet false at p = one_more (events.VoidUsed at) p p refl (stays p)
 
 tag_quiet : (g : Setting) (tag : Option Ident) (p : Past) → Quiet p (tag_used_past g tag p)
 tag_quiet g None p = stays p
-tag_quiet g (Some i) p = one_more (events.TagUsed i g.pointed) p p refl (λ name. refl) (stays p)
+tag_quiet g (Some i) p = one_more (events.TagUsed i g.pointed) p p refl (stays p)
 
 pub other_quiet : (tag : Option Ident) (p : Past) → Quiet p (other_tag_past tag p)
 other_quiet None p = stays p
-other_quiet (Some i) p = one_more (events.OtherTag i) p p refl (λ name. refl) (stays p)
+other_quiet (Some i) p = one_more (events.OtherTag i) p p refl (stays p)
 
 names_quiet : (n : ℕ) (is : List Ident) (p : Past) → Quiet p (names_past n is p)
 names_quiet n [] p = stays p
 names_quiet n (i ∷ is) p =
     let e : Event = events.EnumName i (record { at = i.at; minus = false; value = n }) in
-    then_quiet p (e ∷ p) (names_past (n + 1) is (e ∷ p)) (one_more e p p refl (λ name. refl) (stays p)) (names_quiet (n + 1) is (e ∷ p))
+    then_quiet p (e ∷ p) (names_past (n + 1) is (e ∷ p)) (one_more e p p refl (stays p)) (names_quiet (n + 1) is (e ∷ p))
 
-pub begins_quiet : (tag : Option Ident) (itself : Bool) (p : Past) → Quiet p (struct_past tag itself p)
-begins_quiet None itself p = stays p
-begins_quiet (Some i) itself p = one_more (events.StructBegins i itself) p p refl (λ name. refl) (stays p)
+pub begins_quiet : (tag : Option Ident) (itself : Bool) (number : ℕ) (p : Past) → Quiet p (struct_past tag itself number p)
+begins_quiet None itself number p = stays p
+begins_quiet (Some i) itself number p = one_more (events.StructBegins i itself number) p p refl (stays p)
 
 ends_quiet : (tag : Option Ident) (fs : List Field) (p q : Past) → Quiet p q → Quiet p (struct_end tag fs q)
-ends_quiet None fs p q a = one_more (events.Body fs) p q refl (λ name. refl) a
-ends_quiet (Some i) fs p q a = one_more (events.StructEnds i _) p (events.Body fs ∷ q) refl (λ name. refl) (one_more (events.Body fs) p q refl (λ name. refl) a)
+ends_quiet None fs p q a = one_more (events.Body None fs) p q refl a
+ends_quiet (Some i) fs p q a = one_more (events.StructEnds i _ _) p (events.Body None fs ∷ q) refl (one_more (events.Body None fs) p q refl a)
 
 -- ---- specs, attributes and what they hold
 
 leaf_quiet : (g : Setting) (at : ℕ) (k : idl.KindForm) (p : Past) → Quiet p (leaf_past g at k p)
-leaf_quiet g at (idl.OfName i) p = one_more (events.TypeUsed i) p p refl (λ name. refl) (stays p)
+leaf_quiet g at (idl.OfName i) p = one_more (events.TypeUsed i) p p refl (stays p)
 leaf_quiet g at idl.OfVoid p = void_quiet g.void_allowed at p
 leaf_quiet g at (idl.OfTag tag) p = tag_quiet g tag p
 leaf_quiet g at (idl.OfEnum tag names) p =
@@ -132,11 +135,11 @@ After p q z = Quiet p q
 keep : (p : Past) → Keep outline_reader outline_reader (After p)
 keep p = record {
   leaf = λ g c at k q z h. then_quiet p q _ h (leaf_quiet g at k q);
-  struct_begins = λ tag ms q z h. then_quiet p q _ h (begins_quiet tag (tag_holds tag ms) q);
+  struct_begins = λ tag ms q z h. then_quiet p q _ h (begins_quiet tag (tag_holds tag ms) (bodies q + members_within ms) q);
   struct_ends = λ k l tag ms x y h. ends_quiet tag (fields_in k x.0) p x.1 h;
   union_begins = λ tag q z h. then_quiet p q _ h (other_quiet tag q);
-  union_ends = λ k l s arms t u x y h. one_more (events.Union _ _) p (events.Body _ ∷ x.1) refl (λ name. refl) (one_more (events.Body _) p x.1 refl (λ name. refl) h);
-  switched = λ k l s i x y h. one_more (events.Single _) p x.1 refl (λ name. refl) h;
+  union_ends = λ k l s arms t u x y h. one_more (events.Union _ _) p (events.Body _ _ ∷ x.1) refl (one_more (events.Body _ _) p x.1 refl h);
+  switched = λ k l s i x y h. one_more (events.Single _) p x.1 refl h;
   labelled = λ ls q z h. then_quiet p q _ h (labels_quiet ls q);
   sized = λ ds q z h. then_quiet p q _ h (sizes_quiet ds q);
 }
@@ -173,12 +176,15 @@ types_behind (x ∷ xs) p =
     let e : Event = events.Typedef x.name x.ty in
     then_behind p (e ∷ p) (types_past xs (e ∷ p)) (more_behind e p p (stays_behind p)) (types_behind xs (e ∷ p))
 
-types_none : (xs : List Declared) (p : Past) → count_by is_operation (types_past xs p) ≡ count_by is_operation p
+types_none : (xs : List Declared) (p : Past) → collected op_in (types_past xs p) ≡ collected op_in p
 types_none [] p = refl
-types_none (x ∷ xs) p = types_none xs (events.Typedef x.name x.ty ∷ p)
+types_none (x ∷ xs) p = let e : Event = events.Typedef x.name x.ty in types_none xs (e ∷ p) ∙ no_more e p refl
 
-pub own_none : (default : Pk) (place : Place) (m : idl.MemberForm) (p : Past) → count_by is_operation (own_past default place m p) ≡ count_by is_operation p
-own_none default place m p = types_none (member_field default place m p).declared (member_past default place m p) ∙ (member_quiet default place m p).none
+pub own_none : (default : Pk) (place : Place) (m : idl.MemberForm) (p : Past) → collected op_in (own_past default place m p) ≡ collected op_in p
+own_none default place m p =
+    let q : Past = member_past default place m p in
+    let f : Field = member_field default place m p in
+    no_more (events.Single f) (types_past f.declared q) refl ∙ (types_none f.declared q ∙ (member_quiet default place m p).none)
 
 pub params_quiet : (default : Pk) (ns : List idl.ParamForm) (p : Past) → Quiet p (params_past default ns p)
 params_quiet default [] p = stays p

@@ -1,64 +1,81 @@
--- The bodies of structures and unions, as the rules judge them and in the table: the types of a table are the bodies of the text, in the
--- order in which they end, and each declarator of a body has a shape that suits its type.
-use Rattle.std.specs.Prelude.{◌≡◌, Bool, true, false, ◌&&◌, List, [], ◌∷◌, ◌++◌}
-use Rattle.std.specs.List.{flat_map}
-use Rattle.idl_tree.specs.declared.declaration.Ast.{Ast}
-use Rattle.idl_outline.specs.declared.field.Declared.{Declared}
+-- The types of a table: the bodies of structures and unions.
+use Rattle.std.specs.Prelude.{ℤ, Bool, true, false, List, [], ◌∷◌, map, Option, Some, None, if◌then◌else◌}
+use Rattle.std.specs.List.{flat_map, list_any}
+use Rattle.idl_tree.specs.declared.leaf.Ident.{Ident}
+use Rattle.idl_tree.specs.declared.leaf.Num.{Num}
+use Rattle.idl_names.specs.Declarators.{value_of}
+use Rattle.idl_outline.specs.declared.ty.TagType.{TagType}
 use Rattle.idl_outline.specs.declared.field.Field.{Field}
+use Rattle.idl_outline.specs.declared.event.Tag.{Tag}
+use Rattle.idl_outline.specs.declared.event.Tag.TheVariants as tags
+use Rattle.idl_outline.specs.declared.event.Label.{Label}
+use Rattle.idl_outline.specs.declared.event.Label.TheVariants as labels
+use Rattle.idl_outline.specs.declared.event.Event.{Event}
 use Rattle.idl_outline.specs.declared.event.Event.TheVariants as events
-use Rattle.idl_outline.specs.Names.{Past}
-use Rattle.idl_outline.specs.Outline.{outline}
-use Rattle.idl_forms.specs.Forms.{tree_form}
-use Rattle.idl_rules.specs.Broken.{NoneBroken}
-use Rattle.ndr_value.specs.Forms.{Form, OfStruct, OfUnion, Forms, no_form, then_form, empty, holds, ArmForms, no_arm, then_arm}
-use Rattle.marshal_table.specs.Alike.{suits}
-use Rattle.marshal_table.specs.Interfaces.{tabled}
+use Rattle.ndr_value.specs.Forms.{Form, OfStruct, OfUnion, Forms, no_form, then_form, Body, empty, holds, ArmForms, no_arm, then_arm}
+use Rattle.marshal_table.specs.Shapes.{nothing, core_form, terms, declared_form}
 
--- the fields of each body, the first that ended first
-abbrev pub bodies : Past → List (List Field)
-bodies [] = []
-bodies (events.Body fs ∷ p) = bodies p ++ fs ∷ []
-bodies (_ ∷ p) = bodies p
+-- the forms of a list, as of a structure's members
+abbrev pub row : List Form → Forms
+row [] = no_form
+row (s ∷ ss) = then_form s (row ss)
 
--- shapes that suit the types of declarators, one by one
-abbrev pub row_suits : List Declared → Forms → Bool
-row_suits [] no_form = true
-row_suits (d ∷ ds) (then_form s ss) = suits d.ty s && row_suits ds ss
-row_suits _ _ = false
+-- an arm's cases, whether it is the default, and what it holds
+abbrev pub Face : Type 0
+Face = List ℤ × Bool × Body
 
-abbrev pub all_declared : List Field → List Declared
-all_declared fs = flat_map (λ f. f.declared) fs
+abbrev pub arm_row : List Face → ArmForms
+arm_row [] = no_arm
+arm_row (a ∷ rest) = then_arm a.0 a.1 a.2 (arm_row rest)
 
--- what an arm holds: several declarators are a structure
-abbrev pub held_suits : List Declared → Form → Bool
-held_suits (d ∷ []) s = suits d.ty s
-held_suits ds (OfStruct ss) = row_suits ds ss
-held_suits _ _ = false
+-- what an arm holds: an arm of several members is a structure of them
+abbrev pub held : List Form → Body
+held [] = empty
+held (s ∷ []) = holds s
+held (s ∷ t ∷ ss) = holds (OfStruct (row (s ∷ t ∷ ss)))
 
--- the declarators of each arm that has some
-abbrev pub some_declared : List Declared → List (List Declared)
-some_declared [] = []
-some_declared (d ∷ ds) = (d ∷ ds) ∷ []
+-- ---- labels
 
-abbrev pub each_declared : List Field → List (List Declared)
-each_declared fs = flat_map (λ f. some_declared f.declared) fs
+abbrev pub if_case : Option Num → List ℤ
+if_case None = []
+if_case (Some n) = value_of n ∷ []
 
-abbrev pub arms_suit : ArmForms → List (List Declared) → Bool
-arms_suit no_arm [] = true
-arms_suit no_arm (ds ∷ dss) = false
-arms_suit (then_arm cases default empty rest) dss = arms_suit rest dss
-arms_suit (then_arm cases default (holds s) rest) [] = false
-arms_suit (then_arm cases default (holds s) rest) (ds ∷ dss) = held_suits ds s && arms_suit rest dss
+abbrev pub case_in : Label → List ℤ
+case_in (labels.Case at value) = if_case value
+case_in (labels.Default at) = []
 
-abbrev pub body_suits : List Field → Form → Bool
-body_suits fs (OfStruct ss) = row_suits (all_declared fs) ss
-body_suits fs (OfUnion tag arms) = arms_suit arms (each_declared fs)
-body_suits fs _ = false
+abbrev pub is_default : Label → Bool
+is_default (labels.Default at) = true
+is_default _ = false
 
-abbrev pub bodies_suit : List (List Field) → List Form → Bool
-bodies_suit [] [] = true
-bodies_suit (fs ∷ fss) (t ∷ ts) = body_suits fs t && bodies_suit fss ts
-bodies_suit _ _ = false
+-- ---- bodies
 
-abbrev pub BodiesSuit : Type 0
-BodiesSuit = (tree : Ast) → NoneBroken tree → bodies_suit (bodies (outline (tree_form tree))) (tabled tree).types ≡ true
+abbrev pub names_in : Field → List Ident
+names_in f = map (λ d. d.name) f.declared
+
+abbrev pub names_of : List Field → List Ident
+names_of fs = flat_map names_in fs
+
+-- names: those of all that the list declares
+abbrev pub field_forms : List Ident → Field → List Form
+field_forms names f = map (declared_form (terms f.place names f.attributes)) f.declared
+
+abbrev pub face : List Ident → Field → Face
+face names f = (flat_map case_in f.labels, list_any is_default f.labels, held (field_forms names f))
+
+-- a tag is neither a pointer nor an array
+abbrev pub tag_type_form : TagType → Form
+tag_type_form t = if t.by_value then core_form None t.core else nothing
+
+abbrev pub tag_form : Tag → Form
+tag_form (tags.Switch at t) = tag_type_form t
+tag_form (tags.Given at t) = tag_type_form t
+tag_form tags.Missing = nothing
+
+abbrev pub body_form : Option Tag → List Field → Form
+body_form None fs = OfStruct (row (flat_map (field_forms (names_of fs)) fs))
+body_form (Some t) fs = OfUnion (tag_form t) (arm_row (map (face (names_of fs)) fs))
+
+abbrev pub type_in : Event → List Form
+type_in (events.Body tag fs) = body_form tag fs ∷ []
+type_in _ = []

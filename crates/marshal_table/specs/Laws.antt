@@ -1,4 +1,4 @@
--- What the table of an interface that keeps the rules has of it: all of it.
+-- What the table of an interface has of it: all of it.
 use Rattle.idl_tree.specs.declared.declaration.Ast.{Ast}
 use Rattle.idl_rules.specs.Broken.{NoneBroken}
 use Rattle.marshal_table.specs.Interfaces.{tabled}
@@ -6,10 +6,10 @@ use Rattle.marshal_table.specs.Wholes.{HasEachOperation, HasEachHandle}
 use Rattle.marshal_table.specs.Stands.{EachNameStands}
 
 abbrev pub EachOperationIsListed : Type 0
-EachOperationIsListed = (tree : Ast) → NoneBroken tree → HasEachOperation tree (tabled tree)
+EachOperationIsListed = (tree : Ast) → HasEachOperation tree (tabled tree)
 
 abbrev pub EachHandleIsListed : Type 0
-EachHandleIsListed = (tree : Ast) → NoneBroken tree → HasEachHandle tree (tabled tree)
+EachHandleIsListed = (tree : Ast) → HasEachHandle tree (tabled tree)
 
 abbrev pub NothingStandsIn : Type 0
 NothingStandsIn = (tree : Ast) → NoneBroken tree → EachNameStands tree

@@ -1,7 +1,7 @@
-pub mod Alike
 pub mod Bodies
 pub mod Interfaces
 pub mod Laws
-pub mod Lists
+pub mod Shapes
 pub mod Stands
+pub mod Suits
 pub mod Wholes

@@ -5,24 +5,24 @@ ghost use Rattle.marshal_table.specs.Interfaces as spec;
 ghost use Rattle.marshal_table.specs.Wholes.{HasEachOperation, HasEachHandle};
 ghost use Rattle.marshal_table.specs.Stands.{EachNameStands};
 
-use crate::tables::build_tree;
+use crate::tables::table_of;
 use idl_check::Checked;
 use ndr_table::Table;
 use rpc_base::NoMemory;
 use std::alloc::Global;
 
-/// The table of a checked interface.
+/// The table of a checked interface: a map over its outline.
 ///
 /// # Errors
 ///
 /// `NoMemory` where there is no memory for it, or a type, a parameter or a result nests by value more
-/// than 16 levels.
+/// than `MOST_LEVELS` levels.
 pub fn build(alloc: Global, checked: &Checked) -> Result<Table, NoMemory>
     ensures exact { IfOk result (λ table. shown table ≡ spec.tabled checked.now) }
     ensures operations { IfOk result (λ table. HasEachOperation checked.now (shown table)) }
     ensures handles { IfOk result (λ table. HasEachHandle checked.now (shown table)) }
     ensures names { IfOk result (λ table. EachNameStands checked.now) }
 {
-    let table = build_tree(alloc, checked.tree())?;
+    let table = table_of(alloc, checked.tree(), checked.events())?;
     Ok(table)
 }

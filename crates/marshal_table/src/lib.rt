@@ -1,19 +1,22 @@
-//! The marshalling table of an interface text: as a definition, with its laws, and as a value. Of an
-//! interface that keeps the rules nothing is lost (C706, chapters "Interface Definition Language" and
+//! The marshalling table of an interface text (C706, chapters "Interface Definition Language" and
 //! "Transfer Syntax NDR").
 #![tactic(auto)]
 
+mod bodies;
 mod checked;
+mod draft;
 mod interface;
 mod laws;
-mod listing;
+mod numbers;
 mod operations;
-mod params;
+mod said;
+mod shapes;
 mod tables;
+mod terms;
 
 pub use checked::build;
 pub use laws::{
-    bodies_suit, each_handle_is_listed, each_operation_is_listed, names_resolve_alike,
-    nothing_stands_in, operations_suit,
+    bodies_suit, each_handle_is_listed, each_operation_is_listed, nothing_stands_in,
+    operations_suit,
 };
 pub use ndr_table::{Bounds, HandleUse, HandleUses, Op, Ops, Param, Params, Table, Uses};

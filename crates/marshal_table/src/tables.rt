@@ -1,39 +1,32 @@
-//! The table of an interface.
-ghost use Rattle.std.specs.Prelude.{◌≡◌, [], IfOk};
+//! The table of an interface's events.
+ghost use Rattle.std.specs.Prelude.{◌≡◌, reverse, IfOk};
+ghost use Rattle.idl_forms.specs.Forms.{tree_form};
+ghost use Rattle.idl_outline.specs.Outline as outlines;
 ghost use Rattle.ndr_table.specs.Shown.{shown};
 ghost use Rattle.marshal_table.specs.Interfaces as spec;
 
-use crate::interface::{declarations, syntax_of};
-use crate::listing::Operations;
-use idl_names::pointer_default;
-use idl_scopes::nothing_known;
+use crate::draft::drafted;
+use crate::interface::syntax_of;
+use idl_outline::Event;
 use idl_tree::Ast;
 use ndr_table::Table;
 use rpc_base::NoMemory;
 use std::alloc::Global;
 
-fn no_operations(alloc: Global) -> Operations
-    ensures ops { result.ops.items ≡ [] }
-    ensures uses { result.uses.items ≡ [] }
-{
-    Operations {
-        ops: Vec::new(alloc),
-        uses: Vec::new(alloc),
-    }
-}
-
-/// The table of an interface.
+/// The table of an interface, by the events of its outline, the oldest first.
 ///
 /// # Errors
 ///
-/// `NoMemory` where there is no memory for it.
-pub(crate) fn build_tree(alloc: Global, tree: &Ast) -> Result<Table, NoMemory>
+/// `NoMemory` where there is no memory for it, or a number has no room in its field.
+#[tactic(auto, using(crate::proofs::Making::making))]
+pub(crate) fn table_of(alloc: Global, tree: &Ast, events: &[Event]) -> Result<Table, NoMemory>
+    requires { reverse events.now ≡ outlines.outline (tree_form tree.now) }
     ensures { IfOk result (λ table. shown table ≡ spec.tabled tree.now) }
 {
-    let default = pointer_default(&tree.attributes);
-    let mut known = nothing_known(alloc);
-    let mut all = no_operations(alloc);
-    declarations(&tree.decls, alloc, default, &mut known, &mut all)?;
+    let draft = drafted(alloc, events)?;
+    if draft.ops.len() > 65_535 {
+        return Err(NoMemory);
+    }
     let id = syntax_of(&tree.attributes)?;
-    Table::of(alloc, id, known.types, all.ops, all.uses)
+    Table::of(alloc, id, draft.types, draft.ops, draft.uses)
 }

@@ -1,6 +1,6 @@
 -- From what is read to what is decoded.
 use Rattle.std.proofs.Common.{◌≡◌, ℕ, List, Option, Some, None, Result, Ok, Err, refl, sym, ap, subst, ◌∙◌}
-use Rattle.std.specs.Prelude.{slice_get, IfOk}
+use Rattle.std.specs.Prelude.{slice_get, IfOk, IfErr}
 use Rattle.rpc_base.specs.declared.identifiers.Order.{Order}
 use Rattle.rpc_base.specs.Fields.{IsOctets}
 use Rattle.ndr_value.specs.Forms.{Form}
@@ -28,6 +28,9 @@ use Rattle.ndr_laws.proofs.WrittenStubs.{read_of_op}
 use Rattle.ndr_model.specs.declared.fault.NdrFault.{NdrFault}
 use Rattle.ndr_model.specs.declared.fault.NdrFault.TheVariants.{Short, Bound, Tag, Pointer, Text, TooDeep, Trailing, Memory}
 use Rattle.ndr_model.specs.Faults.{fault_of, IsFault}
+use Rattle.ndr_faults.specs.First.{IsOpOf}
+use Rattle.ndr_faults.specs.Off.{HasCause}
+use Rattle.ndr_faults.proofs.Departing.{departs}
 use Rattle.ndr_codec.specs.Faults.{of_error, Decodes, IsThat}
 
 abbrev ok_msg : Msg → Result Msg Departure
@@ -109,3 +112,19 @@ pub of_op_all : (types : List Form) (ops : List OpForm) (n : ℕ) (way : Way) (o
     → ((o : OpForm) → slice_get ops n ≡ Some o → Decodes r (read_stub types o way order asked octets)) → IfOk r (λ m. (o : OpForm) → slice_get ops n ≡ Some o → IsOfOp types o way asked (msg m))
 of_op_all types ops n way order asked octets (Ok m) are h = λ o is. read_of_op types o way order asked octets (msg m) are (h o is)
 of_op_all types ops n way order asked octets (Err f) are h = tt
+
+module _ (types : List Form) (op : OpForm) (way : Way) (order : Order) (asked : Option Msg) (octets : List ℕ) (o : IsOpOf types op) where
+  caused : (f : NdrFault) → IsFault f (read_stub types op way order asked octets) → HasCause types op way order asked octets f
+  caused Memory e = tt
+  caused (Short n) e = departs types op way order asked octets (departures.Short n) o e
+  caused (Bound i) e = departs types op way order asked octets (departures.Bound i) o e
+  caused (Tag i) e = departs types op way order asked octets (departures.Tag i) o e
+  caused (Pointer i) e = departs types op way order asked octets (departures.Pointer i) o e
+  caused (Text i) e = departs types op way order asked octets (departures.Text i) o e
+  caused (TooDeep i) e = departs types op way order asked octets (departures.TooDeep i) o e
+  caused (Trailing n) e = departs types op way order asked octets (departures.Trailing n) o e
+
+pub cause_all : (types : List Form) (ops : List OpForm) (n : ℕ) (way : Way) (order : Order) (asked : Option Msg) (octets : List ℕ) (r : Result Message NdrFault) → ((o : OpForm) → slice_get ops n ≡ Some o → IsOpOf types o)
+    → ((o : OpForm) → slice_get ops n ≡ Some o → Decodes r (read_stub types o way order asked octets)) → IfErr r (λ f. (o : OpForm) → slice_get ops n ≡ Some o → HasCause types o way order asked octets f)
+cause_all types ops n way order asked octets (Ok m) are h = tt
+cause_all types ops n way order asked octets (Err f) are h = λ o is. caused types o way order asked octets (are o is) f (h o is)

@@ -1,5 +1,5 @@
 //! Messages that are read from stub data.
-ghost use Rattle.std.specs.Prelude.{◌≡◌, ◌<◌, length, slice_get, map, IfOk, Option, Some, None};
+ghost use Rattle.std.specs.Prelude.{◌≡◌, ◌<◌, length, slice_get, map, IfOk, IfErr, Option, Some, None};
 ghost use Rattle.ndr_value.specs.Values.{Msg, msg};
 ghost use Rattle.ndr_table.specs.Shown.{shown};
 ghost use Rattle.ndr_table.specs.Tables.{OpForm, op_form};
@@ -7,6 +7,7 @@ ghost use Rattle.ndr_model.specs.Message.{IsStub, read_stub};
 ghost use Rattle.ndr_model.specs.Stub.{start};
 ghost use Rattle.ndr_model.specs.Message as model;
 ghost use Rattle.ndr_model.specs.Fits.{IsOfOp};
+ghost use Rattle.ndr_faults.specs.Off.{HasCause};
 ghost use Rattle.ndr_agree.specs.Views.{asked_of};
 ghost use Rattle.ndr_read.specs.Views.{last_of};
 ghost use Rattle.ndr_codec.specs.Faults.{Decodes, IsThat};
@@ -85,7 +86,7 @@ pub(crate) fn decode_op(
 ///
 /// # Errors
 ///
-/// The first departure, where the octets are a stub of no message; or want of memory.
+/// The first departure, where the octets are a stub of no message, by its cause; or want of memory.
 pub fn decode(
     alloc: Global,
     table: &Table,
@@ -103,10 +104,13 @@ pub fn decode(
     ensures of_op { IfOk result (λ m. (o : OpForm) → slice_get (shown table.now).ops op ≡ Some o → IsOfOp (shown table.now).types o way (asked_of (λ m. m.now) asked.entry) (msg m)) }
     // Which departure it is.
     ensures exact { (o : OpForm) → slice_get (shown table.now).ops op ≡ Some o → Decodes result (read_stub (shown table.now).types o way order (asked_of (λ m. m.now) asked.entry) stub.now) }
+    // Its cause: what stands at its index, or which number should equal another.
+    ensures cause { IfErr result (λ f. (o : OpForm) → slice_get (shown table.now).ops op ≡ Some o → HasCause (shown table.now).types o way order (asked_of (λ m. m.now) asked.entry) stub.now f) }
 {
     // What holds of every table.
     table.is_whole();
     table.is_shallow();
+    table.is_sound();
     decode_at(alloc, table, op, way, order, asked, stub)
 }
 

@@ -1,6 +1,7 @@
--- Values that stand go with the marks that were noted of them: the comparison comes to each count, tag and number with a range.
-use Rattle.std.proofs.Common.{◌≡◌, ℕ, zero, suc, ◌+◌, ◌-◌, ◌*◌, ◌≤◌, ℤ, pos, Bool, true, false, List, [], ◌∷◌, ◌++◌, length, length-append, append_assoc, Option, Some, None, refl, sym, subst, ◌∙◌, arith, suc-mul, inl, inr}
-use Rattle.std.specs.Prelude.{nat_lt, not, ◌==◌, if◌then◌else◌}
+-- Values that stand go with the marks that were noted of them: the comparison comes to each count, tag and number with a range, and finds
+-- the first that isn't met.
+use Rattle.std.proofs.Common.{◌≡◌, ℕ, zero, suc, ◌+◌, ◌-◌, ◌*◌, ◌≤◌, ℤ, pos, Bool, true, false, List, [], ◌∷◌, ◌++◌, length, length-append, append_assoc, Option, Some, None, refl, sym, ap, subst, ◌∙◌, arith, suc-mul, inl, inr}
+use Rattle.std.specs.Prelude.{not, ◌==◌, if◌then◌else◌}
 use Rattle.std.proofs.lemmas.List.{append-nil, append_cancel_left}
 use Rattle.rpc_base.specs.declared.identifiers.Order.{Order}
 use Rattle.ndr_value.specs.declared.shape.Count.{Count}
@@ -12,20 +13,22 @@ use Rattle.ndr_scalars.specs.Scalars.{up, signed}
 use Rattle.ndr_arrays.specs.declared.counts.Counts.{Counts}
 use Rattle.ndr_arrays.specs.Counted.{moved_most, a_most, HasCounts, of_fixed, of_varying, of_conformant, of_both}
 use Rattle.ndr_model.specs.declared.departure.Departure.{Departure}
-use Rattle.ndr_model.specs.declared.departure.Departure.TheVariants.{Bound, Tag}
 use Rattle.ndr_model.specs.declared.mark.Mark.{Mark}
 use Rattle.ndr_model.specs.declared.mark.Mark.TheVariants.{Number, Referent}
 use Rattle.ndr_model.specs.Places.{Place, Last, noting}
 use Rattle.ndr_model.specs.Part.{tag_size, in_place, opens_with, Opens, in_a_greater, in_front, not_open, Part, a_bool, a_byte, a_char, an_int, a_uint, an_enum, a_handle, a_text, a_name, a_struct, an_empty_arm, an_arm, an_array, a_ref, a_null, a_unique, a_null_full, a_new, a_repeat, Parts, no_part, then_part, Items, no_item, then_item, opened_marks, count_marks, tag_marks}
 use Rattle.ndr_model.specs.Named.{Call, nth, named}
-use Rattle.ndr_model.specs.Agree.{Stood, is_plain, stood_last}
-use Rattle.ndr_model.specs.Compare.{place_of, sooner, Check, judged, equals, count_off, compare_counts, tied_off, fronted, front_in, Fronted, compare_each, compare_all, compare_arm, compare_referent, compare_tag, Compared, compare_full, compare_type, compare_at, compare}
+use Rattle.ndr_value.specs.Fits.{arm_of}
+use Rattle.ndr_value.specs.Forms.{ArmForms, holds}
+use Rattle.ndr_model.specs.Agree.{Stood, is_plain, Fronts, fronts_greater, fronts, fronts_none, stood_last}
+use Rattle.ndr_model.specs.Compare.{sooner, Check, compare_counts, tied_off, fronted, front_in, Fronted, compare_each, compare_all, compare_arm, compare_referent, compare_tag, Compared, compare_full, compare_type, compare_at, compare}
 use Rattle.ndr_model.proofs.Mets.{Ext, ext_self, ext_then}
 use Rattle.ndr_laws.proofs.Grounded.{EachForm, Shallow, Targets, EachTarget, Grounded, each_arm, arm_has, type_has}
 use Rattle.ndr_laws.proofs.Grows.{part_grows, parts_grow, items_grow}
 use Rattle.ndr_laws.proofs.Marks.{Noted, noted_then, part_notes, parts_note, items_note}
 use Rattle.ndr_laws.proofs.Kept.{In, Kept, ext_le, that_item, parts_leave, items_leave, kept_first, kept_second, kept_inner, kept_new}
-use Rattle.ndr_faults.specs.Off.{index_of, StandsAt, IsAt}
+use Rattle.ndr_faults.specs.Asked.{Demand, a_count, tag_demands, asks_most_in_front, asks_most_here, AsksCounts, asks_fixed, asks_varying, asks_conformant, asks_both, Asks, asks_plain, asks_name, asks_members, asks_empty_arm, asks_arm, asks_array, asks_ref, asks_null, asks_unique, asks_null_full, asks_new, asks_repeat, AsksEach, no_member_asks, member_asks, AsksAll, none_asks, no_element_asks, element_asks}
+use Rattle.ndr_faults.proofs.Leasts.{least, off_then, sooner_nothing}
 
 same_some : {A : Type 0} (x y : A) → Some x ≡ Some y → x ≡ y
 same_some x y e = cc
@@ -58,41 +61,27 @@ module _ {types : List Form} {order : Order} {octets : List ℕ} where
   plain_items (then_item part ps) is = plain_items ps is ∙ plain_part part is
 
 module _ (all : List Mark) where
-  abbrev pub Fine : Option Departure → Type 0
-  Fine None = Unit {0}
-  Fine (Some d) = IsAt all d
+  -- what is left stands behind the marks before it
+  abbrev pub At : List Mark → Check → Type 0
+  At pre c = pre ++ c.left ≡ all
 
-  -- the marks before those that are left, and what was found
-  pub record At (pre : List Mark) (c : Check) : Type 0 where
-    pub place : pre ++ c.left ≡ all
-    pub off : Fine c.off
-
-  chosen_fine : (b : Bool) (x y : Departure) → IsAt all x → IsAt all y → Fine (if b then Some x else Some y)
-  chosen_fine true x y f g = f
-  chosen_fine false x y f g = g
-
-  pub sooner_fine : (a b : Option Departure) → Fine a → Fine b → Fine (sooner a b)
-  sooner_fine None b f g = g
-  sooner_fine (Some a) None f g = f
-  sooner_fine (Some a) (Some b) f g = chosen_fine (nat_lt (place_of b) (place_of a)) b a g f
-
-  pub unless_fine : (b : Bool) (d : Departure) → IsAt all d → Fine (if b then None else Some d)
-  unless_fine true d at = tt
-  unless_fine false d at = at
+  -- from one state to another: what was asked for, and what is found
+  pub record Went (D : List Mark → List Mark → List Demand → Type 0) (pre : List Mark) (c c' : Check) : Type 0 where
+    pub demands : List Demand
+    pub asks : D c.left c'.left demands
+    pub off : c'.off ≡ least c.off demands
+    pub place : pre ++ c'.left ≡ all
 
   -- what is left begins with the marks that a part noted first
   pub tied : (pre own ms : List Mark) → pre ++ ms ≡ all → Noted (pre ++ own) all → (more : List Mark) × (ms ≡ own ++ more) × ((pre ++ own) ++ more ≡ all)
   tied pre own ms e n = (n.0, append_cancel_left pre ms (own ++ n.0) (e ∙ n.1 ∙ append_assoc pre own n.0), sym n.1)
 
-  pub stands : (pre : List Mark) (m : Mark) (more : List Mark) (i : ℕ) → (pre ++ m ∷ []) ++ more ≡ all → index_of m ≡ Some i → StandsAt all i
-  stands pre m more i e at = record { before = pre; mark = m; behind = more; is = sym e ∙ append_assoc pre (m ∷ []) more; at = at }
-
   abbrev pub with_left : Check → List Mark → Check
   with_left c ms = record { off = c.off; left = ms }
 
   -- a state with what is left known
-  pub known : (f : Check → Check) (pre : List Mark) (c : Check) (ms : List Mark) → c.left ≡ ms → At pre (f (with_left c ms)) → At pre (f c)
-  known f pre c ms e a = subst (λ (x : List Mark). At pre (f (with_left c x))) (sym e) a
+  pub known : (D : List Mark → List Mark → List Demand → Type 0) (f : Check → Check) (pre : List Mark) (c : Check) (ms : List Mark) → c.left ≡ ms → Went D pre (with_left c ms) (f (with_left c ms)) → Went D pre c (f c)
+  known D f pre c ms e w = subst (λ (x : List Mark). Went D pre (with_left c x) (f (with_left c x))) (sym e) w
 
   pub at_own : (pre : List Mark) (c : Check) → At pre c → At (pre ++ []) c
   at_own pre c a = subst (λ (x : List Mark). At x c) (sym (append-nil pre)) a
@@ -100,173 +89,195 @@ module _ (all : List Mark) where
   -- a max_count in front of a structure, as it was read and as it is compared
   pub data Tells : Option ℕ → Option Stood → Type 0 where
     tells_none : Tells None None
-    tells : {most i : ℕ} {z : ℤ} → StandsAt all i → Tells (Some most) (Some (i, z))
+    tells : {most : ℕ} {m : Stood} → Tells (Some most) (Some m)
 
   tells_last : {moved : Option ℕ} {stood : Option Stood} (b : Bool) → Tells moved stood → Tells (if b then moved else None) (if b then stood else None)
   tells_last true t = t
   tells_last false t = tells_none
 
   module _ (types : List Form) (order : Order) (octets : List ℕ) (call : Call) where
-    count_fine : (want : Option ℤ) (i : ℕ) (z : ℤ) → StandsAt all i → Fine (count_off want (i, z))
-    count_fine want i z at = unless_fine (equals want z) (Bound i) at
-
-    -- a count that is the next mark
-    count_next : (want : Option ℤ) (pre : List Mark) (c : Check) (i : ℕ) (z : ℤ) (more : List Mark) → Fine c.off → (pre ++ Number i z ∷ []) ++ more ≡ all → At (pre ++ Number i z ∷ []) (judged c (count_off want (i, z)) more)
-    count_next want pre c i z more f e = record { place = e; off = sooner_fine c.off (count_off want (i, z)) f (count_fine want i z (stands pre (Number i z) more i e refl)) }
-
     counts_compared : (body : Vals) → {moved : Option ℕ} {stood : Option Stood} {kind : ArrayKind} {k : Counts} {i j : ℕ} → HasCounts order octets moved kind k i j → Tells moved stood → (pre : List Mark) (c : Check) → At pre c
-        → Noted (pre ++ count_marks kind moved k i j) all → At (pre ++ count_marks kind moved k i j) (compare_counts call body stood kind c)
-    counts_compared body of_fixed t pre c a n = at_own pre c a
+        → Noted (pre ++ count_marks kind moved k i j) all → Went (AsksCounts call body stood kind) (pre ++ count_marks kind moved k i j) c (compare_counts call body stood kind c)
+    counts_compared body of_fixed t pre c a n = record { demands = []; asks = asks_fixed; off = refl; place = at_own pre c a }
     counts_compared body {stood = stood} (of_varying {n = m} {actual = actual} {j = j} {c = count} h) t pre c a n =
-        let x = tied pre (Number (j - 4) (pos actual) ∷ []) c.left a.place n in
-        known (compare_counts call body stood (ArrayKind.Varying m count)) (pre ++ Number (j - 4) (pos actual) ∷ []) c (Number (j - 4) (pos actual) ∷ x.0) x.1
-        (count_next (named call body count) pre c (j - 4) (pos actual) x.0 a.off x.2)
-    counts_compared body (of_conformant {c = count} moved_most) (tells {i = i} {z = z} at) pre c a n =
-        at_own pre (judged c (count_off (named call body count) (i, z)) c.left) (record { place = a.place; off = sooner_fine c.off (count_off (named call body count) (i, z)) a.off (count_fine (named call body count) i z at) })
+        let x = tied pre (Number (j - 4) (pos actual) ∷ []) c.left a n in
+        known (AsksCounts call body stood (ArrayKind.Varying m count)) (compare_counts call body stood (ArrayKind.Varying m count)) (pre ++ Number (j - 4) (pos actual) ∷ []) c (Number (j - 4) (pos actual) ∷ x.0) x.1
+        (record { demands = a_count (j - 4) (pos actual) (named call body count) ∷ []; asks = asks_varying; off = refl; place = x.2 })
+    counts_compared body (of_conformant {c = count} moved_most) (tells {m = m}) pre c a n =
+        record { demands = a_count m.0 m.1 (named call body count) ∷ []; asks = asks_conformant asks_most_in_front; off = refl; place = at_own pre c a }
     counts_compared body (of_conformant {c = count} (a_most {most = most} {i = i} s)) tells_none pre c a n =
-        let x = tied pre (Number (up i 4) (pos most) ∷ []) c.left a.place n in
-        known (compare_counts call body None (ArrayKind.Conformant count)) (pre ++ Number (up i 4) (pos most) ∷ []) c (Number (up i 4) (pos most) ∷ x.0) x.1
-        (count_next (named call body count) pre c (up i 4) (pos most) x.0 a.off x.2)
-    counts_compared body (of_both {actual = actual} {j = j} {c = count} {d = len} moved_most h) (tells {i = i} {z = z} at) pre c a n =
-        let x = tied pre (Number (j - 4) (pos actual) ∷ []) c.left a.place n in
-        let first : Check = judged c (count_off (named call body count) (i, z)) (Number (j - 4) (pos actual) ∷ x.0) in
-        known (compare_counts call body (Some (i, z)) (ArrayKind.ConformantVarying count len)) (pre ++ Number (j - 4) (pos actual) ∷ []) c (Number (j - 4) (pos actual) ∷ x.0) x.1
-        (count_next (named call body len) pre first (j - 4) (pos actual) x.0 (sooner_fine c.off (count_off (named call body count) (i, z)) a.off (count_fine (named call body count) i z at)) x.2)
+        let x = tied pre (Number (up i 4) (pos most) ∷ []) c.left a n in
+        known (AsksCounts call body None (ArrayKind.Conformant count)) (compare_counts call body None (ArrayKind.Conformant count)) (pre ++ Number (up i 4) (pos most) ∷ []) c (Number (up i 4) (pos most) ∷ x.0) x.1
+        (record { demands = a_count (up i 4) (pos most) (named call body count) ∷ []; asks = asks_conformant asks_most_here; off = refl; place = x.2 })
+    counts_compared body (of_both {actual = actual} {j = j} {c = count} {d = len} moved_most h) (tells {m = m}) pre c a n =
+        let x = tied pre (Number (j - 4) (pos actual) ∷ []) c.left a n in
+        known (AsksCounts call body (Some m) (ArrayKind.ConformantVarying count len)) (compare_counts call body (Some m) (ArrayKind.ConformantVarying count len)) (pre ++ Number (j - 4) (pos actual) ∷ []) c (Number (j - 4) (pos actual) ∷ x.0) x.1
+        (record { demands = a_count m.0 m.1 (named call body count) ∷ a_count (j - 4) (pos actual) (named call body len) ∷ []; asks = asks_both asks_most_in_front; off = refl; place = x.2 })
     counts_compared body (of_both {actual = actual} {j = j} {c = count} {d = len} (a_most {most = most} {i = i} s) h) tells_none pre c a n =
-        let m = Number (up i 4) (pos most) in
-        let l = Number (j - 4) (pos actual) in
-        let x = tied pre (m ∷ l ∷ []) c.left a.place n in
-        let e1 : (pre ++ m ∷ []) ++ (l ∷ x.0) ≡ all = append_assoc pre (m ∷ []) (l ∷ x.0) ∙ sym (append_assoc pre (m ∷ l ∷ []) x.0) ∙ x.2 in
-        let e2 : ((pre ++ m ∷ []) ++ l ∷ []) ++ x.0 ≡ all = append_assoc (pre ++ m ∷ []) (l ∷ []) x.0 ∙ e1 in
-        let e3 : (pre ++ m ∷ []) ++ l ∷ [] ≡ pre ++ m ∷ l ∷ [] = append_assoc pre (m ∷ []) (l ∷ []) in
-        let first : Check = judged c (count_off (named call body count) (up i 4, pos most)) (l ∷ x.0) in
-        known (compare_counts call body None (ArrayKind.ConformantVarying count len)) (pre ++ m ∷ l ∷ []) c (m ∷ l ∷ x.0) x.1
-        (subst (λ (y : List Mark). At y (judged first (count_off (named call body len) (j - 4, pos actual)) x.0)) e3
-        (count_next (named call body len) (pre ++ m ∷ []) first (j - 4) (pos actual) x.0 (count_next (named call body count) pre c (up i 4) (pos most) (l ∷ x.0) a.off e1).off e2))
-
-    tied_fine : (body : Vals) (link : Option Count) (i : ℕ) (tag : ℤ) → StandsAt all i → Fine (tied_off call body link (i, tag))
-    tied_fine body None i tag at = tt
-    tied_fine body (Some count) i tag at = unless_fine (equals (named call body count) tag) (Tag i) at
+        let x = tied pre (Number (up i 4) (pos most) ∷ Number (j - 4) (pos actual) ∷ []) c.left a n in
+        known (AsksCounts call body None (ArrayKind.ConformantVarying count len)) (compare_counts call body None (ArrayKind.ConformantVarying count len)) (pre ++ Number (up i 4) (pos most) ∷ Number (j - 4) (pos actual) ∷ []) c
+        (Number (up i 4) (pos most) ∷ Number (j - 4) (pos actual) ∷ x.0) x.1
+        (record { demands = a_count (up i 4) (pos most) (named call body count) ∷ a_count (j - 4) (pos actual) (named call body len) ∷ []; asks = asks_both asks_most_here; off = refl; place = x.2 })
 
     -- the tag of a union
+    abbrev TagAsks : Vals → Option Count → ℤ → List Mark → List Mark → List Demand → Type 0
+    TagAsks body link tag ms ms' ds = (i : ℕ) × (ms ≡ Number i tag ∷ ms') × (ds ≡ tag_demands call body link i tag)
+
+    tag_least : (body : Vals) (link : Option Count) (i : ℕ) (tag : ℤ) (o : Option Departure) → sooner o (tied_off call body link (i, tag)) ≡ least o (tag_demands call body link i tag)
+    tag_least body None i tag o = sooner_nothing o
+    tag_least body (Some c) i tag o = refl
+
     tag_compared : (body : Vals) (link : Option Count) (t u : Form) (tag : ℤ) (i : ℕ) (pre : List Mark) (c : Check) → At pre c → Noted (pre ++ tag_marks types t u tag i) all
-        → At (pre ++ tag_marks types t u tag i) (compare_tag call body link tag c)
+        → Went (TagAsks body link tag) (pre ++ tag_marks types t u tag i) c (compare_tag call body link tag c)
     tag_compared body link t u tag i pre c a n =
         let place = up (in_place types u i) (tag_size t) in
-        let x = tied pre (tag_marks types t u tag i) c.left a.place n in
-        known (compare_tag call body link tag) (pre ++ tag_marks types t u tag i) c (Number place tag ∷ x.0) x.1
-        (record { place = x.2; off = sooner_fine c.off (tied_off call body link (place, tag)) a.off (tied_fine body link place tag (stands pre (Number place tag) x.0 place x.2 refl)) })
+        let x = tied pre (tag_marks types t u tag i) c.left a n in
+        known (TagAsks body link tag) (compare_tag call body link tag) (pre ++ tag_marks types t u tag i) c (Number place tag ∷ x.0) x.1
+        (record { demands = tag_demands call body link place tag; asks = (place, refl, refl); off = tag_least body link place tag c.off; place = x.2 })
+
+    empty_asks : (room : ℕ) (body : Vals) (link : Option Count) (moved : Option Stood) (t : Form) (arms : ArmForms) (tag : ℤ) (ms ms' : List Mark) (ds : List Demand) → TagAsks body link tag ms ms' ds
+        → Asks types call room body link moved (OfUnion t arms) (VEmpty tag) ms ms' ds
+    empty_asks room body link moved t arms tag ms ms' ds x =
+        subst (λ (z : List Mark). Asks types call room body link moved (OfUnion t arms) (VEmpty tag) z ms' ds) (sym x.1)
+        (subst (λ (z : List Demand). Asks types call room body link moved (OfUnion t arms) (VEmpty tag) (Number x.0 tag ∷ ms') ms' z) (sym x.2) asks_empty_arm)
+
+    arm_asks : (room : ℕ) (body : Vals) (link : Option Count) (moved : Option Stood) (t s : Form) (arms : ArmForms) (tag : ℤ) (v : Val) (ms ms1 ms' : List Mark) (ds es : List Demand) → TagAsks body link tag ms ms1 ds
+        → arm_of (OfUnion t arms) tag ≡ Some (holds s) → Asks types call room no_val None None s v ms1 ms' es → Asks types call room body link moved (OfUnion t arms) (VUnion tag v) ms ms' (ds ++ es)
+    arm_asks room body link moved t s arms tag v ms ms1 ms' ds es x is asks =
+        subst (λ (z : List Mark). Asks types call room body link moved (OfUnion t arms) (VUnion tag v) z ms' (ds ++ es)) (sym x.1)
+        (subst (λ (z : List Demand). Asks types call room body link moved (OfUnion t arms) (VUnion tag v) (Number x.0 tag ∷ ms1) ms' (z ++ es)) (sym x.2) (asks_arm is asks))
 
     -- what stands in front of a structure
-    pub record Fronting (ss : Forms) (moved own : Option ℕ) (stood : Option Stood) (i : ℕ) (pre : List Mark) (c : Check) : Type 0 where
-      pub tells : Tells own (fronted types ss stood c).0
-      pub at : At (pre ++ opened_marks moved own i) (fronted types ss stood c).1
+    abbrev Front : Forms → Option ℕ → Option Stood → List Mark → Check → Fronted → Type 0
+    Front ss own stood pre c f = Tells own f.0 × Fronts types ss stood f.0 c.left f.1.left × (f.1.off ≡ c.off) × At pre f.1
 
-    abbrev Both : Option ℕ → List Mark → Fronted → Type 0
-    Both own pre f = Tells own f.0 × At pre f.1
+    when_open : (b : Bool) (ss : Forms) (own : Option ℕ) (stood : Option Stood) (pre : List Mark) (c : Check) (f g : Fronted) → b ≡ true → Front ss own stood pre c f → Front ss own stood pre c (if b then f else g)
+    when_open true ss own stood pre c f g e x = x
+    when_open false ss own stood pre c f g e x = absurd cc
 
-    when_open : (b : Bool) (own : Option ℕ) (pre : List Mark) (f g : Fronted) → b ≡ true → Both own pre f → Both own pre (if b then f else g)
-    when_open true own pre f g e x = x
-    when_open false own pre f g e x = absurd cc
-
-    when_not_open : (b : Bool) (own : Option ℕ) (pre : List Mark) (f g : Fronted) → b ≡ false → Both own pre g → Both own pre (if b then f else g)
-    when_not_open true own pre f g e x = absurd cc
-    when_not_open false own pre f g e x = x
+    when_not_open : (b : Bool) (ss : Forms) (own : Option ℕ) (stood : Option Stood) (pre : List Mark) (c : Check) (f g : Fronted) → b ≡ false → Front ss own stood pre c g → Front ss own stood pre c (if b then f else g)
+    when_not_open true ss own stood pre c f g e x = absurd cc
+    when_not_open false ss own stood pre c f g e x = x
 
     front_compared : {ss : Forms} {moved own : Option ℕ} {stood : Option Stood} {i k : ℕ} → Opens types order octets ss moved own i k → Tells moved stood → (pre : List Mark) (c : Check) → At pre c
-        → Noted (pre ++ opened_marks moved own i) all → Both own (pre ++ opened_marks moved own i) (fronted types ss stood c)
-    front_compared in_a_greater (tells at) pre c a n = (tells at, at_own pre c a)
+        → Noted (pre ++ opened_marks moved own i) all → Front ss own stood (pre ++ opened_marks moved own i) c (fronted types ss stood c)
+    front_compared in_a_greater tells pre c a n = (tells, fronts_greater, refl, at_own pre c a)
     front_compared {ss} (in_front {most = most} {i = i} is s) tells_none pre c a n =
         let m = Number (up i 4) (pos most) in
-        let x = tied pre (m ∷ []) c.left a.place n in
-        subst (λ (y : List Mark). Both (Some most) (pre ++ m ∷ []) (fronted types ss None (with_left c y))) (sym x.1)
-        (when_open (opens_with types ss) (Some most) (pre ++ m ∷ []) (Some (up i 4, pos most), with_left c x.0) (None, with_left c (m ∷ x.0)) is
-        (tells (stands pre m x.0 (up i 4) x.2 refl), record { place = x.2; off = a.off }))
+        let x = tied pre (m ∷ []) c.left a n in
+        subst (λ (y : List Mark). Front ss (Some most) None (pre ++ m ∷ []) (with_left c y) (fronted types ss None (with_left c y))) (sym x.1)
+        (when_open (opens_with types ss) ss (Some most) None (pre ++ m ∷ []) (with_left c (m ∷ x.0)) (Some (up i 4, pos most), with_left c x.0) (None, with_left c (m ∷ x.0)) is
+        (tells, fronts is, refl, x.2))
     front_compared {ss} (not_open is) tells_none pre c a n =
-        when_not_open (opens_with types ss) None (pre ++ []) (front_in c.left c) (None, c) is (tells_none, at_own pre c a)
+        when_not_open (opens_with types ss) ss None None (pre ++ []) c (front_in c.left c) (None, c) is (tells_none, fronts_none is, refl, at_own pre c a)
 
     -- a full pointer that brought its id, and one that didn't
-    new_compared : (go : ℕ → Compared) (r num : ℕ) (body : Vals) (s : Form) (v : Val) (pre pre' : List Mark) (c : Check) → nth call.said.heap num ≡ Some v → At pre c → Noted (pre ++ Referent true ∷ []) all
-        → ((c1 : Check) → At (pre ++ Referent true ∷ []) c1 → At pre' (go r body None None s v c1)) → At pre' (compare_full go (suc r) call body s (VFull (Some num)) c)
-    new_compared go r num body s v pre pre' c is a n h =
-        let x = tied pre (Referent true ∷ []) c.left a.place n in
-        known (compare_full go (suc r) call body s (VFull (Some num))) pre' c (Referent true ∷ x.0) x.1
-        (subst (λ (o : Option Val). At pre' (compare_referent go (suc r) body s o (with_left c x.0))) (sym is) (h (with_left c x.0) (record { place = x.2; off = a.off })))
+    new_compared : (go : ℕ → Compared) (r num : ℕ) (body : Vals) (link : Option Count) (stood : Option Stood) (s : Form) (v : Val) (pre pre' : List Mark) (c : Check) → nth call.said.heap num ≡ Some v → At pre c → Noted (pre ++ Referent true ∷ []) all
+        → ((c1 : Check) → At (pre ++ Referent true ∷ []) c1 → Went (Asks types call r body None None s v) pre' c1 (go r body None None s v c1))
+        → Went (Asks types call (suc r) body link stood (OfFull s) (VFull (Some num))) pre' c (compare_full go (suc r) call body s (VFull (Some num)) c)
+    new_compared go r num body link stood s v pre pre' c is a n h =
+        let x = tied pre (Referent true ∷ []) c.left a n in
+        let w = h (with_left c x.0) x.2 in
+        known (Asks types call (suc r) body link stood (OfFull s) (VFull (Some num))) (compare_full go (suc r) call body s (VFull (Some num))) pre' c (Referent true ∷ x.0) x.1
+        (subst (λ (o : Option Val). Went (Asks types call (suc r) body link stood (OfFull s) (VFull (Some num))) pre' (with_left c (Referent true ∷ x.0)) (compare_referent go (suc r) body s o (with_left c x.0))) (sym is)
+        (record { demands = w.demands; asks = asks_new is w.asks; off = w.off; place = w.place }))
 
-    repeat_compared : (go : ℕ → Compared) (room num : ℕ) (body : Vals) (s : Form) (pre : List Mark) (c : Check) → At pre c → Noted (pre ++ Referent false ∷ []) all
-        → At (pre ++ Referent false ∷ []) (compare_full go room call body s (VFull (Some num)) c)
-    repeat_compared go room num body s pre c a n =
-        let x = tied pre (Referent false ∷ []) c.left a.place n in
-        known (compare_full go room call body s (VFull (Some num))) (pre ++ Referent false ∷ []) c (Referent false ∷ x.0) x.1 (record { place = x.2; off = a.off })
+    repeat_compared : (go : ℕ → Compared) (room num : ℕ) (body : Vals) (link : Option Count) (stood : Option Stood) (s : Form) (pre : List Mark) (c : Check) → At pre c → Noted (pre ++ Referent false ∷ []) all
+        → Went (Asks types call room body link stood (OfFull s) (VFull (Some num))) (pre ++ Referent false ∷ []) c (compare_full go room call body s (VFull (Some num)) c)
+    repeat_compared go room num body link stood s pre c a n =
+        let x = tied pre (Referent false ∷ []) c.left a n in
+        known (Asks types call room body link stood (OfFull s) (VFull (Some num))) (compare_full go room call body s (VFull (Some num))) (pre ++ Referent false ∷ []) c (Referent false ∷ x.0) x.1
+        (record { demands = []; asks = asks_repeat; off = refl; place = x.2 })
+
+    -- what asks for nothing
+    nothing : (room : ℕ) (body : Vals) (link : Option Count) (stood : Option Stood) (s : Form) (v : Val) (c : Check) (pre : List Mark) → is_plain s ≡ true → At pre c → Went (Asks types call room body link stood s v) pre c c
+    nothing room body link stood s v c pre is a = record { demands = []; asks = asks_plain is; off = refl; place = a }
 
     -- one step
-    into : (n room : ℕ) (body : Vals) (link : Option Count) (stood : Option Stood) (s : Form) (v : Val) (c : Check) (pre : List Mark) → At pre (compare_at types call (compare types call n) room body link stood s v c) → At pre (compare types call (suc n) room body link stood s v c)
+    into : (n room : ℕ) (body : Vals) (link : Option Count) (stood : Option Stood) (s : Form) (v : Val) (c : Check) (pre : List Mark)
+        → Went (Asks types call room body link stood s v) pre c (compare_at types call (compare types call n) room body link stood s v c) → Went (Asks types call room body link stood s v) pre c (compare types call (suc n) room body link stood s v c)
     unfolding compare
-    into n room body link stood s v c pre a = a
+    into n room body link stood s v c pre w = w
 
     module _ (deep : ℕ) (grounded : Grounded types deep) where
       less : (n room d : ℕ) → suc room * (deep + 1) + suc d ≤ suc n → room * (deep + 1) + deep ≤ n
       less n room d le = omega (arith, le, suc-mul room (deep + 1))
 
-      elements_compared : (b : Bool) (pre pre' : List Mark) (c c' : Check) → (b ≡ true → pre' ≡ pre) → At pre c → (b ≡ false → At pre' c') → At pre' (if b then c else c')
-      elements_compared true pre pre' c c' same a h = subst (λ (x : List Mark). At x c) (sym (same refl)) a
-      elements_compared false pre pre' c c' same a h = h refl
+      elements_compared : (b : Bool) (room : ℕ) (body : Vals) (s : Form) (vs : Vals) (pre pre' : List Mark) (c c' : Check) → is_plain s ≡ b → (b ≡ true → pre' ≡ pre) → At pre c
+          → (b ≡ false → Went (AsksAll types call room body s vs) pre' c c') → Went (AsksAll types call room body s vs) pre' c (if b then c else c')
+      elements_compared true room body s vs pre pre' c c' is same a h = record { demands = []; asks = none_asks is; off = refl; place = subst (λ (x : List Mark). At x c) (sym (same refl)) a }
+      elements_compared false room body s vs pre pre' c c' is same a h = h refl
 
       mutual
         pub part_compared : {room : ℕ} {moved : Option ℕ} {s : Form} {v : Val} {p p' : Place} {q q' : Last} (d n : ℕ) → Part types order octets room moved s v p p' q q' → (body : Vals) (link : Option Count) {stood : Option Stood} → Tells moved stood
             → (c : Check) → At q.marks c → Noted q'.marks all → Ext p'.met q.here.met → Kept call.said.heap p p' q q' → Shallow types d s → Targets types deep s → room * (deep + 1) + d ≤ n
-            → At q'.marks (compare types call n room body link stood s v c)
+            → Went (Asks types call room body link stood s v) q'.marks c (compare types call n room body link stood s v c)
         part_compared zero n part body link t c a noted ext kept sh tg le = absurd sh
         part_compared (suc d) zero part body link t c a noted ext kept sh tg le = absurd (omega (arith, le))
         part_compared (suc d) (suc n) (a_bool {room = room} {n = x} {q = q} at) body link {stood = stood} t c a noted ext kept sh tg le =
-            into n room body link stood OfBool (VBool (not (x == 0))) c q.marks a
+            into n room body link stood OfBool (VBool (not (x == 0))) c q.marks (nothing room body link stood OfBool (VBool (not (x == 0))) c q.marks refl a)
         part_compared (suc d) (suc n) (a_byte {room = room} {n = x} {q = q} at) body link {stood = stood} t c a noted ext kept sh tg le =
-            into n room body link stood OfByte (VByte x) c q.marks a
+            into n room body link stood OfByte (VByte x) c q.marks (nothing room body link stood OfByte (VByte x) c q.marks refl a)
         part_compared (suc d) (suc n) (a_char {room = room} {n = x} {q = q} at) body link {stood = stood} t c a noted ext kept sh tg le =
-            into n room body link stood OfChar (VChar x) c q.marks a
+            into n room body link stood OfChar (VChar x) c q.marks (nothing room body link stood OfChar (VChar x) c q.marks refl a)
         part_compared (suc d) (suc n) (an_int {room = room} {size = size} {n = x} {q = q} at) body link {stood = stood} t c a noted ext kept sh tg le =
-            into n room body link stood (OfInt size) (VInt (signed size x)) c q.marks a
+            into n room body link stood (OfInt size) (VInt (signed size x)) c q.marks (nothing room body link stood (OfInt size) (VInt (signed size x)) c q.marks refl a)
         part_compared (suc d) (suc n) (a_uint {room = room} {size = size} {n = x} {q = q} at) body link {stood = stood} t c a noted ext kept sh tg le =
-            into n room body link stood (OfUint size) (VUint x) c q.marks a
+            into n room body link stood (OfUint size) (VUint x) c q.marks (nothing room body link stood (OfUint size) (VUint x) c q.marks refl a)
         part_compared (suc d) (suc n) (an_enum {room = room} {count = count} {n = x} {q = q} at lt) body link {stood = stood} t c a noted ext kept sh tg le =
-            into n room body link stood (OfEnum count) (VEnum x) c q.marks a
+            into n room body link stood (OfEnum count) (VEnum x) c q.marks (nothing room body link stood (OfEnum count) (VEnum x) c q.marks refl a)
         part_compared (suc d) (suc n) (a_handle {room = room} {kind = kind} {p = p} {q = q} at) body link {stood = stood} t c a noted ext kept sh tg le =
-            into n room body link stood (OfHandle kind) (VHandle (length p.wires)) c q.marks a
+            into n room body link stood (OfHandle kind) (VHandle (length p.wires)) c q.marks (nothing room body link stood (OfHandle kind) (VHandle (length p.wires)) c q.marks refl a)
         part_compared (suc d) (suc n) (a_text {room = room} {size = size} {text = text} {q = q} at) body link {stood = stood} t c a noted ext kept sh tg le =
-            into n room body link stood (OfText size) (VText text) c q.marks a
+            into n room body link stood (OfText size) (VText text) c q.marks (nothing room body link stood (OfText size) (VText text) c q.marks refl a)
         part_compared (suc d) (suc n) (a_name {room = room} {c = num} {switch = switch} {s = s} {v = v} {q' = q'} is part) body link {stood = stood} t c a noted ext kept sh tg le =
             into n room body link stood (OfNamed num switch) v c q'.marks
-            (subst (λ (o : Option Form). At q'.marks (compare_type (compare types call n room) body switch stood o v c)) (sym is)
-            (part_compared d n part body switch t c a noted ext kept (type_has types (Shallow types d) num s sh is) (grounded num s is) (omega (arith, le))))
+            (let w = part_compared d n part body switch t c a noted ext kept (type_has types (Shallow types d) num s sh is) (grounded num s is) (omega (arith, le)) in
+            subst (λ (o : Option Form). Went (Asks types call room body link stood (OfNamed num switch) v) q'.marks c (compare_type (compare types call n room) body switch stood o v c)) (sym is)
+            (record { demands = w.demands; asks = asks_name is w.asks; off = w.off; place = w.place }))
         part_compared (suc d) (suc n) (a_struct {room = room} {moved = moved} {own = own} {ss = ss} {vs = vs} {p = p} {q = q} {q' = q'} b ps) body link {stood = stood} t c a noted ext kept sh tg le =
             into n room body link stood (OfStruct ss) (VStruct vs) c q'.marks
             (let f = front_compared b.opens t q.marks c a (noted_then (q.marks ++ opened_marks moved own p.at) q'.marks all (parts_note types order octets ps) noted) in
-            parts_compared d n ps vs f.0 (fronted types ss stood c).1 f.1 noted ext kept sh tg (omega (arith, le)))
+            let w = parts_compared d n ps vs f.0 (fronted types ss stood c).1 f.3 noted ext kept sh tg (omega (arith, le)) in
+            record { demands = w.demands; asks = asks_members f.1 w.asks; off = w.off ∙ ap (λ (o : Option Departure). least o w.demands) f.2; place = w.place })
         part_compared (suc d) (suc n) (an_empty_arm {room = room} {t = t0} {arms = arms} {tag = tag} {p = p} {q = q} at is) body link {stood = stood} t c a noted ext kept sh tg le =
             into n room body link stood (OfUnion t0 arms) (VEmpty tag) c (q.marks ++ tag_marks types t0 (OfUnion t0 arms) tag p.at)
-            (tag_compared body link t0 (OfUnion t0 arms) tag p.at q.marks c a noted)
+            (let w = tag_compared body link t0 (OfUnion t0 arms) tag p.at q.marks c a noted in
+            record { demands = w.demands; asks = empty_asks room body link stood t0 arms tag c.left (compare_tag call body link tag c).left w.demands w.asks; off = w.off; place = w.place })
         part_compared (suc d) (suc n) (an_arm {room = room} {t = t0} {s = s} {arms = arms} {tag = tag} {v = v} {p = p} {q = q} {q' = q'} at is part) body link {stood = stood} t c a noted ext kept sh tg le =
             into n room body link stood (OfUnion t0 arms) (VUnion tag v) c q'.marks
             (let own = tag_marks types t0 (OfUnion t0 arms) tag p.at in
             let one = tag_compared body link t0 (OfUnion t0 arms) tag p.at q.marks c a (noted_then (q.marks ++ own) q'.marks all (part_notes types order octets part) noted) in
-            subst (λ (o : Option Body). At q'.marks (compare_arm (compare types call n room) o v (compare_tag call body link tag c))) (sym is)
-            (part_compared d n part no_val None tells_none (compare_tag call body link tag c) one noted ext kept (arm_has (Shallow types d) s t0 arms tag is sh) (arm_has (Targets types deep) s t0 arms tag is (each_arm types deep arms tg)) (omega (arith, le))))
+            let c1 = compare_tag call body link tag c in
+            let w = part_compared d n part no_val None tells_none c1 one.place noted ext kept (arm_has (Shallow types d) s t0 arms tag is sh) (arm_has (Targets types deep) s t0 arms tag is (each_arm types deep arms tg)) (omega (arith, le)) in
+            let c2 = compare types call n room no_val None None s v c1 in
+            subst (λ (o : Option Body). Went (Asks types call room body link stood (OfUnion t0 arms) (VUnion tag v)) q'.marks c (compare_arm (compare types call n room) o v c1)) (sym is)
+            (record {
+              demands = one.demands ++ w.demands;
+              asks = arm_asks room body link stood t0 s arms tag v c.left c1.left c2.left one.demands w.demands one.asks is w.asks;
+              off = off_then c.off c1.off c2.off one.demands w.demands one.off w.off;
+              place = w.place;
+            }))
         part_compared (suc d) (suc n) (an_array {room = room} {i = i} {moved = moved} {kind = kind} {counts = k} {s = s} {vs = vs} {p = p} {q = q} {q' = q'} at ps) body link {stood = stood} t c a noted ext kept sh tg le =
             into n room body link stood (OfArray kind s) (VArray vs) c q'.marks
             (let own = count_marks kind moved k p.at i in
             let c1 = compare_counts call body stood kind c in
             let one = counts_compared body at t q.marks c a (noted_then (q.marks ++ own) q'.marks all (items_note types order octets ps) noted) in
-            elements_compared (is_plain s) (q.marks ++ own) q'.marks c1 (compare_all (compare types call n room) body s vs c1) (plain_items ps) one (λ e. items_compared d n ps body c1 one noted ext kept sh tg (omega (arith, le))))
+            let c2 = compare_all (compare types call n room) body s vs c1 in
+            let w = elements_compared (is_plain s) room body s vs (q.marks ++ own) q'.marks c1 c2 refl (plain_items ps) one.place (λ e. items_compared d n ps body c1 e one.place noted ext kept sh tg (omega (arith, le))) in
+            record { demands = one.demands ++ w.demands; asks = asks_array one.asks w.asks; off = off_then c.off c1.off (if is_plain s then c1 else c2).off one.demands w.demands one.off w.off; place = w.place })
         part_compared (suc d) (suc n) (a_ref {room = r} {s = s} {v = v} {h = h} {q = q} {q' = q'} at part) body link {stood = stood} t c a noted ext kept sh tg le =
             into n (suc r) body link stood (OfRef s) v c q'.marks
-            (part_compared deep n part body None tells_none c a noted (ext_self h.met) (kept_inner call.said.heap h q q' (part_grows types order octets part) (λ (x : ℕ) (y : In q.here q'.here x). kept x (inr y))) tg.0 tg.1 (less n r d le))
+            (let w = part_compared deep n part body None tells_none c a noted (ext_self h.met) (kept_inner call.said.heap h q q' (part_grows types order octets part) (λ (x : ℕ) (y : In q.here q'.here x). kept x (inr y))) tg.0 tg.1 (less n r d le) in
+            record { demands = w.demands; asks = asks_ref w.asks; off = w.off; place = w.place })
         part_compared (suc d) (suc n) (a_null {room = room} {s = s} {q = q} at) body link {stood = stood} t c a noted ext kept sh tg le =
-            into n room body link stood (OfUnique s) VNull c q.marks a
+            into n room body link stood (OfUnique s) VNull c q.marks (record { demands = []; asks = asks_null; off = refl; place = a })
         part_compared (suc d) (suc n) (a_unique {room = r} {s = s} {v = v} {h = h} {q = q} {q' = q'} at part) body link {stood = stood} t c a noted ext kept sh tg le =
             into n (suc r) body link stood (OfUnique s) (VPtr v) c q'.marks
-            (part_compared deep n part body None tells_none c a noted (ext_self h.met) (kept_inner call.said.heap h q q' (part_grows types order octets part) (λ (x : ℕ) (y : In q.here q'.here x). kept x (inr y))) tg.0 tg.1 (less n r d le))
+            (let w = part_compared deep n part body None tells_none c a noted (ext_self h.met) (kept_inner call.said.heap h q q' (part_grows types order octets part) (λ (x : ℕ) (y : In q.here q'.here x). kept x (inr y))) tg.0 tg.1 (less n r d le) in
+            record { demands = w.demands; asks = asks_unique w.asks; off = w.off; place = w.place })
         part_compared (suc d) (suc n) (a_null_full {room = room} {s = s} {q = q} at) body link {stood = stood} t c a noted ext kept sh tg le =
-            into n room body link stood (OfFull s) (VFull None) c q.marks a
+            into n room body link stood (OfFull s) (VFull None) c q.marks (record { demands = []; asks = asks_null_full; off = refl; place = a })
         part_compared (suc d) (suc n) (a_new {room = r} {id = id} {s = s} {v = v} {p = p} {h = h} {q = q} {q' = q'} at free part) body link {stood = stood} t c a noted ext kept sh tg le =
             into n (suc r) body link stood (OfFull s) (VFull (Some (length p.met))) c q'.marks
             (let num = length p.met in
@@ -274,30 +285,34 @@ module _ (all : List Mark) where
             let one : length (p.met ++ (suc id, s) ∷ []) ≡ suc num = omega (arith, length-append p.met ((suc id, s) ∷ [])) in
             let is : nth call.said.heap num ≡ Some v = sym (kept num (inl (omega arith, omega (arith, one)))) ∙ that_item num v q'.items in
             let inner = kept_inner call.said.heap h (noting own q) q' (part_grows types order octets part) (kept_new call.said.heap num v (noting own q) q' (let le2 = ext_le (p.met ++ (suc id, s) ∷ []) q.here.met ext in omega (arith, le2, one)) (λ (y : ℕ) (z : In q.here q'.here y). kept y (inr z))) in
-            new_compared (compare types call n) r num body s v q.marks q'.marks c is a (noted_then (q.marks ++ own) q'.marks all (part_notes types order octets part) noted)
+            new_compared (compare types call n) r num body link stood s v q.marks q'.marks c is a (noted_then (q.marks ++ own) q'.marks all (part_notes types order octets part) noted)
             (λ c1 a1. part_compared deep n part body None tells_none c1 a1 noted (ext_self h.met) inner tg.0 tg.1 (less n r d le)))
         part_compared (suc d) (suc n) (a_repeat {room = room} {n = num} {s = s} {q = q} at is alike) body link {stood = stood} t c a noted ext kept sh tg le =
             into n room body link stood (OfFull s) (VFull (Some num)) c (q.marks ++ Referent false ∷ [])
-            (repeat_compared (compare types call n) room num body s q.marks c a noted)
+            (repeat_compared (compare types call n) room num body link stood s q.marks c a noted)
 
         parts_compared : {room : ℕ} {own : Option ℕ} {ss : Forms} {vs : Vals} {p p' : Place} {q q' : Last} (d n : ℕ) → Parts types order octets room own ss vs p p' q q' → (body : Vals) {stood : Option Stood} → Tells own stood
             → (c : Check) → At q.marks c → Noted q'.marks all → Ext p'.met q.here.met → Kept call.said.heap p p' q q' → EachForm (Shallow types d) ss → EachTarget types deep ss → room * (deep + 1) + d ≤ n
-            → At q'.marks (compare_each (compare types call n room) body stood ss vs c)
-        parts_compared d n no_part body t c a noted ext kept sh tg le = a
-        parts_compared d n (then_part {room = room} {s = s} {v = v} {ss = ss} {p = p} {h = h} {p' = p'} {q = q} {g = g} {q' = q'} part ps) body {stood = stood} t c a noted ext kept sh tg le =
+            → Went (AsksEach types call room body stood ss vs) q'.marks c (compare_each (compare types call n room) body stood ss vs c)
+        parts_compared d n no_part body t c a noted ext kept sh tg le = record { demands = []; asks = no_member_asks; off = refl; place = a }
+        parts_compared d n (then_part {room = room} {s = s} {v = v} {ss = ss} {vs = vs} {p = p} {h = h} {p' = p'} {q = q} {g = g} {q' = q'} part ps) body {stood = stood} t c a noted ext kept sh tg le =
             let grown = part_grows types order octets part in
             let grows = parts_grow types order octets ps in
             let one = part_compared d n part body None (tells_last (is_last ss) t) c a (noted_then g.marks q'.marks all (parts_note types order octets ps) noted) (ext_then h.met p'.met q.here.met grows.0 ext)
             (kept_first call.said.heap p h p' q g q' grown grows ext (λ y. parts_leave types order octets y ps) kept) sh.0 tg.0 le in
-            parts_compared d n ps body t (compare types call n room body None (stood_last ss stood) s v c) one noted (ext_then p'.met q.here.met g.here.met ext grown.1) (kept_second call.said.heap p h p' q g q' grown kept) sh.1 tg.1 le
+            let c1 = compare types call n room body None (stood_last ss stood) s v c in
+            let w = parts_compared d n ps body t c1 one.place noted (ext_then p'.met q.here.met g.here.met ext grown.1) (kept_second call.said.heap p h p' q g q' grown kept) sh.1 tg.1 le in
+            record { demands = one.demands ++ w.demands; asks = member_asks one.asks w.asks; off = off_then c.off c1.off (compare_each (compare types call n room) body stood ss vs c1).off one.demands w.demands one.off w.off; place = w.place }
 
         items_compared : {room k : ℕ} {s : Form} {vs : Vals} {p p' : Place} {q q' : Last} (d n : ℕ) → Items types order octets room k s vs p p' q q' → (body : Vals)
-            → (c : Check) → At q.marks c → Noted q'.marks all → Ext p'.met q.here.met → Kept call.said.heap p p' q q' → Shallow types d s → Targets types deep s → room * (deep + 1) + d ≤ n
-            → At q'.marks (compare_all (compare types call n room) body s vs c)
-        items_compared d n no_item body c a noted ext kept sh tg le = a
-        items_compared d n (then_item {room = room} {s = s} {v = v} {p = p} {h = h} {p' = p'} {q = q} {g = g} {q' = q'} part ps) body c a noted ext kept sh tg le =
+            → (c : Check) → is_plain s ≡ false → At q.marks c → Noted q'.marks all → Ext p'.met q.here.met → Kept call.said.heap p p' q q' → Shallow types d s → Targets types deep s → room * (deep + 1) + d ≤ n
+            → Went (AsksAll types call room body s vs) q'.marks c (compare_all (compare types call n room) body s vs c)
+        items_compared d n no_item body c is a noted ext kept sh tg le = record { demands = []; asks = no_element_asks; off = refl; place = a }
+        items_compared d n (then_item {room = room} {s = s} {v = v} {vs = vs} {p = p} {h = h} {p' = p'} {q = q} {g = g} {q' = q'} part ps) body c is a noted ext kept sh tg le =
             let grown = part_grows types order octets part in
             let grows = items_grow types order octets ps in
             let one = part_compared d n part body None tells_none c a (noted_then g.marks q'.marks all (items_note types order octets ps) noted) (ext_then h.met p'.met q.here.met grows.0 ext)
             (kept_first call.said.heap p h p' q g q' grown grows ext (λ y. items_leave types order octets y ps) kept) sh tg le in
-            items_compared d n ps body (compare types call n room body None None s v c) one noted (ext_then p'.met q.here.met g.here.met ext grown.1) (kept_second call.said.heap p h p' q g q' grown kept) sh tg le
+            let c1 = compare types call n room body None None s v c in
+            let w = items_compared d n ps body c1 is one.place noted (ext_then p'.met q.here.met g.here.met ext grown.1) (kept_second call.said.heap p h p' q g q' grown kept) sh tg le in
+            record { demands = one.demands ++ w.demands; asks = element_asks is one.asks w.asks; off = off_then c.off c1.off (compare_all (compare types call n room) body s vs c1).off one.demands w.demands one.off w.off; place = w.place }

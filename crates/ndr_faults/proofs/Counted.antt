@@ -1,17 +1,16 @@
 -- On grounded types one more level compares the same, whatever the values and marks.
-use Rattle.std.proofs.Common.{◌≡◌, ℕ, zero, suc, ◌+◌, ◌*◌, ◌≤◌, ℤ, Bool, true, false, List, [], ◌∷◌, Option, Some, None, refl, ap, ◌∙◌, arith, suc-mul}
+use Rattle.std.proofs.Common.{◌≡◌, ℕ, zero, suc, ◌+◌, ◌*◌, ◌≤◌, ℤ, true, List, ◌∷◌, Option, Some, None, refl, ap, ◌∙◌, arith, suc-mul}
 use Rattle.std.specs.Prelude.{slice_get, if◌then◌else◌}
 use Rattle.ndr_value.specs.declared.shape.Count.{Count}
 use Rattle.ndr_value.specs.declared.shape.ArrayKind.{ArrayKind}
-use Rattle.ndr_value.specs.Forms.{Form, OfBool, OfByte, OfChar, OfInt, OfUint, OfEnum, OfNamed, OfStruct, OfUnion, OfArray, OfText, OfRef, OfUnique, OfFull, OfHandle, Forms, no_form, then_form, Body, empty, holds}
+use Rattle.ndr_value.specs.Forms.{Form, OfNamed, OfStruct, OfUnion, OfArray, OfRef, OfUnique, OfFull, Forms, no_form, then_form, Body, empty, holds}
 use Rattle.ndr_value.specs.Fits.{arm_of}
 use Rattle.ndr_value.specs.Values.{Val, VStruct, VUnion, VArray, VPtr, VFull, Vals, no_val, then_val}
 use Rattle.ndr_model.specs.declared.mark.Mark.{Mark}
 use Rattle.ndr_model.specs.declared.mark.Mark.TheVariants.{Referent}
-use Rattle.ndr_model.specs.Stub.{Entry}
 use Rattle.ndr_model.specs.Named.{Call, nth}
 use Rattle.ndr_model.specs.Agree.{Stood, is_plain, stood_last}
-use Rattle.ndr_model.specs.Compare.{Check, fronted, compare_counts, compare_tag, compare_each, compare_all, compare_elements, compare_arm, compare_referent, full_in, compare_struct, compare_union, compare_array, compare_unique, compare_full, compare_type, compare}
+use Rattle.ndr_model.specs.Compare.{Check, fronted, compare_counts, compare_tag, compare_each, compare_all, compare_arm, compare_referent, full_in, compare_struct, compare_union, compare_array, compare_unique, compare_full, compare_type, compare}
 use Rattle.ndr_laws.proofs.Grounded.{EachForm, HasForm, Shallow, Targets, EachTarget, Grounded, each_arm, arm_has}
 
 module _ (types : List Form) (call : Call) (deep : ℕ) (grounded : Grounded types deep) where

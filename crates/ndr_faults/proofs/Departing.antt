@@ -1,6 +1,5 @@
 -- A departure of a stub is the first of its values, or all of them stand.
 use Rattle.std.proofs.Common.{◌≡◌, ℕ, zero, suc, ◌+◌, ◌*◌, ◌<◌, ◌≤◌, ℤ, List, [], ◌∷◌, ◌++◌, length, Option, Some, None, Result, Ok, Err, refl, sym, ap, subst, ◌∙◌, arith, inl}
-use Rattle.std.specs.Prelude.{int_le, ◌&&◌}
 use Rattle.std.proofs.lemmas.List.{append-nil}
 use Rattle.rpc_base.specs.declared.identifiers.Order.{Order}
 use Rattle.ndr_value.specs.Forms.{Form}
@@ -11,7 +10,6 @@ use Rattle.ndr_scalars.specs.Scalars.{up}
 use Rattle.ndr_arrays.specs.Bind.{◌>>=◌}
 use Rattle.ndr_arrays.proofs.Steps.{through}
 use Rattle.ndr_model.specs.declared.departure.Departure.{Departure}
-use Rattle.ndr_model.specs.declared.departure.Departure.TheVariants.{Bound}
 use Rattle.ndr_model.specs.declared.way.Way.{Way}
 use Rattle.ndr_model.specs.declared.mark.Mark.{Mark}
 use Rattle.ndr_model.specs.declared.mark.Mark.TheVariants.{Ranged}
@@ -19,7 +17,7 @@ use Rattle.ndr_model.specs.Places.{Last, noting}
 use Rattle.ndr_model.specs.Part.{tag_size}
 use Rattle.ndr_model.specs.Stub.{Entry, entries, Follow, ranged, range_marks, start, IsRead}
 use Rattle.ndr_model.specs.Named.{Call, nth, number}
-use Rattle.ndr_model.specs.Compare.{Check, compare, range_off, compare_range, compare_entries}
+use Rattle.ndr_model.specs.Compare.{Check, sooner, compare, range_off, compare_range, compare_entries}
 use Rattle.ndr_model.specs.Build.{read_values}
 use Rattle.ndr_model.specs.Message.{enough, with_items, message_of, unless_off, compared, read_stub}
 use Rattle.ndr_model.proofs.Mets.{Ext, ext_self, ext_then}
@@ -32,9 +30,12 @@ use Rattle.ndr_laws.proofs.Marks.{Noted, noted_then, part_notes}
 use Rattle.ndr_laws.proofs.Kept.{In, Out, ext_le, out_first, out_second, part_leaves, kept_inner, has_nth}
 use Rattle.ndr_model.specs.Stub.{item}
 use Rattle.ndr_faults.specs.First.{IsOpOf, reads}
-use Rattle.ndr_faults.specs.Off.{IsAt, Disagrees, Departs, is_read, is_compared}
+use Rattle.ndr_faults.specs.Asked.{a_number, AsksRange, asks_no_range, asks_range, AskTogether, no_entry_asks, entry_asks}
+use Rattle.ndr_faults.specs.Off.{Disagrees, Departs, is_read, is_compared}
+use Rattle.ndr_faults.proofs.Amisses.{is_amiss}
 use Rattle.ndr_faults.proofs.Firsts.{Failed, at_once, later, failed, is_first}
-use Rattle.ndr_faults.proofs.Compared.{Fine, At, tied, known, at_own, sooner_fine, unless_fine, stands, tells_none, part_compared}
+use Rattle.ndr_faults.proofs.Compared.{At, Went, tied, known, at_own, tells_none, part_compared}
+use Rattle.ndr_faults.proofs.Leasts.{bounds_off, off_then, least_is}
 use Rattle.ndr_faults.proofs.Filled.{follow_fills, heaped}
 
 -- ---- what follows leaves what was met, noted and kept
@@ -72,20 +73,20 @@ module _ (types : List Form) (order : Order) (octets : List ℕ) where
 -- ---- the parameters, compared
 
 module _ (all : List Mark) (types : List Form) (order : Order) (octets : List ℕ) (call : Call) (deep : ℕ) (grounded : Grounded types deep) (n : ℕ) (wide : 256 * (deep + 1) + deep ≤ n) where
-  range_fine : (b : Bounds) (z : Option ℤ) (i : ℕ) → IsAt all (Bound i) → Fine all (range_off types call b z i)
-  range_fine b None i at = at
-  range_fine b (Some z) i at = unless_fine all (int_le b.low z && int_le z b.high) (Bound i) at
+  range_is : (b : Bounds) (z : Option ℤ) (i : ℕ) → range_off types call b z i ≡ bounds_off z b i
+  range_is b None i = refl
+  range_is b (Some z) i = refl
 
-  range_compared : (o : Option Bounds) (v : Val) (i : ℕ) (pre : List Mark) (c : Check) → At all pre c → Noted (pre ++ ranged o i) all → At all (pre ++ ranged o i) (compare_range types call o v c)
-  range_compared None v i pre c a noted = at_own all pre c a
+  range_compared : (o : Option Bounds) (v : Val) (i : ℕ) (pre : List Mark) (c : Check) → At all pre c → Noted (pre ++ ranged o i) all → Went all (AsksRange o v) (pre ++ ranged o i) c (compare_range types call o v c)
+  range_compared None v i pre c a noted = record { demands = []; asks = asks_no_range; off = refl; place = at_own all pre c a }
   range_compared (Some b) v i pre c a noted =
-      let x = tied all pre (Ranged i ∷ []) c.left a.place noted in
-      known all (compare_range types call (Some b) v) (pre ++ Ranged i ∷ []) c (Ranged i ∷ x.0) x.1
-      (record { place = x.2; off = sooner_fine all c.off (range_off types call b (number v) i) a.off (range_fine b (number v) i (stands all pre (Ranged i) x.0 i x.2 refl)) })
+      let x = tied all pre (Ranged i ∷ []) c.left a noted in
+      known all (AsksRange (Some b) v) (compare_range types call (Some b) v) (pre ++ Ranged i ∷ []) c (Ranged i ∷ x.0) x.1
+      (record { demands = a_number i (number v) b ∷ []; asks = asks_range; off = ap (sooner c.off) (range_is b (number v) i); place = x.2 })
 
   entries_compared : (es : List Entry) (vs : Vals) (q q' : Last) (c : Check) → Follow types order octets es vs q q' → At all q.marks c → Noted q'.marks all
-      → ((k : ℕ) → In q.here q'.here k → item q'.items k ≡ nth call.said.heap k) → EachEntry types deep es → At all q'.marks (compare_entries types call n es vs c)
-  entries_compared [] no_val q q' c f a noted kept sh = subst (λ (x : Last). At all x.marks c) f a
+      → ((k : ℕ) → In q.here q'.here k → item q'.items k ≡ nth call.said.heap k) → EachEntry types deep es → Went all (AskTogether types call es vs) q'.marks c (compare_entries types call n es vs c)
+  entries_compared [] no_val q q' c f a noted kept sh = record { demands = []; asks = no_entry_asks; off = refl; place = subst (λ (x : Last). At all x.marks c) f a }
   entries_compared [] (then_val v vs) q q' c f a noted kept sh = absurd f
   entries_compared (e ∷ es) no_val q q' c f a noted kept sh = absurd f
   entries_compared (e ∷ es) (then_val v vs) q q' c f a noted kept sh =
@@ -98,9 +99,17 @@ module _ (all : List Mark) (types : List Form) (order : Order) (octets : List �
       let kept1 = λ (k : ℕ) (y : In q.here h.here k). sym (follow_leaves types order octets k es vs (noting rm h) q' f.2 (inl y.1)) ∙ kept k (y.0, (let le = ext_le h.here.met q'.here.met grown in omega (arith, y.1, le))) in
       let one = part_compared all types order octets call deep grounded deep n w.part no_val None (tells_none) c a (noted_then h.marks (h.marks ++ rm) all (rm, refl) ahead) (ext_self w.h.met)
       (kept_inner call.said.heap w.h q h g kept1) sh.0.0 sh.0.1 wide in
-      let two = range_compared e.range v (up q.here.at (tag_size e.shape)) h.marks (compare types call n 256 no_val None None e.shape v c) one ahead in
-      entries_compared es vs (noting rm h) q' (compare_range types call e.range v (compare types call n 256 no_val None None e.shape v c)) f.2 two noted
-      (λ k y. kept k ((let le = ext_le q.here.met h.here.met (ext_then q.here.met w.h.met h.here.met g.0 g.1) in omega (arith, y.0, le)), y.1)) sh.1
+      let c1 = compare types call n 256 no_val None None e.shape v c in
+      let two = range_compared e.range v (up q.here.at (tag_size e.shape)) h.marks c1 one.place ahead in
+      let c2 = compare_range types call e.range v c1 in
+      let rest = entries_compared es vs (noting rm h) q' c2 f.2 two.place noted
+      (λ k y. kept k ((let le = ext_le q.here.met h.here.met (ext_then q.here.met w.h.met h.here.met g.0 g.1) in omega (arith, y.0, le)), y.1)) sh.1 in
+      let c3 = compare_entries types call n es vs c2 in record {
+        demands = one.demands ++ (two.demands ++ rest.demands);
+        asks = entry_asks one.asks two.asks rest.asks;
+        off = off_then c.off c1.off c3.off one.demands (two.demands ++ rest.demands) one.off (off_then c1.off c2.off c3.off two.demands rest.demands two.off rest.off);
+        place = rest.place;
+      }
 
 nth_some : (heap : Vals) (n : ℕ) → n < count_of heap → (v : Val) × (nth heap n ≡ Some v)
 nth_some no_val n lt = absurd (omega (arith, lt))
@@ -150,15 +159,19 @@ module _ (types : List Form) (op : OpForm) (way : Way) (order : Order) (asked : 
       let kept = λ (n : ℕ) (y : In start.here end.here n). (let v = nth_some w.said.heap n (omega (arith, y.1, heap.0)) in
       ap (item end.items) (let z : n ≡ 0 + n = omega arith in z) ∙ has_nth end.items 0 n w.said.heap v.0 heap.1 v.1 ∙ sym v.1) in
       let r = entries_compared end.marks types order octets (call w.said) 1023 grounded enough (omega arith) (entries way op) w.said.values start end (record { off = None; left = end.marks }) w.read.follow
-      (record { place = refl; off = tt }) ([], sym (append-nil end.marks)) kept sh in
-      let found = off_err w.said (compare_entries types (call w.said) enough (entries way op) w.said.values (record { off = None; left = end.marks })).off d e in
+      refl ([], sym (append-nil end.marks)) kept sh in
+      let last = compare_entries types (call w.said) enough (entries way op) w.said.values (record { off = None; left = end.marks }) in
+      let found = off_err w.said last.off d e in
       record {
         said = w.said;
         end = end;
         read = w.read;
         differ = λ left agree. not_both (read_stub types op way order asked octets) w.said d
             (stub_found types op way order asked octets w.said o.is (record { end = end; read = w.read; left = left; agree = agree })) all;
-        at = subst (Fine end.marks) found r.off;
+        left = last.left;
+        demands = r.demands;
+        asks = r.asks;
+        least = least_is r.demands d (sym r.off ∙ found);
       }
 
   pub departs : (d : Departure) → IsOpOf types op → read_stub types op way order asked octets ≡ Err d → Departs types op way order asked octets d
@@ -166,7 +179,7 @@ module _ (types : List Form) (op : OpForm) (way : Way) (order : Order) (asked : 
   departs d o e = by (failed (read_values types order octets enough (entries way op)) (λ x. message_of x.0 x.1 >>= λ m. compared types op way asked x.1.marks m) d e)
     where
       by : Failed (read_values types order octets enough (entries way op)) (λ x. message_of x.0 x.1 >>= λ m. compared types op way asked x.1.marks m) d → Departs types op way order asked octets d
-      by (at_once f) = is_read f (is_first types op way order octets d o f)
+      by (at_once f) = is_read f (is_first types op way order octets d o f) (is_amiss types op way order octets d o f)
       by (later x f g) =
           let w = whole x f in
           is_compared (disagree o d x w (sym (through (message_of x.0 x.1) (λ m. compared types op way asked x.1.marks m) w.said w.made) ∙ g) e)

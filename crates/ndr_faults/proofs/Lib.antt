@@ -1,12 +1,15 @@
+pub mod Amisses
+pub mod Causes
 pub mod Clear
 pub mod Compared
 pub mod Counted
 pub mod Cut
-pub mod Deeps
 pub mod Departing
 pub mod Filled
 pub mod Firsts
+pub mod Flats
 pub mod Fronts
+pub mod Leasts
 pub mod Same
 pub mod Settled
 pub mod Tops

@@ -12,7 +12,7 @@ use Rattle.ndr_model.specs.Stub.{Entry, entries, range_marks, start}
 use Rattle.ndr_model.specs.Named.{Call}
 use Rattle.ndr_model.specs.Compare.{Check, compare, compare_range, compare_entries}
 use Rattle.ndr_model.specs.Build.{whole, follows, no_more, read_values}
-use Rattle.ndr_model.specs.Message.{enough, message_of, unless_off, compared, read_stub}
+use Rattle.ndr_model.specs.Message.{enough, message_of, unless_off, read_stub}
 use Rattle.ndr_laws.specs.Laws.{IsOp}
 use Rattle.ndr_laws.proofs.Grounded.{Grounded, EachEntry}
 use Rattle.ndr_laws.proofs.Levels.{plus, plus_is, tight, tight_is, types_grounded, op_entries}

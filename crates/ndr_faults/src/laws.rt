@@ -1,5 +1,4 @@
 //! What holds of departures.
-ghost use Rattle.ndr_faults.specs.Deep.{TooDeepAtPointers};
 ghost use Rattle.ndr_faults.specs.First.{ReadsFirst};
 ghost use Rattle.ndr_faults.specs.Off.{StubDeparts};
 
@@ -8,13 +7,9 @@ pub fn reads_first()
     ensures { ReadsFirst }
 {}
 
-/// A departure of a stub of an operation of a table is the first that is read; or else a message stands in
-/// all the octets, and one of its counts, tags and numbers with ranges doesn't agree.
+/// A departure of a stub of an operation of a table is the first that is read, and a part that is come to
+/// departs so; or else a message stands in all the octets, and of its counts, tags and numbers with ranges
+/// that don't agree it is the first.
 pub fn stub_departs()
     ensures { StubDeparts }
-{}
-
-/// `TooDeep` is told at the index of a pointer alone, for whose referent there is no level.
-pub fn too_deep_at_pointers()
-    ensures { TooDeepAtPointers }
 {}

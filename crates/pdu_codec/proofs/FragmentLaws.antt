@@ -1,4 +1,4 @@
--- A fragment's header and the body behind it are its PDU.
+-- A fragment's header and the body after it are its PDU.
 use Rattle.std.proofs.Common.{◌≡◌, ℕ, ◌+◌, List, ◌++◌, length, None, ap, ◌∙◌, arith}
 use Rattle.pdu_codec.specs.declared.pdu.Head.{Head}
 use Rattle.pdu_codec.specs.declared.pdu.RequestBody.{RequestBody}

@@ -39,7 +39,7 @@ alter_resp_again order octets b is fits = through (bind_ack_at order octets) (λ
 
 -- ---- a body of a PTYPE
 
--- one PTYPE, whose body is made of what is read, and the others behind it
+-- one PTYPE, whose body is made of what is read, and the others after it
 takes_one : {B : Type 0} (order : Order) (flags kind : ℕ) (octets : List ℕ) (b : Body) (n : ℕ) (read : Option B) (make : B → Body) (others : Option Body)
     → ((x : B) → read ≡ Some x → IsBody order flags (make x) octets × FitsBody (make x)) → ((x : B) → kind_of (make x) ≡ n)
     → (others ≡ Some b → Spells order flags kind b octets)
@@ -54,7 +54,7 @@ takes_one {B} order flags kind octets b n read make others each is behind e =
       | inr other ↦ behind other.1
     ]
 
--- one PTYPE without fields, and the others behind it
+-- one PTYPE without fields, and the others after it
 takes_plain : (order : Order) (flags kind : ℕ) (octets : List ℕ) (b : Body) (n : ℕ) (plain : Body) (others : Option Body)
     → IsBody order flags plain octets → FitsBody plain → kind_of plain ≡ n
     → (others ≡ Some b → Spells order flags kind b octets)

@@ -108,7 +108,7 @@ pub record Spells (order : Order) (flags kind : ℕ) (body : Body) (octets : Lis
   pub fits : FitsBody body
   pub is_body : IsBody order flags body octets
 
--- The octets end before the last field of a body of that PTYPE: with more octets behind them they spell one,
+-- The octets end before the last field of a body of that PTYPE: with more octets after them they spell one,
 -- alone they spell none.
 pub record EndsEarly (order : Order) (flags kind : ℕ) (octets : List ℕ) : Type 0 where
   pub body : Body

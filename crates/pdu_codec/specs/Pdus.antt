@@ -48,7 +48,7 @@ drep_octet Little = 16
 abbrev pub zeros_3 : List ℕ
 zeros_3 = 0 ∷ 0 ∷ 0 ∷ []
 
--- the octets of a header with no authentication data, given the three octets behind the first of its
+-- the octets of a header with no authentication data, given the three octets after the first of its
 -- data representation
 unfoldable pub head_octets : ℕ → List ℕ → Head → List ℕ
 head_octets minor drep h =
@@ -162,7 +162,7 @@ pub record IsBind (order : Order) (b : BindBody) (octets : List ℕ) : Type 0 wh
   pub whole : octets ≡ bind_octets order reserved elements rest b
 
 -- The body begins at a multiple of four of the PDU. The address has ten octets before it, and the octets
--- to the next multiple of four behind it. Three reserved octets follow the count, and anything the results.
+-- to the next multiple of four after it. Three reserved octets follow the count, and anything the results.
 pub record IsBindAck (order : Order) (b : BindAckBody) (octets : List ℕ) : Type 0 where
   pub short : length b.address < 2 ^ 16
   pub few : length b.results < 256
@@ -277,7 +277,7 @@ pub record IsPdu (p : Pdu) (octets : List ℕ) : Type 0 where
   pub is_body : IsBody p.order p.flags p.body body
   pub whole : octets ≡ head_octets p.minor drep (head_of p (length octets)) ++ body
 
--- the bodies of a bind and of its answer with zero reserved octets and nothing behind the last field
+-- the bodies of a bind and of its answer with zero reserved octets and nothing after the last field
 abbrev pub written_bind : Order → BindBody → List ℕ
 written_bind order b = bind_octets order zeros_3 (flat_map (element_octets order 0) b.elements) [] b
 
@@ -288,7 +288,7 @@ abbrev pub acked_octets : Order → ℕ → ℕ → ℕ → List ℕ → List Co
 acked_octets order max_xmit max_recv group address results =
     written_bind_ack order (record { max_xmit = max_xmit; max_recv = max_recv; group = group; address = address; results = results })
 
--- the body with zero reserved octets and nothing behind its last field
+-- the body with zero reserved octets and nothing after its last field
 abbrev pub body_octets : Order → Body → List ℕ
 body_octets order (Request b) = request_octets order b
 body_octets order (Response b) = response_octets order 0 b

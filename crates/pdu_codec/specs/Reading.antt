@@ -1,4 +1,4 @@
--- Reading a body's fields from left to right: a field and the octets behind it, or none where they end early.
+-- Reading a body's fields from left to right: a field and the octets after it, or none where they end early.
 use Rattle.std.specs.Prelude.{◌≡◌, ℕ, zero, suc, ◌+◌, List, [], ◌∷◌, length, take, drop, ◌==◌, Option, Some, None, Result, Ok, Err, nat_lt, if◌then◌else◌, ⊤}
 use Rattle.std.specs.Int.{w16, w32}
 use Rattle.rpc_base.specs.declared.identifiers.Order.{Order}
@@ -131,7 +131,7 @@ result_at order octets = do
   transfer ← syntax_at order reason.1
   Some (record { result = result.0; reason = reason.0; transfer = transfer.0 }, transfer.1)
 
--- an address behind ten octets of a body, with its length and its padding
+-- an address after ten octets of a body, with its length and its padding
 unfoldable pub address_at : Order → List ℕ → Option (List ℕ × List ℕ)
 address_at order octets = do
   size ← u16_at order octets

@@ -50,7 +50,7 @@ fn take_results(
     Ok((results, rest))
 }
 
-/// An address behind ten octets of a body, with its length before it and its padding behind it.
+/// An address after ten octets of a body, with its length before it and its padding after it.
 #[tactic(auto, unfolding(crate::specs::Reading::address_at))]
 fn take_address(order: Order, octets: &[u8]) -> Result<(&[u8], &[u8]), PduFault>
     ensures { Gives (λ x. (x.0.now, x.1.now)) result (address_at order octets.now) }
@@ -61,7 +61,7 @@ fn take_address(order: Order, octets: &[u8]) -> Result<(&[u8], &[u8]), PduFault>
     Ok((address, rest))
 }
 
-/// The body of a bind_ack, from the octets behind its header (C706, "Connection-oriented RPC
+/// The body of a bind_ack, from the octets after its header (C706, "Connection-oriented RPC
 /// PDUs").
 ///
 /// # Errors
@@ -140,7 +140,7 @@ fn take_versions(alloc: Global, count: u8, octets: &[u8]) -> Result<(Versions, &
     Ok((versions, rest))
 }
 
-/// The body of a bind_nak, from the octets behind its header.
+/// The body of a bind_nak, from the octets after its header.
 ///
 /// # Errors
 ///

@@ -33,7 +33,7 @@ fn take_object(order: Order, flags: u8, octets: &[u8]) -> Result<(Option<Uuid>, 
     }
 }
 
-/// The body of a request, from the octets behind its header. The octets of the stub are copied
+/// The body of a request, from the octets after its header. The octets of the stub are copied
 /// once.
 ///
 /// # Errors
@@ -66,7 +66,7 @@ pub fn read_request(
     })
 }
 
-/// The body of a response, from the octets behind its header. The octets of the stub are copied
+/// The body of a response, from the octets after its header. The octets of the stub are copied
 /// once.
 ///
 /// # Errors
@@ -90,7 +90,7 @@ pub fn read_response(alloc: Global, order: Order, octets: &[u8]) -> Result<Respo
     })
 }
 
-/// The body of a fault, from the octets behind its header.
+/// The body of a fault, from the octets after its header.
 ///
 /// # Errors
 ///
@@ -180,7 +180,7 @@ fn take_elements(
     Ok((elements, rest))
 }
 
-/// The body of a bind, from the octets behind its header.
+/// The body of a bind, from the octets after its header.
 ///
 /// # Errors
 ///

@@ -1,4 +1,4 @@
-//! Fields at the front of octets: each call gives a field and the octets behind it, and answers
+//! Fields at the front of octets: each call gives a field and the octets after it, and answers
 //! `Body` where the octets end within the field.
 ghost use Rattle.std.specs.Prelude.{◌≡◌};
 ghost use Rattle.pdu_codec.specs.Reading.{Gives, u16_at, u32_at, uuid_at, syntax_at, piece_at, octet_at};

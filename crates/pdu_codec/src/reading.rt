@@ -11,7 +11,7 @@ use crate::heads::front_head;
 use crate::{Body, HEADER_SIZE, Head, Pdu, PduFault, ptypes};
 use std::alloc::Global;
 
-/// The body behind a header.
+/// The body after a header.
 #[tactic(auto, unfolding(crate::specs::Reading::body_at, crate::specs::Faults::is_known))]
 fn read_body(alloc: Global, head: &Head, octets: &[u8]) -> Result<Body, PduFault>
     requires long { header_size ≤ length octets.now }

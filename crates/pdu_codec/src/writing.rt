@@ -405,7 +405,7 @@ fn put_pdu(pdu: &Pdu, into: &mut Vec<u8>) -> Result<(), NoMemory>
     Ok(())
 }
 
-/// Adds the PDU's octets at the end, with zero reserved octets and nothing behind its last field
+/// Adds the PDU's octets at the end, with zero reserved octets and nothing after its last field
 /// (C706, "Connection-oriented RPC PDUs"). Where there is no memory, nothing is added.
 ///
 /// # Errors

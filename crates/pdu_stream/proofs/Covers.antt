@@ -61,7 +61,7 @@ at_first size stub =
 suc_mul : (k size : ℕ) → suc k * size ≡ size + k * size
 suc_mul k size = omega arith
 
--- a later piece is one of what is behind the first
+-- a later piece is one of what is after the first
 at_later : (size : ℕ) (stub : List ℕ) (k : ℕ) → size < length stub → at size stub (suc k) ≡ at size (drop size stub) k
 at_later size stub k more =
     let n = length stub in

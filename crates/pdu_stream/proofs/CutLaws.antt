@@ -6,7 +6,7 @@ use Rattle.pdu_codec.specs.declared.pdu.Pdu.{Pdu}
 use Rattle.pdu_codec.specs.declared.fault.PduFault.{PduFault}
 use Rattle.pdu_codec.specs.declared.fault.PduFault.TheVariants as faults
 use Rattle.pdu_codec.specs.Pdus.{IsPdu, AreSpelled, head_of}
-use Rattle.pdu_codec.specs.Faults.{is_known, kind_at, frag_length, IsHeadFault, IsFault}
+use Rattle.pdu_codec.specs.Faults.{is_known, frag_length, IsHeadFault, IsFault}
 use Rattle.pdu_codec.proofs.HeadLaws.{no_head_fault}
 use Rattle.pdu_codec.proofs.PduLaws.{pdu_says, pdu_long, body_known, one_pdu}
 use Rattle.pdu_codec.proofs.AnswerLaws.{head_one, one_fault, no_fault}

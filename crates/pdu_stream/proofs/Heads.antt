@@ -1,5 +1,5 @@
 -- Headers in front of longer octets.
-use Rattle.std.proofs.Common.{◌≡◌, ◌≢◌, ℕ, ◌<◌, ◌≤◌, ◌⊎◌, inl, Bool, true, false, List, ◌++◌, length, slice_index, take, drop, Option, Some, None, sym, ap, subst, ◌∙◌, arith}
+use Rattle.std.proofs.Common.{◌≡◌, ◌≢◌, ℕ, ◌<◌, ◌≤◌, ◌⊎◌, inl, true, false, List, ◌++◌, length, slice_index, take, drop, Option, Some, None, sym, ap, subst, ◌∙◌, arith}
 use Rattle.std.specs.Int.{w16}
 use Rattle.std.proofs.lemmas.List.{get_or-take, take-append-le, drop-take, take-take}
 use Rattle.rpc_base.specs.declared.identifiers.Order.{Order}
@@ -7,7 +7,7 @@ use Rattle.rpc_base.specs.Fields.{number_of, order_of}
 use Rattle.pdu_codec.specs.Constants.{header_size, major_version, most_minor}
 use Rattle.pdu_codec.specs.declared.fault.PduFault.{PduFault}
 use Rattle.pdu_codec.specs.declared.fault.PduFault.TheVariants as faults
-use Rattle.pdu_codec.specs.Faults.{is_known, kind_at, length_order, frag_length, IsRightLength, IsWrongLength, PassesHead, IsHeadFault}
+use Rattle.pdu_codec.specs.Faults.{is_known, length_order, frag_length, IsRightLength, IsWrongLength, PassesHead, IsHeadFault}
 
 -- what a header's tests look at
 pub record Tested : Type 0 where
@@ -44,7 +44,7 @@ tested_front o = λ i. record {
   auth = part_10 o i;
 }
 
--- octets behind those of a header change nothing in it
+-- octets after those of a header change nothing in it
 pub tested_more : (o more : List ℕ) → header_size ≤ length o → tested (o ++ more) ≡ tested o
 tested_more o more long = sym (tested_front (o ++ more)) ∙ ap tested (take-append-le header_size o more long) ∙ tested_front o
 

@@ -168,7 +168,7 @@ same_reach pdus p a b x y one (later_on rest e o g) (later_on rest' e' o' g') =
     let same = one a b rest rest' o o' in
     (same.0, e ∙ ap (λ (t : List Pdu). t ++ p ∷ []) same.1 ∙ sym e')
 
--- nothing is open behind no PDUs
+-- nothing is open after no PDUs
 pub none_open : (pdus : List Pdu) (a : Fragment) (x : List Pdu) → pdus ≡ [] → IsOpen pdus a x → ⊥
 none_open pdus a x e o = absurd (omega (arith, ap length (sym e ∙ o.whole), length-append o.before (o.opener ∷ x)))
 

@@ -1,4 +1,4 @@
--- What is being joined behind PDUs, with one PDU more.
+-- What is being joined after PDUs, with one PDU more.
 use Rattle.std.proofs.Common.{◌⊎◌, ◌≡◌, ℕ, ◌≤◌, inl, inr, Bool, true, false, ◌||◌, ◌&&◌, not, eqb, List, [], ◌∷◌, ◌++◌, length, Option, Some, None, Ok, refl, sym, ap, subst, ◌∙◌, append-nil}
 use Rattle.std.specs.List.{list_any, AllByRecursion}
 use Rattle.std.proofs.lemmas.Bool.{and_from, eq-eqb, and_parts, eqb-true, or_from}
@@ -178,7 +178,7 @@ goes_on pdus p (Some j) f is unmarked wanted h t last =
 one_fragment : (a b : Fragment) (later others : List Fragment) → a ∷ later ≡ b ∷ others → a ≡ b
 one_fragment a b later others e = cc
 
--- nothing is being joined behind a last fragment
+-- nothing is being joined after a last fragment
 is_over : (pdus : List Pdu) (p : Pdu) (f : Fragment) → fragment_of p ≡ f ∷ [] → is_last f ≡ true → IsJoining (pdus ++ p ∷ []) None
 is_over pdus p f is last first behind o = reached (reaches pdus p first behind o)
   where

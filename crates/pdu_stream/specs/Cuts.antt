@@ -45,7 +45,7 @@ pub record IsCut (stream : List ℕ) (cut : Cut) : Type 0 where
   pub pdus : AreSpelled IsPdu cut.pdus front
   pub remains : Remains cut.rest cut.fault
 
--- The cut leaves so many octets behind the whole PDUs.
+-- The cut leaves so many octets after the whole PDUs.
 abbrev pub LeavesUncut : List ℕ → ℕ → Type 0
 LeavesUncut octets count = (cut : Cut) × IsCut octets cut × (count ≡ length cut.rest)
 
@@ -84,14 +84,14 @@ abbrev pub IsAnswered : List ℕ → Option PduFault → Type 0
 IsAnswered rest None = ⊤
 IsAnswered rest (Some fault) = IsStop rest fault ⊎ (fault ≡ faults.Memory)
 
--- Of the stream so far these PDUs were given, and the octets behind them are held.
+-- Of the stream so far these PDUs were given, and the octets after them are held.
 pub record HasGiven (stream : List ℕ) (given : List Pdu) (fed : Fed) : Type 0 where
   pub front : List ℕ
   pub spelled : AreSpelled IsPdu given front
   pub whole : stream ≡ front ++ fed.rest
   pub cause : IsAnswered fed.rest fed.fault
 
--- The answer is what the cut has behind the PDUs given: a further one, nothing yet, or its fault, unless memory ran
+-- The answer is what the cut has after the PDUs given: a further one, nothing yet, or its fault, unless memory ran
 -- out.
 abbrev pub TellsNext : Cut → List Pdu → Result (Option Pdu) PduFault → Type 0
 TellsNext cut given (Ok (Some p)) = (later : List Pdu) × (cut.pdus ≡ given ++ p ∷ later)
@@ -103,6 +103,17 @@ abbrev pub with_answer : List Pdu → Result (Option Pdu) PduFault → List Pdu
 with_answer given (Ok (Some p)) = given ++ p ∷ []
 with_answer given (Ok None) = given
 with_answer given (Err fault) = given
+
+-- Wherever these PDUs of the stream were given, the next answer is what the cut has after them.
+abbrev pub NextIsOfCut : List ℕ → List Pdu → Cut → Type 0
+NextIsOfCut stream given cut =
+    (old new : Fed) (answer : Result (Option Pdu) PduFault) → HasGiven stream given old → GivesNext old answer new → TellsNext cut given answer
+
+-- Wherever these PDUs of the stream were given, those given with the next answer are of the stream too.
+abbrev pub NextGoesOn : List ℕ → List Pdu → Type 0
+NextGoesOn stream given =
+    (old new : Fed) (answer : Result (Option Pdu) PduFault) → HasGiven stream given old → GivesNext old answer new
+    → HasGiven stream (with_answer given answer) new
 
 -- PDUs are taken from the front of what is fed, and added to those before, until none is whole or a fault comes.
 pub record TakesPdus (old : Fed) (before : List Pdu) (fault : Option PduFault) (new : Fed) (after : List Pdu) : Type 0 where

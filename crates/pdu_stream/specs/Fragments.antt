@@ -55,7 +55,7 @@ joined_of first later cancelled =
 abbrev pub most_stub : ℕ
 most_stub = 2 ^ 26
 
--- ---- a fragment behind others, which have joined to a request so far
+-- ---- a fragment after others, which have joined to a request so far
 
 -- The fragment's place: it is the first one where no request is being joined, and else a later one of that request.
 abbrev pub is_in_order : Option Joined → Fragment → Bool

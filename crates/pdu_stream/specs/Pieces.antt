@@ -1,5 +1,6 @@
 -- A stub in the pieces of its fragments (C706, "Connection-oriented RPC PDUs", fragmentation and reassembly).
-use Rattle.std.specs.Prelude.{◌≡◌, ℕ, ◌-◌, ◌*◌, ◌/◌, ◌<◌, ◌≤◌, ◌==◌, ◌||◌, nat_lt, min, List, [], ◌∷◌, ◌++◌, length, take, drop, Option, Some, None, if◌then◌else◌}
+use Rattle.std.specs.Prelude.{◌≡◌, ℕ, ◌-◌, ◌*◌, ◌/◌, ◌<◌, ◌≤◌, ◌==◌, ◌||◌, nat_lt, min, List, [], ◌∷◌, ◌++◌, length, take, drop, Option, Some, None, slice_get, if◌then◌else◌}
+use Rattle.std.specs.List.{flat_map}
 
 -- how many octets of a stub a fragment has that is not the last, given its most octets and those before the stub
 abbrev pub piece_size : ℕ → ℕ → ℕ
@@ -22,3 +23,8 @@ piece_at size octets k =
 abbrev pub octets_at : List ℕ → Option (ℕ × ℕ) → Option (List ℕ)
 octets_at stub None = None
 octets_at stub (Some place) = Some (take place.1 (drop place.0 stub))
+
+-- The pieces are the stub, one after the other, and `piece_at` has the place of each.
+pub record IsCovered (size : ℕ) (stub : List ℕ) (pieces : List (List ℕ)) : Type 0 where
+  pub whole : flat_map (λ piece. piece) pieces ≡ stub
+  pub places : (k : ℕ) → octets_at stub (piece_at size (length stub) k) ≡ slice_get pieces k

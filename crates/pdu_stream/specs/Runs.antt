@@ -51,11 +51,11 @@ pub record IsLater (first f : Fragment) : Type 0 where
   pub op : f.part.op ≡ first.part.op
   pub order : f.order ≡ first.order
 
--- what the first fragment and the PDUs behind it join to
+-- what the first fragment and the PDUs after it join to
 abbrev pub joined_with : Fragment → List Pdu → Joined
 joined_with first behind = joined_of first (fragments behind) (list_any (cancels first.call_id) behind)
 
--- The PDUs end with a run that isn't whole: a first fragment, and behind it later fragments of its request, none of
+-- The PDUs end with a run that isn't whole: a first fragment, and after it later fragments of its request, none of
 -- them the last one, and other PDUs, none of them an orphaned with its call id. The stub isn't too long so far.
 pub record IsOpen (pdus : List Pdu) (first : Fragment) (behind : List Pdu) : Type 0 where
   pub before : List Pdu
@@ -68,12 +68,12 @@ pub record IsOpen (pdus : List Pdu) (first : Fragment) (behind : List Pdu) : Typ
   pub wanted : list_any (orphans first.call_id) behind ≡ false
   pub short : length (joined_with first behind).stub ≤ most_stub
 
--- What is being joined behind the PDUs: what the run that isn't whole joins to so far, or nothing.
+-- What is being joined after the PDUs: what the run that isn't whole joins to so far, or nothing.
 abbrev pub IsJoining : List Pdu → Option Joined → Type 0
 IsJoining pdus None = (first : Fragment) (behind : List Pdu) → IsOpen pdus first behind → ⊥
 IsJoining pdus (Some j) = (first : Fragment) × (behind : List Pdu) × IsOpen pdus first behind × (j ≡ joined_with first behind)
 
--- The fragment is a run by itself, where nothing is being joined behind the PDUs.
+-- The fragment is a run by itself, where nothing is being joined after the PDUs.
 abbrev pub IsAlone : List Pdu → Fragment → Joined → Type 0
 IsAlone pdus f j = IsJoining pdus None × (is_first f ≡ true) × (j ≡ joined_of f [] false)
 
@@ -83,14 +83,14 @@ EndsOpen pdus f j =
     (first : Fragment) × (behind : List Pdu) × IsOpen pdus first behind × IsLater first f
     × (j ≡ joined_of first (fragments behind ++ f ∷ []) (list_any (cancels first.call_id) behind))
 
--- The fragment behind the PDUs is the last one of a run: of one that it begins itself, where nothing is being joined,
+-- The fragment after the PDUs is the last one of a run: of one that it begins itself, where nothing is being joined,
 -- or of the one that isn't whole. The whole run joins to this request.
 pub record IsWhole (pdus : List Pdu) (f : Fragment) (j : Joined) : Type 0 where
   pub last : is_last f ≡ true
   pub short : length j.stub ≤ most_stub
   pub joins : IsAlone pdus f j ⊎ EndsOpen pdus f j
 
--- ---- what a PDU behind others does to what is being joined
+-- ---- what a PDU after others does to what is being joined
 
 -- A request goes on with it, a co_cancel marks it, an orphaned drops it, and no other PDU changes it.
 abbrev pub Changes : Option Joined → Pdu → Body → Option Joined → Type 0

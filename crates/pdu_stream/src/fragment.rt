@@ -1,4 +1,4 @@
-//! One fragment behind others.
+//! One fragment after others.
 ghost use Rattle.std.specs.Prelude.{◌≡◌, Some, None};
 ghost use Rattle.pdu_stream.specs.Fragments.{has_flag, JoinsTo};
 

@@ -1,16 +1,15 @@
 //! Laws of the definitions, each the contract of a function that does nothing.
-ghost use Rattle.std.specs.Prelude.{◌≡◌, ◌<◌, ◌++◌, ◌∷◌, [], ℕ, Bool, List, map, Option, Some, None, Result, Ok, slice_get, length};
-ghost use Rattle.std.specs.List.{flat_map};
+ghost use Rattle.std.specs.Prelude.{◌≡◌, ◌<◌, ◌++◌, ◌∷◌, [], ℕ, Bool, List, map, Option, Some, None, Result, Ok};
 ghost use Rattle.rpc_base.specs.Fields.{IsOctets};
 ghost use Rattle.pdu_codec.specs.declared.pdu.Pdu.{Pdu};
 ghost use Rattle.pdu_codec.specs.declared.fault.PduFault.{PduFault};
 ghost use Rattle.pdu_codec.specs.Pdus.{IsPdu, AreSpelled};
 ghost use Rattle.pdu_stream.specs.declared.cut.Cut.{Cut};
 ghost use Rattle.pdu_stream.specs.declared.joined.Joined.{Joined};
-ghost use Rattle.pdu_stream.specs.Cuts.{IsStop, IsCut, Fed, GivesNext, HasGiven, TellsNext, with_answer};
+ghost use Rattle.pdu_stream.specs.Cuts.{IsStop, IsCut, Fed, HasGiven, NextIsOfCut, NextGoesOn};
 ghost use Rattle.pdu_stream.specs.Fragments.{Fragment, stub_of, joined_of, AddsFragment};
 ghost use Rattle.pdu_stream.specs.Runs.{IsJoining, IsWhole, Changes};
-ghost use Rattle.pdu_stream.specs.Pieces.{ArePieces, piece_at, octets_at};
+ghost use Rattle.pdu_stream.specs.Pieces.{ArePieces, IsCovered};
 
 /// A stream has one cut, so it doesn't matter in which pieces it came.
 pub fn one_cut()
@@ -28,7 +27,7 @@ pub fn cut_goes_on()
         → IsCut (front ++ stream) (record cut { pdus = pdus ++ cut.pdus }) }
 {}
 
-/// A fault stays, whatever comes behind.
+/// A fault stays, whatever comes after.
 pub fn fault_stays()
     ensures { (rest more : List ℕ) (fault : PduFault) → IsStop rest fault → IsStop (rest ++ more) fault }
 {}
@@ -39,16 +38,14 @@ pub fn push_goes_on()
         → HasGiven (stream ++ piece) given (record { rest = old.rest ++ piece; fault = old.fault }) }
 {}
 
-/// What `Feed::next` answers is what the cut of the whole stream so far has behind the PDUs given, whatever the
+/// What `Feed::next` answers is what the cut of the whole stream so far has after the PDUs given, whatever the
 /// pieces were and whenever it was called.
 pub fn next_of_cut()
-    ensures tells { (stream : List ℕ) (given : List Pdu) (old new : Fed) (answer : Result (Option Pdu) PduFault) (cut : Cut)
-        → HasGiven stream given old → GivesNext old answer new → IsCut stream cut → TellsNext cut given answer }
-    ensures goes_on { (stream : List ℕ) (given : List Pdu) (old new : Fed) (answer : Result (Option Pdu) PduFault)
-        → HasGiven stream given old → GivesNext old answer new → HasGiven stream (with_answer given answer) new }
+    ensures tells { (stream : List ℕ) (given : List Pdu) (cut : Cut) → IsCut stream cut → NextIsOfCut stream given cut }
+    ensures goes_on { (stream : List ℕ) (given : List Pdu) → NextGoesOn stream given }
 {}
 
-/// What is being joined behind PDUs goes on with each further one as a `Joiner` does.
+/// What is being joined after PDUs goes on with each further one as a `Joiner` does.
 pub fn runs_go_on()
     ensures { (pdus : List Pdu) (p : Pdu) (run new : Option Joined) → IsJoining pdus run → Changes run p p.body new → IsJoining (pdus ++ p ∷ []) new }
 {}
@@ -64,9 +61,7 @@ pub fn runs_join()
 
 /// The pieces of a stub cover it once, in order, and `piece` gives their places.
 pub fn pieces_cover()
-    ensures { (size : ℕ) (stub : List ℕ) → 0 < size
-        → (pieces : List (List ℕ)) × ArePieces size stub pieces × (flat_map (λ piece. piece) pieces ≡ stub)
-        × ((k : ℕ) → octets_at stub (piece_at size (length stub) k) ≡ slice_get pieces k) }
+    ensures { (size : ℕ) (stub : List ℕ) → 0 < size → (pieces : List (List ℕ)) × ArePieces size stub pieces × IsCovered size stub pieces }
 {}
 
 /// A stub has its pieces in one way.

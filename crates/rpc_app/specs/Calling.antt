@@ -59,7 +59,7 @@ status_of (ends.Line n) = 2
 status_of ends.DialFault = 7
 status_of ends.Memory = 5
 
--- the lines of the outcomes, and behind them the refusal of a line
+-- the lines of the outcomes, and after them the refusal of a line
 abbrev pub printed_of : CallEnd → List ℕ → List ℕ
 printed_of (ends.Line n) told = told ++ line_refusal n
 printed_of _ told = told

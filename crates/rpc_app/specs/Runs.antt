@@ -120,6 +120,6 @@ pub record IsRefused (grows : Growth) (task : Task) (files : Option Files) (out 
   pub said : grows out out' refusal
   pub quiet : log' ≡ log
 
--- An output failed: it ended early with what was to be said of the task, and nothing was put behind that.
+-- An output failed: it ended early with what was to be said of the task, and nothing was put after that.
 abbrev pub IsCutShort : Task → Option Files → Option (List ℕ) → Option (List ℕ) → Option (List ℕ) → Option (List ℕ) → Type 0
 IsCutShort task files out out' log log' = IsDoneInPart task files out out' log log' ⊎ IsRefused GainsFront task files out out' log log'

@@ -21,7 +21,7 @@ pub fn refuse<S: Sink>(out: &mut S, text: &[u8], status: u8) -> u8
     }
 }
 
-/// Puts a text behind which the program ends with that status, and answers it; where the output fails 4, which 7 outweighs.
+/// Puts a text, after which the program ends with that status, and answers it; where the output fails 4, which 7 outweighs.
 pub fn end_with<S: Sink>(out: &mut S, text: &[u8], status: u8) -> u8
     ensures { IsSaid (output_from S.faults S.written out.old out.new)
         text.now status result }

@@ -56,7 +56,7 @@ pub fn obey<'a, F: Shelf, S: Sink, L: Sink>(
 }
 
 /// The program: does what the words ask, and answers the status: those of `obey`; where connections are served 0 where each
-/// ended behind a whole PDU, 8 where one didn't, and 7 where the door failed, which outweighs the others; where calls are made
+/// ended after a whole PDU, 8 where one didn't, and 7 where the door failed, which outweighs the others; where calls are made
 /// 6 where a bind was refused or a call failed, 8 where a connection was lost, and 7 where the dial failed. `boot` is the
 /// server's boot word.
 pub fn run<R, F, D, Q, S, L>(

@@ -20,7 +20,7 @@ use Rattle.hub_story.specs.Directories.{is_open_id}
 use Rattle.hub_story.specs.Histories.{mark_of, entry_of, marks_in, past_in, journal_in}
 use Rattle.hub_story.specs.Passes.{Seen, Serves}
 use Rattle.hub_story.specs.Calls.{IsNewConn, Enters}
-use Rattle.hub_story.proofs.ItemLemmas.{past-append, past_items, past_others}
+use Rattle.hub_story.proofs.ItemLemmas.{past-append, past_items, past_others, marks_items}
 use Rattle.hub_shard.specs.declared.answer.Absence.{Absence}
 use Rattle.hub_shard.specs.declared.answer.Absence.TheVariants.{Directory, Shut}
 use Rattle.hub_shard.specs.declared.answer.OpenRefusal.{OpenRefusal}
@@ -34,7 +34,7 @@ use Rattle.group_hub.specs.Passes.{at_shard, EntersAt}
 use Rattle.group_hub.specs.Openings.{HadNoRoom, PassedBy, Quiet, Opens}
 use Rattle.server_ends.specs.declared.joining.Membership.{Membership}
 use Rattle.server_ends.specs.Owning.{Owns, Grown}
-use Rattle.server_ends.specs.Joins.{JoinedAs, Was, NoRoom, Misses, IsRefusedFor, Joins, by_opening, by_finding}
+use Rattle.server_ends.specs.Joins.{JoinedAs, Was, NoRoom, Misses, IsRefusedFor, Joins, opened_for, by_opening, by_finding}
 use Rattle.server_ends.proofs.PassLemmas.{owns_more}
 
 -- ---- fronts and own places
@@ -122,16 +122,17 @@ opened_alone id h more one two mark there apart =
     empty [] e = refl
     empty (x ∷ l) e = absurd cc
 
-joined_with : (boot g c : ℕ) (p q : Pass) (between more : List Item) → Enters boot (shard_of g) (at_shard p (shard_of g)) (at_shard q (shard_of g)) between more → past_in g more ≡ Join c ∷ [] → ((h : ℕ) → h ≢ g → past_in h more ≡ [])
+joined_with : (boot asked g c : ℕ) (p q : Pass) (between more : List Item) → Enters boot (shard_of g) (at_shard p (shard_of g)) (at_shard q (shard_of g)) between more → past_in g more ≡ Join c ∷ [] → ((h : ℕ) → h ≢ g → past_in h more ≡ []) → marks_in more ≡ opened_for asked g
     → IsNewConn c (journal_in boot g ((at_shard p (shard_of g)).log ++ between)) → Serves (at_shard q (shard_of g)) g c → ((t : ℕ) → t < 16 → t ≢ shard_of g → Onward (at_shard p t) (at_shard q t))
-    → JoinedAs boot p g c q
-joined_with boot g c p q between more e own alone new serves others =
+    → JoinedAs boot p asked g c q
+joined_with boot asked g c p q between more e own alone marks new serves others =
     let log = (at_shard p (shard_of g)).log ++ between in
     record {
       items = more;
       grown = grown_there boot (shard_of g) p q between more e others;
       own = own;
       others = alone;
+      marks = marks;
       older = past_in g log;
       past = ap (past_in g) e.log ∙ (past-append g log more ∙ ap (λ x. x ++ past_in g log) own);
       new = new;
@@ -139,13 +140,20 @@ joined_with boot g c p q between more e own alone new serves others =
       story = e.story;
     }
 
+-- what is marked then
+asks_new : (asked g : ℕ) → asked ≡ 0 → Opened g ∷ [] ≡ opened_for asked g
+asks_new asked g is = sym (ap (λ (n : ℕ). opened_for n g) is)
+
+asks_known : (asked g : ℕ) → asked ≢ 0 → [] ≡ opened_for asked g
+asks_known asked g some = elim (eqb_tells asked 0) [ inl e ↦ absurd (some e.1) | inr e ↦ let no = e.0 in rw no refl ]
+
 pub opened : (boot id c : ℕ) (p q : Pass) (asked : ℕ) → asked ≡ 0 → Opens boot p (Ok (id, c)) q → Serves (at_shard q (shard_of id)) id c → Joins boot p asked (Ok (record { group = id; number = c })) q
 opened boot id c p q asked zero_ o serves =
     let there = o.1 in (
       λ known. absurd (known zero_),
       λ new. o.0,
-      subst (λ (x : ℕ). JoinedAs boot p id x q) (sym o.0)
-          (joined_with boot id 1 p q there.0 there.1 there.2 there.3.0.6 (λ h apart. opened_alone id h there.1 (Join 1) there.3.0.4 there.3.0.5 there.3.0.6 apart) there.3.1 (subst (λ (x : ℕ). Serves (at_shard q (shard_of id)) id x) o.0 serves)
+      subst (λ (x : ℕ). JoinedAs boot p asked id x q) (sym o.0)
+          (joined_with boot asked id 1 p q there.0 there.1 there.2 there.3.0.6 (λ h apart. opened_alone id h there.1 (Join 1) there.3.0.4 there.3.0.5 there.3.0.6 apart) (there.3.0.5 ∙ asks_new asked id zero_) there.3.1 (subst (λ (x : ℕ). Serves (at_shard q (shard_of id)) id x) o.0 serves)
           (λ t low apart. passed boot t (at_shard p t) (at_shard q t) (o.2 t low apart))),
     )
 
@@ -158,7 +166,7 @@ found boot id c p q some call serves =
     let own : past_in id call.here.1 ≡ Join c ∷ [] = ap (past_in id) says.1 ∙ (past_items id says.0 ∙ one) in (
       λ known. refl,
       λ none. absurd (some none),
-      joined_with boot id c p q call.here.0 call.here.1 call.here.2 own (λ h apart. ap (past_in h) says.1 ∙ past_others id h says.0 (λ e. apart (sym e))) call.here.3.1 serves (λ t low apart. onward_same (at_shard p t) (at_shard q t) (call.others t apart)),
+      joined_with boot id id c p q call.here.0 call.here.1 call.here.2 own (λ h apart. ap (past_in h) says.1 ∙ past_others id h says.0 (λ e. apart (sym e))) (ap marks_in says.1 ∙ (marks_items id says.0 ∙ asks_known id id some)) call.here.3.1 serves (λ t low apart. onward_same (at_shard p t) (at_shard q t) (call.others t apart)),
     )
 
 -- ---- a refusal

@@ -1,12 +1,13 @@
 -- What a bind's group comes to.
-use Rattle.std.specs.Prelude.{◌≡◌, ◌≢◌, ◌⊎◌, ℕ, ◌<◌, true, false, None, Result, Ok, Err, List, [], ◌∷◌, ◌++◌, length}
+use Rattle.std.specs.Prelude.{◌≡◌, ◌≢◌, ◌⊎◌, ℕ, ◌<◌, ◌==◌, true, false, if◌then◌else◌, None, Result, Ok, Err, List, [], ◌∷◌, ◌++◌, length}
 use Rattle.std.specs.List.{list_any}
 use Rattle.turn_lock.specs.Histories.{StartsWith}
 use Rattle.handle_model.specs.declared.entry.Entry.{Entry}
 use Rattle.handle_model.specs.declared.entry.Entry.TheVariants.{Join}
 use Rattle.handle_model.specs.Journal.{is_shut}
 use Rattle.handle_model.specs.Limits.{join_limit}
-use Rattle.hub_story.specs.declared.item.Mark.TheVariants.{Missed}
+use Rattle.hub_story.specs.declared.item.Mark.{Mark}
+use Rattle.hub_story.specs.declared.item.Mark.TheVariants.{Opened, Missed}
 use Rattle.hub_story.specs.declared.item.Item.{Item}
 use Rattle.hub_story.specs.declared.item.Item.TheVariants.{Listed}
 use Rattle.hub_story.specs.Directories.{is_open_id, is_full, is_used_up}
@@ -24,13 +25,19 @@ use Rattle.group_hub.specs.Passes.{at_shard}
 use Rattle.server_ends.specs.declared.joining.Membership.{Membership}
 use Rattle.server_ends.specs.Owning.{Grown}
 
--- The connection c joined the group g: nothing had been entered of a connection of that number, its Join is the newest entry of
--- the group's journal, and the only entry of a journal among what the pass entered.
-pub record JoinedAs (boot : ℕ) (p : Pass) (g c : ℕ) (q : Pass) : Type 0 where
+-- what a bind that asks for the group of an id and is answered by g marks in a directory: g as opened, where it asks for a new one
+abbrev pub opened_for : ℕ → ℕ → List Mark
+opened_for asked g = if asked == 0 then Opened g ∷ [] else []
+
+-- The connection c joined the group g at a bind that asks for that id: nothing had been entered of a connection of that number, its
+-- Join is the newest entry of the group's journal, and the only entry of a journal among what the pass entered. A new group is
+-- marked as opened, and nothing else is marked.
+pub record JoinedAs (boot : ℕ) (p : Pass) (asked g c : ℕ) (q : Pass) : Type 0 where
   pub items : List Item
   pub grown : Grown (shard_of g) p q items
   pub own : past_in g items ≡ Join c ∷ []
   pub others : (h : ℕ) → h ≢ g → past_in h items ≡ []
+  pub marks : marks_in items ≡ opened_for asked g
   pub older : List Entry
   pub past : past_in g (at_shard q (shard_of g)).log ≡ Join c ∷ older
   pub new : list_any (of_conn c) older ≡ false
@@ -77,7 +84,7 @@ IsRefusedFor boot p asked reason q items =
 -- a connection joins the group that it asks for, or a new one, as its first; or it is refused, and enters nothing but that an id is
 -- missed
 abbrev pub Joins : ℕ → Pass → ℕ → Result Membership ℕ → Pass → Type 0
-Joins boot p asked (Ok m) q = (asked ≢ 0 → m.group ≡ asked) × (asked ≡ 0 → m.number ≡ 1) × JoinedAs boot p m.group m.number q
+Joins boot p asked (Ok m) q = (asked ≢ 0 → m.group ≡ asked) × (asked ≡ 0 → m.number ≡ 1) × JoinedAs boot p asked m.group m.number q
 Joins boot p asked (Err reason) q = (items : List Item) × Grown (shard_of asked) p q items × IsRefusedFor boot p asked reason q items
 
 -- the answer, by that of the hub

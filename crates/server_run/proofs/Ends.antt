@@ -56,16 +56,17 @@ none_at_all p = (0, [], grown_none p, λ g. refl)
 module _ {K : Type 0} (shows : K → Shown) (may : Call → Bool → Ans → Type 0) (tables : List TableForm) (boot : ℕ) where
   -- it ended before a bind
   pub alone_early : (p : Pass) (w : Wire K) (why : Stop) → Halted shows (ids_of tables) w why [] → IsAlone shows tables may boot p w p why
-  alone_early p w why h = record { enters = none_at_all p; turns = []; quiet = tt; over = tt; due = tt; halted = h }
+  alone_early p w why h = record { enters = none_at_all p; turns = []; unmarked = λ e s low. refl; quiet = tt; over = tt; due = tt; halted = h }
 
   pub alone_closed : (p : Pass) (w : Wire K) (why : Stop) (octets : List ℕ) (f : ConnFault) → Halted shows (ids_of tables) w why (Closed octets f ∷ []) → IsAlone shows tables may boot p w p why
-  alone_closed p w why octets f h = record { enters = none_at_all p; turns = Closed octets f ∷ []; quiet = (tt, tt); over = (tt, tt); due = (tt, tt); halted = h }
+  alone_closed p w why octets f h = record { enters = none_at_all p; turns = Closed octets f ∷ []; unmarked = λ e s low. refl; quiet = (tt, tt); over = (tt, tt); due = (tt, tt); halted = h }
 
   pub ends_alone : (p q : Pass) (a : Shown) (w : Wire K) (why : Stop) (k : K) (e : Ending) → IsAlone shows tables may boot p w q why → shows w.first.value ≡ a → Closing shows tables w why k e
       → Alone shows may tables boot p a (record { link = k; pass = q; joined = None; ending = e; retired = None })
   ends_alone p q a w why k e x first closing = record {
     enters = x.enters;
     turns = x.turns;
+    unmarked = x.unmarked;
     due = x.due;
     ends = subst (λ (z : Shown). EndsAs (ids_of tables) (home_of boot 0) [] x.turns z e (shows k)) first
         (closing (home_of boot 0) 0 false [] x.turns x.halted (quiet_all 0 false [] x.turns refl x.quiet) x.over);
@@ -83,6 +84,7 @@ module _ {K : Type 0} (shows : K → Shown) (may : Call → Bool → Ans → Typ
       record {
         enters = none_at_all p;
         turns = [];
+        unmarked = λ e s low. refl;
         due = tt;
         ends = record {
           came = [];
@@ -124,6 +126,7 @@ ends_member shows may tables hub l why k e x closing =
       story = record { made = h.made; none_runs = x.none_runs };
       ends = closing (home_of hub.boot l.group) l.number true (past_at l.pass l.group) x.turns x.halted h.made.stand x.over;
       retired = h.retired_is;
+      marks = h.marks_are;
     }
 
 -- it left while its call ran, which has ended
@@ -145,4 +148,5 @@ ends_departed shows may tables s old c cookies d m x began wire e =
       story = record { made = h.made; none_runs = e.none_runs };
       ends = closing (home_of s.hub.now.boot m.group) m.number true (past_at m.pass m.group) e.turns e.halted h.made.stand e.over;
       retired = h.retired_is;
+      marks = h.marks_are;
     })

@@ -132,6 +132,7 @@ module _ {K : Type 0} (shows : K → Shown) (may : Call → Bool → Ans → Typ
             joined = h.joined;
             made = made_plain served home l.number past false (request j iface [] (Refused status)) x.turns h.mine (plain_refused l.number j iface status) (refl, why) (made_tail served home l.number past j iface x.turns h.mine h.made);
             retired_is = h.retired_is;
+            marks_are = h.marks_are;
           };
           told = x.told;
         };

@@ -1,5 +1,5 @@
 -- Where a connection comes to, by what it hears.
-use Rattle.std.proofs.Common.{◌≡◌, ℕ, Bool, true, false, Option, Some, Ok, List, [], ◌∷◌, ◌++◌, refl, ap, ◌∙◌, subst, inl, inr}
+use Rattle.std.proofs.Common.{◌≡◌, ℕ, Bool, true, false, Option, Some, Ok, List, [], ◌∷◌, ◌++◌, refl, sym, ap, ◌∙◌, subst, inl, inr}
 use Rattle.rpc_outside.specs.Links.{Shown}
 use Rattle.handle_model.specs.declared.entry.Asked.{Asked}
 use Rattle.hub_story.specs.Histories.{home_of}
@@ -29,12 +29,14 @@ use Rattle.conn_histories.specs.declared.turn.Off.TheVariants as off
 use Rattle.conn_histories.specs.declared.turn.Fate.TheVariants.{LeftWaiting}
 use Rattle.conn_histories.specs.declared.turn.Deed.TheVariants.{Pending, Accepted}
 use Rattle.conn_histories.specs.declared.turn.Turn.{Turn}
-use Rattle.conn_histories.specs.declared.turn.Turn.TheVariants.{Answered}
+use Rattle.conn_histories.specs.declared.turn.Turn.TheVariants.{Binding, Bound, NotBound, Answered, Called, Closed}
+use Rattle.conn_histories.specs.Entries.{entries_of}
 use Rattle.conn_histories.specs.Events.{act_off, all_events}
 use Rattle.conn_histories.specs.Stories.{Server, IsDue}
 use Rattle.conn_turns.proofs.Hearing.{calls_wait, bind_once, bind_binds, bound_stays, early_act}
 use Rattle.conn_turns.proofs.Making.{IsPlain, plain_pending, made_plain}
 use Rattle.conn_turns.proofs.Plain.{plain_answer, one_more_off}
+use Rattle.server_ends.specs.Finishes.{opened_by, retired_in}
 use Rattle.server_steps.specs.declared.line.Line.{Line}
 use Rattle.server_steps.specs.Held.{past_at, Held}
 use Rattle.server_steps.specs.Early.{IsEarly, HeardEarly}
@@ -42,6 +44,15 @@ use Rattle.server_steps.specs.Lines.{server, IsReady}
 use Rattle.server_steps.specs.Calls.{request, IsWaiting, IsCalledOff}
 use Rattle.server_steps.specs.Steps.{HeardReady, HeardWaiting}
 use Rattle.server_steps.proofs.Telling.{seen_more, quiet, halts_failed, halts_memory, halts_end}
+
+-- which opens no group
+opens_none : (c : ℕ) (t : Turn) (turns : List Turn) → entries_of c t ≡ [] → opened_by (t ∷ turns) ≡ opened_by turns
+opens_none c (Binding asked) turns none = refl
+opens_none c (Bound asked group octets) turns none = absurd cc
+opens_none c (NotBound asked reason octets) turns none = refl
+opens_none c (Answered octets) turns none = refl
+opens_none c (Called r) turns none = refl
+opens_none c (Closed octets fault) turns none = refl
 
 -- a turn without entries
 pub held_plain : (s : Server) (boot : ℕ) (p q : Pass) (g c : ℕ) (retired : Option Retired) (t : Turn) (turns : List Turn) → IsPlain c t → IsDue s (home_of boot g) c (past_at q g) turns t
@@ -55,6 +66,7 @@ held_plain s boot p q g c retired t turns plain due h = record {
   joined = h.joined;
   made = made_plain s (home_of boot g) c (past_at q g) false t turns h.mine plain due h.made;
   retired_is = h.retired_is;
+  marks_are = h.marks_are ∙ sym (ap (λ l. retired_in retired ++ l) (opens_none c t turns plain.entries));
 }
 
 pub no_off : (id : ℕ) (act : Act) → ((act ≡ acts.Cancel id) → ⊥) → ((act ≡ acts.Orphan id) → ⊥) → IsCallOff id act → ⊥

@@ -9,9 +9,10 @@ use Rattle.handle_model.specs.History.{History}
 use Rattle.handle_model.specs.Journal.{Legal}
 use Rattle.hub_story.specs.declared.item.Item.{Item}
 use Rattle.hub_story.specs.declared.item.Item.TheVariants.{Of}
-use Rattle.hub_story.specs.Histories.{home_of, past_in, items_of}
+use Rattle.hub_story.specs.declared.item.Mark.{Mark}
+use Rattle.hub_story.specs.Histories.{home_of, past_in, marks_in, items_of}
 use Rattle.hub_story.specs.Calls.{Enters}
-use Rattle.hub_story.proofs.ItemLemmas.{past-append, past_items, past_others}
+use Rattle.hub_story.proofs.ItemLemmas.{past-append, past_items, past_others, marks-append, marks_items}
 use Rattle.hub_story.proofs.HaveLemmas.{own_stays}
 use Rattle.group_hub.specs.declared.pass.Pass.{Pass}
 use Rattle.group_hub.specs.Shards.{shard_of}
@@ -24,7 +25,7 @@ use Rattle.conn_histories.specs.Stories.{Server, Made}
 use Rattle.conn_histories.specs.Tales.{whole}
 use Rattle.conn_turns.proofs.Kept.{calls_enter, stories_are_kept}
 use Rattle.server_ends.specs.Finishes.{retired_by}
-use Rattle.server_steps.specs.Held.{past_at, Held}
+use Rattle.server_steps.specs.Held.{past_at, HeldMarked}
 
 -- ---- entries that came, none of which is a Shut
 
@@ -59,7 +60,7 @@ pub record Stepped (server : Server) (boot : ℕ) (q r : Pass) (g c : ℕ) (gone
   pub made : Made server (home_of boot g) c before gone turns mine
   pub others : (t : ℕ) → t ≢ shard_of g → at_shard r t ≡ at_shard q t
 
-module _ (server : Server) (boot : ℕ) (p q r : Pass) (g c : ℕ) (retired : Option Retired) (gone : Bool) (turns : List Turn) (h : Held server boot p q g c retired gone turns) where
+module _ {marks : List Mark} (server : Server) (boot : ℕ) (p q r : Pass) (g c : ℕ) (retired : Option Retired) (gone : Bool) (turns : List Turn) (h : HeldMarked server boot p q g c retired marks gone turns) where
   pub kept : (between more : List Item) → Enters boot (shard_of g) (at_shard q (shard_of g)) (at_shard r (shard_of g)) between more
       → Made server (home_of boot g) c (past_in g ((at_shard q (shard_of g)).log ++ between)) gone turns h.mine
   kept between more e =
@@ -85,7 +86,7 @@ module _ (server : Server) (boot : ℕ) (p q r : Pass) (g c : ℕ) (retired : Op
   -- these entries came
   pub entered : (Answers : History → History → Type 0) (b : Stepped server boot q r g c gone turns h.mine Answers) (es : List Entry) (retired' : Option Retired) (gone' : Bool) (turns' : List Turn)
       → es ≡ b.es → Made server (home_of boot g) c (past_at r g) gone' turns' (es ++ h.mine) → retired' ≡ retired_by g (es ++ h.mine)
-      → Held server boot p r g c retired' gone' turns'
+      → HeldMarked server boot p r g c retired' marks gone' turns'
   entered Answers b es retired' gone' turns' is made retired_is =
       let e = subst (λ x. Enters boot (shard_of g) (at_shard q (shard_of g)) (at_shard r (shard_of g)) b.between (items_of g x)) (sym is) b.enters in
       record {
@@ -97,11 +98,12 @@ module _ (server : Server) (boot : ℕ) (p q r : Pass) (g c : ℕ) (retired : Op
         joined = own_stays boot (shard_of g) (at_shard q (shard_of g)) (at_shard r (shard_of g)) b.between (items_of g es) e (Of g (Join c)) h.joined;
         made = made;
         retired_is = retired_is;
+        marks_are = marks-append h.items (items_of g es) ∙ (λ i. marks_items g es i ++ h.marks_are i);
       }
 
   -- some more items came, which are no entries
   pub marked : (between more : List Item) → Enters boot (shard_of g) (at_shard q (shard_of g)) (at_shard r (shard_of g)) between more → ((t : ℕ) → t ≢ shard_of g → at_shard r t ≡ at_shard q t)
-      → ((o : ℕ) → past_in o more ≡ []) → Held server boot p r g c retired gone turns
+      → ((o : ℕ) → past_in o more ≡ []) → HeldMarked server boot p r g c retired (marks_in more ++ marks) gone turns
   marked between more e others none =
       let after = ap (past_in g) e.log ∙ (past-append g ((at_shard q (shard_of g)).log ++ between) more ∙ ap (λ l. l ++ past_in g ((at_shard q (shard_of g)).log ++ between)) (none g)) in
       record {
@@ -113,4 +115,5 @@ module _ (server : Server) (boot : ℕ) (p q r : Pass) (g c : ℕ) (retired : Op
         joined = own_stays boot (shard_of g) (at_shard q (shard_of g)) (at_shard r (shard_of g)) between more e (Of g (Join c)) h.joined;
         made = subst (λ l. Made server (home_of boot g) c l gone turns h.mine) (sym after) (kept between more e);
         retired_is = h.retired_is;
+        marks_are = marks-append h.items more ∙ ap (λ l. marks_in more ++ l) h.marks_are;
       }

@@ -43,6 +43,7 @@ module _ (server : Server) (boot : ℕ) (p q r : Pass) (g c : ℕ) (retired : Op
     joined = subst (λ (v : Seen). HasOwn v (Of g (Join c))) (sym (same (shard_of g))) h.joined;
     made = subst (λ (v : Seen). Made server (home_of boot g) c (past_in g v.log) gone turns h.mine) (sym (same (shard_of g))) h.made;
     retired_is = h.retired_is;
+    marks_are = h.marks_are;
   }
 
   -- a pass was taken in that entered nothing
@@ -75,6 +76,7 @@ module _ (server : Server) (boot : ℕ) (p q r : Pass) (g c : ℕ) (retired : Op
       joined = own_stays boot (shard_of g) (at_shard q (shard_of g)) (at_shard r (shard_of g)) here.between [] enters (Of g (Join c)) h.joined;
       made = subst (λ (l : List Entry). Made server (home_of boot g) c l gone turns h.mine) (sym (ap (past_in g) here.log)) (kept server boot p q r g c retired gone turns h here.between [] enters);
       retired_is = h.retired_is;
+      marks_are = h.marks_are;
     }
 
     pub still_merged : StillHas (at_shard q (shard_of g)) (at_shard r (shard_of g)) []

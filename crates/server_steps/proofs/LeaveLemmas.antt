@@ -1,5 +1,5 @@
 -- Where a connection comes to, by the end of its call and by its Leave.
-use Rattle.std.proofs.Common.{◌≡◌, ◌==◌, ℕ, Bool, true, false, ◌||◌, Option, Some, List, [], ◌∷◌, ◌++◌, refl, sym, ap, ◌∙◌, subst, ◌⊎◌, inl, inr}
+use Rattle.std.proofs.Common.{◌≡◌, ◌==◌, ℕ, Bool, true, false, ◌||◌, Option, Some, None, List, [], ◌∷◌, ◌++◌, refl, sym, ap, ◌∙◌, subst, ◌⊎◌, inl, inr}
 use Rattle.std.specs.List.{list_any, AllByRecursion}
 use Rattle.std.proofs.lemmas.List.{append_cancel_right}
 use mathlib.Core.Option.{some}
@@ -20,7 +20,7 @@ use Rattle.group_core.specs.Conns.{Settles as SettlesBy}
 use Rattle.hub_story.specs.declared.item.Mark.TheVariants.{Retired as MarkedRetired}
 use Rattle.hub_story.specs.declared.item.Item.{Item}
 use Rattle.hub_story.specs.declared.item.Item.TheVariants.{Of, Listed}
-use Rattle.hub_story.specs.Histories.{home_of, past_in, items_of}
+use Rattle.hub_story.specs.Histories.{home_of, past_in, marks_in, items_of}
 use Rattle.hub_story.specs.Passes.{HasOwn, Serves, Runs}
 use Rattle.hub_story.specs.Still.{StillHas}
 use Rattle.hub_story.proofs.HaveLemmas.{own_stays, own_entered}
@@ -43,19 +43,20 @@ use Rattle.conn_histories.specs.declared.turn.Fate.{Fate}
 use Rattle.conn_histories.specs.declared.turn.Fate.TheVariants.{Waiting, Running, LeftWaiting, LeftRunning}
 use Rattle.conn_histories.specs.declared.turn.Deed.TheVariants.{Accepted}
 use Rattle.conn_histories.specs.declared.turn.Turn.{Turn}
+use Rattle.conn_histories.specs.declared.turn.Turn.TheVariants.{Binding, Bound, NotBound, Answered, Called, Closed}
 use Rattle.conn_histories.specs.Entries.{has_left, is_running, numbers_of}
-use Rattle.conn_histories.specs.Stories.{Server, Made}
+use Rattle.conn_histories.specs.Stories.{Server, Made, HasOwnShut}
 use Rattle.conn_histories.specs.Tales.{whole}
 use Rattle.conn_turns.specs.Steps.{left_turns, OnlyNewestOpen}
 use Rattle.conn_turns.proofs.Done.{only_done, done_closed, done_may, done_stay, done_runs, done_over}
 use Rattle.conn_turns.proofs.Making.{MayLeave}
 use Rattle.conn_turns.proofs.Stepping.{past_is, ended_fate, EndsWell}
 use Rattle.conn_turns.proofs.StepEnding.{ended_so, left_so}
-use Rattle.server_ends.specs.Finishes.{retired_by}
+use Rattle.server_ends.specs.Finishes.{retired_by, opened_by, retired_in, marks_of}
 use Rattle.server_steps.specs.declared.line.Line.{Line}
 use Rattle.server_steps.specs.declared.stop.Stop.{Stop}
 use Rattle.server_steps.specs.declared.gone.Gone.{Gone}
-use Rattle.server_steps.specs.Held.{Held, Settles, retired_after}
+use Rattle.server_steps.specs.Held.{past_at, HeldMarked, Held, Settles, retired_after}
 use Rattle.server_steps.specs.Told.{Halted}
 use Rattle.server_steps.specs.Lines.{server, ServesIn}
 use Rattle.server_steps.specs.Calls.{request}
@@ -77,15 +78,41 @@ retired_so g home before es mine e (hub_rest.Shut items key) plain t =
     let is : es ≡ Shut items ∷ e ∷ [] = append_cancel_right es (Shut items ∷ e ∷ []) before (past_is (whole home before) (whole home (es ++ before)) (Shut items ∷ e ∷ []) t.1.2) in
     ap some_retired t.0 ∙ ap (λ l. retired_by g (l ++ mine)) (sym is)
 
+-- where the group has ended, nothing told of that before
+abbrev ToldNone : HubRest → Option Retired → Type 0
+ToldNone hub_rest.Stays before = Unit {0}
+ToldNone (hub_rest.Shut items key) before = before ≡ None
+
+none_told : (g : ℕ) (mine : List Entry) → list_any is_shut mine ≡ false → retired_by g mine ≡ None
+none_told g mine h = rw h refl
+
+-- since a group has one Shut
+first_shut : (s : Server) (g c : ℕ) (home : Home) (before es mine past : List Entry) (gone : Bool) (turns : List Turn) (e : Entry) (rest : HubRest) (retired : Option Retired) → SettlesWith g e rest (whole home before) (whole home (es ++ before))
+    → Made s home c past gone turns (es ++ mine) → retired ≡ retired_by g mine → ToldNone rest retired
+first_shut s g c home before es mine past gone turns e hub_rest.Stays retired t m is = tt
+first_shut s g c home before es mine past gone turns e (hub_rest.Shut items key) retired t m is =
+    let es_are : es ≡ Shut items ∷ e ∷ [] = append_cancel_right es (Shut items ∷ e ∷ []) before (past_is (whole home before) (whole home (es ++ before)) (Shut items ∷ e ∷ []) t.1.2) in
+    let own : HasOwnShut home c (numbers_of turns) past (Shut items ∷ e ∷ mine) = subst (λ l. HasOwnShut home c (numbers_of turns) past (l ++ mine)) es_are m.shut in
+    is ∙ none_told g mine (neither (is_shut e) (list_any is_shut mine) own.0)
+  where
+    neither : (a b : Bool) → (a || b) ≡ false → b ≡ false
+    neither true b h = absurd cc
+    neither false b h = h
+
 -- it is retired
-pub settled : (s : Server) (boot : ℕ) (p q r : Pass) (g c : ℕ) (retired : Option Retired) (gone : Bool) (turns : List Turn) (e : Entry) (rest : HubRest) (j k : History) → SettlesWith g e rest j k → Settles boot rest q r
-    → Held s boot p q g c retired gone turns → Held s boot p r g c retired gone turns
-settled s boot p q r g c retired gone turns e hub_rest.Stays j k w is h = subst (λ (z : Pass). Held s boot p z g c retired gone turns) (sym is) h
-settled s boot p q r g c retired gone turns e (hub_rest.Shut items key) j k w call h =
+pub settled : (s : Server) (boot : ℕ) (p q r : Pass) (g c : ℕ) (before : Option Retired) (gone : Bool) (turns : List Turn) (e : Entry) (rest : HubRest) (j k : History) → SettlesWith g e rest j k → Settles boot rest q r → ToldNone rest before
+    → HeldMarked s boot p q g c (retired_after rest before) (marks_of before turns) gone turns → Held s boot p r g c (retired_after rest before) gone turns
+settled s boot p q r g c before gone turns e hub_rest.Stays j k w is none h = subst (λ (z : Pass). Held s boot p z g c before gone turns) (sym is) h
+settled s boot p q r g c before gone turns e (hub_rest.Shut items key) j k w call none h =
     retired_at (subst (λ (n : ℕ). EntersAt boot n q r (λ log more. more ≡ Listed (MarkedRetired n) ∷ [])) w.0 call.0)
   where
-    retired_at : EntersAt boot g q r (λ log more. more ≡ Listed (MarkedRetired g) ∷ []) → Held s boot p r g c retired gone turns
-    retired_at x = marked s boot p q r g c retired gone turns h x.here.0 x.here.1 x.here.2 x.others (λ o. ap (past_in o) x.here.3)
+    ended : Option Retired
+    ended = some_retired key
+
+    retired_at : EntersAt boot g q r (λ log more. more ≡ Listed (MarkedRetired g) ∷ []) → Held s boot p r g c ended gone turns
+    retired_at x =
+        let marks : marks_in x.here.1 ++ marks_of before turns ≡ marks_of ended turns = (λ i. marks_in (x.here.3 i) ++ marks_of (none i) turns) ∙ ap (λ n. MarkedRetired n ∷ opened_by turns) (sym w.0) in
+        subst (λ m. HeldMarked s boot p r g c ended m gone turns) marks (marked s boot p q r g c ended gone turns h x.here.0 x.here.1 x.here.2 x.others (λ o. ap (past_in o) x.here.3))
 
 -- and the connection is still served
 pub serves_settled : (boot : ℕ) (q r : Pass) (g c : ℕ) (e : Entry) (rest : HubRest) (j k : History) → SettlesWith g e rest j k → Settles boot rest q r → Serves (at_shard q (shard_of g)) g c → Serves (at_shard r (shard_of g)) g c
@@ -124,6 +151,16 @@ own_came boot q r z g e rest call settles =
     own_settled boot r z g (Of g e) e rest _ _ call.here.3 settles
     (own_entered boot (shard_of g) v (at_shard r (shard_of g)) call.here.0 (items_of g call.here.1) call.here.2 0 (Of g e) came)
 
+-- a connection that leaves opens no group
+left_opened : (turns : List Turn) → opened_by (left_turns turns) ≡ opened_by turns
+left_opened [] = refl
+left_opened (Binding asked ∷ turns) = refl
+left_opened (Bound asked group octets ∷ turns) = refl
+left_opened (NotBound asked reason octets ∷ turns) = refl
+left_opened (Answered octets ∷ turns) = refl
+left_opened (Called r ∷ turns) = refl
+left_opened (Closed octets fault ∷ turns) = refl
+
 -- ---- a running call ends, whose connection is there or has left
 
 module _ (s : Server) (boot : ℕ) (p q r : Pass) (g c : ℕ) (retired : Option Retired) (gone : Bool) (j : Joined) (iface k : ℕ) (ts : List Turn) (apart : AllByRecursion (λ m. (k == m) ≡ false) (numbers_of ts))
@@ -142,28 +179,30 @@ module _ (s : Server) (boot : ℕ) (p q r : Pass) (g c : ℕ) (retired : Option 
     abbrev b : Stepped s boot q r g c gone before h.mine (SettlesWith g (End k results said) rest)
     b = stepped s boot p q r g c retired gone before h (SettlesWith g (End k results said) rest) call
 
-    by_rest : (o : Rest) → SettlesBy (whole home b.before) (End k results said) o (whole home (b.es ++ b.before)) → (now : Option Retired) → now ≡ retired_by g (b.es ++ h.mine) → Held s boot p r g c now gone behind
+    by_rest : (o : Rest) → SettlesBy (whole home b.before) (End k results said) o (whole home (b.es ++ b.before)) → (now : Option Retired) → now ≡ retired_by g (b.es ++ h.mine)
+        → HeldMarked s boot p r g c now (marks_of retired behind) gone behind × ToldNone rest retired
     by_rest o t now is =
         let w = ended_so s home home c gone j iface k ts apart b.before (b.es ++ b.before) offs slots h.mine results said b.legal fate cookies o runs left which well t b.made in
         let same : w.es ≡ b.es = sym (append_cancel_right b.es w.es b.before w.is) in
-        subst (λ (z : List Off × List Slot × Fate). Held s boot p r g c now gone (request j iface z.0 (Accepted k z.1 z.2) ∷ ts))
-        (λ i. (w.so.0 i, w.so.4 i, w.so.5 i))
-        (entered s boot p q r g c retired gone before h (SettlesWith g (End k results said) rest) b w.es now gone
-        (request j iface w.offs (Accepted k w.slots w.fate) ∷ ts) same
-        (subst (λ (z : List Entry × List Entry). Made s home c z.0 gone (request j iface w.offs (Accepted k w.slots w.fate) ∷ ts) z.1) (λ i. (sym b.after i, w.grows i)) w.made)
-        (is ∙ ap (λ z. retired_by g (z ++ h.mine)) (sym same)))
+        let made : Made s home c (past_at r g) gone (request j iface w.offs (Accepted k w.slots w.fate) ∷ ts) (w.es ++ h.mine) =
+        subst (λ (z : List Entry × List Entry). Made s home c z.0 gone (request j iface w.offs (Accepted k w.slots w.fate) ∷ ts) z.1) (λ i. (sym b.after i, w.grows i)) w.made in (
+          subst (λ (z : List Off × List Slot × Fate). HeldMarked s boot p r g c now (marks_of retired behind) gone (request j iface z.0 (Accepted k z.1 z.2) ∷ ts)) (λ i. (w.so.0 i, w.so.4 i, w.so.5 i))
+              (entered s boot p q r g c retired gone before h (SettlesWith g (End k results said) rest) b w.es now gone (request j iface w.offs (Accepted k w.slots w.fate) ∷ ts) same made (is ∙ ap (λ z. retired_by g (z ++ h.mine)) (sym same))),
+          first_shut s g c home b.before b.es h.mine (past_at r g) gone (request j iface w.offs (Accepted k w.slots w.fate) ∷ ts) (End k results said) rest retired b.answers
+              (subst (λ z. Made s home c (past_at r g) gone (request j iface w.offs (Accepted k w.slots w.fate) ∷ ts) (z ++ h.mine)) same made) h.retired_is,
+        )
 
     by_answer : (x : HubRest) → SettlesWith g (End k results said) x (whole home b.before) (whole home (b.es ++ b.before)) → retired_after x (retired_by g h.mine) ≡ retired_by g (b.es ++ h.mine)
-        → Held s boot p r g c (retired_after x retired) gone behind
+        → HeldMarked s boot p r g c (retired_after x retired) (marks_of retired behind) gone behind × ToldNone rest retired
     by_answer hub_rest.Stays t is = by_rest rests.Stays t retired (h.retired_is ∙ is)
     by_answer (hub_rest.Shut items key) t is = by_rest (rests.Shut items) t.1 (some_retired key) is
 
-    pub held_ended : Held s boot p r g c (retired_after rest retired) gone behind
+    held_ended : HeldMarked s boot p r g c (retired_after rest retired) (marks_of retired behind) gone behind × ToldNone rest retired
     held_ended = by_answer rest b.answers (retired_so g home b.before b.es h.mine (End k results said) rest refl b.answers)
 
     -- and the group is retired where it has ended
     pub held_settled : (z : Pass) → Settles boot rest r z → Held s boot p z g c (retired_after rest retired) gone behind
-    held_settled z settles = settled s boot p r z g c (retired_after rest retired) gone behind (End k results said) rest _ _ b.answers settles held_ended
+    held_settled z settles = settled s boot p r z g c retired gone behind (End k results said) rest _ _ b.answers settles held_ended.1 held_ended.0
 
     pub serves_ended : (z : Pass) → Settles boot rest r z → StillHas (at_shard q (shard_of g)) (at_shard r (shard_of g)) (Of g (End k results said) ∷ []) → Serves (at_shard q (shard_of g)) g c → Serves (at_shard z (shard_of g)) g c
     serves_ended z settles still serves = serves_settled boot r z g c (End k results said) rest _ _ b.answers settles (still.serves g c ((λ e. absurd (cc e)), tt) serves)
@@ -178,8 +217,8 @@ module _ {K : Type 0} (shows : K → Shown) (may : Call → Bool → Ans → Typ
     held_left : (turns : List Turn) → OnlyNewestOpen turns → MayLeave served (home_of hub.boot l.group) l.number turns → Held served hub.boot l.began.value l.pass l.group l.number l.retired false turns
         → Held served hub.boot l.began.value r l.group l.number (retired_after rest l.retired) true (left_turns turns)
     held_left turns newest may_ h =
-        settled served hub.boot l.began.value q r l.group l.number (retired_after rest l.retired) true (left_turns turns) (Leave l.number) rest _ _ c.answers settles
-        (by rest c.answers (retired_so l.group home c.before c.es h.mine (Leave l.number) rest refl c.answers))
+        let x = by rest c.answers (retired_so l.group home c.before c.es h.mine (Leave l.number) rest refl c.answers) in
+        settled served hub.boot l.began.value q r l.group l.number l.retired true (left_turns turns) (Leave l.number) rest _ _ c.answers settles x.1 x.0
       where
         home : Home
         home = home_of hub.boot l.group
@@ -188,16 +227,19 @@ module _ {K : Type 0} (shows : K → Shown) (may : Call → Bool → Ans → Typ
         c = stepped served hub.boot l.began.value l.pass q l.group l.number l.retired false turns h (SettlesWith l.group (Leave l.number) rest) call
 
         by_rest : (o : Rest) → SettlesBy (whole home c.before) (Leave l.number) o (whole home (c.es ++ c.before)) → (now : Option Retired) → now ≡ retired_by l.group (c.es ++ h.mine)
-            → Held served hub.boot l.began.value q l.group l.number now true (left_turns turns)
+            → HeldMarked served hub.boot l.began.value q l.group l.number now (marks_of l.retired (left_turns turns)) true (left_turns turns) × ToldNone rest l.retired
         by_rest o t now is =
             let w = left_so served home home l.number turns c.before (c.es ++ c.before) h.mine o c.legal newest may_ t c.made in
             let same : w.es ≡ c.es = sym (append_cancel_right c.es w.es c.before w.is) in
-            entered served hub.boot l.began.value l.pass q l.group l.number l.retired false turns h (SettlesWith l.group (Leave l.number) rest) c w.es now true (left_turns turns) same
-            (subst (λ (z : List Entry × List Entry). Made served home l.number z.0 true (left_turns turns) z.1) (λ i. (sym c.after i, w.grows i)) w.made)
-            (is ∙ ap (λ z. retired_by l.group (z ++ h.mine)) (sym same))
+            let made : Made served home l.number (past_at q l.group) true (left_turns turns) (w.es ++ h.mine) = subst (λ (z : List Entry × List Entry). Made served home l.number z.0 true (left_turns turns) z.1) (λ i. (sym c.after i, w.grows i)) w.made in (
+              subst (λ m. HeldMarked served hub.boot l.began.value q l.group l.number now (retired_in l.retired ++ m) true (left_turns turns)) (sym (left_opened turns))
+                  (entered served hub.boot l.began.value l.pass q l.group l.number l.retired false turns h (SettlesWith l.group (Leave l.number) rest) c w.es now true (left_turns turns) same made (is ∙ ap (λ z. retired_by l.group (z ++ h.mine)) (sym same))),
+              first_shut served l.group l.number home c.before c.es h.mine (past_at q l.group) true (left_turns turns) (Leave l.number) rest l.retired c.answers
+                  (subst (λ z. Made served home l.number (past_at q l.group) true (left_turns turns) (z ++ h.mine)) same made) h.retired_is,
+            )
 
         by : (x : HubRest) → SettlesWith l.group (Leave l.number) x (whole home c.before) (whole home (c.es ++ c.before)) → retired_after x (retired_by l.group h.mine) ≡ retired_by l.group (c.es ++ h.mine)
-            → Held served hub.boot l.began.value q l.group l.number (retired_after x l.retired) true (left_turns turns)
+            → HeldMarked served hub.boot l.began.value q l.group l.number (retired_after x l.retired) (marks_of l.retired (left_turns turns)) true (left_turns turns) × ToldNone rest l.retired
         by hub_rest.Stays t is = by_rest rests.Stays t l.retired (h.retired_is ∙ is)
         by (hub_rest.Shut items key) t is = by_rest (rests.Shut items) t.1 (some_retired key) is
 

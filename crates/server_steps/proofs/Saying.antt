@@ -1,5 +1,5 @@
 -- Where a connection comes to, by what it answers.
-use Rattle.std.proofs.Common.{◌≡◌, ◌≢◌, ℕ, Bool, true, false, Option, Some, None, Ok, Err, Result, List, [], ◌∷◌, ◌++◌, refl, sym, ap, ◌∙◌, subst, inl, inr}
+use Rattle.std.proofs.Common.{◌≡◌, ◌≢◌, ℕ, Bool, true, false, Option, Some, None, Ok, Err, Result, List, [], ◌∷◌, ◌++◌, refl, sym, ap, ◌∙◌, subst, inl, inr, append-nil}
 use Rattle.std.specs.List.{AllByRecursion}
 use Rattle.rpc_base.specs.declared.fault.Failed.{Failed}
 use Rattle.rpc_outside.specs.Links.{Shown}
@@ -10,7 +10,7 @@ use Rattle.hub_story.specs.Histories.{home_of, past_in}
 use Rattle.group_hub.specs.declared.hub.Hub.{Hub}
 use Rattle.group_hub.specs.declared.pass.Pass.{Pass}
 use Rattle.group_hub.specs.Shards.{shard_of}
-use Rattle.server_ends.specs.Joins.{JoinedAs, IsRefusedFor}
+use Rattle.server_ends.specs.Joins.{JoinedAs, IsRefusedFor, opened_for}
 use Rattle.ndr_table.specs.Tables.{TableForm}
 use Rattle.manager_api.specs.Answers.{Ans}
 use Rattle.manager_api.specs.Calls.{Call}
@@ -115,7 +115,7 @@ module _ {K : Type 0} (shows : K → Shown) (tables : List TableForm) where
 
   module _ (may : Call → Bool → Ans → Type 0) (boot : ℕ) (p q : Pass) (v w : Wire K) (asked reason : ℕ) (r : Refuses boot p q asked reason) (x : AsksGroup shows tables v asked) where
     alone : (why : Stop) (octets : List ℕ) → Halted shows (ids_of tables) w why (NotBound asked reason octets ∷ []) → IsAlone shows tables may boot p w q why
-    alone why octets h = record { enters = none_entered boot p q asked reason r; turns = NotBound asked reason octets ∷ []; quiet = (tt, tt); over = (tt, tt); due = (r, tt); halted = h }
+    alone why octets h = record { enters = none_entered boot p q asked reason r; turns = NotBound asked reason octets ∷ []; unmarked = λ e. absurd cc; quiet = (tt, tt); over = (tt, tt); due = (r, tt); halted = h }
 
     seen_refused : (octets : List ℕ) → seen (x.told.events ++ Decided (RefuseGroup reason) octets ∷ []) ≡ all_events (NotBound asked reason octets ∷ [])
     seen_refused octets = (put_in_order x.told.events (Decided (RefuseGroup reason) octets ∷ [])).0.saw ∙ ap (λ l. l ++ Decided (RefuseGroup reason) octets ∷ []) x.told.seen_is
@@ -149,7 +149,7 @@ module _ {K : Type 0} (shows : K → Shown) (tables : List TableForm) where
 
 -- ---- a bind is answered
 
-pub held_joined : (s : Server) (boot : ℕ) (p q : Pass) (g c asked : ℕ) (octets : List ℕ) → (asked ≢ 0 → g ≡ asked) → (asked ≡ 0 → c ≡ 1) → JoinedAs boot p g c q → Held s boot p q g c None false (Bound asked g octets ∷ [])
+pub held_joined : (s : Server) (boot : ℕ) (p q : Pass) (g c asked : ℕ) (octets : List ℕ) → (asked ≢ 0 → g ≡ asked) → (asked ≡ 0 → c ≡ 1) → JoinedAs boot p asked g c q → Held s boot p q g c None false (Bound asked g octets ∷ [])
 held_joined s boot p q g c asked octets known new j =
     let none = of_none c j.older j.new in
     record {
@@ -162,6 +162,7 @@ held_joined s boot p q g c asked octets known new j =
       made = subst (λ l. Made s (home_of boot g) c l false (Bound asked g octets ∷ []) (Join c ∷ [])) (sym j.past)
           (joined_new s (home_of boot g) (home_of boot g) c c j.older [] [] asked g octets (filter_none (of_conn c) j.older none.0) none.1 tt tt (refl, record { known = known; new = new }));
       retired_is = refl;
+      marks_are = j.marks ∙ sym (append-nil (opened_for asked g));
     }
 
 module _ {K : Type 0} (shows : K → Shown) (may : Call → Bool → Ans → Type 0) (tables : List TableForm) (hub : Hub) where
@@ -240,6 +241,7 @@ module _ {K : Type 0} (shows : K → Shown) (may : Call → Bool → Ans → Typ
           joined = h.joined;
           made = made_answered (server shows may tables hub) (home_of hub.boot l.group) l.number (past_at l.pass l.group) false x.j x.iface x.offs x.deed None (Some octets) x.called.turns h.mine h.made;
           retired_is = h.retired_is;
+          marks_are = h.marks_are;
         }
 
     abbrev Saying : List ℕ → Event

@@ -1,6 +1,6 @@
 -- The states of a connection before it is in a group.
 use Rattle.std.specs.Prelude.{◌≡◌, ℕ, Bool, true, false, List, [], ◌∷◌}
-use Rattle.std.specs.List.{AllByRecursion}
+use Rattle.std.specs.List.{list_any, AllByRecursion}
 use Rattle.rpc_outside.specs.Links.{Shown}
 use Rattle.hub_story.specs.Histories.{home_of}
 use Rattle.group_hub.specs.declared.pass.Pass.{Pass}
@@ -25,7 +25,7 @@ use Rattle.conn_histories.specs.Events.{all_events}
 use Rattle.conn_histories.specs.Stories.{AllDue}
 use Rattle.conn_turns.specs.AnswerLaws.{IsOver as IsTurnOver}
 use Rattle.conn_turns.specs.Quiet.{IsQuiet}
-use Rattle.server_ends.specs.Finishes.{serving, EntersNone, Refuses}
+use Rattle.server_ends.specs.Finishes.{serving, EntersNone, OwnsNoMore, refuses, Refuses}
 use Rattle.server_steps.specs.declared.stop.Stop.{Stop}
 use Rattle.server_steps.specs.declared.stop.Stop.TheVariants as stop
 use Rattle.server_steps.specs.Told.{Told, Halted}
@@ -62,10 +62,11 @@ module _ {K : Type 0} (shows : K → Shown) (tables : List TableForm) where
   HeardEarly (heard.Stop fault.Failed) w = Halted shows (ids_of tables) w stop.Failed []
   HeardEarly (heard.Stop fault.Memory) w = Halted shows (ids_of tables) w stop.Memory []
 
-  -- it ended in no group, and entered nothing
+  -- it ended in no group, and entered nothing but what the refusal of its bind marks
   pub record IsAlone (may : Call → Bool → Ans → Type 0) (boot : ℕ) (p : Pass) (w : Wire K) (q : Pass) (why : Stop) : Type 0 where
     pub enters : EntersNone p q
     pub turns : List Turn
+    pub unmarked : list_any refuses turns ≡ false → OwnsNoMore p q
     pub quiet : AllByRecursion IsQuiet turns
     pub over : AllByRecursion IsTurnOver turns
     pub due : AllDue (serving tables may (Refuses boot p q)) (home_of boot 0) 0 [] turns

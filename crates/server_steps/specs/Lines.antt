@@ -48,7 +48,7 @@ module _ {K : Type 0} (shows : K → Shown) (may : Call → Bool → Ans → Typ
     pub asks : AsksGroup shows tables l.wire asked
     pub known : asked ≢ 0 → l.group ≡ asked
     pub new : asked ≡ 0 → l.number ≡ 1
-    pub joined : JoinedAs hub.boot l.began.value l.group l.number l.pass
+    pub joined : JoinedAs hub.boot l.began.value asked l.group l.number l.pass
     pub unretired : l.retired ≡ None
 
   -- it joined on the link of that wire, with that pass at first

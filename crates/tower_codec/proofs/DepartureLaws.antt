@@ -90,7 +90,7 @@ pass_floor number protocol l r left right rest octets behind long_left long_righ
     subst (λ n. departs (floor_fields number protocol n r behind) octets ≡ departs behind rest) long_left
     (subst (λ n. departs (floor_fields number protocol (length left) n behind) octets ≡ departs behind rest) long_right (exact_floor number protocol left right rest octets behind is))
 
--- the parts of a floor that was read, one behind the other
+-- the parts of a floor that was read, one after the other
 pub floor_parts : (protocol l r : ℕ) (left right octets rest1 rest2 rest3 rest4 rest5 : List ℕ) → length left ≡ l → length right ≡ r
     → octets ≡ u16_octets Little (l + 1) ++ rest1 → rest1 ≡ (protocol ∷ []) ++ rest2 → rest2 ≡ left ++ rest3 → rest3 ≡ u16_octets Little r ++ rest4 → rest4 ≡ right ++ rest5
     → octets ≡ floor protocol left right ++ rest5

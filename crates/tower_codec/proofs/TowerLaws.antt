@@ -23,7 +23,7 @@ len16 order n = wide16.len order n
 pub left_long : (syntax : SyntaxId) → FitsSyntax syntax → length (uuid_octets Little syntax.id ++ u16_octets Little syntax.major) ≡ 18
 left_long syntax fits = omega (arith, length-append (uuid_octets Little syntax.id) (u16_octets Little syntax.major), length-uuid_octets Little syntax.id fits.id, len16 Little syntax.major)
 
--- the parts of a tower that was read, one behind the other
+-- the parts of a tower that was read, one after the other
 pub whole_tower : (tower : Tower) (octets rest0 rest1 rest2 rest3 rest4 rest5 : List ℕ)
     → octets ≡ u16_octets Little 5 ++ rest0 → rest0 ≡ syntax_floor tower.iface ++ rest1 → rest1 ≡ syntax_floor tower.transfer ++ rest2
     → rest2 ≡ floor rpc_protocol [] (u16_octets Little tower.minor) ++ rest3 → rest3 ≡ floor tcp_protocol [] (u16_octets Big tower.port) ++ rest4

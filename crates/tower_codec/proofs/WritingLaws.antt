@@ -16,7 +16,7 @@ keeps_then old more mid new mid_is kept =
     let within : length old ≤ length mid = omega (arith, ap length mid_is, length-append old more) in
     sym (take-take (length old) (length mid) new within) ∙ ap (take (length old)) (kept ∙ mid_is) ∙ take-append_seam old more
 
--- four parts, one behind the other
+-- four parts, one after the other
 four : (old a b c d first second third new : List ℕ) → first ≡ old ++ a → second ≡ first ++ b → third ≡ second ++ c → new ≡ third ++ d → new ≡ old ++ (a ++ (b ++ (c ++ d)))
 four old a b c d first second third new e1 e2 e3 e4 =
     e4 ∙ (ap (λ m. m ++ d) e3 ∙ (append_assoc second c d

@@ -12,7 +12,7 @@ pub data Field : Type 0 where
   Fixed : List ℕ → TowerFault → Field
   Free : ℕ → Field
 
--- the fields of a floor of that number and protocol with so many octets of data on its sides, and those behind it
+-- the fields of a floor of that number and protocol with so many octets of data on its sides, and those after it
 abbrev pub floor_fields : ℕ → ℕ → ℕ → ℕ → List Field → List Field
 floor_fields number protocol left right behind =
     Fixed (u16_octets Little (left + 1)) (FloorKind number)
@@ -38,7 +38,7 @@ fields_2 = floor_fields 2 uuid_protocol 18 2 fields_3
 abbrev pub fields_1 : List Field
 fields_1 = floor_fields 1 uuid_protocol 18 2 fields_2
 
--- all of them: five floors behind their count
+-- all of them: five floors after their count
 abbrev pub tower_fields : List Field
 tower_fields = Fixed (u16_octets Little 5) Floors ∷ fields_1
 
@@ -54,7 +54,7 @@ departs (Free size ∷ fields) octets = if nat_lt (length octets) size then Some
 abbrev pub departure : List ℕ → Option TowerFault
 departure octets = departs tower_fields octets
 
--- whatever fields come behind, octets that were to begin with those depart with that fault
+-- whatever fields come after, octets that were to begin with those depart with that fault
 abbrev pub StopsFixed : List ℕ → TowerFault → List ℕ → TowerFault → Type 0
 StopsFixed wanted fault octets found = (behind : List Field) → departs (Fixed wanted fault ∷ behind) octets ≡ Some found
 

@@ -32,7 +32,7 @@ pub record IsSyntaxFloor (syntax : SyntaxId) (left right : List ℕ) : Type 0 wh
   pub left_is : left ≡ uuid_octets Little syntax.id ++ u16_octets Little syntax.major
   pub right_is : right ≡ u16_octets Little syntax.minor
 
--- five floors, behind their count
+-- five floors, after their count
 unfoldable pub tower_octets : Tower → List ℕ
 tower_octets tower =
     u16_octets Little 5

@@ -17,7 +17,7 @@ pub enum TowerFault {
     /// The floor of that number, from 1, has another length or another protocol identifier.
     #[error("protocol of floor {0}")]
     FloorKind(u8),
-    /// Octets stand behind the last floor.
+    /// Octets stand after the last floor.
     #[error("octets behind the tower")]
     Trailing,
     /// There is no memory for the tower. Reading one takes none.

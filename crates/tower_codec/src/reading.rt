@@ -59,7 +59,7 @@ fn read_syntax(left: &[u8], right: &[u8]) -> SyntaxId
     }
 }
 
-/// The number on the right of a floor that has no data on the left, and what stands behind it.
+/// The number on the right of a floor that has no data on the left, and what stands after it.
 fn take_number(
     octets: &[u8],
     number: u8,
@@ -73,7 +73,7 @@ fn take_number(
     Ok((get_u16(order, floor.right, 0), floor.rest))
 }
 
-/// The address on the right of a floor that has no data on the left, and what stands behind it.
+/// The address on the right of a floor that has no data on the left, and what stands after it.
 fn take_address(octets: &[u8], number: u8) -> Result<([u8; 4], &[u8]), TowerFault>
     ensures ok { IfOk result (λ r. (length r.0 ≡ 4) × (octets.now ≡ floor ip_protocol [] r.0 ++ r.1.now)) }
     ensures err { IfErr result (StopsFloor number ip_protocol 0 4 octets.now) }
@@ -84,7 +84,7 @@ fn take_address(octets: &[u8], number: u8) -> Result<([u8; 4], &[u8]), TowerFaul
     Ok((address, floor.rest))
 }
 
-/// A floor in the midst of octets: its data on the left and on the right, and what stands behind it.
+/// A floor in the midst of octets: its data on the left and on the right, and what stands after it.
 #[derive(Drop)]
 struct Floor<'a> {
     left: &'a [u8],
@@ -113,7 +113,7 @@ fn take_floor(
     Ok(Floor { left, right, rest })
 }
 
-/// What stands behind a count, as every tower has it there.
+/// What stands after a count, as every tower has it there.
 #[tactic(auto, unfolding(rpc_base::specs::Fields::number_octets))]
 fn take_count(octets: &[u8], count: u16, fault: TowerFault) -> Result<&[u8], TowerFault>
     ensures ok { IfOk result (λ rest. octets.now ≡ u16_octets Little count ++ rest.now) }
@@ -122,7 +122,7 @@ fn take_count(octets: &[u8], count: u16, fault: TowerFault) -> Result<&[u8], Tow
     take_fixed(octets, &count.to_le_bytes(), fault)
 }
 
-/// What stands behind octets that every tower has there.
+/// What stands after octets that every tower has there.
 fn take_fixed<'a>(
     octets: &'a [u8],
     wanted: &[u8],
@@ -141,7 +141,7 @@ fn take_fixed<'a>(
     Ok(rest)
 }
 
-/// So many octets, and what stands behind them.
+/// So many octets, and what stands after them.
 fn take_free(octets: &[u8], size: usize) -> Result<(&[u8], &[u8]), TowerFault>
     ensures ok { IfOk result (λ r. (length r.0.now ≡ size) × (octets.now ≡ r.0.now ++ r.1.now)) }
     ensures err { IfErr result (StopsFree size octets.now) }
@@ -152,7 +152,7 @@ fn take_free(octets: &[u8], size: usize) -> Result<(&[u8], &[u8]), TowerFault>
     Ok(octets.split_at(size))
 }
 
-/// That nothing stands behind the last floor.
+/// That nothing stands after the last floor.
 #[tactic(auto, using(crate::proofs::TowerLaws::trailing, crate::proofs::TowerLaws::nothing_left))]
 fn take_end(rest: &[u8]) -> Result<(), TowerFault>
     ensures ok { OnOk result (rest.now ≡ []) }

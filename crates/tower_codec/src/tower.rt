@@ -18,7 +18,7 @@ pub const TOWER_SIZE: usize = 75;
 
 /// The protocol identifiers that begin the floors (C706, "Protocol Identifiers").
 pub mod protocols {
-    /// A UUID, with its major version behind it.
+    /// A UUID, with its major version after it.
     pub const UUID: u8 = 0x0D;
     /// Connection-oriented RPC.
     pub const RPC: u8 = 0x0B;

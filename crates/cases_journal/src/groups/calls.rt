@@ -5,6 +5,7 @@ use crate::groups::answer::Answer;
 use crate::groups::due::run_down;
 use crate::groups::open::is_open;
 use crate::groups::rounds::{issue, may_end};
+use crate::groups::waits::within_twelve;
 use group_core::{AcceptRefusal, Cancelled, Group, Rest};
 use handle_model::{Asked, Entry, Outcomes, Said};
 use rpc_base::NoMemory;
@@ -103,13 +104,15 @@ pub fn visits(alloc: Global, group: &mut Group, count: u32) -> Result<Answer, No
     Ok(Answer::Count(group.journal().base().count))
 }
 
-/// Cancels a call, with a count of the link words that are written.
+/// Cancels a call, with a count of the link words that are written: no more than 12.
 fn cancel<L: Ledger>(group: &mut Group, call: u32, blank: Blank) -> Cancelled
     requires name { blank.name ≡ L.name }
     requires parts { (blank.parts ≡ L.parts) × (0 < blank.parts) }
 {
     let mut steps = Steps::<L>::new(blank);
-    group.cancel(call, &mut steps)
+    let cancelled = group.cancel(call, &mut steps);
+    within_twelve(&steps);
+    cancelled
 }
 
 /// Makes the call of the entry where its condition holds.

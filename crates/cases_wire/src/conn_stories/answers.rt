@@ -30,7 +30,12 @@ fn group_answer(conn: &mut Conn, verb: &str, word: &str) -> Result<Option<Octets
 
 /// What a call is answered: `fault STATUS OCTETS`, `ran STATUS OCTETS` of a call that was executed, `out STUB as OCTETS`; and
 /// `drop`, where it isn't.
-fn said(alloc: Global, names: &Names, verb: &str, rest: &str) -> Result<Option<Said>, NoMemory> {
+pub fn said(
+    alloc: Global,
+    names: &Names,
+    verb: &str,
+    rest: &str,
+) -> Result<Option<Said>, NoMemory> {
     if verb != "out" {
         let (word, _) = first_word(rest);
         return Ok(read_hex_u32(word.as_bytes()).map(|status| Said::Fault(Status(status))));
@@ -40,7 +45,7 @@ fn said(alloc: Global, names: &Names, verb: &str, rest: &str) -> Result<Option<S
 }
 
 /// Whether a response may have that stub.
-fn fits(said: Option<&Said>) -> bool
+pub fn fits(said: Option<&Said>) -> bool
     ensures { OnTrue result (FitsStub (option_copied said.entry)) }
 {
     match said {

@@ -20,7 +20,7 @@ fn plain_words(verb: &str) -> Option<u32> {
 }
 
 /// Puts what a line wants as what comes is put: its words, with a space behind each, and then its octets.
-fn put_wanted(
+pub fn put_wanted(
     alloc: Global,
     names: &Names,
     line: &str,

@@ -17,8 +17,8 @@ use rpc_base::{NoMemory, SyntaxId};
 use std::alloc::Global;
 use uuid::Uuid;
 
-/// A server of the probe, interface 0, and the store, interface 1.
-pub fn server(alloc: Global) -> Result<Conn, NoMemory> {
+/// The probe, interface 0, and the store, interface 1.
+pub fn interfaces() -> [SyntaxId; 2] {
     let probe = SyntaxId {
         id: Uuid::from_u128(0x5f0c_7a12_3b4d_4e6f_8a90_b1c2_d3e4_f506),
         major: 1,
@@ -29,7 +29,12 @@ pub fn server(alloc: Global) -> Result<Conn, NoMemory> {
         major: 1,
         minor: 0,
     };
-    Conn::new(alloc, &[probe, store])
+    [probe, store]
+}
+
+/// A server of the probe and the store.
+pub fn server(alloc: Global) -> Result<Conn, NoMemory> {
+    Conn::new(alloc, &interfaces())
 }
 
 /// The connections of a story.
@@ -42,7 +47,7 @@ pub struct Conns {
     cut: Option<Cut>,
 }
 
-fn step_of(holds: bool) -> Step {
+pub fn step_of(holds: bool) -> Step {
     if holds { Step::Held } else { Step::Differs }
 }
 

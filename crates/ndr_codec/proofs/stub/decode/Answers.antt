@@ -3,7 +3,7 @@ use Rattle.ndr_value.specs.Values.{Msg}
 use Rattle.ndr_value.specs.declared.value.Message.{Message}
 use Rattle.ndr_table.specs.Shown.{shown}
 use Rattle.ndr_agree.specs.Views.{asked_of}
-use Rattle.ndr_codec.proofs.Decoding.{found_all, of_op_all, stub_decoded}
+use Rattle.ndr_codec.proofs.Decoding.{found_all, of_op_all, stub_decoded, cause_all}
 use Rattle.ndr_codec.proofs.stub.decode.Goals as goal
 
 pub returns-clause-found : goal.returns-clause-found
@@ -21,3 +21,10 @@ pub returns-clause-of_op : goal.returns-clause-of_op
 returns-clause-of_op c =
     let asked : Option Msg = asked_of {A = Bor Message} (λ m. m.now) c.args.asked in
     of_op_all (shown c.args.table.now).types (shown c.args.table.now).ops c.args.op c.args.way c.args.order asked c.args.stub.now c.decode_at.result (λ i. omega (arith, c.type_inv.stub i)) c.decode_at.ensures
+
+pub returns-clause-cause : goal.returns-clause-cause
+returns-clause-cause c =
+    let asked : Option Msg = asked_of {A = Bor Message} (λ m. m.now) c.args.asked in
+    let t = shown c.args.table.now in
+    cause_all t.types t.ops c.args.op c.args.way c.args.order asked c.args.stub.now c.decode_at.result
+    (λ o is. record { is = record { ops = t.ops; uses = t.uses; number = c.args.op; table = c.is_whole.ensures; shallow = c.is_shallow.ensures; is = is }; sound = c.is_sound.ensures }) c.decode_at.ensures

@@ -4,10 +4,10 @@ use Rattle.call_table.proofs.Marks.{waits_called, slots_place}
 use Rattle.call_table.proofs.table.CallTable.conflict.Goals as goal
 
 pub place-at-requires-clause-there : goal.place-at-requires-clause-there
-place-at-requires-clause-there c = rw c.as_slice.ensures.value (waits_called c.self.inside.rows.items c.args.call (ap (λ v. waits_at v.rows c.args.call) c.self.view_is ∙ c.requires))
+place-at-requires-clause-there c = (waits_called c.self.inside.rows.items c.args.call (ap (λ v. waits_at v.rows c.args.call) c.self.view_is ∙ c.requires))
 
 pub returns : goal.returns
 returns c =
-    let slots = slots_place 0 _ _ _ c.index-row.result.now c.self.invariant.0.rises (rw c.as_slice.ensures.value at c.place-at.ensures) c.index-row.ensures in
-    let blocks = rw (c.as_slice-2.ensures.slots, c.as_slice-3.ensures.value) at c.blocker_of.ensures in
+    let slots = slots_place 0 _ _ _ c.row-row.result.now c.self.invariant.0.rises c.place-at.ensures c.row-row.ensures in
+    let blocks = rw c.as_slice.ensures.slots at c.blocker_of.ensures in
     blocks ∙ (ap (λ ss. blocker_of ss c.args.call c.self.inside.rows.items) (sym slots) ∙ ap (λ v. conflict_of v.rows c.args.call) c.self.view_is)

@@ -5,8 +5,8 @@ use Rattle.call_table.proofs.table.CallTable.leave.Goals as goal
 
 pub overflow_sub-result : goal.overflow_sub-result
 overflow_sub-result c =
-    let before = rw c.as_slice.ensures.value at c.owed_of-before.ensures in
-    let after = rw c.as_slice-2.ensures.value at c.owed_of.ensures in
+    let before = c.owed_of-before.ensures in
+    let after = c.owed_of.ensures in
     let left = ap (λ v. owed_of v.rows) c.self-2.view_is in
     let gone = ap owed_of c.leave_all.ensures.rows in
     let now = ap (λ v. owed_of v.rows) c.self.view_is in
@@ -14,8 +14,8 @@ overflow_sub-result c =
 
 pub returns-clause-freed : goal.returns-clause-freed
 returns-clause-freed c =
-    let before = rw c.as_slice.ensures.value at c.owed_of-before.ensures in
-    let after = rw c.as_slice-2.ensures.value at c.owed_of.ensures in
+    let before = c.owed_of-before.ensures in
+    let after = c.owed_of.ensures in
     let left = ap (λ v. owed_of v.rows) c.self-2.view_is in
     let gone = ap owed_of c.leave_all.ensures.rows in
     let now = ap (λ v. owed_of v.rows) c.self.view_is in

@@ -8,17 +8,17 @@ use Rattle.call_table.proofs.table.CallTable.of.Goals as goal
 pub queued_rows-requires : goal.queued_rows-requires
 queued_rows-requires c =
     let made : c.in_ok-rows.rows.items ≡ base_rows c.args.base.now = c.in_ok-rows.ensures in
-    rw c.as_slice.ensures.value (subst AllFew (sym made) (calls_few c.args.base.now c.args.base.now.count c.args.base.now.calls c.requires.within))
+    subst AllFew (sym made) (calls_few c.args.base.now c.args.base.now.count c.args.base.now.calls c.requires.within)
 
 pub of-tally-requires-clause-rise : goal.of-tally-requires-clause-rise
 of-tally-requires-clause-rise c =
     let made : c.in_ok-rows.rows.items ≡ base_rows c.args.base.now = c.in_ok-rows.ensures in
-    rw c.as_slice-2.ensures.value (subst (Rises 0) (sym made) (calls_rise c.args.base.now.count c.args.base.now.accepts c.args.base.now.calls c.requires.rise c.requires.counted c.requires.small))
+    subst (Rises 0) (sym made) (calls_rise c.args.base.now.count c.args.base.now.accepts c.args.base.now.calls c.requires.rise c.requires.counted c.requires.small)
 
 pub of-tally-requires-clause-few : goal.of-tally-requires-clause-few
 of-tally-requires-clause-few c =
     let made : c.in_ok-rows.rows.items ≡ base_rows c.args.base.now = c.in_ok-rows.ensures in
-    rw c.as_slice-2.ensures.value (subst AllFew (sym made) (calls_few c.args.base.now c.args.base.now.count c.args.base.now.calls c.requires.within))
+    subst AllFew (sym made) (calls_few c.args.base.now c.args.base.now.count c.args.base.now.calls c.requires.within)
 
 pub invariant_of-result : goal.invariant_of-result
 invariant_of-result c =
@@ -28,10 +28,10 @@ invariant_of-result c =
       record {
         rises = subst (Rises 0) (sym made) (calls_rise c.args.base.now.count c.args.base.now.accepts c.args.base.now.calls c.requires.rise c.requires.counted c.requires.small);
         few = subst AllFew (sym made) (calls_few c.args.base.now c.args.base.now.count c.args.base.now.calls c.requires.within);
-        places = omega (arith, c.in_ok-rows.rows.ok);
+        places = omega arith;
         enough = search rules;
         blanks = c.in_ok-fill.ensures.blanks;
       },
-      rw c.as_slice-2.ensures.value at c.of-tally.ensures,
-      record { calls_are = rw c.as_slice.ensures.value at c.in_ok-queues.ensures; enough = omega arith },
+      c.of-tally.ensures,
+      record { calls_are = c.in_ok-queues.ensures; enough = omega arith },
     )

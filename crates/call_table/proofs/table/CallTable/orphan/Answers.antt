@@ -3,20 +3,22 @@ use Rattle.call_table.specs.Rows.{runs_at, orphaned, with_orphan}
 use Rattle.call_table.specs.Tally.{IsTally}
 use Rattle.call_table.specs.Queues.{IsQueued}
 use Rattle.call_table.proofs.Nearest.{mark_queued}
-use Rattle.call_table.proofs.Marks.{runs_called, mark_at, marked}
+use Rattle.call_table.proofs.Keyed.{set_call}
+use Rattle.call_table.proofs.Marks.{runs_called, marked}
 use Rattle.call_table.proofs.Tallied.{tally_marked}
 use Rattle.call_table.proofs.table.CallTable.orphan.Goals as goal
 
 pub place-at-requires-clause-there : goal.place-at-requires-clause-there
-place-at-requires-clause-there c = rw c.as_slice.ensures.value (runs_called c.self.inside.rows.items c.args.call (ap (λ v. runs_at v.rows c.args.call) c.self.view_is ∙ c.requires))
+place-at-requires-clause-there c = runs_called c.self.inside.rows.items c.args.call (ap (λ v. runs_at v.rows c.args.call) c.self.view_is ∙ c.requires)
+
+pub orphan-requires : goal.orphan-requires
+orphan-requires c = c.place-at.ensures.within
 
 pub invariant_of-self : goal.invariant_of-self
 invariant_of-self c =
-    let at = rw c.as_slice.ensures.value at c.place-at.ensures in
-    let same = mark_at orphaned 0 _ _ _ c.index_mut-row.result.now c.self.invariant.0.rises at c.index_mut-row.ensures.value in
-    (marked _ _ _ _ _ _ orphaned c.index_mut-row.result.now c.self.invariant.0 (record { call = λ r. refl; slots = λ r. refl }) (λ r. refl) at c.index_mut-row.ensures.value refl refl refl, subst (λ rows. IsTally rows c.self.inside.tally) (sym same) (tally_marked orphaned _ _ c.args.call (λ r. refl) (λ r. refl) c.self.invariant.1), subst (λ rows. IsQueued rows c.self.inside.queues c.self.inside.room) (sym same) (mark_queued c.args.call orphaned _ _ _ (record { call = λ r. refl; slots = λ r. refl }) c.self.invariant.2))
+    let same = ap (λ v. v.items) c.orphan.ensures ∙ set_call orphaned 0 _ _ _ c.self.invariant.0.rises c.place-at.ensures in
+    (marked _ _ _ _ _ orphaned c.self.invariant.0 (record { call = λ r. refl; slots = λ r. refl }) (λ r. refl) same (ap (λ v. v.room) c.orphan.ensures), subst (λ rows. IsTally rows c.self.inside.tally) (sym same) (tally_marked orphaned _ _ c.args.call (λ r. refl) (λ r. refl) c.self.invariant.1), subst (λ rows. IsQueued rows c.self.inside.queues c.self.inside.room) (sym same) (mark_queued c.args.call orphaned _ _ _ (record { call = λ r. refl; slots = λ r. refl }) c.self.invariant.2))
 
 pub returns-clause-rows : goal.returns-clause-rows
 returns-clause-rows c =
-    mark_at orphaned 0 _ _ _ c.index_mut-row.result.now c.self.invariant.0.rises (rw c.as_slice.ensures.value at c.place-at.ensures) c.index_mut-row.ensures.value
-    ∙ ap (λ v. with_orphan c.args.call v.rows) c.self.view_is
+    ap (λ v. v.items) c.orphan.ensures ∙ (set_call orphaned 0 _ _ _ c.self.invariant.0.rises c.place-at.ensures ∙ ap (λ v. with_orphan c.args.call v.rows) c.self.view_is)

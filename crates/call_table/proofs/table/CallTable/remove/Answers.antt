@@ -33,9 +33,8 @@ invariant_of-self g c =
     let lt : c.args.at < length c.self.inside.rows.items = omega (arith, c.requires) in
     let at = at_read c.self.inside.rows.items row.call c.args.at row lt (ap (λ (r : Row). r.call) (sym c.remove-row.ensures.value)) in
     let there = row_place 0 _ _ _ row rise at c.remove-row.ensures.value in
-    let gone = c.remove-row.ensures.items ∙ remove_row 0 _ _ _ rise at in
-    let len = c.remove-row.ensures.len in (
-      filtered _ _ _ _ (is_other row.call) c.self.invariant.0 gone (omega arith) c.remove-row.ensures.capacity,
+    let gone = c.remove-row.ensures.items ∙ remove_row 0 _ _ _ rise at in (
+      filtered _ _ _ _ (is_other row.call) c.self.invariant.0 gone c.remove-row.ensures.room,
       subst (λ rows. IsTally rows c.leave.new.self) (sym gone) (tally_without _ _ _ row.call _ rise there c.self.invariant.1 c.leave.ensures),
       subst (λ rows. IsQueued rows c.remove.new.self c.self.inside.room) (sym c.remove-row.ensures.items) (remove_queued _ _ _ _ _ c.self.invariant.2 c.remove.ensures.calls c.remove.ensures.room),
     )

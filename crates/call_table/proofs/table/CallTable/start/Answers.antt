@@ -5,16 +5,22 @@ use Rattle.call_table.specs.Tally.{IsTally}
 use Rattle.call_table.proofs.Tallied.{tally_room, tally_started}
 use Rattle.call_table.specs.Queues.{IsQueued}
 use Rattle.call_table.proofs.Nearest.{mark_queued}
-use Rattle.call_table.proofs.Marks.{waits_called, mark_at, row_place, slots_place, begun, some_list, blank_cut, last_blank}
+use Rattle.call_table.proofs.Keyed.{set_call}
+use Rattle.call_table.proofs.Marks.{waits_called, row_place, slots_place, begun, some_list, blank_cut, last_blank}
 use Rattle.call_table.proofs.table.CallTable.start.Goals as goal
 
 pub place-at-requires-clause-there : goal.place-at-requires-clause-there
-place-at-requires-clause-there c = rw c.as_slice.ensures.value (waits_called c.self.inside.rows.items c.args.call (ap (λ v. waits_at v.rows c.args.call) c.self.view_is ∙ c.requires))
+place-at-requires-clause-there c = waits_called c.self.inside.rows.items c.args.call (ap (λ v. waits_at v.rows c.args.call) c.self.view_is ∙ c.requires)
+
+pub row-requires : goal.row-requires
+row-requires c = c.place-at.ensures.within
+
+pub start-requires : goal.start-requires
+start-requires c = c.place-at.ensures.within
 
 pub returns-clause-rows : goal.returns-clause-rows
 returns-clause-rows c =
-    mark_at taken 0 _ _ _ c.index_mut-row.result.now c.self.invariant.0.rises (rw c.as_slice.ensures.value at c.place-at.ensures) c.index_mut-row.ensures.value
-    ∙ ap (λ v. with_start c.args.call v.rows) c.self.view_is
+    ap (λ v. v.items) c.start.ensures ∙ (set_call taken 0 _ _ _ c.self.invariant.0.rises c.place-at.ensures ∙ ap (λ v. with_start c.args.call v.rows) c.self.view_is)
 
 pub unwrap-requires : goal.unwrap-requires
 unwrap-requires c =
@@ -29,15 +35,14 @@ invariant_of-self c =
     let waits : waits_at c.self.inside.rows.items c.args.call ≡ true = ap (λ v. waits_at v.rows c.args.call) c.self.view_is ∙ c.requires in
     let one = rw c.unwrap.ensures at c.pop.ensures.cases in
     let rise = c.self.invariant.0.rises in
-    let at = rw c.as_slice.ensures.value at c.place-at.ensures in
-    let same = mark_at taken 0 _ _ _ c.index_mut-row.result.now rise at c.index_mut-row.ensures.value in
-    let there = row_place 0 _ _ _ c.index_mut-row.result.now rise at c.index_mut-row.ensures.value in
-    (begun c.self.inside.rows _ c.self.inside.lists _ _ c.args.call _ c.index_mut-row.result.now c.self.invariant.0 waits at c.index_mut-row.ensures.value refl refl refl one c.pop.ensures.rest, subst (λ rows. IsTally rows (record c.self.inside.tally { running = c.self.inside.tally.running + 1 })) (sym same) (tally_started _ c.self.inside.tally (record c.self.inside.tally { running = c.self.inside.tally.running + 1 }) c.args.call _ rise waits there c.self.invariant.1 refl refl), subst (λ rows. IsQueued rows c.self.inside.queues c.self.inside.room) (sym same) (mark_queued c.args.call taken _ _ _ (record { call = λ r. refl; slots = λ r. refl }) c.self.invariant.2))
+    let same = ap (λ v. v.items) c.start.ensures ∙ set_call taken 0 _ _ _ rise c.place-at.ensures in
+    let there = row_place 0 _ _ _ c.row.result.now rise c.place-at.ensures c.row.ensures in
+    (begun c.self.inside.rows _ c.self.inside.lists _ _ c.args.call c.self.invariant.0 waits same (ap (λ v. v.room) c.start.ensures) one c.pop.ensures.rest, subst (λ rows. IsTally rows (record c.self.inside.tally { running = c.self.inside.tally.running + 1 })) (sym same) (tally_started _ c.self.inside.tally (record c.self.inside.tally { running = c.self.inside.tally.running + 1 }) c.args.call _ rise waits there c.self.invariant.1 refl refl), subst (λ rows. IsQueued rows c.self.inside.queues c.self.inside.room) (sym same) (mark_queued c.args.call taken _ _ _ (record { call = λ r. refl; slots = λ r. refl }) c.self.invariant.2))
 
 pub returns-clause-cookies : goal.returns-clause-cookies
 returns-clause-cookies c =
-    let slots = slots_place 0 _ _ _ c.index_mut-row.result.now c.self.invariant.0.rises (rw c.as_slice.ensures.value at c.place-at.ensures) c.index_mut-row.ensures.value in
+    let slots = slots_place 0 _ _ _ c.row.result.now c.self.invariant.0.rises c.place-at.ensures c.row.ensures in
     let list = last_blank _ _ c.unwrap.result c.self.invariant.0.blanks (rw c.unwrap.ensures at c.pop.ensures.items) in
-    let count : length c.as_slice-count.result.now ≡ length c.index_mut-row.result.now.slots = ap (λ ss. length ss) c.as_slice-count.ensures.slots in
-    let few : length c.index_mut-row.result.now.slots ≤ 4 = omega (arith, c.as_slice-count.ensures.few) in
+    let count : length c.as_slice-count.result.now ≡ length c.row.result.now.slots = ap (λ ss. length ss) c.as_slice-count.ensures.slots in
+    let few : length c.row.result.now.slots ≤ 4 = omega (arith, c.as_slice-count.ensures.few) in
     c.cut.ensures ∙ (ap (take (length c.as_slice-count.result.now)) list ∙ (ap (λ n. take n blank) count ∙ (blank_cut _ few ∙ (ap no_cookies (sym slots) ∙ ap (λ v. no_cookies (slots_at v.rows c.args.call)) c.self.view_is))))

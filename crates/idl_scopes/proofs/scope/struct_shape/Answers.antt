@@ -1,5 +1,0 @@
-use Rattle.ndr_value.proofs.Mirror.{form_struct}
-use Rattle.idl_scopes.proofs.scope.struct_shape.Goals as goal
-
-pub returns : goal.returns
-returns c = form_struct c.args.members

@@ -1,0 +1,4 @@
+pub mod Among
+pub mod Courses
+pub mod Laws
+pub mod Open

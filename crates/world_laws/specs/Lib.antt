@@ -1,0 +1,9 @@
+pub mod Calling
+pub mod Clauses
+pub mod Counts
+pub mod Ends
+pub mod Firsts
+pub mod Journals
+pub mod Moves
+pub mod Serving
+pub mod Worlds
