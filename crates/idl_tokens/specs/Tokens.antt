@@ -137,11 +137,15 @@ wants_uuid (kind ∷ earlier ∷ before) = opens_round kind && is_uuid_word earl
 abbrev pub BeginsWith : List Kind → List ℕ → Kind → List ℕ → Type 0
 BeginsWith before text kind rest = MatchBool (wants_uuid before) ((id : List ℕ) × (kind ≡ kinds.Uuid id) × IsUuidAt text id rest) (Spells (depth_of before) text kind rest)
 
+-- Behind tokens of these kinds the text begins with none.
+abbrev pub BeginsNone : List Kind → List ℕ → Type 0
+BeginsNone before text = (kind : Kind) (rest : List ℕ) → BeginsWith before text kind rest → ⊥
+
 -- Here begins neither a separator nor a token, though the text goes on: an octet that begins none, or one that is unfinished.
 pub record IsBadAt (before : List Kind) (text : List ℕ) : Type 0 where
   pub goes_on : 0 < length text
   pub no_separator : (rest : List ℕ) → Separates text rest → ⊥
-  pub no_token : (kind : Kind) (rest : List ℕ) → BeginsWith before text kind rest → ⊥
+  pub no_token : BeginsNone before text
 
 -- Behind tokens of these kinds the text has these tokens. Each stands behind a gap; what is left of the text from the
 -- token on tells its place, since the whole text has `total` octets. The last one is the end, or what is no token.

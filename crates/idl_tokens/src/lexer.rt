@@ -1,6 +1,6 @@
 //! The tokens of a text.
 ghost use Rattle.std.specs.Prelude.{◌≡◌, ◌+◌, ◌<◌, ◌≤◌, ◌^◌, ℕ, List, [], ◌∷◌, MatchOption, IfOk, length};
-ghost use Rattle.idl_tokens.specs.Tokens.{AreTokens, BeginsWith, depth_behind as depth_test, is_uuid_word as uuid_word_test, opens_round as round_test};
+ghost use Rattle.idl_tokens.specs.Tokens.{AreTokens, BeginsNone, BeginsWith, depth_behind as depth_test, is_uuid_word as uuid_word_test, opens_round as round_test};
 ghost use Rattle.idl_tokens.specs.Contexts.{IsStep, TellsContext};
 ghost use Rattle.idl_tokens.specs.declared.kinds.Kind.{Kind};
 
@@ -81,9 +81,8 @@ impl Context {
 /// The token at the front, and what is behind it.
 fn token(alloc: Global, context: Context, text: &[u8]) -> Result<Option<(Kind, &[u8])>, NoMemory>
     requires { context.depth + 1 < 2 ^ 64 }
-    ensures { IfOk result (λ found. (before : List Kind) → TellsContext context before → MatchOption found
-        ((kind : Kind) (rest : List ℕ) → BeginsWith before text.now kind rest → ⊥)
-        (λ p. BeginsWith before text.now p.0 p.1.now)) }
+    ensures { IfOk result (λ found. (before : List Kind) → TellsContext context before
+        → MatchOption found (BeginsNone before text.now) (λ p. BeginsWith before text.now p.0 p.1.now)) }
 {
     if context.wants_uuid {
         return match uuid(text) {
