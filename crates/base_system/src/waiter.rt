@@ -1,4 +1,5 @@
 //! Waiting for a socket.
+use crate::alarm::Alarm;
 use mio::event::Source;
 use mio::{Events, Interest, Poll, Token, Waker};
 use rpc_base::{Failed, OutFault};
@@ -13,14 +14,14 @@ pub(crate) const TURN: u64 = 10;
 /// How long a wait lasts at most that only a socket or a bell ends, in milliseconds.
 pub(crate) const REST: u64 = 10_000;
 
-/// Waits until its one socket is ready or its waker is woken.
+/// Waits until its one socket is ready or its alarm rings.
 #[derive(Drop)]
 pub(crate) struct Waiter {
     poll: Poll,
     events: Events,
     alloc: Global,
     // Made when it is first wanted, since it takes a descriptor.
-    waker: OnceLock<Arc<Waker, Global>>,
+    alarm: OnceLock<Arc<Alarm, Global>>,
 }
 
 impl Waiter {
@@ -32,7 +33,7 @@ impl Waiter {
                 poll,
                 events,
                 alloc,
-                waker: OnceLock::new(),
+                alarm: OnceLock::new(),
             }),
             Err(_) => Err(OutFault::Failed),
         }
@@ -58,7 +59,7 @@ impl Waiter {
         }
     }
 
-    /// Waits for so many milliseconds, or until the socket is ready or its waker is woken.
+    /// Waits for so many milliseconds, or until the socket is ready or its alarm rings.
     pub(crate) fn wait(&mut self, time: u64) -> Result<(), Failed> {
         match self
             .poll
@@ -69,22 +70,22 @@ impl Waiter {
         }
     }
 
-    /// Whether the last wait ended since the socket was ready or the waker woken, and not for its time.
+    /// Whether the last wait ended since the socket was ready or the alarm rang, and not for its time.
     pub(crate) fn was_woken(&self) -> bool {
         !self.events.is_empty()
     }
 
     /// What ends a wait, or else the next one, from any thread.
-    pub(crate) fn waker(&self) -> Result<Arc<Waker, Global>, OutFault> {
-        if let Some(waker) = self.waker.get() {
-            return Ok(Arc::try_clone(waker)?);
+    pub(crate) fn alarm(&self) -> Result<Arc<Alarm, Global>, OutFault> {
+        if let Some(alarm) = self.alarm.get() {
+            return Ok(Arc::try_clone(alarm)?);
         }
-        let Ok(made) = Waker::new(self.poll.registry(), Token(1)) else {
+        let Ok(waker) = Waker::new(self.poll.registry(), Token(1)) else {
             return Err(OutFault::Failed);
         };
-        let made = Arc::new(self.alloc, made)?;
+        let made = Arc::new(self.alloc, Alarm::new(waker))?;
         let given = Arc::try_clone(&made)?;
-        match self.waker.try_set(made) {
+        match self.alarm.try_set(made) {
             Ok(_) => Ok(given),
             Err(_) => Err(OutFault::Failed),
         }

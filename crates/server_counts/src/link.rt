@@ -1,6 +1,6 @@
 //! Links that count.
 ghost use Rattle.std.specs.Prelude.{◌≡◌};
-ghost use Rattle.rpc_outside.specs.Links.{IsNew};
+ghost use Rattle.rpc_outside.specs.Links.{IsNew, IsBell};
 ghost use Rattle.server_counts.specs.Stats.{Tell};
 
 use crate::counting::Counting;
@@ -34,6 +34,18 @@ impl<K: Link> CountLink<K> {
     /// A link that counts, over a new one. What it counts it adds to the tally too, which connections share.
     pub fn new(link: K, tally: Arc<Tally, Global>) -> CountLink<K>
         requires { IsNew (K.shows link) }
+        ensures { result ≡ link }
+    {
+        CountLink {
+            link,
+            counting: Counting::new(),
+            tally,
+        }
+    }
+
+    // The bell of a link that counts, over the bell of the link inside.
+    fn of_bell(link: K, tally: Arc<Tally, Global>) -> CountLink<K>
+        requires { IsBell (K.shows link) }
         ensures { result ≡ link }
     {
         CountLink {
@@ -102,5 +114,23 @@ impl<K: Link> Link for CountLink<K> {
 
     fn ring<R: Wait>(&self, rt: &R, number: u32) {
         self.link.ring(rt, number);
+    }
+
+    fn rest<R: Wait>(&self, rt: &R) -> bool {
+        self.link.rest(rt)
+    }
+
+    fn bell(&self) -> Option<CountLink<K>> {
+        let Ok(tally) = Arc::try_clone(&self.tally) else {
+            return None;
+        };
+        match self.link.bell() {
+            Some(link) => Some(CountLink::of_bell(link, tally)),
+            None => None,
+        }
+    }
+
+    fn wake(&self) {
+        self.link.wake();
     }
 }

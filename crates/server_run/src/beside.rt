@@ -44,13 +44,14 @@ pub(crate) enum Started<M: Manager> {
     Here(Worked),
 }
 
-/// Runs a call in a thread of the scope, or in this one where none can be started.
-fn start<'s, E, R: Wait + Threads + Sync, M: Manager + Sync>(
+/// Runs a call in a thread of the scope, or in this one where none can be started. Its end wakes the bell's link.
+fn start<'s, E, R: Wait + Threads + Sync, K: Link + 's, M: Manager + Sync>(
     scope: &'s Scope<'s, E>,
     rt: &'s R,
     server: Server<'s, M>,
     running: RunningCall<'s>,
     task: Task,
+    bell: Option<K>,
 ) -> Started<M>
     requires { IsReadyToRun M.tables server running task }
     ensures { StartsSo M.tables M.may server.entry running.entry result }
@@ -74,6 +75,9 @@ fn start<'s, E, R: Wait + Threads + Sync, M: Manager + Sync>(
             let (server, running) = (Server { ..server }, RunningCall { ..running });
             let worked = work(rt, server, running, Task { ..task });
             running.done.wake_all();
+            if let Some(bell) = bell {
+                bell.wake();
+            }
             worked
         },
     ) {
@@ -84,7 +88,7 @@ fn start<'s, E, R: Wait + Threads + Sync, M: Manager + Sync>(
 
 /// Runs a call in a thread of the scope, and hears meanwhile whether it is called off. A connection that doesn't go on
 /// leaves and closes its link before the thread is joined. Where no thread can be started it runs the call itself.
-fn run_in_scope<'s, E, R: Wait + Threads + Sync, K: Link, M: Manager + Sync>(
+fn run_in_scope<'s, E, R: Wait + Threads + Sync, K: Link + 's, M: Manager + Sync>(
     scope: &'s Scope<'s, E>,
     rt: &'s R,
     server: Server<'s, M>,
@@ -98,10 +102,11 @@ fn run_in_scope<'s, E, R: Wait + Threads + Sync, K: Link, M: Manager + Sync>(
 {
     let Server { hub, manager, .. } = server;
     let RunningCall { call, asked, .. } = running;
-    match start(scope, rt, server, running, task) {
+    let bell = line.wire.link.bell();
+    let has_bell = bell.is_some();
+    match start(scope, rt, server, running, task, bell) {
         Started::There(child) => {
-            line.wire.link.hasten();
-            match watch(rt, server, &mut line, running, cookies) {
+            match watch(rt, server, &mut line, running, cookies, has_bell) {
                 Watched::Done(orphaned) => {
                     line.wire.link.unlisten(rt);
                     let worked = child.join(rt);

@@ -49,14 +49,13 @@ pub(crate) enum Went<K: Link> {
     Over(Finished<K>),
 }
 
-/// Rests a while. A call that waits does so where a look at its link takes no time: the link can't listen, or isn't looked at since
-/// what came has to wait.
+/// Rests a while. A call that waits does so where its link can't listen, and a look at it takes no time.
 fn rest<R: Wait>(rt: &R) {
     AtomicU64::new(0).park_timeout(rt, 0, Duration::from_millis(REST));
 }
 
 /// Waits until a call is taken or denied, and hears meanwhile whether it is called off. A call that can't be taken at once has its
-/// link listen to its group.
+/// link listen to its group, and rests in a take of it, or without one where what came has to wait.
 fn await_turn<R: Wait, K: Link, M: Manager>(
     rt: &R,
     server: Server<'_, M>,
@@ -85,7 +84,8 @@ fn await_turn<R: Wait, K: Link, M: Manager>(
         }
         match line.hear_waiting(hub, manager, call, asked) {
             Heard::Nothing => {
-                if !listens || line.wire.conn.must_wait() {
+                let must_wait = line.wire.conn.must_wait();
+                if !listens || (must_wait && !line.wire.link.rest(rt)) {
                     rest(rt);
                 }
             }
