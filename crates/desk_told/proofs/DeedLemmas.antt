@@ -1,5 +1,5 @@
 -- Histories of desks.
-use Rattle.std.proofs.Common.{◌≡◌, ◌⊎◌, ℕ, Bool, List, [], ◌∷◌, ◌++◌, length, map, refl, sym, ap, ◌∙◌, subst, arith}
+use Rattle.std.proofs.Common.{◌≡◌, Bool, List, [], ◌∷◌, ◌++◌, length, map, refl, sym, ap, ◌∙◌, subst, arith}
 use Rattle.std.proofs.lemmas.List.{map-append}
 use Rattle.handle_model.specs.declared.entry.DueItem.{DueItem}
 use Rattle.manager_api.specs.Answers.{Ans}
@@ -7,7 +7,7 @@ use Rattle.manager_api.specs.Calls.{Call}
 use Rattle.desk_told.specs.declared.deed.Deed.{Deed}
 use Rattle.desk_told.specs.Deeds.{DeedForm, began, called, ran_down, form, By}
 use Rattle.desk_told.specs.Histories.{Leads, IsHistory, Tells}
-use Rattle.desk_told.specs.Laws.{Follows, EachFollows}
+use Rattle.desk_told.specs.Laws.{EachFollows}
 
 -- LISTS
 

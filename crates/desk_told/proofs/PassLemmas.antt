@@ -1,5 +1,5 @@
 -- What passes have seen and entered.
-use Rattle.std.proofs.Common.{◌≡◌, ◌⊎◌, ℕ, ◌+◌, ◌<◌, ◌≤◌, Bool, true, List, [], ◌∷◌, ◌++◌, length, map, refl, sym, ap, ◌∙◌, subst, inl, inr, ⊎_elim, arith, length-append}
+use Rattle.std.proofs.Common.{◌≡◌, ℕ, ◌+◌, ◌<◌, ◌≤◌, Bool, List, [], ◌∷◌, ◌++◌, length, map, sym, ap, ◌∙◌, subst, inl, inr, ⊎_elim, arith, length-append}
 use Rattle.std.proofs.lemmas.List.{map-append, length-map}
 use mathlib.Core.Logic.{dite}
 use native.Mathlib.Decide.{dec_lt, dec_le}
@@ -82,12 +82,13 @@ module _ {S : Type 0} (may : S → Call → Bool → Ans → S → Type 0) (down
   -- PASSES
 
   -- one that entered a deed
-  pub of_entered : (lock : TableId) (first : S) (p q : PassForm S) (d : DeedForm S) → IsOf may downs lock first p → IsPassOf lock q → Enters may downs first p d q → IsOf may downs lock first q
-  of_entered lock first p q d o s e =
+  pub of_entered : (lock held gave : TableId) (first : S) (p q : PassForm S) (d : DeedForm S) → IsOf may downs lock first p → IsPassOf gave q → gave ≡ held → held ≡ lock → Enters may downs first p d q
+      → IsOf may downs lock first q
+  of_entered lock held gave first p q d o s kept got e =
       let low : length (history p) ≤ length (history p ++ e.between) = let m = length-append (history p) e.between in omega arith in
       let more : length (history q) ≡ length (history p ++ e.between) + 1 = ap length e.history_is ∙ length-append (history p ++ e.between) (d ∷ []) in
       record {
-        seat = s;
+        seat = (s.0 ∙ (kept ∙ got), s.1, s.2);
         now = e.after;
         is = subst (λ l. IsHistory may downs first l e.after) (sym e.history_is) (history_snoc may downs first e.before e.after (history p ++ e.between) d e.led e.does);
         within = subst (λ (z : List ℕ × ℕ). Within z.0 z.1) (λ k. (sym e.own_is k, sym more k)) (within_more (own p) (length (history p)) (length (history p ++ e.between)) 1 o.within low);

@@ -1,5 +1,5 @@
 -- What follows from histories of desks.
-use Rattle.std.specs.Prelude.{◌≡◌, ◌⊎◌, Bool, List, [], ◌∷◌, ◌++◌}
+use Rattle.std.specs.Prelude.{◌⊎◌, Bool, List, ◌∷◌, ◌++◌}
 use Rattle.handle_model.specs.declared.entry.DueItem.{DueItem}
 use Rattle.turn_lock.specs.Histories.{StartsWith}
 use Rattle.manager_api.specs.Answers.{Ans}

@@ -7,8 +7,9 @@ ghost use Rattle.manager_api.specs.Answers.{ans, cancelled};
 ghost use Rattle.manager_api.specs.Calls.{Owes, has_cookies, uses_at};
 ghost use Rattle.manager_api.specs.Messages.{IsRequest};
 ghost use Rattle.desk_told.specs.Deeds.{began, called, ran_down};
+ghost use Rattle.desk_told.specs.Desks.{IsPassOf, Does};
 ghost use Rattle.desk_told.specs.Laws.{Compare};
-ghost use Rattle.desk_told.specs.Passes.{history, IsOf, Enters};
+ghost use Rattle.desk_told.specs.Passes.{history};
 
 use crate::deed::{Deed, Telling};
 use crate::state::DeskState;
@@ -40,7 +41,7 @@ impl<D: FixedDesk + Drop> ToldDesk<D> {
     /// `NoMemory` where there is no memory for the lock.
     pub fn new(alloc: Global, desk: D) -> Result<(ToldDesk<D>, DeskPass<D>), NoMemory>
         ensures first { IfOk result (λ made. made.0.first.value ≡ desk) }
-        ensures pass { IfOk result (λ made. IsOf D.may D.runs_down made.0.lock.table.shared.table_id desk made.1) }
+        ensures pass { IfOk result (λ made. IsPassOf D.may D.runs_down made.0 made.1) }
         ensures empty { IfOk result (λ made. (history made.1 ≡ began desk ∷ []) × (own made.1 ≡ [])) }
     {
         let first = Snapshot::of(&desk);
@@ -61,13 +62,13 @@ impl<D: FixedDesk + Drop> ToldDesk<D> {
         cookies: CookieRow,
         probe: &mut P,
     ) -> (DeskPass<D>, Answer)
-        requires pass { IsOf D.may D.runs_down self.now.lock.table.shared.table_id self.now.first.value pass }
+        requires pass { IsPassOf D.may D.runs_down self.now pass }
         requires number { op < length D.fixed.ops }
         requires request { IsRequest D.fixed op (msg message) }
         requires handles { has_cookies (uses_at D.fixed op) message.wires cookies ≡ true }
         requires untold { P.told probe.old ≡ false }
-        ensures pass { IsOf D.may D.runs_down self.now.lock.table.shared.table_id self.now.first.value result.0 }
-        ensures may { Enters D.may D.runs_down self.now.first.value pass (called (record { iface = iface; op = op; message = msg message; cookies = cookies }) (P.told probe.new) (ans result.1)) result.0 }
+        ensures pass { IsPassOf D.may D.runs_down self.now result.0 }
+        ensures may { Does D.may D.runs_down self.now pass (called (record { iface = iface; op = op; message = msg message; cookies = cookies }) (P.told probe.new) (ans result.1)) result.0 }
         ensures owes { Owes D.fixed op (msg message) (ans result.1) }
         // A call is answered as cancelled only where its probe told so.
         ensures told { ans result.1 ≡ cancelled → P.told probe.new ≡ true }
@@ -81,9 +82,9 @@ impl<D: FixedDesk + Drop> ToldDesk<D> {
 
     /// Runs down a handle of a group that has ended. It takes no memory but the desk's own.
     pub fn run_down<R: Wait>(&self, rt: &R, pass: DeskPass<D>, due: Due) -> DeskPass<D>
-        requires pass { IsOf D.may D.runs_down self.now.lock.table.shared.table_id self.now.first.value pass }
-        ensures pass { IsOf D.may D.runs_down self.now.lock.table.shared.table_id self.now.first.value result }
-        ensures done { Enters D.may D.runs_down self.now.first.value pass (ran_down due) result }
+        requires pass { IsPassOf D.may D.runs_down self.now pass }
+        ensures pass { IsPassOf D.may D.runs_down self.now result }
+        ensures done { Does D.may D.runs_down self.now pass (ran_down due) result }
     {
         let mut held = self.lock.enter(rt, pass);
         held.value().run_down(due);
@@ -93,10 +94,10 @@ impl<D: FixedDesk + Drop> ToldDesk<D> {
 
     /// Another pass, for another thread. It has seen as much, and has no deeds of its own.
     pub fn split(&self, pass: &mut DeskPass<D>) -> DeskPass<D>
-        requires pass { IsOf D.may D.runs_down self.now.lock.table.shared.table_id self.now.first.value pass.old }
-        ensures kept { IsOf D.may D.runs_down self.now.lock.table.shared.table_id self.now.first.value pass.new }
+        requires pass { IsPassOf D.may D.runs_down self.now pass.old }
+        ensures kept { IsPassOf D.may D.runs_down self.now pass.new }
         ensures same { (history pass.new ≡ history pass.old) × (own pass.new ≡ own pass.old) }
-        ensures other { IsOf D.may D.runs_down self.now.lock.table.shared.table_id self.now.first.value result }
+        ensures other { IsPassOf D.may D.runs_down self.now result }
         ensures fresh { (history result ≡ history pass.old) × (own result ≡ []) }
     {
         self.lock.split(pass)
@@ -104,9 +105,9 @@ impl<D: FixedDesk + Drop> ToldDesk<D> {
 
     /// Takes in another pass. The pass has then seen what both had seen, and has the deeds of both.
     pub fn join(&self, pass: &mut DeskPass<D>, other: DeskPass<D>)
-        requires pass { IsOf D.may D.runs_down self.now.lock.table.shared.table_id self.now.first.value pass.old }
-        requires other { IsOf D.may D.runs_down self.now.lock.table.shared.table_id self.now.first.value other }
-        ensures pass { IsOf D.may D.runs_down self.now.lock.table.shared.table_id self.now.first.value pass.new }
+        requires pass { IsPassOf D.may D.runs_down self.now pass.old }
+        requires other { IsPassOf D.may D.runs_down self.now other }
+        ensures pass { IsPassOf D.may D.runs_down self.now pass.new }
         ensures seen { StartsWith (history pass.new) (history pass.old) × StartsWith (history pass.new) (history other) }
         ensures own { own pass.new ≡ own pass.old ++ own other }
     {
@@ -115,8 +116,8 @@ impl<D: FixedDesk + Drop> ToldDesk<D> {
 
     /// Any two passes have seen beginnings of one history.
     pub fn compare(&self, one: &mut DeskPass<D>, other: &mut DeskPass<D>)
-        requires one { IsOf D.may D.runs_down self.now.lock.table.shared.table_id self.now.first.value one.old }
-        requires other { IsOf D.may D.runs_down self.now.lock.table.shared.table_id self.now.first.value other.old }
+        requires one { IsPassOf D.may D.runs_down self.now one.old }
+        requires other { IsPassOf D.may D.runs_down self.now other.old }
         ensures one { (history one.new ≡ history one.old) × (own one.new ≡ own one.old) }
         ensures other { (history other.new ≡ history other.old) × (own other.new ≡ own other.old) }
         ensures compare { Compare (history one.old) (history other.old) }

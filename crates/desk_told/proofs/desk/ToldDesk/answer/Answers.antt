@@ -1,4 +1,4 @@
-use Rattle.std.proofs.Common.{◌∙◌, subst, IsSomeAnd}
+use Rattle.std.proofs.Common.{subst, IsSomeAnd}
 use Rattle.turn_lock.specs.Passes.{front}
 use Rattle.ndr_value.specs.Values.{msg}
 use Rattle.manager_api.specs.Answers.{ans}
@@ -22,9 +22,9 @@ returns-clause-pass g c =
     let told = subst (λ o. IsSomeAnd o (λ x. Told may downs x (front c.enter-held.result.pass))) c.value.ensures.value at.value in
     let deed = called (record { iface = c.args.iface; op = c.args.op; message = msg c.args.message; cookies = c.args.cookies }) (g.P.Probe.told c.answer-answer.new.probe) (ans c.answer-answer.result) in
     let entered = enters may downs c.args.self.now.first.value c.requires.pass.now c.args.pass c.exit.result c.enter-held.result.pass.me.0 c.commit.new.self.pass.me.0 c.value.result.now c.answer-answer.new.self deed c.requires.pass.is
-        at.front at.own.0 told c.answer-answer.ensures.last c.answer-answer.ensures.does c.exit.ensures.front c.exit.ensures.own c.commit.ensures.adds in
-    of_entered may downs c.args.self.now.lock.table.shared.table_id c.args.self.now.first.value c.args.pass c.exit.result deed c.requires.pass
-    (c.exit.ensures.pass.0 ∙ (c.commit.ensures.lock ∙ at.lock), c.exit.ensures.pass.1, c.exit.ensures.pass.2) entered
+    at.front at.own.0 told c.answer-answer.ensures.last c.answer-answer.ensures.does c.exit.ensures.front c.exit.ensures.own c.commit.ensures.adds in
+    of_entered may downs c.args.self.now.lock.table.shared.table_id c.enter-held.result.lock.now.table.shared.table_id c.commit.new.self.lock.now.table.shared.table_id c.args.self.now.first.value c.args.pass c.exit.result deed c.requires.pass
+    c.exit.ensures.pass c.commit.ensures.lock at.lock entered
 
 pub returns-clause-may : goal.returns-clause-may
 returns-clause-may g c =
@@ -34,5 +34,5 @@ returns-clause-may g c =
     let told = subst (λ o. IsSomeAnd o (λ x. Told may downs x (front c.enter-held.result.pass))) c.value.ensures.value at.value in
     let deed = called (record { iface = c.args.iface; op = c.args.op; message = msg c.args.message; cookies = c.args.cookies }) (g.P.Probe.told c.answer-answer.new.probe) (ans c.answer-answer.result) in
     let entered = enters may downs c.args.self.now.first.value c.requires.pass.now c.args.pass c.exit.result c.enter-held.result.pass.me.0 c.commit.new.self.pass.me.0 c.value.result.now c.answer-answer.new.self deed c.requires.pass.is
-        at.front at.own.0 told c.answer-answer.ensures.last c.answer-answer.ensures.does c.exit.ensures.front c.exit.ensures.own c.commit.ensures.adds in
+    at.front at.own.0 told c.answer-answer.ensures.last c.answer-answer.ensures.does c.exit.ensures.front c.exit.ensures.own c.commit.ensures.adds in
     entered
