@@ -161,9 +161,8 @@ pub(crate) fn run_beside<R: Wait + Threads + Sync, K: Link, M: Manager + Sync>(
             requires row { IsRow running.asked.now cookies.now running.row }
             requires asks { MayAsk server.hub.now running.group running.call task.pass }
             requires given { IsGiven (tables_in server.served.now) running.asked.now running.row task.message task.again }
-            ensures { RunsBeside K.shows M.may M.tables (record { alloc = server.entry.alloc; served = server.entry.served; manager = server.entry.manager; hub = server.entry.hub }) line (record { group = running.entry.group; call = running.entry.call; asked = running.entry.asked; row = running.entry.row; done = running.entry.done }) cookies.entry.now result }
+            ensures { RunsBeside K.shows M.may M.tables server.entry line running.entry cookies.entry.now result }
         {
-            let (server, running) = (Server { ..server }, RunningCall { ..running });
             run_in_scope(scope, rt, server, line, running, cookies, task)
         },
     )
