@@ -1,6 +1,6 @@
 //! Links that count.
 ghost use Rattle.std.specs.Prelude.{◌≡◌};
-ghost use Rattle.rpc_outside.specs.Links.{IsNew, IsBell};
+ghost use Rattle.rpc_outside.specs.Links.{IsNew};
 ghost use Rattle.server_counts.specs.Stats.{Tell};
 
 use crate::counting::Counting;
@@ -34,18 +34,6 @@ impl<K: Link> CountLink<K> {
     /// A link that counts, over a new one. What it counts it adds to the tally too, which connections share.
     pub fn new(link: K, tally: Arc<Tally, Global>) -> CountLink<K>
         requires { IsNew (K.shows link) }
-        ensures { result ≡ link }
-    {
-        CountLink {
-            link,
-            counting: Counting::new(),
-            tally,
-        }
-    }
-
-    // The bell of a link that counts, over the bell of the link inside.
-    fn of_bell(link: K, tally: Arc<Tally, Global>) -> CountLink<K>
-        requires { IsBell (K.shows link) }
         ensures { result ≡ link }
     {
         CountLink {
@@ -125,7 +113,11 @@ impl<K: Link> Link for CountLink<K> {
             return None;
         };
         match self.link.bell() {
-            Some(link) => Some(CountLink::of_bell(link, tally)),
+            Some(link) => Some(CountLink {
+                link,
+                counting: Counting::new(),
+                tally,
+            }),
             None => None,
         }
     }

@@ -162,8 +162,6 @@ pub(crate) fn run_beside<R: Wait + Threads + Sync, K: Link, M: Manager + Sync>(
             requires asks { MayAsk server.hub.now running.group running.call task.pass }
             requires given { IsGiven (tables_in server.served.now) running.asked.now running.row task.message task.again }
             ensures { RunsBeside K.shows M.may M.tables server.entry line running.entry cookies.entry.now result }
-        {
-            run_in_scope(scope, rt, server, line, running, cookies, task)
-        },
+        { run_in_scope(scope, rt, server, line, running, cookies, task) },
     )
 }

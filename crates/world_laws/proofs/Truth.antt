@@ -260,13 +260,15 @@ serves_true table past new l event state after up fits few holds stands happens 
     } in
     let p = phase_on table past new l event state after js s (h.phase stands) in
     let grows = brings_grows past new l.server after (does_in event) b in
-    let n : Line = record l { up = up; server = record after { events = l.server.events ++ event ∷ []; state = state }; down = l.down ++ put (event ∷ []) } in
-    (record {
-      asked = h.asked;
-      begun = h.begun;
-      interface = h.interface;
-      rows = h.rows;
-      told = λ x r at. knows_on table past new l n x r r.fate (brings_more past new l.server after (does_in event) b) grows (h.told x r at);
-      waits = waits_on table past new l.server after event (is_cleaned table holds.once.group l.server event js w) means h.waits;
-      phase = λ stood. phase_up (served l (record after { events = l.server.events ++ event ∷ []; state = state }) (l.down ++ put (event ∷ []))) new js up p;
-    }, is_cleaned table holds.once.group l.server event js w)
+    let n : Line = record l { up = up; server = record after { events = l.server.events ++ event ∷ []; state = state }; down = l.down ++ put (event ∷ []) } in (
+      record {
+        asked = h.asked;
+        begun = h.begun;
+        interface = h.interface;
+        rows = h.rows;
+        told = λ x r at. knows_on table past new l n x r r.fate (brings_more past new l.server after (does_in event) b) grows (h.told x r at);
+        waits = waits_on table past new l.server after event (is_cleaned table holds.once.group l.server event js w) means h.waits;
+        phase = λ stood. phase_up (served l (record after { events = l.server.events ++ event ∷ []; state = state }) (l.down ++ put (event ∷ []))) new js up p;
+      },
+      is_cleaned table holds.once.group l.server event js w,
+    )
