@@ -95,14 +95,15 @@ fn answered<R: Wait>(
         "find" => {
             let found = hub.find_join(rt, pass, number);
             put_debug(alloc, &found, come)?;
+            Ok(judged(come.as_slice(), wanted))
         }
         "open" => {
             let opened = opened(rt, hub, pass, number);
             put_debug(alloc, &opened, come)?;
+            Ok(judged(come.as_slice(), wanted))
         }
-        _ => return Ok(Step::Outside),
+        _ => Ok(Step::Outside),
     }
-    Ok(judged(come.as_slice(), wanted))
 }
 
 /// Compares what came of the server.

@@ -3,4 +3,4 @@ use Rattle.group_hub.specs.Passes.{IsPassOf}
 use Rattle.cases_served.proofs.stories.rounds.Given as goal
 
 abbrev pub invariant-loop : goal.invariant-loop
-invariant-loop l = IsPassOf (arc_value l.server.hub) l.pass
+invariant-loop g l = IsPassOf (arc_value l.server.hub) l.pass
