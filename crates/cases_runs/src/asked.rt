@@ -1,7 +1,6 @@
 //! What a case asks of the program: its words, its files, and what comes from outside.
 
-use crate::gates::Flags;
-use crate::links::LinkPlan;
+use cases_links::{Flags, LinkPlan};
 use rpc_base::{MapShelf, NoMemory, Numbers, Octets, ShelfFile, ShelfFiles};
 use std::alloc::Global;
 

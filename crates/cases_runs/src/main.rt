@@ -4,9 +4,6 @@
 #![tactic(auto)]
 
 mod asked;
-mod doors;
-mod gates;
-mod links;
 mod loads;
 mod plays;
 mod present;
