@@ -186,8 +186,9 @@ static void lookup(struct connection *it, long n) {
         if (size < 40 || !memcmp(it->taken, null, HANDLE) || at32(it->taken + HANDLE) != 1) wrong("no entry was found");
         memcpy(it->handle, it->taken, HANDLE);
     } else {
+        /* (Samba's map leaves the handle as it was, where C706 has it null) */
         memcpy(it->stub, it->handle, HANDLE);
-        keep_handle(it, ask(it, 4, HANDLE), 1);
+        if (ask(it, 4, HANDLE) != HANDLE + 4 || at32(it->taken + HANDLE) != 0) wrong("a handle wasn't freed");
     }
 }
 
