@@ -9,6 +9,8 @@
 # journals of groups that are all shut. Last, its door is shut from outside. A line for each case has what was held: the
 # clients and the octets that they could send, the threads and descriptors of the server meanwhile, and the memory that it
 # had at most. What isn't so ends the script with 1.
+#
+# usage: hostile.sh [CASE..], of: silent few minute unread long refused vanish unfinished door
 set -eu
 top=$(cd "$(dirname "$0")/.." && pwd)
 source "$top/bench/timing.sh"
@@ -22,7 +24,7 @@ build_dcerpc
 ulimit -n 4096 # the server has two descriptors for a connection
 
 # So many silent ones, with so many descriptors for the server.
-case_silent() { # COUNT DESCRIPTORS WHAT
+say_nothing() { # COUNT DESCRIPTORS WHAT
     ulimit -S -n "$2"
     start $(($1 + 2))
     ulimit -S -n 4096
@@ -39,6 +41,10 @@ case_silent() { # COUNT DESCRIPTORS WHAT
     end 0 $(($1 + 2)) "$3" $(($1 * 100)) "$1" 0
     [ "$(grep -c ' closed$' "$work/out")" = $(($1 + 2)) ] || fail 'one that said nothing was not closed'
 }
+
+case_silent() { say_nothing 1000 4096 '1,000 that say nothing'; }
+
+case_few() { say_nothing 1000 256 '1,000 that say nothing, 256 descriptors'; }
 
 # An echo of 4,096 octets, to be asked 16,257 times.
 make_requests() {
@@ -86,15 +92,16 @@ case_unread() {
     ended 1 link
 }
 
-# A stub of 64 MiB in fragments of 4,256 octets: 15,768 and one of 256.
+# A bind, and a stub of 64 MiB in fragments of 4,256 octets: 15,768 and one of 256.
+make_long() {
+    octets "$(bind "$probe")"
+    fragment 01 b810 4256
+    fragment 00 b810 4256 >"$work/next"
+    for ((n = 1; n < 15768; n++)); do echo "$work/next"; done | xargs cat
+    fragment 02 1801 256
+}
+
 case_long() {
-    {
-        octets "$(bind "$probe")"
-        fragment 01 b810 4256
-        fragment 00 b810 4256 >"$work/next"
-        for ((n = 1; n < 15768; n++)); do echo "$work/next"; done | xargs cat
-        fragment 02 1801 256
-    } >"$work/long"
     start 3
     note_rest
     connect
@@ -141,6 +148,7 @@ case_unfinished() {
     local n sender senders=()
     case $program in *unproved*) echo 'left out: a build with run-time checks has no bound of memory' && return ;; esac
     head -c 62914560 "$work/long" >"$work/begun"
+    mkfifo "$work/gate"
     bounded=524288
     start 102
     bounded=
@@ -188,12 +196,7 @@ case_door() {
 }
 
 make_requests
-case_silent 1000 4096 '1,000 that say nothing'
-case_silent 1000 256 '1,000 that say nothing, 256 descriptors'
-case_minute
-case_unread
-case_long
-case_refused
-case_vanish
-case_unfinished
-case_door
+make_long >"$work/long"
+names=("$@")
+[ $# -gt 0 ] || names=(silent few minute unread long refused vanish unfinished door)
+for name in "${names[@]}"; do "case_$name"; done

@@ -50,8 +50,8 @@ int pthread_create(pthread_t *thread, const pthread_attr_t *with, void *(*start)
     word = getenv(asked == usual ? "CALL_STACK" : "OWN_STACK");
     if (!word) return create(thread, with, start, given);
     pthread_attr_init(&sized);
-    pthread_attr_setstacksize(&sized, atol(word) * 1024);
-    status = create(thread, &sized, start, given);
+    status = pthread_attr_setstacksize(&sized, atol(word) * 1024);
+    if (!status) status = create(thread, &sized, start, given);
     pthread_attr_destroy(&sized);
     return status;
 }
