@@ -97,7 +97,7 @@ end() { # STATUS CONNECTIONS WHAT MOST-KIB CLIENTS OCTETS
 
 told() { # WHAT CLIENTS OCTETS KIB
     awk -v what="$1" -v clients="$2" -v octets="$3" -v most="$4" -v held="$held" -v beside="$beside" 'BEGIN {
-        printf "%-44s %5d clients, %9d octets%s, %.1f MiB at most; %d calls beside answered\n", what, clients, octets, held ? ", " held : "", most / 1024, beside
+        printf "%-44s %5d clients, %9.0f octets%s, %.1f MiB at most; %d calls beside answered\n", what, clients, octets, held ? ", " held : "", most / 1024, beside
     }'
 }
 
