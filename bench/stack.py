@@ -19,7 +19,7 @@ import wire
 
 TOP = os.path.dirname(os.path.dirname(os.path.abspath(__file__)))
 STEP = 4
-PATIENCE = 120
+PATIENCE = 600
 MIB = 1 << 20
 # What the product gives, in KiB: the launcher to the thread of main, and to that of a server; the program to the thread of
 # a connection; the limit of a server to the thread of a call.

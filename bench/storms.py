@@ -124,14 +124,23 @@ class Pair:
     def begin(self):
         """Begins the long call; its answer is taken by a thread beside, so that its put needn't wait."""
         call = self.first.begin(READ, read(self.cursor, LONG))
-        self.came = []
-        self.taker = threading.Thread(target=lambda: self.came.append(self.first.outcome(call)))
+        self.came = "nothing within %d seconds" % PATIENCE
+        self.taker = threading.Thread(target=self.take, args=(call,))
         self.taker.start()
+
+    def take(self, call):
+        try:
+            it = self.first.outcome(call)
+            self.came = it if isinstance(it, bytes) else "fault %08x" % it
+        except (EOFError, OSError, ValueError) as error:
+            self.came = str(error)
 
     def done(self):
         self.taker.join(PATIENCE)
-        if not self.came or not isinstance(self.came[0], bytes) or len(self.came[0]) < LONG:
-            raise Wrong("the long call isn't answered")
+        if not isinstance(self.came, bytes):
+            raise Wrong("the long call isn't answered: %s" % self.came)
+        if len(self.came) < LONG:
+            raise Wrong("the long call's answer has %d octets" % len(self.came))
         self.first.link.close()
         self.second.link.close()
 

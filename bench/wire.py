@@ -65,7 +65,7 @@ class Connection:
 
     def __init__(self, port, interface, group=0, patience=120):
         self.link = socket.create_connection(("127.0.0.1", port), timeout=patience)
-        self.call = 1
+        self.call, self.came, self.at = 1, b"", 0
         self.put(bind(interface, group))
         kind, _, _, body = self.take()
         self.group = struct.unpack_from("<I", body, 4)[0] if kind == BIND_ACK else None
@@ -80,14 +80,13 @@ class Connection:
         self.link.sendall(octets)
 
     def octets(self, count):
-        parts = []
-        while count:
-            it = self.link.recv(min(count, 1 << 20))
+        while len(self.came) - self.at < count:
+            it = self.link.recv(1 << 18)
             if not it:
                 raise EOFError("the server closed the connection")
-            parts.append(it)
-            count -= len(it)
-        return b"".join(parts)
+            self.came, self.at = self.came[self.at:] + it, 0
+        self.at += count
+        return self.came[self.at - count:self.at]
 
     def take(self):
         """A PDU: its kind, its flags, its call id and its body."""
