@@ -1,0 +1,4 @@
+pub mod Ending
+pub mod Going
+pub mod Requesting
+pub mod Scanning

@@ -1,0 +1,4 @@
+pub mod Finishes
+pub mod Requests
+pub mod Scans
+pub mod Servers
