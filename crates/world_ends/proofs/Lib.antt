@@ -1,0 +1,4 @@
+pub mod Told
+pub mod Acting
+pub mod Binding
+pub mod Steps
