@@ -8,6 +8,7 @@ mod endpoints;
 mod keeper;
 mod lasting;
 mod locked;
+mod pass;
 mod served;
 mod service;
 mod shared;
@@ -17,5 +18,6 @@ const BRIEF: usize = 65_536;
 
 pub use keeper::Keeper;
 pub use locked::Locked;
+pub use pass::SharedPass;
 pub use service::DeskService;
 pub use shared::SharedDesks;
