@@ -1,0 +1,4 @@
+pub mod Lining
+pub mod Lines
+pub mod Moving
+pub mod Runs

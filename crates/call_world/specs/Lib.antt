@@ -1,0 +1,5 @@
+pub mod Lines
+pub mod Moves
+pub mod Played
+pub mod Rows
+pub mod Worlds
