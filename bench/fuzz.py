@@ -3,9 +3,9 @@
 usage: fuzz.py PROGRAM SECONDS [SEED]
 
 What it begins with are the files of cases and the data of the program. What counts as wrong: an end by a signal; none
-within 20 seconds, or as many as PATIENCE says; a status, or a line, that README.md's tables don't have; a journal that is
-printed and that `audit` doesn't call legal; a printed interface text that isn't printed alike; a server that ends before
-its last connection, or has another number of lines.
+within 20 seconds; a status, or a line, that README.md's tables don't have; a journal that is printed and that `audit`
+doesn't call legal; a printed interface text that isn't printed alike; a server that ends before its last connection, or
+has another number of lines.
 """
 import glob
 import os
@@ -19,7 +19,7 @@ import time
 from collections import Counter
 
 TOP = os.path.dirname(os.path.dirname(os.path.abspath(__file__)))
-PATIENCE = float(os.environ.get("PATIENCE", 20))
+PATIENCE = 20
 CONNECTIONS = 64
 KEPT_AT_MOST = 50
 ODD = [b"\x00", b"\xff", b"\x7f", b"\x80", b"\x01", b"\xff\xff\xff\xff", b"\x00\x00\x00\x80", b"0", b"-", b" ", b"\n"]

@@ -1,16 +1,11 @@
 #!/usr/bin/env bash
 # Runs `dcerpc` once for each block of memory that it asks the C library for, and refuses it that one: replays, an audit,
 # an interface text, a load, a call, and a server of one connection over the loopback. A run has to end with status 5 and
-# print nothing, or as it does with ample memory, or with 1 where its words found no memory. A server may also end with 7,
-# where it can't listen, or with 8, where memory ran out on its connection; its client is then refused for reason 1, gets
-# nca_s_fault_remote_no_memory, or loses the connection. Every journal that is printed has to be legal, and its group to be
-# shut. A line for each has how many blocks there were, and how the runs ended.
-#
-# Two of the replays make the same 40 calls of one handle, once so that 39 wait at once and once each after the other: what
-# the first asks for more is the growth of the list of waiting calls (`wait_list::WaitList::reserve`) and of the tables
-# beside it, in steps.
-#
-# The first run that does something else ends the script with 1. PART=10 tries each tenth block. It wants a C compiler.
+# print nothing, or as it does with ample memory, or with 1 where its words found no memory. A server may also end with 7, where it can't listen, or with 8, where
+# memory ran out on its connection; its client is then refused for reason 1, gets nca_s_fault_remote_no_memory, or loses
+# the connection. Every journal that is printed has to be legal, and its group to be shut. A line for each has how many
+# blocks there were, and how the runs ended. The first run that does something else ends the script with 1. PART=10 tries
+# each tenth block. It wants a C compiler.
 set -eu
 top=$(cd "$(dirname "$0")/.." && pwd)
 source "$top/bench/timing.sh"
@@ -192,31 +187,11 @@ servers() {
     summed 'serve, and a caller' "$count"
 }
 
-# A script of so many calls of one cursor, each of a connection of its own: all wait for the first, or none does.
-appends() { # together|apart COUNT
-    local c bind=05000b0310000000480000000100000098059805 store=01000000000001007e3c1d9bf4520b4a8e6d1f0c2a3b4d5e01000000045d888aeb1cc9119fe808002b10486002000000
-    local append=050000031000000036000000020000001e00000000000100000000000403020106050807000000010000000102000000020000006465
-    printf 'boot 0102030405060708\nopen 1\nsend 1 %s00000000%s\n' "$bind" "$store"
-    printf 'send 1 050000031000000026000000020000000e000000000000000200000000000000020000006100\nrun 1\nfinish 1\n'
-    for ((c = 2; c <= $2 + 1; c++)); do printf 'open %d\nsend %d %s01000000%s\n' "$c" "$c" "$bind" "$store"; done
-    if [ "$1" = together ]; then
-        for ((c = 2; c <= $2 + 1; c++)); do printf 'send %d %s\n' "$c" "$append"; done
-        printf 'run 2\nrun 3\n'
-        for ((c = 2; c <= $2 + 1; c++)); do printf 'run %d\nfinish %d\n' "$c" "$c"; done
-    else
-        for ((c = 2; c <= $2 + 1; c++)); do printf 'send %d %s\nrun %d\nfinish %d\n' "$c" "$append" "$c" "$c"; done
-    fi
-    for ((c = 1; c <= $2 + 1; c++)); do printf 'lose %d\n' "$c"; done
-}
-
 printf '[uuid(5f0c7a12-3b4d-4e6f-8a90-b1c2d3e4f506), version(1.0)] interface wide {\n typedef struct { long a; [string] char *b; } pair;\n void f([in] long n, [in, size_is(n)] pair p[]); }\n' >"$work/wide.idl"
 "$program" replay "$data/two_appends.script" 2>"$work/journals" >/dev/null
 
 files 'replay, one connection' replay "$data/plain_success.script"
 files 'replay, two connections' replay "$data/two_appends.script"
-for way in apart together; do appends "$way" "$(sized 40)" >"$work/$way"; done
-files 'replay, 40 calls in turn' replay "$work/apart"
-files 'replay, 40 calls that wait' replay "$work/together"
 files 'audit' audit "$work/journals"
 files 'idl' idl "$work/wide.idl"
 files 'load' load 7 "$(sized 200)"

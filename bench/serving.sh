@@ -12,16 +12,12 @@ is_listening() { # PORT
     grep -q "0100007F:$(printf %04X "$1") 00000000:0000 0A" /proc/net/tcp
 }
 
-# Starts a server of so many connections at the first port from 21900 on that isn't taken, and sets `server` and `port`. With
-# `bounded` it takes so many KiB of memory at most; with `launch` these words start it.
+# Starts a server of so many connections at the first port from 21900 on that isn't taken, and sets `server` and `port`.
 start() { # CONNECTIONS [WORDS..]
     local tries
     for port in {21900..21919}; do
         if is_listening "$port"; then continue; fi
-        (
-            [ -z "${bounded:-}" ] || ulimit -S -v "$bounded"
-            exec ${launch[@]+"${launch[@]}"} "$program" serve "127.0.0.1:$port" --connections "$@" >"$work/out" 2>"$work/log"
-        ) &
+        "$program" serve "127.0.0.1:$port" --connections "$@" >"$work/out" 2>"$work/log" &
         server=$!
         for tries in {1..200}; do
             if is_listening "$port"; then return 0; fi

@@ -54,13 +54,12 @@ connections_held() {
     echo $((held > 0 ? held : 0))
 }
 
-# The stack of the thread of `main`, and of the threads of calls: some 4.2 MiB are needed to read the deepest value of a call
-# script, and some 2.4 for a stub. Where the limit is none the C library gives threads 2. Those of a server have 4 MiB, as
-# its connections' have, so that more of them have room under the limit of memory.
+# The threads of calls have a stack of this size. They need some 2.5 MiB, and where it is none the C library gives 2. Those
+# of a server have 4 MiB, as its connections' have, so that more of them have room under the limit of memory.
 limit_stack() {
     local most=8192
     [ "$1" != serve ] || most=4096
-    ulimit -S -s $most 2>/dev/null || say_to_person "the stack has $(ulimit -S -s) KiB (ulimit -s), where $most are wanted"
+    if [ "$(ulimit -S -s)" = unlimited ] || [ "$(ulimit -S -s)" -gt $most ]; then ulimit -S -s $most; fi
 }
 
 # A server may open as many files as the system lets it, and takes memory up to a bound, so that want of it is refused

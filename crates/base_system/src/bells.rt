@@ -1,7 +1,7 @@
 //! Numbers that are rung.
 ghost use Rattle.std.specs.Prelude.{◌<◌, length, IfSome};
 
-use crate::alarm::Alarm;
+use mio::Waker;
 use rpc_base::NoMemory;
 use std::alloc::Global;
 use std::sync::atomic::{AtomicU64, Ordering};
@@ -12,7 +12,7 @@ use std::sync::{Arc, Mutex, Wait};
 struct Listener {
     id: u64,
     number: u32,
-    alarm: Arc<Alarm, Global>,
+    waker: Arc<Waker, Global>,
 }
 
 /// Those that listen to numbers, of all links of a door.
@@ -32,13 +32,13 @@ impl Bells {
         }
     }
 
-    /// Whenever the number is rung, from now on, this alarm rings. The link of that id listens to no other number then.
+    /// Whenever the number is rung, from now on, this waker is woken. The link of that id listens to no other number then.
     pub(crate) fn listen<R: Wait>(
         &self,
         rt: &R,
         id: u64,
         number: u32,
-        alarm: Arc<Alarm, Global>,
+        waker: Arc<Waker, Global>,
     ) -> Result<(), NoMemory> {
         let mut guard = self.listeners.lock(rt);
         let listeners = &mut *guard;
@@ -48,7 +48,7 @@ impl Bells {
             }
             return Ok(());
         }
-        listeners.push(Listener { id, number, alarm })?;
+        listeners.push(Listener { id, number, waker })?;
         self.count.fetch_add(1, Ordering::SeqCst);
         Ok(())
     }
@@ -63,7 +63,7 @@ impl Bells {
         }
     }
 
-    /// Rings the alarms of all that listen to the number.
+    /// Wakes all that listen to the number.
     pub(crate) fn ring<R: Wait>(&self, rt: &R, number: u32) {
         if self.count.load(Ordering::SeqCst) == 0 {
             return;
@@ -71,7 +71,7 @@ impl Bells {
         let guard = self.listeners.lock(rt);
         for listener in guard.as_slice().iter() {
             if listener.number == number {
-                (*listener.alarm).ring();
+                let _ = (*listener.waker).wake();
             }
         }
     }

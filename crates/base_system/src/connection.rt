@@ -2,10 +2,9 @@
 ghost use Rattle.std.specs.Prelude.{◌<◌, length, IfOk, IfSome};
 ghost use Rattle.base_system.specs.Sockets.{Gives, IsSome};
 
-use crate::alarm::Alarm;
 use crate::waiter::{REST, TURN, Waiter};
-use mio::Interest;
 use mio::net::TcpStream;
+use mio::{Interest, Waker};
 use rpc_base::{Failed, OutFault};
 use rpc_outside::Taken;
 use std::alloc::Global;
@@ -103,8 +102,8 @@ impl Connection {
     }
 
     /// What ends a take that waits.
-    pub(crate) fn alarm(&self) -> Result<Arc<Alarm, Global>, OutFault> {
-        self.waiter.alarm()
+    pub(crate) fn waker(&self) -> Result<Arc<Waker, Global>, OutFault> {
+        self.waiter.waker()
     }
 
     /// Whether takes don't wait.

@@ -3,12 +3,11 @@
 //!
 //! A socket never blocks its thread: a call reads or writes at once where that can be done, and else waits until the system
 //! reports the socket ready, for a turn of 10 milliseconds at a time. A server's take and its door wait for up to 10 seconds,
-//! which octets, a caller, a number that is rung or a bell end.
+//! which octets, a caller or a bell end.
 //! What files and sockets hold isn't told; their failures, quiet turns and ends are counted.
 #![tactic(auto)]
 
 mod address;
-mod alarm;
 mod bells;
 mod connection;
 mod dial;

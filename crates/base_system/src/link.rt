@@ -1,11 +1,9 @@
 //! Links over sockets.
-ghost use Rattle.rpc_outside.specs.Links.{IsNew, IsBell};
+ghost use Rattle.rpc_outside.specs.Links.{IsNew};
 ghost use Rattle.base_system.specs.Sockets.{shown};
 
-use crate::alarm::Alarm;
 use crate::bells::Bells;
 use crate::connection::Connection;
-use crate::waiter::REST;
 use rpc_base::{Failed, OutFault};
 use rpc_outside::{Link, Taken};
 use std::alloc::Global;
@@ -30,54 +28,38 @@ impl Hearing {
         }
     }
 
-    /// Each ring of that number ends the connection's waits, and so does this call.
+    /// Each ring of that number wakes the connection, as does this call.
     fn listen<R: Wait>(
         &self,
         rt: &R,
         connection: &Connection,
         number: u32,
     ) -> Result<(), OutFault> {
-        (*self.bells).listen(rt, self.id, number, connection.alarm()?)?;
+        (*self.bells).listen(rt, self.id, number, connection.waker()?)?;
         self.listens.store(true, Ordering::SeqCst);
-        let alarm = connection.alarm()?;
-        (*alarm).ring();
+        let waker = connection.waker()?;
+        let _ = (*waker).wake();
         Ok(())
     }
 
-    /// No number that is rung ends the connection's waits.
+    /// No ring wakes the connection.
     fn unlisten<R: Wait>(&self, rt: &R) {
         if self.listens.swap(false, Ordering::SeqCst) {
             (*self.bells).unlisten(rt, self.id);
         }
     }
-
-    /// Waits until that number is rung. Answers whether it waited.
-    fn rest<R: Wait>(&self, rt: &R, connection: &Connection) -> bool {
-        if !self.listens.load(Ordering::SeqCst) {
-            return false;
-        }
-        match connection.alarm() {
-            Ok(alarm) => {
-                (*alarm).rest(rt, REST);
-                true
-            }
-            Err(_) => false,
-        }
-    }
 }
 
-/// A link over a TCP socket. A take waits for octets: at a caller's link 10 milliseconds at most; at a server's until octets
-/// come, a number is rung or its bell, and 10 seconds at most. A server's link of which no octet came within a minute fails.
-/// A put waits for room: a minute in all between two pieces that are put whole, and then fails. A close tells the peer that no
-/// more comes, and reads and drops what it still sends until it ends: it waits for 200 whole turns of 10 milliseconds and looks
-/// 32,768 times at most, each time for up to 4,096 octets. A turn that the peer cuts short by sending isn't counted. Where
-/// nothing was put it ends at once.
+/// A link over a TCP socket. A take waits for octets: at a caller's link 10 milliseconds at most; at a server's until octets come
+/// or a bell is rung, and 10 seconds at most. A server's link of which no octet came within a minute fails. A put waits for room:
+/// a minute in all between two pieces that are put whole, and then fails. A close tells the peer that no more
+/// comes, and reads and drops what it still sends until it ends: it waits for 200 whole turns of 10 milliseconds and looks
+/// 32,768 times at most, each time for up to 4,096 octets. A turn that the peer cuts short by sending
+/// isn't counted. Where nothing was put it ends at once.
 #[derive(Drop)]
 pub struct SocketLink {
     connection: Option<Connection>,
     hearing: Option<Hearing>,
-    // Of a bell: what it rings.
-    alarm: Option<Arc<Alarm, Global>>,
     closed: bool,
     faults: u64,
     quiets: u64,
@@ -92,23 +74,7 @@ impl SocketLink {
         SocketLink {
             connection: Some(connection),
             hearing,
-            alarm: None,
             closed: false,
-            faults: 0,
-            quiets: 0,
-            ends: 0,
-        }
-    }
-
-    // A link that is closed, and rings this alarm.
-    fn of_alarm(alarm: Arc<Alarm, Global>) -> SocketLink
-        ensures { IsBell (shown result) }
-    {
-        SocketLink {
-            connection: None,
-            hearing: None,
-            alarm: Some(alarm),
-            closed: true,
             faults: 0,
             quiets: 0,
             ends: 0,
@@ -180,29 +146,6 @@ impl Link for SocketLink {
     fn ring<R: Wait>(&self, rt: &R, number: u32) {
         if let Some(hearing) = &self.hearing {
             (*hearing.bells).ring(rt, number);
-        }
-    }
-
-    fn rest<R: Wait>(&self, rt: &R) -> bool {
-        match (&self.connection, &self.hearing) {
-            (Some(connection), Some(hearing)) => hearing.rest(rt, connection),
-            _ => false,
-        }
-    }
-
-    fn bell(&self) -> Option<SocketLink> {
-        let Some(connection) = &self.connection else {
-            return None;
-        };
-        match connection.alarm() {
-            Ok(alarm) => Some(SocketLink::of_alarm(alarm)),
-            Err(_) => None,
-        }
-    }
-
-    fn wake(&self) {
-        if let Some(alarm) = &self.alarm {
-            (**alarm).ring();
         }
     }
 }

@@ -1,5 +1,4 @@
 //! Waiting for a socket.
-use crate::alarm::Alarm;
 use mio::event::Source;
 use mio::{Events, Interest, Poll, Token, Waker};
 use rpc_base::{Failed, OutFault};
@@ -14,14 +13,14 @@ pub(crate) const TURN: u64 = 10;
 /// How long a wait lasts at most that only a socket or a bell ends, in milliseconds.
 pub(crate) const REST: u64 = 10_000;
 
-/// Waits until its one socket is ready or its alarm rings.
+/// Waits until its one socket is ready or its waker is woken.
 #[derive(Drop)]
 pub(crate) struct Waiter {
     poll: Poll,
     events: Events,
     alloc: Global,
     // Made when it is first wanted, since it takes a descriptor.
-    alarm: OnceLock<Arc<Alarm, Global>>,
+    waker: OnceLock<Arc<Waker, Global>>,
 }
 
 impl Waiter {
@@ -33,7 +32,7 @@ impl Waiter {
                 poll,
                 events,
                 alloc,
-                alarm: OnceLock::new(),
+                waker: OnceLock::new(),
             }),
             Err(_) => Err(OutFault::Failed),
         }
@@ -59,7 +58,7 @@ impl Waiter {
         }
     }
 
-    /// Waits for so many milliseconds, or until the socket is ready or its alarm rings.
+    /// Waits for so many milliseconds, or until the socket is ready or its waker is woken.
     pub(crate) fn wait(&mut self, time: u64) -> Result<(), Failed> {
         match self
             .poll
@@ -70,22 +69,22 @@ impl Waiter {
         }
     }
 
-    /// Whether the last wait ended since the socket was ready or the alarm rang, and not for its time.
+    /// Whether the last wait ended since the socket was ready or the waker woken, and not for its time.
     pub(crate) fn was_woken(&self) -> bool {
         !self.events.is_empty()
     }
 
     /// What ends a wait, or else the next one, from any thread.
-    pub(crate) fn alarm(&self) -> Result<Arc<Alarm, Global>, OutFault> {
-        if let Some(alarm) = self.alarm.get() {
-            return Ok(Arc::try_clone(alarm)?);
+    pub(crate) fn waker(&self) -> Result<Arc<Waker, Global>, OutFault> {
+        if let Some(waker) = self.waker.get() {
+            return Ok(Arc::try_clone(waker)?);
         }
-        let Ok(waker) = Waker::new(self.poll.registry(), Token(1)) else {
+        let Ok(made) = Waker::new(self.poll.registry(), Token(1)) else {
             return Err(OutFault::Failed);
         };
-        let made = Arc::new(self.alloc, Alarm::new(waker))?;
+        let made = Arc::new(self.alloc, made)?;
         let given = Arc::try_clone(&made)?;
-        match self.alarm.try_set(made) {
+        match self.waker.try_set(made) {
             Ok(_) => Ok(given),
             Err(_) => Err(OutFault::Failed),
         }

@@ -1,6 +1,7 @@
 //! What a case asks of the program: its words, its files, and what comes from outside.
 
-use cases_links::{Flags, LinkPlan};
+use crate::gates::Flags;
+use crate::links::LinkPlan;
 use rpc_base::{MapShelf, NoMemory, Numbers, Octets, ShelfFile, ShelfFiles};
 use std::alloc::Global;
 

@@ -4,6 +4,9 @@
 #![tactic(auto)]
 
 mod asked;
+mod doors;
+mod gates;
+mod links;
 mod loads;
 mod plays;
 mod present;

@@ -1,11 +1,11 @@
 //! The present case, as far as its lines were read.
 
 use crate::asked::{Asked, TextFile};
+use crate::links::LinkPlan;
 use crate::texts::put_text;
 use crate::wanted::{Wanted, WantedLink};
 use base_words::{put, read_hex_u64, read_u8, read_u64};
 use cases_base::{Names, first_word, octets_of};
-use cases_links::LinkPlan;
 use rpc_base::{NoMemory, Octets};
 use rpc_outside::LinkStep;
 use std::alloc::Global;

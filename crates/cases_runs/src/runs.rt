@@ -1,8 +1,8 @@
 //! The program over an outside in memory.
 
 use crate::asked::{Asked, Failing, shelf_of};
+use crate::doors::PlayDoor;
 use crate::wanted::Come;
-use cases_links::PlayDoor;
 use rpc_app::run;
 use rpc_base::{MapShelf, NoMemory, VecSink};
 use std::alloc::Global;

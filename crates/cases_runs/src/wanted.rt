@@ -1,7 +1,7 @@
 //! What a case wants of a run, and what came of it.
 
+use crate::links::PlayLink;
 use base_words::{put, put_decimal, put_hex};
-use cases_links::PlayLink;
 use rpc_base::{NoMemory, VecSink};
 use std::alloc::Global;
 

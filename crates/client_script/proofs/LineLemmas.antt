@@ -136,7 +136,7 @@ module _ {K : Type 0} (shows : K → Shown) where
     waited_not stops.Lost b interface address first now w runs =
         let x = has_call interface p w name at t.before runs.0 t.there calls in
         let y = subst (λ (z : Result Told Halt). HearsOn shows t.before interface x.0 z t.after) b.0 (t.becomes interface x.0 x.2 x.1.bound.is_open) in
-        let l = lost_line shows interface p q r w name at (shows t.before.wire.link) (λ d e. ap (λ (z : Channel K). shows z.wire.link) (one_there p.channels.items at t.before d t.there e)) x.0 t.after y.0 (slice_set w.associations at y.0) (zipped shows interface address first now p q r w runs name at t.after y.0 t.channels y.2.holds)
+        let l = lost_line shows interface q r w name at (shows t.before.wire.link) x.0 t.after y.0 (slice_set w.associations at y.0) (zipped shows interface address first now p q r w runs name at t.after y.0 t.channels y.2.holds)
         (touched shows interface p q at w t (agrees shows interface p w runs.0)) (indexed interface address first now w runs) (there_now shows interface address first now p q r w runs name at t.before t.after t.there t.channels) y.2 b.1 in
         let is : slice_get l.0.associations at ≡ Some y.0 = subst (λ (z : World). slice_get z.associations at ≡ Some y.0) (sym l.1) (set_there w.associations at y.0 x.0 x.1.bound.there) in
         (l.0, at, x.0, y.0, (x.1, y.1, l.1), is, (l.2, counted shows interface address first now p q r w runs name at t.after t.channels l.4), l.3)
@@ -208,7 +208,7 @@ module _ {K : Type 0} (shows : K → Shown) where
     put_agrees : (w : World) → Stands shows interface p w → Agrees shows interface q w
     put_agrees w s = subst (λ (x : Player K). Agrees shows interface x w) (sym put.others) (record { known = s.known; out = s.out; failed = s.failed })
 
-    pub bound_line : (u : Unit {0}) → Answered q name at answer (Ok u) r → (first : DialShown K) (w : World) → Runs shows interface address first p before w → LineEnds shows interface address first p w (lines.Bind name group) (Ok true) before r now
+    pub bound_line : (u : Unit {0}) → Answered q name at answer (Ok u) r → (first : DialShown K) (w : World) → Runs shows interface address first p before w → LineEnds shows interface address first w (lines.Bind name group) (Ok true) before r now
     bound_line u b first w runs =
         let y = subst (λ (z : Result Told Halt). BindsOn shows interface (fresh interface name) asked z d) b.1 (binds interface (fresh interface name) new refl) in
         let l = told_line shows interface q r w name (told b.0) (w.associations ++ y.0 ∷ []) (put_zipped w y.0 runs.0 y.2) (put_agrees w runs.0) (put.indexed runs.0.indexed) b.2 in
@@ -216,11 +216,11 @@ module _ {K : Type 0} (shows : K → Shown) where
         (l.0, (is_free shows interface p w name runs.0 nowhere, asked, asks_group shows interface p w group asked runs.0 asks, told b.0, y.0, is, l.1), (l.2, put_counted first runs.1 b.2.channels))
 
     pub bound_not_line : (why : Stop) → Answered q name at answer (Err why) r → (first : DialShown K) (w : World) → Runs shows interface address first p before w
-        → LineEnds shows interface address first p w (lines.Bind name group) (Err why) before r now
+        → LineEnds shows interface address first w (lines.Bind name group) (Err why) before r now
     bound_not_line stops.Lost b first w runs =
         let y = subst (λ (z : Result Told Halt). BindsOn shows interface (fresh interface name) asked z d) b.0 (binds interface (fresh interface name) new refl) in
         let here : slice_get q.channels.items at ≡ Some d = subst (λ cs. slice_get cs at ≡ Some d) (sym put.channels) (subst (λ (n : ℕ). slice_get (p.channels.items ++ d ∷ []) n ≡ Some d) (sym put.place) (last_there p.channels.items d)) in
-        let l = lost_line shows interface p q r w name at y.2 (λ e there. absurd (omega (arith, is_within p.channels.items at e there, put.place))) y.0 d y.1 (w.associations ++ y.1 ∷ []) (put_zipped w y.1 runs.0 y.4.holds) (put_agrees w runs.0) (put.indexed runs.0.indexed) here y.4 b.1 in
+        let l = lost_line shows interface q r w name at y.2 y.0 d y.1 (w.associations ++ y.1 ∷ []) (put_zipped w y.1 runs.0 y.4.holds) (put_agrees w runs.0) (put.indexed runs.0.indexed) here y.4 b.1 in
         let place : at ≡ length w.associations = put.place ∙ zip_long (Holds shows interface) p.channels.items w.associations runs.0.channels in
         let is : slice_get l.0.associations at ≡ Some y.1 =
         subst (λ (z : World). slice_get z.associations at ≡ Some y.1) (sym l.1) (subst (λ (n : ℕ). slice_get (w.associations ++ y.1 ∷ []) n ≡ Some y.1) (sym place) (last_there w.associations y.1)) in

@@ -24,7 +24,7 @@ use Rattle.client_script.specs.Losses.{IsCutOff, Loses, EndsAt, lost_text}
 use Rattle.client_script.specs.Shows.{Holds, HoldsLost, Stands, IsBoundAs, IsNowhere, IsIndex}
 use Rattle.client_script.specs.Channels.{BeginsOn, FromEach}
 use Rattle.client_script.specs.Players.{Touches, AsksOf, TellsLost, TellsOutcome, Begun}
-use Rattle.client_script.specs.Plays.{Opened, Runs, IsLinkAt, HasLost, LineEnds}
+use Rattle.client_script.specs.Plays.{Opened, Runs, HasLost, LineEnds}
 use Rattle.client_script.proofs.Index.{index_set, same_index}
 use Rattle.client_script.proofs.Lists.{one_there, set_there, set_itself, set_long, zip_at, zip_from, zip_set}
 
@@ -79,9 +79,9 @@ module _ {K : Type 0} (shows : K → Shown) (interface : TableForm) where
         },
       )
 
-  pub lost_line : (p q r : Player K) (w : World) (name at : ℕ) (from : Shown) (was : IsLinkAt shows p at from) (a : Association) (d : Channel K) (b : Association) (A : List Association) → AllZip (Holds shows interface) q.channels.items A → Agrees q w → IsIndex q.places q.channels.items → slice_get q.channels.items at ≡ Some d
-      → HoldsLost shows interface from a d b → TellsLost q name at r → (v : World) × Loses w name A b v × Stands shows interface r v × HasLost shows interface p r at a b × (r.channels ≡ q.channels)
-  lost_line p q r w name at from was a d b A z s i e h t =
+  pub lost_line : (q r : Player K) (w : World) (name at : ℕ) (from : Shown) (a : Association) (d : Channel K) (b : Association) (A : List Association) → AllZip (Holds shows interface) q.channels.items A → Agrees q w → IsIndex q.places q.channels.items → slice_get q.channels.items at ≡ Some d
+      → HoldsLost shows interface from a d b → TellsLost q name at r → (v : World) × Loses w name A b v × Stands shows interface r v × HasLost shows interface r at a b × (r.channels ≡ q.channels)
+  lost_line q r w name at from a d b A z s i e h t =
       let same : t.channel ≡ d = one_there q.channels.items at t.channel d t.there e in
       let called : is_calling (state t.channel.wire.client) ≡ is_calling b.state = ap (λ (c : Channel K). is_calling (state c.wire.client)) same ∙ ap is_calling h.at in
       let channels : r.channels ≡ q.channels = ap (λ (x : Player K). x.channels) t.others in (
@@ -94,7 +94,7 @@ module _ {K : Type 0} (shows : K → Shown) (interface : TableForm) where
           failed = ap (λ (x : Player K). x.failed) t.others ∙ s.failed;
           indexed = same_index q r channels (ap (λ (x : Player K). x.places) t.others) i;
         },
-        (d, subst (λ cs. slice_get cs at ≡ Some d) (sym (ap (λ x. x.items) channels)) e, from, was, h),
+        (d, subst (λ cs. slice_get cs at ≡ Some d) (sym (ap (λ x. x.items) channels)) e, from, h),
         channels,
       )
 
@@ -131,13 +131,13 @@ module _ {K : Type 0} (shows : K → Shown) (interface : TableForm) where
     LineBegins a event Long (Ok true) = (v : World) × Begins w at a event v × Runs shows interface address first r now v
     LineBegins a event Long (Ok false) = Runs shows interface address first r now w × Long
     LineBegins a event Long (Err stops.Lost) =
-        (v : World) × (b : Association) × IsCutOff a event b × Loses w name (slice_set w.associations at b) b v × (slice_get v.associations at ≡ Some b) × Runs shows interface address first r now v × HasLost shows interface p r at a b
+        (v : World) × (b : Association) × IsCutOff a event b × Loses w name (slice_set w.associations at b) b v × (slice_get v.associations at ≡ Some b) × Runs shows interface address first r now v × HasLost shows interface r at a b
     LineBegins a event Long (Err stops.Dial) = ⊥
     LineBegins a event Long (Err stops.Memory) = Opened address first (length r.channels.items) now
 
     -- a line that begins something
     pub from_begins : (line : CallLine) (a : Association) (event : List ℕ → ClientEvent) (Long : Type 0) → (Long → IsBarred w line) → ((v : World) → Begins w at a event v → Steps interface w line v)
-        → ((b : Association) (v : World) → IsCutOff a event b → Loses w name (slice_set w.associations at b) b v → EndsAt interface w line at a b v) → (result : Result Bool Stop) → LineBegins a event Long result → LineEnds shows interface address first p w line result now r now
+        → ((b : Association) (v : World) → IsCutOff a event b → Loses w name (slice_set w.associations at b) b v → EndsAt interface w line at a b v) → (result : Result Bool Stop) → LineBegins a event Long result → LineEnds shows interface address first w line result now r now
     from_begins line a event Long bars steps ends (Ok true) h = (h.0, steps h.0 h.1, h.2)
     from_begins line a event Long bars steps ends (Ok false) h = (h.0, bars h.1)
     from_begins line a event Long bars steps ends (Err stops.Lost) h = (h.0, at, a, h.1, ends h.1 h.0 h.2 h.3, h.4, h.5, h.6)
@@ -161,7 +161,7 @@ module _ {K : Type 0} (shows : K → Shown) (interface : TableForm) where
           ((subst (λ (y : Player K). Stands shows interface y w) (sym b.1) same, counted t.after t.channels (ap (λ (y : Player K). y.channels) b.1)), x.0)
       line_begins (Err stops.Lost) b =
           let x = becomes (Err halts.Lost) b.0 in
-          let l = lost_line p q r w name at (shows t.before.wire.link) (λ d e. ap (λ (y : Channel K). shows y.wire.link) (one_there p.channels.items at t.before d t.there e)) a t.after x.0 (slice_set w.associations at x.0) (zipped t.after x.0 t.channels x.2.holds) (touched p q at w t (agrees p w runs.0)) (indexed_now t bound) (there_now t.before t.after t.there t.channels) x.2 b.1 in
+          let l = lost_line q r w name at (shows t.before.wire.link) a t.after x.0 (slice_set w.associations at x.0) (zipped t.after x.0 t.channels x.2.holds) (touched p q at w t (agrees p w runs.0)) (indexed_now t bound) (there_now t.before t.after t.there t.channels) x.2 b.1 in
           let is : slice_get l.0.associations at ≡ Some x.0 = subst (λ (y : World). slice_get y.associations at ≡ Some x.0) (sym l.1) (set_there w.associations at x.0 a there) in
           (l.0, x.0, x.1, l.1, is, (l.2, counted t.after t.channels l.4), l.3)
       line_begins (Err stops.Dial) b = absurd b

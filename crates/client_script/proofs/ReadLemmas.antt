@@ -125,7 +125,7 @@ module _ {K : Type 0} (shows : K → Shown) (interface : TableForm) (address : A
     pub stopped : (why : Stop) → PlaysNext shows interface address rest p before (Err why) q now → AllEnds shows interface address text first (stopped_as why) q now
     stopped stops.Lost plays =
         let n = plays first h.world h.runs in
-        (n.3.0, n.3.1, n.3.2, n.3.3, record { lines = h.lines; before = h.world; rest = rest; plays = h.leads; line = n.0; after = n.1; begins = n.2; ends = n.3.4 }, n.3.5, n.3.6, p, n.3.7)
+        (n.3.0, n.3.1, n.3.2, n.3.3, record { lines = h.lines; before = h.world; rest = rest; plays = h.leads; line = n.0; after = n.1; begins = n.2; ends = n.3.4 }, n.3.5, n.3.6, n.3.7)
     stopped stops.Dial plays = let n = plays first h.world h.runs in (h.world, h.lines, rest, h.leads, later _ _ _ h.faults n.3.1, (n.0, n.1, n.2, n.3.0), n.3.2)
     stopped stops.Memory plays = plays first h.world h.runs
 

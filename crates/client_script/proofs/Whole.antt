@@ -136,13 +136,13 @@ module _ {K : Type 0} (shows : K → Shown) (interface : TableForm) (at : Addres
       h.1,
       h.2,
       h.3,
-      h.8.0.wire.link,
+      h.7.0.wire.link,
       h.4,
       h.6.0.out,
       gives_back h.0 h.6,
       h.5,
-      lost_there h.1 h.8.0 h.8.1,
-      record { new = shows h.8.0.wire.first.value; is_new = h.8.4.holds.first; from = h.8.2; lost = h.8.4.lost },
+      lost_there h.1 h.7.0 h.7.1,
+      record { new = shows h.7.0.wire.first.value; is_new = h.7.3.holds.first; from = h.7.2; lost = h.7.3.lost },
     )
     comes_to text (ends.Line n) h = (h.0, map link_of p.channels.items, h.1, h.2, h.3, h.4, h.5, h.6.0.out, gives_back h.0 h.6)
     comes_to text ends.DialFault h = (h.0, map link_of p.channels.items, h.1, h.2, h.3, rose_still _ _ _ h.4 r.faults, h.5, h.6.0.out, gives_back h.0 h.6)

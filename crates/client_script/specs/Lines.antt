@@ -42,13 +42,6 @@ bind_text x = decimal x.0 ++ (32 ∷ group_text x.1)
 abbrev pub start_text : ℕ → List ℕ → List ℕ → List ℕ
 start_text c name values = decimal c ++ (32 ∷ (name ++ (32 ∷ values)))
 
--- what stands after `start` is these, or no such
-abbrev pub IsStart : ℕ → List ℕ → List ℕ → List ℕ → Type 0
-IsStart c name values text = FitsStart c name × (start_text c name values ≡ text)
-
-abbrev pub IsNoStart : List ℕ → Type 0
-IsNoStart text = (c : ℕ) (name values : List ℕ) → FitsStart c name → start_text c name values ≡ text → ⊥
-
 -- the first word of a line
 abbrev pub name_of : CallLine → List ℕ
 name_of (Bind c group) = codes "bind"

@@ -57,28 +57,23 @@ module _ {K : Type 0} (shows : K → Shown) where
   abbrev pub Runs : TableForm → Address → DialShown K → Player K → DialShown K → World → Type 0
   Runs interface at first p now w = Stands shows interface p w × Opened at first (length p.channels.items) now
 
-  -- the link of the channel that the player has at that place is as in `from`; a bind has none there yet
-  abbrev pub IsLinkAt : Player K → ℕ → Shown → Type 0
-  IsLinkAt p place from = (c : Channel K) → slice_get p.channels.items place ≡ Some c → from ≡ shows c.wire.link
-
-  -- The connection that is lost is that of the channel at its place. Its link was as in `from` when the line began, which is as the player
-  -- had it before.
-  abbrev pub HasLost : TableForm → Player K → Player K → ℕ → Association → Association → Type 0
-  HasLost interface old p place a b = (c : Channel K) × (slice_get p.channels.items place ≡ Some c) × (from : Shown) × IsLinkAt old place from × HoldsLost shows interface from a c b
+  -- the connection that is lost is that of the channel at its place
+  abbrev pub HasLost : TableForm → Player K → ℕ → Association → Association → Type 0
+  HasLost interface p place a b = (c : Channel K) × (slice_get p.channels.items place ≡ Some c) × (from : Shown) × HoldsLost shows interface from a c b
 
   -- what a line comes to: it is played, it may not come, a connection is lost at it, the dial fails, or memory runs out
-  abbrev pub LineEnds : TableForm → Address → DialShown K → Player K → World → CallLine → Result Bool Stop → DialShown K → Player K → DialShown K → Type 0
-  LineEnds interface at first old w line (Ok true) before p now = (v : World) × Steps interface w line v × Runs interface at first p now v
-  LineEnds interface at first old w line (Ok false) before p now = Runs interface at first p now w × IsBarred w line
-  LineEnds interface at first old w line (Err stops.Lost) before p now =
-      (v : World) × (place : ℕ) × (a : Association) × (b : Association) × EndsAt interface w line place a b v × (slice_get v.associations place ≡ Some b) × Runs interface at first p now v × HasLost interface old p place a b
-  LineEnds interface at first old w line (Err stops.Dial) before p now = DialsFor w line × Rose before.faults now.faults × Runs interface at first p now w
-  LineEnds interface at first old w line (Err stops.Memory) before p now = Opened at first (length p.channels.items) now
+  abbrev pub LineEnds : TableForm → Address → DialShown K → World → CallLine → Result Bool Stop → DialShown K → Player K → DialShown K → Type 0
+  LineEnds interface at first w line (Ok true) before p now = (v : World) × Steps interface w line v × Runs interface at first p now v
+  LineEnds interface at first w line (Ok false) before p now = Runs interface at first p now w × IsBarred w line
+  LineEnds interface at first w line (Err stops.Lost) before p now =
+      (v : World) × (place : ℕ) × (a : Association) × (b : Association) × EndsAt interface w line place a b v × (slice_get v.associations place ≡ Some b) × Runs interface at first p now v × HasLost interface p place a b
+  LineEnds interface at first w line (Err stops.Dial) before p now = DialsFor w line × Rose before.faults now.faults × Runs interface at first p now w
+  LineEnds interface at first w line (Err stops.Memory) before p now = Opened at first (length p.channels.items) now
 
   -- the same, wherever the dial stands
   abbrev pub PlaysAnywhere : CallLine → Player K → Result Bool Stop → Player K → Type 0
   PlaysAnywhere line old result new =
-      (interface : TableForm) (at : Address) (first now : DialShown K) (w : World) → Runs interface at first old now w → LineEnds interface at first old w line result now new now
+      (interface : TableForm) (at : Address) (first now : DialShown K) (w : World) → Runs interface at first old now w → LineEnds interface at first w line result now new now
 
   -- a new connection has a new link, for which there is room; or there is none
   abbrev pub Adds : TableForm → Address → ℕ → Player K → DialShown K → Result (Channel K) Stop → Player K → DialShown K → Type 0
@@ -100,7 +95,7 @@ module _ {K : Type 0} (shows : K → Shown) where
   -- from each world for which the player stands
   abbrev pub PlaysLine : TableForm → Address → CallLine → Player K → DialShown K → Result Bool Stop → Player K → DialShown K → Type 0
   PlaysLine interface at line old before result new now =
-      (first : DialShown K) (w : World) → Runs interface at first old before w → LineEnds interface at first old w line result before new now
+      (first : DialShown K) (w : World) → Runs interface at first old before w → LineEnds interface at first w line result before new now
 
   -- the same of each line that binds a new connection to the group
   abbrev pub BindsTo : TableForm → Address → ℕ → ℕ → Player K → DialShown K → Result Bool Stop → Player K → DialShown K → Type 0
@@ -108,18 +103,18 @@ module _ {K : Type 0} (shows : K → Shown) where
       (group : Option ℕ) → AsksOf old group asked → PlaysLine interface at (lines.Bind name group) old before result new now
 
   -- what the first line of a text comes to
-  abbrev pub NextEnds : TableForm → Address → DialShown K → Player K → World → List ℕ → Result (Option (List ℕ)) Stop → DialShown K → Player K → DialShown K → Type 0
-  NextEnds interface at first old w text (Ok (Some rest)) before p now = (line : CallLine) × BeginsWith line rest text × LineEnds interface at first old w line (Ok true) before p now
-  NextEnds interface at first old w text (Ok None) before p now = Runs interface at first p now w × (BeginsWithNoLine text ⊎ ((line : CallLine) × (rest : List ℕ) × BeginsWith line rest text × IsBarred w line))
-  NextEnds interface at first old w text (Err stops.Lost) before p now =
-      (line : CallLine) × (rest : List ℕ) × BeginsWith line rest text × LineEnds interface at first old w line (Err stops.Lost) before p now
-  NextEnds interface at first old w text (Err stops.Dial) before p now =
-      (line : CallLine) × (rest : List ℕ) × BeginsWith line rest text × LineEnds interface at first old w line (Err stops.Dial) before p now
-  NextEnds interface at first old w text (Err stops.Memory) before p now = Opened at first (length p.channels.items) now
+  abbrev pub NextEnds : TableForm → Address → DialShown K → World → List ℕ → Result (Option (List ℕ)) Stop → DialShown K → Player K → DialShown K → Type 0
+  NextEnds interface at first w text (Ok (Some rest)) before p now = (line : CallLine) × BeginsWith line rest text × LineEnds interface at first w line (Ok true) before p now
+  NextEnds interface at first w text (Ok None) before p now = Runs interface at first p now w × (BeginsWithNoLine text ⊎ ((line : CallLine) × (rest : List ℕ) × BeginsWith line rest text × IsBarred w line))
+  NextEnds interface at first w text (Err stops.Lost) before p now =
+      (line : CallLine) × (rest : List ℕ) × BeginsWith line rest text × LineEnds interface at first w line (Err stops.Lost) before p now
+  NextEnds interface at first w text (Err stops.Dial) before p now =
+      (line : CallLine) × (rest : List ℕ) × BeginsWith line rest text × LineEnds interface at first w line (Err stops.Dial) before p now
+  NextEnds interface at first w text (Err stops.Memory) before p now = Opened at first (length p.channels.items) now
 
   abbrev pub PlaysNext : TableForm → Address → List ℕ → Player K → DialShown K → Result (Option (List ℕ)) Stop → Player K → DialShown K → Type 0
   PlaysNext interface at text old before result new now =
-      (first : DialShown K) (w : World) → Runs interface at first old before w → NextEnds interface at first old w text result before new now
+      (first : DialShown K) (w : World) → Runs interface at first old before w → NextEnds interface at first w text result before new now
 
   -- the same of what is found: None, or a rest
   abbrev pub PlaysOn : {R : Type 0} → Option R → (R → List ℕ) → TableForm → Address → List ℕ → Player K → DialShown K → Player K → DialShown K → Type 0
@@ -131,8 +126,7 @@ module _ {K : Type 0} (shows : K → Shown) where
   AllEnds interface at text first ends.Done p now = (w : World) × IsPlayed interface text w × (w.failed ≡ false) × Runs interface at first p now w
   AllEnds interface at text first ends.Failed p now = (w : World) × IsPlayed interface text w × (w.failed ≡ true) × Runs interface at first p now w
   AllEnds interface at text first ends.Lost p now =
-      (w : World) × (place : ℕ) × (a : Association) × (b : Association) × IsPlayedUpTo interface text place a b w × (slice_get w.associations place ≡ Some b) × Runs interface at first p now w
-      × (old : Player K) × HasLost interface old p place a b
+      (w : World) × (place : ℕ) × (a : Association) × (b : Association) × IsPlayedUpTo interface text place a b w × (slice_get w.associations place ≡ Some b) × Runs interface at first p now w × HasLost interface p place a b
   AllEnds interface at text first (ends.Line n) p now =
       (w : World) × (lines : List CallLine) × (rest : List ℕ) × LeadsTo interface text lines w rest × (n ≡ length lines + 1) × HasNoNext interface w rest × Runs interface at first p now w
   AllEnds interface at text first ends.DialFault p now =

@@ -1,7 +1,7 @@
 //! Reads one line.
-ghost use Rattle.std.specs.Prelude.{[], ◌∷◌, IfOk, MatchOption, decimal};
+ghost use Rattle.std.specs.Prelude.{◌≡◌, ℕ, List, [], ◌∷◌, ◌++◌, IfOk, MatchOption, decimal};
 ghost use Rattle.base_words.specs.Reads.{Reads};
-ghost use Rattle.client_script.specs.Lines.{IsConnection, FitsGroup, FitsBind, FitsLine, IsStart, IsNoStart, with_text, group_text, bind_text, parts_of, line_body, BeginsWith, BeginsWithNoLine};
+ghost use Rattle.client_script.specs.Lines.{IsConnection, FitsGroup, FitsBind, FitsStart, FitsLine, with_text, group_text, bind_text, start_text, parts_of, line_body, BeginsWith, BeginsWithNoLine};
 
 use crate::{CallLine, MOST_CONNECTIONS};
 use base_words::{cut_at, cut_line, read_between};
@@ -51,7 +51,7 @@ fn read_bind(text: &[u8]) -> Option<(u32, Option<u32>)>
 
 /// What stands after `start`.
 fn read_start(text: &[u8]) -> Option<(u32, &[u8], &[u8])>
-    ensures { MatchOption result (IsNoStart text.now) (λ x. IsStart x.0 x.1.now x.2.now text.now) }
+    ensures { MatchOption result ((c : ℕ) (name values : List ℕ) → FitsStart c name → start_text c name values ≡ text.now → ⊥) (λ x. FitsStart x.0 x.1.now × (start_text x.0 x.1.now x.2.now ≡ text.now)) }
 {
     let (connection, rest) = cut_at(b' ', text)?;
     let connection = read_connection(connection)?;

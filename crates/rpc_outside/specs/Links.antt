@@ -33,12 +33,6 @@ pub record IsNew (a : Shown) : Type 0 where
   pub put : IsNothing a.put
   pub put_at_end : a.put_at_end ≡ None
 
--- It is closed, and as far as it tells, nothing was taken from it or put on it.
-pub record IsBell (a : Shown) : Type 0 where
-  pub closed : a.closed ≡ true
-  pub taken : IsNothing a.taken
-  pub put : IsNothing a.put
-
 -- no count falls
 pub record Counts (a b : Shown) : Type 0 where
   pub faults : a.faults ≤ b.faults

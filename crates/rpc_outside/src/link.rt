@@ -1,6 +1,6 @@
 //! Links to peers.
-ghost use Rattle.std.specs.Prelude.{◌≡◌, ◌<◌, false, length, IfSome};
-ghost use Rattle.rpc_outside.specs.Links.{Shown, Takes, Puts, Closes, IsBell};
+ghost use Rattle.std.specs.Prelude.{◌≡◌, ◌<◌, false, length};
+ghost use Rattle.rpc_outside.specs.Links.{Shown, Takes, Puts, Closes};
 
 use rpc_base::Failed;
 use std::sync::Wait;
@@ -18,8 +18,7 @@ pub enum Taken {
 
 /// A link to a peer, over which octets go both ways. Nothing is taken, put or closed on it once it is closed.
 ///
-/// A take may wait for octets. How long, no clause says. A number that is rung ends it, where the link listens to that number,
-/// and so does the link's bell.
+/// A take may wait for octets. How long, no clause says. A number that is rung ends it, where the link listens to that number.
 pub trait Link: Send + Drop {
     /// Its counts, what it tells, and whether it is closed.
     ghost shows: { Self → Shown };
@@ -63,20 +62,4 @@ pub trait Link: Send + Drop {
 
     /// Rings a number for all links that listen to it and came from the same door.
     fn ring<R: Wait>(&self, _rt: &R, _number: u32) {}
-
-    /// Waits until the number to which the link listens is rung, as it may have been before, and takes nothing meanwhile. It ends
-    /// by itself after a while. Answers whether it waited.
-    fn rest<R: Wait>(&self, _rt: &R) -> bool {
-        false
-    }
-
-    /// A bell of this link, where it has one: a link that is closed, on which nothing can be done but `wake`.
-    fn bell(&self) -> Option<Self>
-        ensures { IfSome result (λ bell. IsBell (shows bell)) }
-    {
-        None
-    }
-
-    /// Of a bell: ends the take that its link waits in, or else the next one.
-    fn wake(&self) {}
 }

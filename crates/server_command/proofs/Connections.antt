@@ -24,7 +24,6 @@ use Rattle.group_hub.specs.declared.pass.Pass.{Pass}
 use Rattle.group_hub.specs.Shards.{shard_of}
 use Rattle.group_hub.specs.Passes.{at_shard, IsPassOf}
 use Rattle.server_ends.specs.Joins.{Was, NoRoom, IsRefusedFor}
-use Rattle.conn_histories.specs.Requests as requests
 use Rattle.conn_histories.specs.Tales.{whole}
 use Rattle.server_ends.specs.Finishes.{Refuses, AsMember, Alone, FinishesAs}
 use Rattle.server_rounds.specs.declared.settled.Settled.{Settled}
@@ -34,7 +33,6 @@ use Rattle.server_rounds.specs.Rounds.{IsRound, passes}
 use Rattle.server_command.proofs.Folding.{folds_tell}
 use Rattle.server_command.proofs.Limits.{room_is_taken, joins_are_taken}
 use Rattle.server_command.proofs.Lasting.{members_last}
-use Rattle.server_command.proofs.Asking.{turns_small}
 use Rattle.server_command.proofs.Widening.{dues_widen}
 use Rattle.server_command.specs.Logs.{Copy, IsCopy, Logs, IsOpened, ids_of, journal_of, front_at}
 use Rattle.server_command.specs.Groups.{HasCopy, printed_past}
@@ -134,16 +132,16 @@ module _ {K : Type 0} (shows : K → Shown) (may : Call → Bool → Ans → Typ
         each g moment seen limited [] all = tt
         each g moment seen limited (copy ∷ more) all = (λ e. counted g moment copy seen limited all.0 e, each g moment seen limited more all.1)
 
-    by_reason : (asked reason : ℕ) (items : List Item) → asked < 2 ^ 32 → IsRefusedFor h.boot x.began.value asked reason x.pass.value items → RefusesBy h.boot l.copies asked reason
-    by_reason asked reason items low (inl r) = inl (r.0, r.1)
-    by_reason asked reason items low (inr (inl r)) = inr (inl (
+    by_reason : (asked reason : ℕ) (items : List Item) → IsRefusedFor h.boot x.began.value asked reason x.pass.value items → RefusesBy h.boot l.copies asked reason
+    by_reason asked reason items (inl r) = inl (r.0, r.1)
+    by_reason asked reason items (inr (inl r)) = inr (inl (
       r.0,
       elim (r.2) [
         | inl new ↦ inl (new.0, full_copies new.1)
-        | inr known ↦ inr (known.0, low, full_joins asked known.1 low)
+        | inr known ↦ inr (known.0, full_joins asked known.1)
       ],
     ))
-    by_reason asked reason items low (inr (inr r)) = inr (inr r.0)
+    by_reason asked reason items (inr (inr r)) = inr (inr r.0)
 
     holds_as : (o : Option (ℕ × ℕ)) → AreNumbers o → FinishesAs shows may tables h.boot o x.began.value (shows x.came.value) (finished_of x) → HoldsAs shows may tables h.boot l.copies o x
     holds_as (Some (g, c)) numbers m =
@@ -152,8 +150,7 @@ module _ {K : Type 0} (shows : K → Shown) (may : Call → Bool → Ans → Typ
         (later (joins c) g (front_at x.pass.value g) (front_at p g) (starts (shard_of g) (low_shard g)) (member_joined shows may tables h x.began.value (shows x.came.value) g c x m)))
     holds_as None numbers a = record {
       alone = a;
-      due = dues_widen tables may (Refuses h.boot x.began.value x.pass.value) (RefusesBy h.boot l.copies) (home_of h.boot 0) 0 [] (λ asked reason low r. by_reason asked reason r.0 low r.2) a.turns
-          (turns_small (requests.ids_of tables) (home_of h.boot 0) [] a.turns (finished_of x).ending a.ends.came a.ends.put a.ends.answers) a.due;
+      due = dues_widen tables may (Refuses h.boot x.began.value x.pass.value) (RefusesBy h.boot l.copies) (home_of h.boot 0) 0 [] (λ asked reason r. by_reason asked reason r.0 r.2) a.turns a.due;
     }
 
   all_hold : (first : Pass) (xs : List (Settled K)) → AllByRecursion (IsSettled shows may tables h first) xs

@@ -1,6 +1,5 @@
 pub mod Adding
 pub mod Apart
-pub mod Asking
 pub mod Behind
 pub mod Connections
 pub mod Counting

@@ -1,6 +1,5 @@
--- Turns that are due where binds are refused for some reasons are due where they are refused for further ones. A refused bind asked
--- for an id of 32 bits.
-use Rattle.std.proofs.Common.{ℕ, ◌<◌, ◌^◌, Bool, List, [], ◌∷◌}
+-- Turns that are due where binds are refused for some reasons are due where they are refused for further ones.
+use Rattle.std.proofs.Common.{ℕ, Bool, List, [], ◌∷◌}
 use Rattle.rpc_base.specs.declared.identifiers.Status.{Status}
 use Rattle.rpc_base.specs.declared.identifiers.Order.{Order}
 use Rattle.handle_model.specs.declared.entry.Home.{Home}
@@ -23,7 +22,6 @@ use Rattle.conn_histories.specs.declared.turn.Turn.TheVariants.{Binding, Bound, 
 use Rattle.conn_histories.specs.Entries.{asked_as}
 use Rattle.conn_histories.specs.Stories.{WasFull, FateIsDue, DeedIsDue, IsDue, AllDue}
 use Rattle.server_ends.specs.Finishes.{serving}
-use Rattle.server_command.proofs.Asking.{IsSmall, AreSmall}
 
 refused_so : (tables : List TableForm) (iface op : ℕ) (order : Order) (stub : List ℕ) (Full Fuller : List Slot → Type 0) (status : Status) → ((slots : List Slot) → Full slots → Fuller slots)
     → IsRefused tables iface op order stub Full status → IsRefused tables iface op order stub Fuller status
@@ -33,7 +31,7 @@ refused_so tables iface op order stub Full Fuller status more (no_room o a b) = 
 refused_so tables iface op order stub Full Fuller status more (full slots a b e) = full slots a (more slots b) e
 
 module _ (tables : List TableForm) (may : Call → Bool → Ans → Type 0) (naks wider : ℕ → ℕ → Type 0) (home : Home) (c : ℕ) (past : List Entry)
-    (widen : (asked reason : ℕ) → asked < 2 ^ 32 → naks asked reason → wider asked reason) where
+    (widen : (asked reason : ℕ) → naks asked reason → wider asked reason) where
   was_full : (turns : List Turn) (slots : List Slot) → WasFull (serving tables may naks) home c past turns slots → WasFull (serving tables may wider) home c past turns slots
   was_full turns slots f = record { newer = f.newer; older = f.older; moment = f.moment; before = f.before; there = f.there; limited = f.limited }
 
@@ -54,14 +52,14 @@ module _ (tables : List TableForm) (may : Call → Bool → Ans → Type 0) (nak
       (h.0, refused_so tables r.iface r.joined.op r.joined.order r.joined.stub (WasFull (serving tables may naks) home c past turns) (WasFull (serving tables may wider) home c past turns) status (was_full turns) h.1)
   deed_due turns r (Accepted k slots fate) h = (h.0, h.1, fate_due (asked_as c r slots) r.offs fate h.2)
 
-  turn_due : (turns : List Turn) (t : Turn) → IsSmall t → IsDue (serving tables may naks) home c past turns t → IsDue (serving tables may wider) home c past turns t
-  turn_due turns (NotBound asked reason octets) small h = widen asked reason small h
-  turn_due turns (Called r) small h = deed_due turns r r.deed h
-  turn_due turns (Binding asked) small h = h
-  turn_due turns (Bound asked group octets) small h = h
-  turn_due turns (Answered octets) small h = h
-  turn_due turns (Closed octets why) small h = h
+  turn_due : (turns : List Turn) (t : Turn) → IsDue (serving tables may naks) home c past turns t → IsDue (serving tables may wider) home c past turns t
+  turn_due turns (NotBound asked reason octets) h = widen asked reason h
+  turn_due turns (Called r) h = deed_due turns r r.deed h
+  turn_due turns (Binding asked) h = h
+  turn_due turns (Bound asked group octets) h = h
+  turn_due turns (Answered octets) h = h
+  turn_due turns (Closed octets why) h = h
 
-  pub dues_widen : (turns : List Turn) → AreSmall turns → AllDue (serving tables may naks) home c past turns → AllDue (serving tables may wider) home c past turns
-  dues_widen [] small h = tt
-  dues_widen (t ∷ ts) small h = (turn_due ts t small.0 h.0, dues_widen ts small.1 h.1)
+  pub dues_widen : (turns : List Turn) → AllDue (serving tables may naks) home c past turns → AllDue (serving tables may wider) home c past turns
+  dues_widen [] h = tt
+  dues_widen (t ∷ ts) h = (turn_due ts t h.0, dues_widen ts h.1)

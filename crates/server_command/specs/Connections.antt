@@ -16,14 +16,13 @@ use Rattle.server_command.specs.Holds.{HoldsBy, TellsOfTurns}
 use Rattle.server_command.specs.Groups.{printed_past, HasCopy}
 
 -- Why a bind is refused, by the printed journals: with 0 one that asked for a group; with 2 one that asked for a new group, where at
--- least 1,024 are printed, or that asked for a group, by an id of 32 bits, that at least 64 connections joined; with 1 where memory
--- ran out.
+-- least 1,024 are printed, or that asked for a group that at least 64 connections joined; with 1 where memory ran out.
 abbrev pub RefusesBy : ℕ → List Copy → ℕ → ℕ → Type 0
 RefusesBy boot copies asked reason =
     ((reason ≡ 0) × (asked ≢ 0))
     ⊎ (((reason ≡ 2)
     × (((asked ≡ 0) × (1024 ≤ length copies))
-    ⊎ ((asked ≢ 0) × (asked < 2 ^ 32) × HasCopy asked (λ copy. 64 ≤ join_count (journal_of boot copy)) copies)))
+    ⊎ ((asked ≢ 0) × (asked < 2 ^ 32 → HasCopy asked (λ copy. 64 ≤ join_count (journal_of boot copy)) copies))))
     ⊎ (reason ≡ 1))
 
 module _ {K : Type 0} (shows : K → Shown) (may : Call → Bool → Ans → Type 0) (tables : List TableForm) (boot : ℕ) where

@@ -1,7 +1,7 @@
 -- What was counted of a link, where it tells what was taken and put.
 use Rattle.std.proofs.Common.{◌≡◌, ◌∙◌, ℕ, Option, Some, None, List, [], ◌++◌, refl, sym, subst}
 use Rattle.std.specs.Io.KnownBytes.{append_known}
-use Rattle.rpc_outside.specs.Links.{Shown, IsNothing, IsNew, IsBell, Took, Put}
+use Rattle.rpc_outside.specs.Links.{Shown, IsNothing, IsNew, Took, Put}
 use Rattle.desk_counts.specs.Numbers.{listed}
 use Rattle.server_counts.specs.declared.counting.Counting.{Counting}
 use Rattle.server_counts.specs.Stats.{Tell}
@@ -17,16 +17,10 @@ nothing_told : (k : Option (List ℕ)) (xs : List ℕ) → IsNothing k → k ≡
 nothing_told None xs n e = absurd cc
 nothing_told (Some ys) xs n e = cc
 
-counts_none : (a : Shown) → IsNothing a.taken → IsNothing a.put → Counts a at_first
-counts_none a taken_none put_none taken put p q =
-    subst (λ xs. HasCounted xs put at_first) (sym (nothing_told a.taken taken taken_none p))
-    (subst (λ ys. HasCounted [] ys at_first) (sym (nothing_told a.put put put_none q)) none_counted)
-
 pub counts_new : (a : Shown) → IsNew a → Counts a at_first
-counts_new a new = counts_none a new.taken new.put
-
-pub counts_bell : (a : Shown) → IsBell a → Counts a at_first
-counts_bell a bell = counts_none a bell.taken bell.put
+counts_new a new taken put p q =
+    subst (λ xs. HasCounted xs put at_first) (sym (nothing_told a.taken taken new.taken p))
+    (subst (λ ys. HasCounted [] ys at_first) (sym (nothing_told a.put put new.put q)) none_counted)
 
 pub counts_took : (a b : Shown) (octets : List ℕ) (c d : Counting) → Took a b octets → Takes c octets d → Counts a c → Counts b d
 counts_took a b octets c d t step h taken put p q =

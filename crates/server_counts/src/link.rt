@@ -103,26 +103,4 @@ impl<K: Link> Link for CountLink<K> {
     fn ring<R: Wait>(&self, rt: &R, number: u32) {
         self.link.ring(rt, number);
     }
-
-    fn rest<R: Wait>(&self, rt: &R) -> bool {
-        self.link.rest(rt)
-    }
-
-    fn bell(&self) -> Option<CountLink<K>> {
-        let Ok(tally) = Arc::try_clone(&self.tally) else {
-            return None;
-        };
-        match self.link.bell() {
-            Some(link) => Some(CountLink {
-                link,
-                counting: Counting::new(),
-                tally,
-            }),
-            None => None,
-        }
-    }
-
-    fn wake(&self) {
-        self.link.wake();
-    }
 }

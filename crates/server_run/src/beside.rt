@@ -44,14 +44,13 @@ pub(crate) enum Started<M: Manager> {
     Here(Worked),
 }
 
-/// Runs a call in a thread of the scope, or in this one where none can be started. Its end wakes the bell's link.
-fn start<'s, E, R: Wait + Threads + Sync, K: Link + 's, M: Manager + Sync>(
+/// Runs a call in a thread of the scope, or in this one where none can be started.
+fn start<'s, E, R: Wait + Threads + Sync, M: Manager + Sync>(
     scope: &'s Scope<'s, E>,
     rt: &'s R,
     server: Server<'s, M>,
     running: RunningCall<'s>,
     task: Task,
-    bell: Option<K>,
 ) -> Started<M>
     requires { IsReadyToRun M.tables server running task }
     ensures { StartsSo M.tables M.may server.entry running.entry result }
@@ -75,9 +74,6 @@ fn start<'s, E, R: Wait + Threads + Sync, K: Link + 's, M: Manager + Sync>(
             let (server, running) = (Server { ..server }, RunningCall { ..running });
             let worked = work(rt, server, running, Task { ..task });
             running.done.wake_all();
-            if let Some(bell) = bell {
-                bell.wake();
-            }
             worked
         },
     ) {
@@ -88,7 +84,7 @@ fn start<'s, E, R: Wait + Threads + Sync, K: Link + 's, M: Manager + Sync>(
 
 /// Runs a call in a thread of the scope, and hears meanwhile whether it is called off. A connection that doesn't go on
 /// leaves and closes its link before the thread is joined. Where no thread can be started it runs the call itself.
-fn run_in_scope<'s, E, R: Wait + Threads + Sync, K: Link + 's, M: Manager + Sync>(
+fn run_in_scope<'s, E, R: Wait + Threads + Sync, K: Link, M: Manager + Sync>(
     scope: &'s Scope<'s, E>,
     rt: &'s R,
     server: Server<'s, M>,
@@ -102,11 +98,10 @@ fn run_in_scope<'s, E, R: Wait + Threads + Sync, K: Link + 's, M: Manager + Sync
 {
     let Server { hub, manager, .. } = server;
     let RunningCall { call, asked, .. } = running;
-    let bell = line.wire.link.bell();
-    let has_bell = bell.is_some();
-    match start(scope, rt, server, running, task, bell) {
+    match start(scope, rt, server, running, task) {
         Started::There(child) => {
-            match watch(rt, server, &mut line, running, cookies, has_bell) {
+            line.wire.link.hasten();
+            match watch(rt, server, &mut line, running, cookies) {
                 Watched::Done(orphaned) => {
                     line.wire.link.unlisten(rt);
                     let worked = child.join(rt);
@@ -161,7 +156,10 @@ pub(crate) fn run_beside<R: Wait + Threads + Sync, K: Link, M: Manager + Sync>(
             requires row { IsRow running.asked.now cookies.now running.row }
             requires asks { MayAsk server.hub.now running.group running.call task.pass }
             requires given { IsGiven (tables_in server.served.now) running.asked.now running.row task.message task.again }
-            ensures { RunsBeside K.shows M.may M.tables server.entry line running.entry cookies.entry.now result }
-        { run_in_scope(scope, rt, server, line, running, cookies, task) },
+            ensures { RunsBeside K.shows M.may M.tables (record { alloc = server.entry.alloc; served = server.entry.served; manager = server.entry.manager; hub = server.entry.hub }) line (record { group = running.entry.group; call = running.entry.call; asked = running.entry.asked; row = running.entry.row; done = running.entry.done }) cookies.entry.now result }
+        {
+            let (server, running) = (Server { ..server }, RunningCall { ..running });
+            run_in_scope(scope, rt, server, line, running, cookies, task)
+        },
     )
 }

@@ -49,13 +49,14 @@ pub(crate) enum Went<K: Link> {
     Over(Finished<K>),
 }
 
-/// Rests a while. A call that waits does so where its link can't listen, and a look at it takes no time.
+/// Rests a while. A call that waits does so where a look at its link takes no time: the link can't listen, or isn't looked at since
+/// what came has to wait.
 fn rest<R: Wait>(rt: &R) {
     AtomicU64::new(0).park_timeout(rt, 0, Duration::from_millis(REST));
 }
 
 /// Waits until a call is taken or denied, and hears meanwhile whether it is called off. A call that can't be taken at once has its
-/// link listen to its group, and rests in a take of it, or without one where what came has to wait.
+/// link listen to its group.
 fn await_turn<R: Wait, K: Link, M: Manager>(
     rt: &R,
     server: Server<'_, M>,
@@ -84,8 +85,7 @@ fn await_turn<R: Wait, K: Link, M: Manager>(
         }
         match line.hear_waiting(hub, manager, call, asked) {
             Heard::Nothing => {
-                let must_wait = line.wire.conn.must_wait();
-                if !listens || (must_wait && !line.wire.link.rest(rt)) {
+                if !listens || line.wire.conn.must_wait() {
                     rest(rt);
                 }
             }

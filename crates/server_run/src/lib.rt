@@ -7,8 +7,7 @@
 //! pass with which the call asked before it enters the call's end.
 //!
 //! A connection rests in a take of its link. While a call waits, its link listens to the number of its group, which is rung
-//! behind each entry of the group that ends a call. Where the next PDU has to wait too, nothing is taken, and the connection rests
-//! until the number is rung. A worker that has done its call wakes the link by its bell.
+//! behind each entry of the group that ends a call.
 #![tactic(auto)]
 
 mod beside;

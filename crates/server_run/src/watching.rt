@@ -12,7 +12,7 @@ use std::sync::Wait;
 use std::sync::atomic::{AtomicU64, Ordering};
 use std::time::Duration;
 
-/// How long a call is waited for between two looks at a link that has no bell, in milliseconds.
+/// How long a call is waited for between two looks at its connection's link, in milliseconds.
 const TURN: u64 = 10;
 
 /// What came of a call that runs.
@@ -24,23 +24,21 @@ pub(crate) enum Watched {
     Stop(Stop),
 }
 
-/// Whether the call is done. Where no bell tells of its end, it is waited for, a turn at most.
-fn is_done<R: Wait>(rt: &R, done: &AtomicU64, has_bell: bool) -> bool {
-    if !has_bell && done.load(Ordering::SeqCst) == 0 {
+/// Waits a turn at most until the call is done: whether it is.
+fn is_soon_done<R: Wait>(rt: &R, done: &AtomicU64) -> bool {
+    if done.load(Ordering::SeqCst) == 0 {
         done.park_timeout(rt, 0, Duration::from_millis(TURN));
     }
     done.load(Ordering::SeqCst) != 0
 }
 
-/// Hears whether a running call is called off, until it is done or something came that has to wait for its end. A link that has a
-/// bell is woken by that end. Takes of one that has none don't wait from now on.
+/// Hears whether a running call is called off, until it is done or something came that has to wait for its end.
 pub(crate) fn watch<R: Wait, K: Link, M: Manager>(
     rt: &R,
     server: Server<'_, M>,
     line: &mut Line<K>,
     running: RunningCall<'_>,
     cookies: &[Option<u64>],
-    has_bell: bool,
 ) -> Watched
     requires { IsRunning K.shows (M.may server.manager.now) (M.tables server.manager.now) server.hub.now line.old running.call running.asked.now cookies.now false }
     ensures same { IsSame line.old line.new }
@@ -50,11 +48,8 @@ pub(crate) fn watch<R: Wait, K: Link, M: Manager>(
     let Server { hub, manager, .. } = server;
     let RunningCall { call, asked, .. } = running;
     let mut orphaned = false;
-    if !has_bell {
-        line.wire.link.hasten();
-    }
     for _ in rt.forever() {
-        if is_done(rt, running.done, has_bell) || line.wire.conn.must_wait() {
+        if is_soon_done(rt, running.done) || line.wire.conn.must_wait() {
             return Watched::Done(orphaned);
         }
         match line.hear_running(hub, manager, call, asked, cookies, orphaned) {

@@ -8,12 +8,8 @@ use rpc_outside::{Address, Dial, Door, Link, Taken, put_all};
 use std::alloc::Global;
 use std::io::{Read, Write};
 use std::net::{Ipv4Addr, Shutdown, TcpListener, TcpStream};
-use std::rt::Clock;
 use std::sync::Wait;
-use std::sync::atomic::{AtomicU64, Ordering};
 use std::test::*;
-use std::thread::Threads;
-use std::time::Duration;
 use std::{io, thread};
 
 fn at(port: u16) -> Address {
@@ -114,121 +110,6 @@ fn a_ring_ends_a_take(rt: HostRuntime) -> Result<(), Fail> {
     assert_eq!(rt; listening.take(&mut buffer)?, Taken::Quiet);
     assert!(rt; hears(&rt, &mut listening, &ringing)?);
     listening.unlisten(&rt);
-    Ok(())
-}
-
-/// Takes until it is told to end: the link then, and whether each take was quiet.
-fn take_until(done: &AtomicU64, mut link: SocketLink) -> (SocketLink, bool)
-    requires { (shown link).closed ≡ false }
-    ensures { (shown result.0).closed ≡ false }
-{
-    let mut buffer = [0u8; 8];
-    for _ in 0..1_000 {
-        if done.load(Ordering::SeqCst) != 0 {
-            return (link, true);
-        }
-        if !matches!(link.take(&mut buffer), Ok(Taken::Quiet)) {
-            break;
-        }
-    }
-    (link, false)
-}
-
-/// A link takes while another thread says that it is done, and wakes it.
-fn wake_beside<R: Threads>(rt: &R, link: SocketLink, bell: SocketLink) -> (SocketLink, bool)
-    requires { (shown link).closed ≡ false }
-    ensures { (shown result.0).closed ≡ false }
-{
-    let done = AtomicU64::new(0);
-    let (taken, ()) = thread::join(
-        rt,
-        || -> (SocketLink, bool)
-            requires { (shown link).closed ≡ false }
-            ensures { (shown result.0).closed ≡ false }
-        { take_until(&done, link) },
-        || {
-            done.store(1, Ordering::SeqCst);
-            bell.wake();
-        },
-    );
-    taken
-}
-
-#[test]
-fn a_bell_ends_a_take_from_another_thread(rt: HostRuntime) -> Result<(), Fail> {
-    let port = free_port(&rt)?;
-    let mut door = SocketDoor::new(&rt, rt.alloc());
-    door.listen(at(port))?;
-    let _client = TcpStream::connect(&rt, (Ipv4Addr::LOCALHOST, port))?;
-    let Some(mut link) = door.next()? else {
-        return Err(Fail::new("nobody called"));
-    };
-    for _ in 0..100 {
-        let Some(bell) = link.bell() else {
-            return Err(Fail::new("no bell"));
-        };
-        let quiet;
-        (link, quiet) = wake_beside(&rt, link, bell);
-        assert!(rt; quiet);
-    }
-    Ok(())
-}
-
-/// Rests while another thread rings a while later: whether it had when the rest ended.
-fn rest_beside<R: Threads + Wait + Clock + Sync>(
-    rt: &R,
-    listening: SocketLink,
-    ringing: SocketLink,
-) -> (SocketLink, bool)
-    requires { (shown listening).closed ≡ false }
-    ensures { (shown result.0).closed ≡ false }
-{
-    let rang = AtomicU64::new(0);
-    let (rested, ()) = thread::join(
-        rt,
-        || -> (SocketLink, bool)
-            requires { (shown listening).closed ≡ false }
-            ensures { (shown result.0).closed ≡ false }
-        {
-            let rests = listening.rest(rt) && rang.load(Ordering::SeqCst) != 0;
-            (listening, rests)
-        },
-        || {
-            thread::sleep(rt, Duration::from_millis(100));
-            rang.store(1, Ordering::SeqCst);
-            ringing.ring(rt, 7);
-        },
-    );
-    rested
-}
-
-#[test]
-fn a_ring_ends_a_rest_and_octets_do_not(rt: HostRuntime) -> Result<(), Fail> {
-    let port = free_port(&rt)?;
-    let mut door = SocketDoor::new(&rt, rt.alloc());
-    door.listen(at(port))?;
-    let mut client = TcpStream::connect(&rt, (Ipv4Addr::LOCALHOST, port))?;
-    let Some(listening) = door.next()? else {
-        return Err(Fail::new("nobody called"));
-    };
-    let _other = TcpStream::connect(&rt, (Ipv4Addr::LOCALHOST, port))?;
-    let Some(ringing) = door.next()? else {
-        return Err(Fail::new("nobody called"));
-    };
-    assert!(rt; !listening.rest(&rt));
-    assert!(rt; listening.listen(&rt, 7));
-    assert!(rt; listening.rest(&rt));
-    for _ in 0..1_000 {
-        ringing.ring(&rt, 7);
-        assert!(rt; listening.rest(&rt));
-    }
-    client.write_all(b"question")?;
-    let (mut listening, rested) = rest_beside(&rt, listening, ringing);
-    assert!(rt; rested);
-    let mut buffer = [0u8; 16];
-    assert_eq!(rt; listening.take(&mut buffer)?, Taken::Bytes(8));
-    listening.unlisten(&rt);
-    assert!(rt; !listening.rest(&rt));
     Ok(())
 }
 

@@ -591,7 +591,7 @@ module _ (types : List Form) where
     members_off level (then_form s ss) t d e nd =
         if_off (Fs level (then_form s ss) t d) (heads 125 t) (Err (Kind (length t))) (go level s t >>= λ x. with_item x.0 (members_on (go level) ss x.1)) d e
         (λ h g. failed (Vals × List ℕ) (Fs level (then_form s ss) t) (Kind (length t)) d g (ends_early (no_kind (begins_there 125 t h) (begins_head 125 t h refl))))
-        (λ h g. bind_off (Fs level (then_form s ss) t d) (go level s t) (λ x. with_item x.0 (members_on (go level) ss x.1)) d g (λ q. first_member h (off level s t d q nd))
+        (λ h g. bind_off (Fs level (then_form s ss) t d) (go level s t) (λ x. with_item x.0 (members_on (go level) ss x.1)) d g (λ q. first_member (off level s t d q nd))
         (λ x q r. behind_first (ok level s t x q) (made_off (Ms level ss x.1 d) (members_on (go level) ss x.1) (λ y. rpair (then_val x.0 y.0) y.1) d r (λ k. members_on_off level ss x.1 d k nd))))
 
     struct_off : (level : ℕ) (ss : Forms) (t : List ℕ) (d : Departure) → struct_at (go level) ss t ≡ Err d → NotDeep d → D level (OfStruct ss) t d
@@ -652,7 +652,7 @@ module _ (types : List Form) where
         (λ h f. made_off (Es level kind s 0 t d) (closed (fits_count kind 0) t) (λ u. rpair no_val u) d f
         (λ g. first_stops (closed_off (place_for (begins_or 93) (λ c. if c == 93 then fits_count kind 0 else (begins c && takes kind 0))) (fits_count kind 0) t d g (begins_there 93 t h) (λ k. first_own (fits_count kind 0) (takes kind 0) t h ∙ k))))
         (λ h f. if_off (Es level kind s 0 t d) (takes kind 0) (go level s t >>= λ x. with_item x.0 (items_on (length x.1 + 1) (go level s) kind 1 x.1)) (Err (wrong t)) d f
-        (λ k g. bind_off (Es level kind s 0 t d) (go level s t) (λ x. with_item x.0 (items_on (length x.1 + 1) (go level s) kind 1 x.1)) d g (λ q. first_element h k (off level s t d q nd))
+        (λ k g. bind_off (Es level kind s 0 t d) (go level s t) (λ x. with_item x.0 (items_on (length x.1 + 1) (go level s) kind 1 x.1)) d g (λ q. first_element k (off level s t d q nd))
         (λ x q r. behind_element k (ok level s t x q) (made_off (Es level kind s 1 x.1 d) (items_on (length x.1 + 1) (go level s) kind 1 x.1) (λ y. rpair (then_val x.0 y.0) y.1) d r
         (λ w. items_on_off (length x.1 + 1) level kind s 0 x.1 d (omega arith) w nd))))
         (λ k g. first_stops (wrong_at (place_for (begins_or 93) (λ c. if c == 93 then fits_count kind 0 else (begins c && takes kind 0))) t d (err_is (Vals × List ℕ) (wrong t) d g) (begins_only 93 t h) (first_none (fits_count kind 0) (takes kind 0) t h k))))

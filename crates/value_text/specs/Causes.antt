@@ -186,7 +186,7 @@ module _ (types : List Form) (heap : ℕ) where
     pub data FirstDeparts : ℕ → Forms → List ℕ → Departure → Type 0 where
       no_end : {level : ℕ} {t : List ℕ} {d : Departure} → Stops (place_for (begins_or 125) (is 125)) t d → FirstDeparts level no_form t d
       ends_early : {level : ℕ} {s : Form} {ss : Forms} {t : List ℕ} {d : Departure} → Stops (place_for (begins_or 125) begins) t d → FirstDeparts level (then_form s ss) t d
-      first_member : {level : ℕ} {s : Form} {ss : Forms} {t : List ℕ} {d : Departure} → heads 125 t ≡ false → TextDeparts level s t d → FirstDeparts level (then_form s ss) t d
+      first_member : {level : ℕ} {s : Form} {ss : Forms} {t : List ℕ} {d : Departure} → TextDeparts level s t d → FirstDeparts level (then_form s ss) t d
       behind_first : {level : ℕ} {s : Form} {ss : Forms} {t u : List ℕ} {v : Val} {d : Departure} → Stands types heap level s t v u → MembersDepart level ss u d → FirstDeparts level (then_form s ss) t d
 
     -- behind a member
@@ -201,7 +201,7 @@ module _ (types : List Form) (heap : ℕ) where
     pub data ElementsDepart : ℕ → ArrayKind → Form → ℕ → List ℕ → Departure → Type 0 where
       first_stops : {level : ℕ} {kind : ArrayKind} {s : Form} {t : List ℕ} {d : Departure}
           → Stops (place_for (begins_or 93) (λ c. if c == 93 then fits_count kind 0 else (begins c && takes kind 0))) t d → ElementsDepart level kind s 0 t d
-      first_element : {level : ℕ} {kind : ArrayKind} {s : Form} {t : List ℕ} {d : Departure} → heads 93 t ≡ false → takes kind 0 ≡ true → TextDeparts level s t d → ElementsDepart level kind s 0 t d
+      first_element : {level : ℕ} {kind : ArrayKind} {s : Form} {t : List ℕ} {d : Departure} → takes kind 0 ≡ true → TextDeparts level s t d → ElementsDepart level kind s 0 t d
       behind_element : {level : ℕ} {kind : ArrayKind} {s : Form} {t u : List ℕ} {v : Val} {d : Departure} → takes kind 0 ≡ true → Stands types heap level s t v u → ElementsDepart level kind s 1 u d → ElementsDepart level kind s 0 t d
       no_bracket : {level m : ℕ} {kind : ArrayKind} {s : Form} {t : List ℕ} {d : Departure}
           → Stops (place_for (ends_or true true 93 44) (ends_or (fits_count kind (suc m)) (takes kind (suc m)) 93 44)) t d → ElementsDepart level kind s (suc m) t d

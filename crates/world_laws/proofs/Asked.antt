@@ -44,7 +44,7 @@ plain_cancel (Some c) others h = h
 plain_first : (s : ClientState) (event : ClientEvent) (first others : List Ask) → offers event ≡ false → EventAsks s event first → ArePlain others → ArePlain (first ++ others)
 plain_first s (DidBind group octets) first others none h rest = absurd (cc (none))
 plain_first s (DidAlter context octets) first others none h rest = absurd (cc (none))
-plain_first s (DidCall op m octets) first others none (o, found, is) rest = subst (λ (x : List Ask). ArePlain (x ++ others)) (sym is) (refl, small, refl, rest)
+plain_first s (DidCall op m octets) first others none (o, found, is) rest = subst (λ (x : List Ask). ArePlain (x ++ others)) (sym is) (refl, small, rest)
   where
     small : next_id s < 2 ^ 32
     small = omega arith

@@ -2,7 +2,6 @@
 use Rattle.std.proofs.Common.{◌≡◌, ℕ, ◌+◌, ◌^◌, ◌<◌, ◌⊎◌, inl, inr, Bool, true, false, cond, eqb, Option, Some, None, Ok, List, [], ◌∷◌, ◌++◌, length, refl, sym, ap, subst, ◌∙◌, append-nil, append_assoc, arith}
 use Rattle.std.specs.Prelude.{slice_get}
 use Rattle.std.specs.List.{list_all}
-use Rattle.rpc_base.specs.declared.identifiers.Order.TheVariants.{Little}
 use Rattle.rpc_base.specs.declared.identifiers.SyntaxId.{SyntaxId}
 use Rattle.handle_model.specs.declared.entry.Entry.{Entry}
 use Rattle.handle_model.specs.declared.entry.Said.{Said}
@@ -21,7 +20,6 @@ use Rattle.pdu_stream.specs.Pieces.{piece_size}
 use Rattle.ndr_table.specs.Tables.{TableForm}
 use Rattle.conn_asks.specs.Asks.{caller}
 use Rattle.conn_asks.specs.Answers.{bind_nak, fault, Replies}
-use Rattle.conn_asks.specs.declared.events.Caller.{Caller}
 use Rattle.conn_asks.specs.States.{caller_of}
 use Rattle.conn_histories.specs.Histories.{Decision, seen}
 use Rattle.conn_histories.specs.Histories.Event.{Decided}
@@ -130,13 +128,9 @@ word_is table past new l t (waiting.Call k) said executed n ends at (before, num
       says = λ one is. reply k (replies (journal past) k) (ap number_in (last_number l.server.numbers before (Some k) n numbers count)) (record { newer = []; older = past; is = refl; replies_are = refl }) (sym same.0 ∙ is) same.1;
     }
 
--- its numbers have a place in PDUs, and it asks in the caller's order
-abbrev pub IsPlainCaller : Caller → Type 0
-IsPlainCaller c = FitsCaller c × (c.order ≡ Little)
-
 -- a call that wants an answer is answered
 said_on : (l : Line) (past new : List Entry) (js : List Joined) (t : ServerEnd) (c : Calling) (x most : ℕ) (j : Joined) (executed : Bool) (said : Option Said) (octets : List ℕ) → IsLawful most
-    → Replies (caller_of j) most false executed said octets → Word past l x said executed → IsPlainCaller (caller_of j) → j.call_id ≡ c.id → c.joining ≡ Ok None → IsOutAt l js c x → HasBound t → answered t ≡ x + 1
+    → Replies (caller_of j) most false executed said octets → Word past l x said executed → FitsCaller (caller_of j) → j.call_id ≡ c.id → c.joining ≡ Ok None → IsOutAt l js c x → HasBound t → answered t ≡ x + 1
     → t.numbers ≡ l.server.numbers → Grows past new → OnWay l [] → Phase (served l t (l.down ++ octets)) new js
 said_on l past new js t c x most j executed None octets lawful replies word fits id fresh out has all same grows way =
     dropped c x (record { out = out.out; last_row = out.last_row; row = out.row; is_row = out.is_row; op = out.op; message = out.message }) has all (put_behind l.caller.rest l.down octets [] way replies)
@@ -144,7 +138,7 @@ said_on l past new js t c x most j executed (Some (Fault status)) octets lawful 
     let q = fault (caller_of j) executed status in
     answering c x (Fault status) executed (q ∷ []) (record { out = out.out; last_row = out.last_row; row = out.row; is_row = out.is_row; op = out.op; message = out.message }) has all
     (says_same (word.says (Fault status) refl)) (by_fault (caller_of j) status id refl refl)
-    (put_behind l.caller.rest l.down octets (q ∷ []) way (pdu_octets q, [], replies ∙ sym (append-nil (pdu_octets q)), fault_is (caller_of j) executed status fits.0 word.fits, refl))
+    (put_behind l.caller.rest l.down octets (q ∷ []) way (pdu_octets q, [], replies ∙ sym (append-nil (pdu_octets q)), fault_is (caller_of j) executed status fits word.fits, refl))
   where
     says_same : Says past l x (Fault status) executed → Says new (served l t (l.down ++ octets)) x (Fault status) executed
     says_same (refusal at st is none) = refusal (ap (λ (ns : List (Option ℕ)). slice_get ns x) same ∙ at) st is none
@@ -152,9 +146,9 @@ said_on l past new js t c x most j executed (Some (Fault status)) octets lawful 
 said_on l past new js t c x most j executed (Some (Out stub)) octets lawful (pieces, are, put_is) word fits id fresh out has all same grows way =
     let pdus = response_pdus (caller_of j) true pieces in
     let wide : stub_offset + piece_size most stub_offset < 2 ^ 16 = omega (arith, lawful.0, lawful.1) in
-    let spelled : AreSpelled IsPdu pdus octets = subst (λ (y : List ℕ). AreSpelled IsPdu pdus y) (sym put_is) (response_spelled pieces (caller_of j) (piece_size most stub_offset) true stub fits.0 word.fits wide are) in
+    let spelled : AreSpelled IsPdu pdus octets = subst (λ (y : List ℕ). AreSpelled IsPdu pdus y) (sym put_is) (response_spelled pieces (caller_of j) (piece_size most stub_offset) true stub fits word.fits wide are) in
     answering c x (Out stub) executed pdus (record { out = out.out; last_row = out.last_row; row = out.row; is_row = out.is_row; op = out.op; message = out.message }) has all
-    (says_same (word.says (Out stub) refl)) (by_pieces (caller_of j) true [] stub (piece_size most stub_offset) pieces id fits.1 refl fresh are refl (omega (arith, word.fits)) refl)
+    (says_same (word.says (Out stub) refl)) (by_pieces (caller_of j) true [] stub (piece_size most stub_offset) pieces id refl fresh are refl (omega (arith, word.fits)) refl)
     (put_behind l.caller.rest l.down octets pdus way spelled)
   where
     says_same : Says past l x (Out stub) executed → Says new (served l t (l.down ++ octets)) x (Out stub) executed
@@ -169,7 +163,7 @@ same_call : (js : List Joined) (x : ℕ) (a b : Joined) → slice_get js x ≡ S
 same_call js x a b h k = some_is a b (sym h ∙ k)
 
 pub phase_replies : (l : Line) (past new : List Entry) (js : List Joined) (t : ServerEnd) (said : Option Said) (executed : Bool) (octets : List ℕ)
-    → LastAnswer (seen l.server.events) (record { said = said; executed = executed; octets = octets }) js → ((x : ℕ) (j : Joined) → slice_get js x ≡ Some j → IsPlainCaller (caller_of j)) → length js ≡ length l.caller.rows
+    → LastAnswer (seen l.server.events) (record { said = said; executed = executed; octets = octets }) js → ((x : ℕ) (j : Joined) → slice_get js x ≡ Some j → FitsCaller (caller_of j)) → length js ≡ length l.caller.rows
     → Word past l (answered l.server) said executed → answered t ≡ answered l.server + 1 → (HasBound l.server → HasBound t) → t.numbers ≡ l.server.numbers → Grows past new
     → Phase l past js → Phase (served l t (l.down ++ octets)) new js
 phase_replies l past new js t said executed octets a fits rows word count bound_on same grows (unbound no_bound no_call nothing way) =

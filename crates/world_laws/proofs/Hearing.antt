@@ -1,7 +1,6 @@
 -- What a caller hears of what is on the way to it.
 use Rattle.std.proofs.Common.{◌≡◌, ℕ, ◌+◌, ◌≤◌, Bool, true, false, eqb, Option, Some, None, Result, Ok, List, [], ◌∷◌, ◌++◌, length, refl, sym, ap, subst, ◌∙◌, append_assoc, arith, length-append}
 use Rattle.std.specs.Prelude.{not}
-use Rattle.rpc_base.specs.declared.identifiers.Order.TheVariants.{Little}
 use Rattle.rpc_base.specs.declared.identifiers.Status.{Status}
 use Rattle.handle_model.specs.declared.entry.Said.{Said}
 use Rattle.handle_model.specs.declared.entry.Said.TheVariants.{Out, Fault}
@@ -74,21 +73,21 @@ front_of pdus came behind cut spelled is =
 pub data Heard (s : ClientState) (c : Calling) (said : Said) (executed : Bool) (later : List Pdu) (t : Option Outcome) (n : ClientState) : Type 0 where
   part : t ≡ None → (d : Calling) → IsOut n d → d.op ≡ c.op → d.message ≡ c.message → Answering n d said executed later → Heard s c said executed later t n
   failed : (status : Status) → t ≡ Some (TFault status (not executed)) → said ≡ Fault status → n ≡ record s { call = None } → later ≡ [] → Heard s c said executed later t n
-  done : (m : Msg) (j : Joined) → t ≡ Some (TDone m) → said ≡ Out j.stub → j.order ≡ Little → IsAnswer s c j m → n ≡ record s { call = None } → later ≡ [] → Heard s c said executed later t n
+  done : (m : Msg) (j : Joined) → t ≡ Some (TDone m) → said ≡ Out j.stub → IsAnswer s c j m → n ≡ record s { call = None } → later ≡ [] → Heard s c said executed later t n
   broke : breaks t ≡ true → Heard s c said executed later t n
 
-last_heard : (s n : ClientState) (c : Calling) (caller : Caller) (stub : List ℕ) (run : Option Joined) (f : Fragment) (executed : Bool) (t : Option Outcome) → caller.order ≡ Little → c.joining ≡ Ok run → is_last f ≡ true
+last_heard : (s n : ClientState) (c : Calling) (caller : Caller) (stub : List ℕ) (run : Option Joined) (f : Fragment) (executed : Bool) (t : Option Outcome) → c.joining ≡ Ok run → is_last f ≡ true
     → with_fragment run f ≡ whole_answer caller stub → AnswersCall s c f t n → Heard s c (Out stub) executed [] t n
-last_heard s n c caller stub run f executed None little at ends joined (joining, adds, is) =
+last_heard s n c caller stub run f executed None at ends joined (joining, adds, is) =
     let added : AddsFragment (Ok run) f (Ok None) joining = subst (λ (x : Result (Option Joined) JoinFault). AddsFragment x f (Ok None) joining) at adds in
     absurd (cc (added.1, ends))
-last_heard s n c caller stub run f executed (Some (TBroken why)) little at ends joined h = broke refl
-last_heard s n c caller stub run f executed (Some (TDone m)) little at ends joined (j, joining, adds, answer, is) =
+last_heard s n c caller stub run f executed (Some (TBroken why)) at ends joined h = broke refl
+last_heard s n c caller stub run f executed (Some (TDone m)) at ends joined (j, joining, adds, answer, is) =
     let added : AddsFragment (Ok run) f (Ok (Some j)) joining = subst (λ (x : Result (Option Joined) JoinFault). AddsFragment x f (Ok (Some j)) joining) at adds in
-    done m j refl (ap (λ (x : Joined). Out x.stub) (sym (added.2 ∙ joined))) (ap (λ (x : Joined). x.order) (added.2 ∙ joined) ∙ little) answer is refl
-last_heard s n c caller stub run f executed (Some (TBound group)) little at ends joined h = absurd h
-last_heard s n c caller stub run f executed (Some (TNotBound reason)) little at ends joined h = absurd h
-last_heard s n c caller stub run f executed (Some (TFault status not_run)) little at ends joined h = absurd h
+    done m j refl (ap (λ (x : Joined). Out x.stub) (sym (added.2 ∙ joined))) answer is refl
+last_heard s n c caller stub run f executed (Some (TBound group)) at ends joined h = absurd h
+last_heard s n c caller stub run f executed (Some (TNotBound reason)) at ends joined h = absurd h
+last_heard s n c caller stub run f executed (Some (TFault status not_run)) at ends joined h = absurd h
 
 tail_of : (a b : Pdu) (xs ys : List Pdu) → a ∷ xs ≡ b ∷ ys → xs ≡ ys
 tail_of a b xs ys e = cc
@@ -103,18 +102,18 @@ with_later : (s n : ClientState) (c : Calling) (a : Said) (executed : Bool) (lat
 with_later s n c a executed later more t e h = subst (λ (x : List Pdu). Heard s c a executed x t n) (sym e) h
 
 by_piece : (pieces : List (List ℕ)) (s n : ClientState) (c : Calling) (caller : Caller) (executed first : Bool) (so_far stub : List ℕ) (size : ℕ) (p : Pdu) (later : List Pdu) (t : Option Outcome)
-    → IsOut s c → caller.call_id ≡ c.id → caller.order ≡ Little → c.joining ≡ Ok (run_at caller first so_far) → ArePieces size stub pieces → Begins first so_far → length so_far + length stub ≤ most_stub
+    → IsOut s c → caller.call_id ≡ c.id → c.joining ≡ Ok (run_at caller first so_far) → ArePieces size stub pieces → Begins first so_far → length so_far + length stub ≤ most_stub
     → p ∷ later ≡ response_pdus caller first pieces → HearsBody s p p.body t n → Heard s c (Out (so_far ++ stub)) executed later t n
-by_piece [] s n c caller executed first so_far stub size p later t out id little at are begins short is h = absurd are
-by_piece (piece ∷ []) s n c caller executed first so_far stub size p later t out id little at (whole, fits) begins short is h =
+by_piece [] s n c caller executed first so_far stub size p later t out id at are begins short is h = absurd are
+by_piece (piece ∷ []) s n c caller executed first so_far stub size p later t out id at (whole, fits) begins short is h =
     let q = response_fragment caller first piece 0 in
     let f = fragment_at caller first piece 0 in
     let run = run_at caller first so_far in
     let heard_it : HearsBody s q q.body t n = subst (λ (x : Pdu). HearsBody s x x.body t n) (head_of p q later [] is) h in
     let joined : with_fragment run f ≡ whole_answer caller (so_far ++ stub) = joins caller first so_far piece 0 begins ∙ ap (λ (x : List ℕ). whole_answer caller (so_far ++ x)) (sym whole) in
     with_later s n c (Out (so_far ++ stub)) executed [] later t (tail_of p q later [] is)
-    (last_heard s n c caller (so_far ++ stub) run f executed t little at (says_last first true) joined (heard_as s n c caller f t out id heard_it))
-by_piece (piece ∷ next ∷ more) s n c caller executed first so_far stub size p later t out id little at (behind, whole, long, some, are) begins short is h =
+    (last_heard s n c caller (so_far ++ stub) run f executed t at (says_last first true) joined (heard_as s n c caller f t out id heard_it))
+by_piece (piece ∷ next ∷ more) s n c caller executed first so_far stub size p later t out id at (behind, whole, long, some, are) begins short is h =
     let left = octets_in (next ∷ more) in
     let count : left ≡ length behind = octets_in-pieces size behind (next ∷ more) are in
     let total : length stub ≡ length piece + length behind = ap length whole ∙ length-append piece behind in
@@ -130,7 +129,7 @@ by_piece (piece ∷ next ∷ more) s n c caller executed first so_far stub size 
     let there : n ≡ record s { call = Some d } = one.1 ∙ ap (λ (j : Joined). joined_so_far s c (Ok (Some j))) joined in
     let out_n : IsOut n d = subst (λ (x : ClientState). IsOut x d) (sym there) (record { call = refl; no_bind = out.no_bind }) in
     part one.0 d out_n refl refl
-    (by_pieces caller false (so_far ++ piece) behind size (next ∷ more) id little
+    (by_pieces caller false (so_far ++ piece) behind size (next ∷ more) id
     (ap (λ (x : List ℕ). Out x) (ap (λ (x : List ℕ). so_far ++ x) whole ∙ sym (append_assoc so_far piece behind)))
     refl are tt (omega (arith, short, total, length-append so_far piece)) (tail_of p q later (response_pdus caller false (next ∷ more)) is))
 
@@ -142,5 +141,5 @@ hear_one s n c said executed p later t out (by_fault caller status id said_is is
     let tells : FaultTells s (Some outs.Call) caller.call_id q.flags status t n =
     subst (λ (x : Option begun.Out). FaultTells s x caller.call_id q.flags status t n) (ap (out_with s) id ∙ out_is s c out) heard_it in
     failed status (tells.0 ∙ ap (λ (b : Bool). Some (TFault status b)) (says_not_run executed)) said_is tells.1 (tail_of p q later [] is)
-hear_one s n c said executed p later t out (by_pieces caller first so_far stub size pieces id little said_is at are begins short is) h =
-    with_said s n c said (Out (so_far ++ stub)) executed later t said_is (by_piece pieces s n c caller executed first so_far stub size p later t out id little at are begins short is h)
+hear_one s n c said executed p later t out (by_pieces caller first so_far stub size pieces id said_is at are begins short is) h =
+    with_said s n c said (Out (so_far ++ stub)) executed later t said_is (by_piece pieces s n c caller executed first so_far stub size p later t out id at are begins short is h)

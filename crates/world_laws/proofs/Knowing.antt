@@ -1,7 +1,6 @@
 -- What a caller knows of its calls stays true whatever the caller does and hears.
 use Rattle.std.proofs.Common.{◌≡◌, ℕ, ◌+◌, Bool, true, false, ◌||◌, Option, Some, None, List, [], ◌∷◌, ◌++◌, length, refl, sym, ap, subst, ◌∙◌, append_assoc, arith}
 use Rattle.std.specs.Prelude.{slice_get, not, is_some}
-use Rattle.rpc_base.specs.declared.identifiers.Order.TheVariants.{Little}
 use Rattle.handle_model.specs.declared.entry.Entry.{Entry}
 use Rattle.handle_model.specs.declared.entry.Said.{Said}
 use Rattle.pdu_codec.specs.declared.pdu.Pdu.{Pdu}
@@ -155,7 +154,7 @@ call_heard table past l heard rest left by_pdu broken js c x said executed later
         let message : c.message ≡ was.message = out.message ∙ ap (λ (z : Row). z.message) row_is in
         subst (λ (z : Row). Knows table past l y z z.fate) (sym is_r)
         (knows_done table past l y (record was { fate = fates.Done m }) executed said m j o (subst (λ (n : ℕ). Says past l n said executed) place says) is
-        (ap (slice_get table.ops) (sym op) ∙ found) (subst (λ (z : Msg). IsStub table.types o Response Little (Some z) m j.stub) message stub))
+        (ap (slice_get table.ops) (sym op) ∙ found) (subst (λ (z : Msg). IsStub table.types o Response j.order (Some z) m j.stub) message stub))
 call_heard table past l heard rest left by_pdu broken js c x said executed later b breaks_too out has all says spelled (broke_it whole rows) = record {
   told = λ y r at. b.told y r (ap (λ (rs : List Row). slice_get rs y) (sym rows) ∙ at);
   rows = ap length rows;

@@ -65,7 +65,7 @@ all_ends : (newer older : List Entry) (k : ℕ) (results : List Outcome) (said :
 all_ends [] older k results said h = h.0
 all_ends (End m rs s ∷ newer) older k results said h = all_ends newer older k results said h.1
 all_ends (Join c ∷ newer) older k results said h = all_ends newer older k results said h
-all_ends (Accept m a ∷ newer) older k results said h = all_ends newer older k results said h.1
+all_ends (Accept m a ∷ newer) older k results said h = all_ends newer older k results said h
 all_ends (Take m cookies ∷ newer) older k results said h = all_ends newer older k results said h
 all_ends (Deny m slot ∷ newer) older k results said h = all_ends newer older k results said h
 all_ends (Cancel m ∷ newer) older k results said h = all_ends newer older k results said h

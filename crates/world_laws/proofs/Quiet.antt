@@ -1,6 +1,5 @@
 -- What of the journal's Accepts an entry changes: only an Accept adds one.
 use Rattle.std.proofs.Common.{length, ◌≤◌, append_assoc, ◌≡◌, ℕ, ◌+◌, Option, Some, None, List, [], ◌∷◌, ◌++◌, refl, sym, ap, subst, ◌∙◌, arith}
-use Rattle.rpc_base.specs.declared.identifiers.Order.TheVariants.{Little}
 use Rattle.handle_model.specs.declared.entry.Asked.{Asked}
 use Rattle.handle_model.specs.declared.entry.Outcome.{Outcome}
 use Rattle.handle_model.specs.declared.entry.Said.{Said}
@@ -48,15 +47,13 @@ accepts_map P Q (End n results said ∷ past) f h = accepts_map P Q past f h
 accepts_map P Q (Leave c ∷ past) f h = accepts_map P Q past f h
 accepts_map P Q (Shut items ∷ past) f h = accepts_map P Q past f h
 
--- what an end says is a response that a stub may have
+-- what ends say is a response that a stub may have
 abbrev pub SaidFits : Said → Type 0
 SaidFits (Out stub) = length stub ≤ most_stub
 SaidFits (Fault status) = ⊥
 
--- of each End, and each call was asked in the caller's order
 abbrev pub AllEnds : List Entry → Type 0
 AllEnds [] = Unit {0}
-AllEnds (Accept k a ∷ past) = (a.order ≡ Little) × AllEnds past
 AllEnds (End k results said ∷ past) = SaidFits said × AllEnds past
 AllEnds (_ ∷ past) = AllEnds past
 
@@ -126,16 +123,13 @@ pub record Accepted (past new : List Entry) (k : ℕ) : Type 1 where
   pub next : k ≡ accepts past + 1
   pub count : accepts new ≡ accepts past + 1
   pub grows : Grows past new
+  pub ends : AllEnds past → AllEnds new
   pub all : (P : ℕ → Type 0) → P k → AllAccepts P past → AllAccepts P new
 
 pub accepted : (past new : List Entry) (a : Asked) (k : ℕ) → IsAccepted past a k new → Accepted past new k
 accepted past new a k (free, is, adds) =
     subst (λ (x : List Entry). Accepted past x k) (sym (added past new (Accept k _ ∷ []) adds))
-    (record { next = is; count = omega arith; grows = (Accept k _ ∷ [], refl); all = λ P here h. (here, h) })
-
--- of a call that was asked in the caller's order
-pub accept_ends : (past new : List Entry) (a : Asked) (k : ℕ) → IsAccepted past a k new → a.order ≡ Little → AllEnds past → AllEnds new
-accept_ends past new a k (free, is, adds) little h = subst AllEnds (sym (added past new (Accept k _ ∷ []) adds)) (little, h)
+    (record { next = is; count = omega arith; grows = (Accept k _ ∷ [], refl); ends = λ h. h; all = λ P here h. (here, h) })
 
 pub then_accepted : (a b c : List Entry) (k : ℕ) → Accepted a b k → Quiet b c → Accepted a c k
-then_accepted a b c k x y = record { next = x.next; count = y.count ∙ x.count; grows = grows_on a b c x.grows y.grows; all = λ P here h. y.all P (x.all P here h) }
+then_accepted a b c k x y = record { next = x.next; count = y.count ∙ x.count; grows = grows_on a b c x.grows y.grows; ends = λ h. y.ends (x.ends h); all = λ P here h. y.all P (x.all P here h) }

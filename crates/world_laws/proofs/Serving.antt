@@ -47,7 +47,7 @@ of_call (waiting.Bind asked) P h = absurd h
 of_call (waiting.Refused status) P h = absurd h
 of_call (waiting.Call k) P h = (k, h)
 
-pub marked : (cancel : Bool) (past new : List Entry) (k : ℕ) → CancelsMarked cancel past k new → Quiet past new
+marked : (cancel : Bool) (past new : List Entry) (k : ℕ) → CancelsMarked cancel past k new → Quiet past new
 marked true past new k h = cancel_quiet past new k h
 marked false past new k h = quiet_same past new h
 

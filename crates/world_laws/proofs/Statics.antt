@@ -1,11 +1,9 @@
 -- What a server did on a connection, by what its caller asked: each answer is that of the call asked in its place.
-use Rattle.std.proofs.Common.{◌≡◌, ℕ, ◌+◌, ◌^◌, ◌<◌, ◌≤◌, Bool, true, false, ◌&&◌, List, [], ◌∷◌, ◌++◌, length, Option, Some, refl, sym, ap, subst, ◌∙◌, arith}
+use Rattle.std.proofs.Common.{◌≡◌, ℕ, ◌+◌, ◌^◌, ◌<◌, ◌≤◌, Bool, true, false, List, [], ◌∷◌, ◌++◌, length, Option, Some, refl, sym, ap, subst, ◌∙◌, arith}
 use Rattle.std.proofs.lemmas.Bool.{eq-eqb, le-leb}
 use Rattle.std.specs.Str.{bytes_eq}
 use Rattle.std.specs.Prelude.{slice_get, not}
 use Rattle.std.specs.List.{list_all}
-use Rattle.rpc_base.specs.declared.identifiers.Order.{Order}
-use Rattle.rpc_base.specs.declared.identifiers.Order.TheVariants.{Big, Little}
 use Rattle.rpc_base.specs.declared.identifiers.SyntaxId.{SyntaxId}
 use Rattle.handle_model.specs.declared.entry.Said.{Said}
 use Rattle.pdu_codec.specs.Constants.{only_frag, most_fragment}
@@ -59,13 +57,8 @@ answers_in [] = []
 answers_in (Decided (Reply said executed) octets ∷ later) = record { said = said; executed = executed; octets = octets } ∷ answers_in later
 answers_in (_ ∷ later) = answers_in later
 
-abbrev pub is_little : Order → Bool
-is_little Little = true
-is_little Big = false
-
--- nothing is answered but what the server decides, and calls ask in the caller's order
+-- nothing is answered but what the server decides
 abbrev pub is_clean : Event → Bool
-is_clean (Did (acts.Call j number)) = is_little j.order
 is_clean (Did (acts.Answer octets)) = false
 is_clean (Did (acts.Close octets why)) = false
 is_clean _ = true
@@ -112,16 +105,16 @@ last_pair most (b ∷ given) a (j ∷ js) h = (let p = last_pair most given a js
 
 -- ---- behind the bind
 
--- calls of context 0 in the caller's order, and cancels
+-- calls of context 0 and cancels
 abbrev pub ArePlain : List Ask → Type 0
 ArePlain [] = Unit {0}
-ArePlain (asks.Call j ∷ more) = (j.context ≡ 0) × (j.call_id < 2 ^ 32) × (j.order ≡ Little) × ArePlain more
+ArePlain (asks.Call j ∷ more) = (j.context ≡ 0) × (j.call_id < 2 ^ 32) × ArePlain more
 ArePlain (asks.Cancel id ∷ more) = ArePlain more
 ArePlain (_ ∷ more) = ⊥
 
 pub plain_front : (a b : List Ask) → ArePlain (a ++ b) → ArePlain a
 plain_front [] b h = tt
-plain_front (asks.Call j ∷ more) b h = (h.0, h.1, h.2, plain_front more b h.3)
+plain_front (asks.Call j ∷ more) b h = (h.0, h.1, plain_front more b h.2)
 plain_front (asks.Cancel id ∷ more) b h = plain_front more b h
 plain_front (asks.Bind c flags body ∷ more) b h = absurd h
 plain_front (asks.Alter c body ∷ more) b h = absurd h
@@ -165,17 +158,17 @@ ends_call j most Then others (Came octets ∷ later) js go h = absurd h
 ends_call j most Then others (Paused ∷ later) js go h = absurd h
 ends_call j most Then others (Did act ∷ later) js go h = absurd h
 
-plays_call : (number : ℕ) (j : Joined) (most : ℕ) (Then : List Event → Type 0) (more : List Ask) (all : List Event) (js : List Joined) → j.order ≡ Little → ((rest : List Event) → Then rest → Answers 0 most rest js)
+plays_call : (number : ℕ) (j : Joined) (most : ℕ) (Then : List Event → Type 0) (more : List Ask) (all : List Event) (js : List Joined) → ((rest : List Event) → Then rest → Answers 0 most rest js)
     → PlaysCall (Some number) j most Then more all → Answers 0 most all (j ∷ js)
-plays_call number j most Then more all js little go (later, whole, (offs, others, end, parts, off, ends)) =
+plays_call number j most Then more all js go (later, whole, (offs, others, end, parts, off, ends)) =
     let r = calls_off offs end more others 1 most (j ∷ js) off (ends_call j most Then others end js go ends) in
     let s : Answers 1 most later (j ∷ js) = subst (λ (x : List Event). Answers 1 most x (j ∷ js)) (sym parts) r in
-    subst (λ (x : List Event). Answers 0 most x (j ∷ js)) (sym whole) (record { pairs = s.pairs; low = omega (arith, s.low); high = omega (arith, s.high); clean = subst (λ (o : Order). (is_little o && list_all is_clean later) ≡ true) (sym little) s.clean; unbound = s.unbound })
+    subst (λ (x : List Event). Answers 0 most x (j ∷ js)) (sym whole) (record { pairs = s.pairs; low = omega (arith, s.low); high = omega (arith, s.high); clean = s.clean; unbound = s.unbound })
 
 plain : (asked : List Ask) (k : Negotiated) (all : List Event) (number : ℕ) → interface_of k.accepted 0 ≡ Some number → ArePlain asked → Plays k asked all → Answers 0 k.agreement.max_xmit all (calls_in asked)
 plain [] k all number found are h = subst (λ (x : List Event). Answers 0 k.agreement.max_xmit x []) (sym h) (nothing 0 k.agreement.max_xmit [] (omega arith))
-plain (asks.Call j ∷ more) k all number found (zero_, small, little, are) h =
-    plays_call number j k.agreement.max_xmit (λ rest. Plays k more rest) more all (calls_in more) little (λ rest p. plain more k rest number found are p)
+plain (asks.Call j ∷ more) k all number found (zero_, small, are) h =
+    plays_call number j k.agreement.max_xmit (λ rest. Plays k more rest) more all (calls_in more) (λ rest p. plain more k rest number found are p)
     (subst (λ (x : Option ℕ). PlaysCall x j k.agreement.max_xmit (λ rest. Plays k more rest) more all) (ap (interface_of k.accepted) zero_ ∙ found) h)
 plain (asks.Cancel id ∷ more) k all number found are h = plain more k all number found are h
 plain (asks.Bind c flags body ∷ more) k all number found are h = absurd are

@@ -1,8 +1,6 @@
 -- What a caller is told is true.
 use Rattle.std.proofs.Common.{◌≡◌, ℕ, zero, suc, ◌+◌, Bool, true, false, Option, Some, None, List, [], ◌∷◌, ◌++◌, length, refl, sym, ap, subst, ◌∙◌, append-nil, arith}
 use Rattle.std.specs.Prelude.{slice_get, not, is_some}
-use Rattle.rpc_base.specs.declared.identifiers.Order.{Order}
-use Rattle.rpc_base.specs.declared.identifiers.Order.TheVariants.{Little}
 use Rattle.rpc_base.specs.declared.identifiers.Status.{Status}
 use Rattle.handle_model.specs.declared.entry.Entry.{Entry}
 use Rattle.handle_model.specs.declared.entry.Said.{Said}
@@ -38,7 +36,7 @@ use Rattle.world_laws.proofs.Hearing.Heard.{part, failed, done, broke}
 pub data Told (table : TableForm) (c d : CallerEnd) (call : Calling) (said : Said) (executed : Bool) (later : List Pdu) (broken : Bool) : Type 0 where
   still : broken ≡ false → (on : Calling) → IsOut d.state on → on.op ≡ call.op → on.message ≡ call.message → Answering d.state on said executed later → d.rows ≡ c.rows → Told table c d call said executed later broken
   told_fault : broken ≡ false → (status : Status) → said ≡ Fault status → d.rows ≡ with_last (fates.Fault status (not executed)) c.rows → d.state.call ≡ None → later ≡ [] → Told table c d call said executed later broken
-  told_done : broken ≡ false → (m : Msg) (j : Joined) → said ≡ Out j.stub → (o : OpForm) → slice_get table.ops call.op ≡ Some o → IsStub table.types o Response Little (Some call.message) m j.stub
+  told_done : broken ≡ false → (m : Msg) (j : Joined) → said ≡ Out j.stub → (o : OpForm) → slice_get table.ops call.op ≡ Some o → IsStub table.types o Response j.order (Some call.message) m j.stub
       → d.rows ≡ with_last (fates.Done m) c.rows → d.state.call ≡ None → later ≡ [] → Told table c d call said executed later broken
   broke_it : broken ≡ true → d.rows ≡ c.rows → Told table c d call said executed later broken
 
@@ -66,7 +64,7 @@ retell : (table : TableForm) (c between d : CallerEnd) (call on : Calling) (said
 retell table c between d call on said executed broken later op message rows (still whole on2 out op2 message2 left rows2) = still whole on2 out (op2 ∙ op) (message2 ∙ message) left (rows2 ∙ rows)
 retell table c between d call on said executed broken later op message rows (told_fault whole status is told none nothing) = told_fault whole status is (told ∙ ap (with_last (fates.Fault status (not executed))) rows) none nothing
 retell table c between d call on said executed broken later op message rows (told_done whole m j is o found stub told none nothing) =
-    told_done whole m j is o (ap (slice_get table.ops) (sym op) ∙ found) (subst (λ (x : Msg). IsStub table.types o Response Little (Some x) m j.stub) message stub) (told ∙ ap (with_last (fates.Done m)) rows) none nothing
+    told_done whole m j is o (ap (slice_get table.ops) (sym op) ∙ found) (subst (λ (x : Msg). IsStub table.types o Response j.order (Some x) m j.stub) message stub) (told ∙ ap (with_last (fates.Done m)) rows) none nothing
 retell table c between d call on said executed broken later op message rows (broke_it whole rows2) = broke_it whole (rows2 ∙ rows)
 
 after_one : (table : TableForm) (c between d : CallerEnd) (call : Calling) (said : Said) (executed broken : Bool) (came later : List Pdu) (p : Pdu) (t : Option Outcome) (first : HearsPdu c p t between)
@@ -85,14 +83,14 @@ after_one table c between d call said executed broken came later p t first rest 
     let end = hear_none came between d broken nothing.0 on_rest in
     let rows : between.rows ≡ with_last (fates.Fault status (not executed)) c.rows = ap (λ (x : CallerEnd). x.rows) first.after ∙ (tells_out c.state call t c.rows out.call ∙ ap (λ (x : Option Outcome). tells true x c.rows) is) in
     told_fault end.1 status said_is (ap (λ (x : CallerEnd). x.rows) end.0 ∙ rows) (ap (λ (x : CallerEnd). x.state.call) (end.0 ∙ first.after) ∙ ap (λ (x : ClientState). x.call) after) nothing.1
-after_one table c between d call said executed broken came later p t first rest known out go (done m j is said_is little answer after none) =
+after_one table c between d call said executed broken came later p t first rest known out go (done m j is said_is answer after none) =
     let on_rest : HearsPdus between came d broken = subst (λ (x : Option Outcome). IfBroken (breaks x) ((d ≡ between) × (broken ≡ true)) (HearsPdus between came d broken)) is rest in
     let nothing = none_more came later none in
     let end = hear_none came between d broken nothing.0 on_rest in
     let rows : between.rows ≡ with_last (fates.Done m) c.rows = ap (λ (x : CallerEnd). x.rows) first.after ∙ (tells_out c.state call t c.rows out.call ∙ ap (λ (x : Option Outcome). tells true x c.rows) is) in
     let o = answer.0 in
     told_done end.1 m j said_is o (ap (λ (x : TableForm). slice_get x.ops call.op) (sym known) ∙ answer.1)
-    (subst (λ (x : TableForm). IsStub x.types o Response Little (Some call.message) m j.stub) known (subst (λ (x : Order). IsStub c.state.interface.types o Response x (Some call.message) m j.stub) little answer.2))
+    (subst (λ (x : TableForm). IsStub x.types o Response j.order (Some call.message) m j.stub) known answer.2)
     (ap (λ (x : CallerEnd). x.rows) end.0 ∙ rows) (ap (λ (x : CallerEnd). x.state.call) (end.0 ∙ first.after) ∙ ap (λ (x : ClientState). x.call) after) nothing.1
 after_one table c between d call said executed broken came later p t first rest known out go (broke it) =
     let end : (d ≡ between) × (broken ≡ true) = subst (λ (x : Bool). IfBroken x ((d ≡ between) × (broken ≡ true)) (HearsPdus between came d broken)) it rest in
@@ -150,11 +148,11 @@ of_last fate (a ∷ b ∷ more) (suc x) r at = next (of_last fate (b ∷ more) x
 -- ---- what was said is so
 
 pub knows_done : (table : TableForm) (past : List Entry) (l : Line) (x : ℕ) (r : Row) (executed : Bool) (said : Said) (m : Msg) (j : Joined) (o : OpForm) → Says past l x said executed → said ≡ Out j.stub
-    → slice_get table.ops r.op ≡ Some o → IsStub table.types o Response Little (Some r.message) m j.stub → WasDone table past l x r m
+    → slice_get table.ops r.op ≡ Some o → IsStub table.types o Response j.order (Some r.message) m j.stub → WasDone table past l x r m
 knows_done table past l x r executed said m j o (refusal at status is none) said_is found stub = absurd (cc (is, said_is))
 knows_done table past l x r executed said m j o (reply k (Ran other) at replied word ran) said_is found stub =
     let same : other ≡ Out j.stub = some_is other (Out j.stub) (word ∙ ap (λ (y : Said). Some y) said_is) in
-    record { number = k; number_is = at; stub = j.stub; replied = subst (λ (y : Said). Replied past k (Ran y)) same replied; is = record { operation = o; found = found; is = stub } }
+    record { number = k; number_is = at; stub = j.stub; replied = subst (λ (y : Said). Replied past k (Ran y)) same replied; is = record { operation = o; found = found; order = j.order; is = stub } }
 knows_done table past l x r executed said m j o (reply k (Never status) at replied word ran) said_is found stub = absurd (cc (word, said_is))
 knows_done table past l x r executed said m j o (reply k Dropped at replied word ran) said_is found stub = absurd (cc (word))
 knows_done table past l x r executed said m j o (reply k Open at replied word ran) said_is found stub = absurd (cc (word))

@@ -1,8 +1,6 @@
 -- What a caller knows of its calls stays true whatever the server does.
-use Rattle.std.proofs.Common.{◌≡◌, ℕ, zero, suc, ◌+◌, ◌^◌, ◌≤◌, inl, inr, true, false, Option, Some, None, List, [], ◌∷◌, ◌++◌, length, refl, sym, ap, subst, ◌∙◌, append-nil, append_assoc, arith}
+use Rattle.std.proofs.Common.{◌≡◌, ℕ, zero, suc, ◌+◌, ◌^◌, ◌≤◌, true, false, Option, Some, None, List, [], ◌∷◌, ◌++◌, length, refl, sym, ap, subst, ◌∙◌, append-nil, append_assoc, arith}
 use Rattle.std.specs.Prelude.{slice_get}
-use Rattle.rpc_base.specs.declared.identifiers.Order.{Order}
-use Rattle.rpc_base.specs.declared.identifiers.Order.TheVariants.{Big, Little}
 use Rattle.rpc_base.specs.Fields.{FitsSyntax}
 use Rattle.handle_model.specs.declared.entry.Entry.{Entry}
 use Rattle.pdu_stream.specs.declared.joined.Joined.{Joined}
@@ -19,20 +17,20 @@ use Rattle.conn_histories.specs.Histories.Decision.{ToGroup, RefuseGroup, Reply}
 use Rattle.conn_histories.proofs.Along.{one_more, put_in_order}
 use Rattle.client_core.specs.States as callers
 use Rattle.client_core.specs.Histories.{sent}
+use Rattle.client_laws.specs.Ends.{FitsCaller}
 use Rattle.client_laws.specs.Sending.{EventsAsk}
 use Rattle.world_laws.specs.Moves.{Fate}
 use Rattle.world_laws.specs.Moves.{Fate as fates}
 use Rattle.world_laws.specs.Counts.{does_in, done}
 use Rattle.world_laws.specs.Ends.{Row, ServerEnd, Line, number_in, number_at}
-use Rattle.conn_histories.specs.Entries.{asked_as}
-use Rattle.world_laws.specs.Serving.{request, Requests, Means}
+use Rattle.world_laws.specs.Serving.{Means}
 use Rattle.world_laws.proofs.Lists.{some_is, more_before, length_more}
 use Rattle.world_laws.proofs.Counting.{done_seen, done_append}
-use Rattle.world_laws.proofs.Quiet.{Grows, AllEnds, accept_ends}
+use Rattle.world_laws.proofs.Quiet.{Grows, AllEnds}
 use Rattle.world_laws.proofs.Holds.{LineHolds}
-use Rattle.world_laws.proofs.Serving.{Brings, brings, of_member, marked}
+use Rattle.world_laws.proofs.Serving.{Brings, brings}
 use Rattle.world_laws.proofs.Serving.Brings.{same, refused, accepts_it}
-use Rattle.world_laws.proofs.Statics.{Answer, answers_in, calls_in, ArePlain, is_little, is_clean, Whole}
+use Rattle.world_laws.proofs.Statics.{Answer, answers_in, calls_in, ArePlain, is_clean, Whole}
 use Rattle.world_laws.proofs.Asked.{asked_so, done_so}
 use Rattle.world_laws.proofs.Ending.{answers_append, last_clean, last_bind, whole_low, whole_high, last_answer}
 use Rattle.world_laws.proofs.Truths.{still_replied, Knows, answered, HasBound, Says, Phase}
@@ -40,7 +38,7 @@ use Rattle.world_laws.proofs.Truths.{NeverRan as never}
 use Rattle.world_laws.proofs.Truths.Says.{refusal, reply}
 use Rattle.world_laws.proofs.Truths.Phase.{unbound, binding, free, calling, answering, dropped}
 use Rattle.world_laws.proofs.Phases.{WaitIs, waits_on, number_there, served, phase_same}
-use Rattle.world_laws.proofs.Deciding.{IsPlainCaller, bind_pdu_of, phase_binds, word_is, phase_replies}
+use Rattle.world_laws.proofs.Deciding.{bind_pdu_of, phase_binds, word_is, phase_replies}
 
 -- What is true of a connection: what was asked on it, what its rows know, what waits at the server, what is on the way.
 pub record TrueLine (table : TableForm) (past : List Entry) (l : Line) : Type 0 where
@@ -108,31 +106,10 @@ brings_grows past new s t n (same is quiet none) = quiet.grows
 brings_grows past new s t n (refused is quiet one) = quiet.grows
 brings_grows past new s t n (accepts_it k is a one) = a.grows
 
-quiet_ends : (past new : List Entry) (s t : ServerEnd) → Brings past new s t 0 → AllEnds past → AllEnds new
-quiet_ends past new s t (same is quiet none) = quiet.ends
-quiet_ends past new s t (refused is quiet one) = absurd (omega (arith, one))
-quiet_ends past new s t (accepts_it k is a one) = absurd (omega (arith, one))
-
-little_is : (o : Order) → is_little o ≡ true → o ≡ Little
-little_is Little h = refl
-little_is Big h = absurd (cc (h))
-
-requests_end : (table : TableForm) (past new : List Entry) (s t : ServerEnd) (j : Joined) (iface c : ℕ) → j.order ≡ Little → Requests (table ∷ []) past s j iface c t new → AllEnds past → AllEnds new
-requests_end table past new s t j iface c little (inl (status, refuses, is, none)) a = subst AllEnds (sym none) a
-requests_end table past new s t j iface c little (inr (k, x, is)) a =
-    (marked j.cancel x.accepted new k x.marked).ends (accept_ends past x.accepted (asked_as c (request j iface) x.slots) k x.accepts little a)
-
--- what is asked and said stays so
-pub means_ends : (table : TableForm) (past new : List Entry) (s t : ServerEnd) (event : Event) → is_clean event ≡ true → Means (table ∷ []) past s event t new → AllEnds past → AllEnds new
-means_ends table past new s t (Did (acts.Answer octets)) clean h a = subst AllEnds (sym h.1.1) a
-means_ends table past new s t (Did (acts.Call j iface)) clean h a = let (c, r) = of_member s.member _ h.1 in requests_end table past new s t j iface c (little_is j.order clean) r a
-means_ends table past new s t (Did (acts.Group asked)) clean h a = quiet_ends past new s t (brings table past new s t (Did (acts.Group asked)) h) a
-means_ends table past new s t (Did (acts.Cancel id)) clean h a = quiet_ends past new s t (brings table past new s t (Did (acts.Cancel id)) h) a
-means_ends table past new s t (Did (acts.Orphan id)) clean h a = quiet_ends past new s t (brings table past new s t (Did (acts.Orphan id)) h) a
-means_ends table past new s t (Did (acts.Close octets why)) clean h a = quiet_ends past new s t (brings table past new s t (Did (acts.Close octets why)) h) a
-means_ends table past new s t (Came octets) clean h a = quiet_ends past new s t (brings table past new s t (Came octets) h) a
-means_ends table past new s t Paused clean h a = quiet_ends past new s t (brings table past new s t Paused h) a
-means_ends table past new s t (Decided decision octets) clean h a = quiet_ends past new s t (brings table past new s t (Decided decision octets) h) a
+pub brings_ends : (past new : List Entry) (s t : ServerEnd) (n : ℕ) → Brings past new s t n → AllEnds past → AllEnds new
+brings_ends past new s t n (same is quiet none) = quiet.ends
+brings_ends past new s t n (refused is quiet one) = quiet.ends
+brings_ends past new s t n (accepts_it k is a one) = a.ends
 
 brings_none : (past new : List Entry) (s t : ServerEnd) → Brings past new s t 0 → t.numbers ≡ s.numbers
 brings_none past new s t (same is quiet none) = is
@@ -149,13 +126,13 @@ quiet_act (acts.Orphan id) h = refl
 
 -- ---- an event at the server's end
 
-plain_at : (asked : List Ask) (x : ℕ) (j : Joined) → ArePlain asked → slice_get (calls_in asked) x ≡ Some j → IsPlainCaller (caller_of j)
+plain_at : (asked : List Ask) (x : ℕ) (j : Joined) → ArePlain asked → slice_get (calls_in asked) x ≡ Some j → FitsCaller (caller_of j)
 plain_at [] x j plain at = absurd (none_at x at)
   where
     none_at : (y : ℕ) → slice_get [] y ≡ Some j → ⊥
     none_at y e = absurd (cc (e))
-plain_at (asks.Call i ∷ more) zero j (context, small, little, plain) at = subst (λ (y : Joined). IsPlainCaller (caller_of y)) (some_is i j at) ((small, omega (arith, context)), little)
-plain_at (asks.Call i ∷ more) (suc x) j (context, small, little, plain) at = plain_at more x j plain at
+plain_at (asks.Call i ∷ more) zero j (context, small, plain) at = subst (λ (y : Joined). FitsCaller (caller_of y)) (some_is i j at) (small, omega (arith, context))
+plain_at (asks.Call i ∷ more) (suc x) j (context, small, plain) at = plain_at more x j plain at
 plain_at (asks.Cancel id ∷ more) x j plain at = plain_at more x j plain at
 plain_at (asks.Bind c flags body ∷ more) x j plain at = absurd plain
 plain_at (asks.Alter c body ∷ more) x j plain at = absurd plain
@@ -169,7 +146,7 @@ record Step (table : TableForm) (past new : List Entry) (l : Line) (event : Even
   means : Means (table ∷ []) past l.server event after new
   brought : Brings past new l.server after (does_in event)
   ends : AllEnds past
-  fits : (x : ℕ) (j : Joined) → slice_get js x ≡ Some j → IsPlainCaller (caller_of j)
+  fits : (x : ℕ) (j : Joined) → slice_get js x ≡ Some j → FitsCaller (caller_of j)
   rows : length js ≡ length l.caller.rows
   numbers : length l.server.numbers ≡ done l.server.events
   waits : WaitIs l.server.waiting l.server.numbers
@@ -237,7 +214,7 @@ phase_on table past new l (Decided (RefuseGroup reason) octets) state after js s
 
 pub serves_true : (table : TableForm) (past new : List Entry) (l : Line) (event : Event) (state : ConnState) (after : ServerEnd) (up : List ℕ) → FitsSyntax table.id → length table.ops ≤ 2 ^ 16 → LineHolds table l → l.standing ≡ true
     → Happens l.server.state event state → Means (table ∷ []) past l.server event after new → AllEnds past → sent l.caller.events ≡ stream (l.server.events ++ event ∷ []) ++ up → TrueLine table past l
-    → TrueLine table new (record l { up = up; server = record after { events = l.server.events ++ event ∷ []; state = state }; down = l.down ++ put (event ∷ []) }) × (is_clean event ≡ true)
+    → TrueLine table new (record l { up = up; server = record after { events = l.server.events ++ event ∷ []; state = state }; down = l.down ++ put (event ∷ []) })
 serves_true table past new l event state after up fits few holds stands happens means ends ways h =
     let js = calls_in h.asked in
     let b = brings table past new l.server after event means in
@@ -260,15 +237,13 @@ serves_true table past new l event state after up fits few holds stands happens 
     } in
     let p = phase_on table past new l event state after js s (h.phase stands) in
     let grows = brings_grows past new l.server after (does_in event) b in
-    let n : Line = record l { up = up; server = record after { events = l.server.events ++ event ∷ []; state = state }; down = l.down ++ put (event ∷ []) } in (
-      record {
-        asked = h.asked;
-        begun = h.begun;
-        interface = h.interface;
-        rows = h.rows;
-        told = λ x r at. knows_on table past new l n x r r.fate (brings_more past new l.server after (does_in event) b) grows (h.told x r at);
-        waits = waits_on table past new l.server after event (is_cleaned table holds.once.group l.server event js w) means h.waits;
-        phase = λ stood. phase_up (served l (record after { events = l.server.events ++ event ∷ []; state = state }) (l.down ++ put (event ∷ []))) new js up p;
-      },
-      is_cleaned table holds.once.group l.server event js w,
-    )
+    let n : Line = record l { up = up; server = record after { events = l.server.events ++ event ∷ []; state = state }; down = l.down ++ put (event ∷ []) } in
+    record {
+      asked = h.asked;
+      begun = h.begun;
+      interface = h.interface;
+      rows = h.rows;
+      told = λ x r at. knows_on table past new l n x r r.fate (brings_more past new l.server after (does_in event) b) grows (h.told x r at);
+      waits = waits_on table past new l.server after event (is_cleaned table holds.once.group l.server event js w) means h.waits;
+      phase = λ stood. phase_up (served l (record after { events = l.server.events ++ event ∷ []; state = state }) (l.down ++ put (event ∷ []))) new js up p;
+    }

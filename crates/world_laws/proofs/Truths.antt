@@ -1,7 +1,7 @@
 -- What a caller knows of its calls, and what is on the way to it, in every world.
 use Rattle.std.proofs.Common.{◌≡◌, ℕ, ◌+◌, ◌≤◌, ◌⊎◌, Bool, true, false, Some, None, Ok, List, [], ◌∷◌, ◌++◌, length, sym, ap, ◌∙◌, append_assoc}
 use Rattle.std.specs.Prelude.{slice_get}
-use Rattle.rpc_base.specs.declared.identifiers.Order.TheVariants.{Little}
+use Rattle.rpc_base.specs.declared.identifiers.Order.{Order}
 use Rattle.rpc_base.specs.declared.identifiers.Status.{Status}
 use Rattle.handle_model.specs.declared.entry.Entry.{Entry}
 use Rattle.handle_model.specs.declared.entry.Said.{Said}
@@ -51,11 +51,12 @@ still_replied past new k reply (newer, is) r = record {
 
 -- ---- what a row knows
 
--- m is a message of that stub in the order in which the caller asks, as the response to the row's
+-- m is a message of that stub, as the response to the row's
 pub record IsMessageOf (table : TableForm) (r : Row) (stub : List ℕ) (m : Msg) : Type 0 where
   pub operation : OpForm
   pub found : slice_get table.ops r.op ≡ Some operation
-  pub is : IsStub table.types operation Response Little (Some r.message) m stub
+  pub order : Order
+  pub is : IsStub table.types operation Response order (Some r.message) m stub
 
 pub record WasDone (table : TableForm) (past : List Entry) (l : Line) (x : ℕ) (r : Row) (m : Msg) : Type 0 where
   pub number : ℕ
@@ -86,7 +87,7 @@ pub data Says (past : List Entry) (l : Line) (x : ℕ) (said : Said) (executed :
 -- what is still to be heard of an answer to the call that is out
 pub data Answering (s : ClientState) (c : Calling) (said : Said) (executed : Bool) (later : List Pdu) : Type 0 where
   by_fault : (caller : Caller) (status : Status) → caller.call_id ≡ c.id → said ≡ Fault status → later ≡ fault caller executed status ∷ [] → Answering s c said executed later
-  by_pieces : (caller : Caller) (first : Bool) (so_far stub : List ℕ) (size : ℕ) (pieces : List (List ℕ)) → caller.call_id ≡ c.id → caller.order ≡ Little → said ≡ Out (so_far ++ stub)
+  by_pieces : (caller : Caller) (first : Bool) (so_far stub : List ℕ) (size : ℕ) (pieces : List (List ℕ)) → caller.call_id ≡ c.id → said ≡ Out (so_far ++ stub)
       → c.joining ≡ Ok (run_at caller first so_far) → ArePieces size stub pieces → Begins first so_far → length so_far + length stub ≤ most_stub
       → later ≡ response_pdus caller first pieces → Answering s c said executed later
 

@@ -24,7 +24,7 @@ use Rattle.world_laws.proofs.Holds.{Holds, OfSet, of_set}
 use Rattle.world_laws.proofs.Holds.OfSet.{here, there_still}
 use Rattle.world_laws.proofs.Serving.{brings, silent, does}
 use Rattle.world_laws.proofs.Moving.{arrived, at_first, entering, plays}
-use Rattle.world_laws.proofs.Truth.{TrueLine, true_later, brings_grows, means_ends, serves_true}
+use Rattle.world_laws.proofs.Truth.{TrueLine, true_later, brings_grows, brings_ends, serves_true}
 use Rattle.world_laws.proofs.Knowing.{Hearing, hears_true}
 use Rattle.world_laws.proofs.Starting.{opens_true, starts_true, cancels_true, lost_true}
 
@@ -54,7 +54,7 @@ server_does table w i l m event new fits few at stands none d h a =
     let holds = h.lines i l at in
     let b = brings table w.past new l.server d.after event d.means in
     let t = serves_true table w.past new l event d.state d.after l.up fits few holds stands d.happens d.means a.ends (silent l event none (holds.ways stands)) (a.lines i l at) in
-    true_set table w i m new (within w.lines i l at) (brings_grows w.past new l.server d.after _ b) (means_ends table w.past new l.server d.after event t.1 d.means) (subst (λ (x : Line). TrueLine table new x) (sym d.then_) t.0) a
+    true_set table w i m new (within w.lines i l at) (brings_grows w.past new l.server d.after _ b) (brings_ends w.past new l.server d.after _ b) (subst (λ (x : Line). TrueLine table new x) (sym d.then_) t) a
 
 twice : (w : World) (i : ℕ) (l m : Line) (past new : List Entry) → with_line (with_line w i l past) i m new ≡ with_line w i m new
 twice w i l m past new = ap (λ (ls : List Line). record w { lines = ls; past = new }) (set_twice w.lines i l m)
@@ -91,7 +91,7 @@ arrives table w v n i l fits few at stands x h a =
     ∙ ap (λ (y : List ℕ). y ++ x.left) (sym ((put_in_order l.server.events (event ∷ [])).0.came ∙ ap (λ (y : List ℕ). stream l.server.events ++ y) (append-nil x.front))))) in
     let t = serves_true table w.past x.then_ l event x.comes.state x.comes.after x.left fits few holds stands x.comes.happens x.comes.means a.ends came (a.lines i l at) in
     let lt = within w.lines i l at in
-    let first = true_set table w i x.came x.then_ lt (brings_grows w.past x.then_ l.server x.comes.after 0 b) (means_ends table w.past x.then_ l.server x.comes.after event t.1 x.comes.means) (subst (λ (y : Line). TrueLine table x.then_ y) (sym x.comes.then_) t.0) a in
+    let first = true_set table w i x.came x.then_ lt (brings_grows w.past x.then_ l.server x.comes.after 0 b) (brings_ends w.past x.then_ l.server x.comes.after 0 b) (subst (λ (y : Line). TrueLine table x.then_ y) (sym x.comes.then_) t) a in
     let held = arrived table w v n i l fits few at stands x h in
     let stood : x.came.standing ≡ true = ap (λ (y : Line). y.standing) x.comes.then_ ∙ stands in
     subst (λ (y : World). AllTrue table y) (sym (x.after ∙ sym (twice w i x.came x.line x.then_ x.past)))

@@ -2,7 +2,6 @@
 use Rattle.std.specs.Prelude.{◌≡◌, ℕ, ◌≤◌, ◌^◌, true, false, Option, Some, None, List, ◌∷◌, ◌++◌, length, filter, slice_get, ⊤}
 use Rattle.rpc_base.specs.declared.identifiers.Order.{Order}
 use Rattle.handle_model.specs.declared.entry.Said.TheVariants.{Out}
-use Rattle.handle_model.specs.Calls.{asked}
 use Rattle.handle_model.specs.Entries.{takes, ends}
 use Rattle.handle_model.specs.ReplyLaws.{Ended}
 use Rattle.handle_model.specs.Rules.{Legal}
@@ -62,24 +61,22 @@ takes_of past k = length (filter (takes k) past)
 abbrev pub ends_of : List Entry → ℕ → ℕ
 ends_of past k = length (filter (ends k) past)
 
--- the stub data are those of that message in that order of octets, as the response to the row's call
-pub record IsResponse (table : TableForm) (r : Row) (order : Order) (stub : List ℕ) (m : Msg) : Type 0 where
+-- the stub data are those of that message, as the response to the row's call
+pub record IsResponse (table : TableForm) (r : Row) (stub : List ℕ) (m : Msg) : Type 0 where
   pub operation : OpForm
   pub found : slice_get table.ops r.op ≡ Some operation
+  pub order : Order
   pub is : IsStub table.types operation Response order (Some r.message) m stub
 
--- The call was done: it has a number, was taken once and ended once, and its End said that message, in the order of octets in which
--- the call was asked.
+-- The call was done: it has a number, was taken once and ended once, and its End said that message.
 pub record WasDone (table : TableForm) (past : List Entry) (number : Option ℕ) (r : Row) (m : Msg) : Type 0 where
   pub call : ℕ
   pub is : number ≡ Some call
   pub taken : takes_of past call ≡ 1
   pub ended : ends_of past call ≡ 1
-  pub asks : Asked
-  pub as_asked : asked (journal past) call ≡ Some asks
   pub stub : List ℕ
   pub says : Ended past call (Out stub)
-  pub response : IsResponse table r asks.order stub m
+  pub response : IsResponse table r stub m
 
 -- It has no number, or it was never taken; and it was taken at most once.
 abbrev pub WasNotTaken : List Entry → Option ℕ → Type 0

@@ -1,5 +1,5 @@
 use Rattle.std.proofs.Common.{refl}
-use denote.Exit.{no}
+use denote.Exit.{yes}
 use denote.Param.{param}
 use denote.Param.Send.{IsSync, IsSend, param_send, arg_send}
 use Rattle.server_run.proofs.beside.start.Lts as lts
@@ -15,7 +15,6 @@ returns-in-Ok g c = λ r keeps.
 pub spawn_with-requires-send-F : goal.spawn_with-requires-send-F
 spawn_with-requires-send-F g c κs within =
     let r : IsSync (param 1 g.row.R) = c.type_bounds.sync-R in
-    let m : IsSync (param 3 g.row.M) = c.type_bounds.sync-M in
-    let k : IsSend (param 2 g.row.K) = c.type_bounds.send-K in
-    let p : IsSend (lts.arg-3-2 g.row.E g.row.R g.row.K g.row.M g.E.laws g.R.laws g.K.laws g.M.laws g.R.Wait g.R.Wait-dict g.R.Threads g.R.Threads-dict g.K.Link g.K.Link-dict g.M.Manager g.M.Manager-dict g.K.Destruct-dict κs) = arg_send _ no _ (work_send _ (param 1 g.row.R) (param 3 g.row.M) (param 2 g.row.K) κs.1.1.1.1.1.1.0 κs.1.1.1.1.1.1.1.0 κs.1.1.1.1.1.1.1.1.0 κs.1.1.1.1.1.1.1.1.1.0 κs.1.1.1.1.1.1.1.1.1.1.0 κs.1.1.1.1.1.1.1.1.1.1.1.0 r m k) in
+    let m : IsSync (param 2 g.row.M) = c.type_bounds.sync-M in
+    let p : IsSend (lts.arg-3-2 g.row.E g.row.R g.row.M g.E.laws g.R.laws g.M.laws g.R.Wait g.R.Wait-dict g.R.Threads g.R.Threads-dict g.M.Manager g.M.Manager-dict κs) = arg_send _ yes _ (work_send _ (param 1 g.row.R) (param 2 g.row.M) κs.1.1.1.1.1.1.0 κs.1.1.1.1.1.1.1.0 κs.1.1.1.1.1.1.1.1.0 κs.1.1.1.1.1.1.1.1.1.0 κs.1.1.1.1.1.1.1.1.1.1.0 κs.1.1.1.1.1.1.1.1.1.1.1.0 r m) in
     param_send 2 _ p

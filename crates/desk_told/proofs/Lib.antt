@@ -1,2 +1,0 @@
-pub mod DeedLemmas
-pub mod PassLemmas

@@ -1,5 +1,0 @@
-pub mod Deeds
-pub mod Desks
-pub mod Histories
-pub mod Laws
-pub mod Passes

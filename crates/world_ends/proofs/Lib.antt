@@ -1,4 +1,0 @@
-pub mod Told
-pub mod Acting
-pub mod Binding
-pub mod Steps

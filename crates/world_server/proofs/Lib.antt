@@ -1,4 +1,0 @@
-pub mod Ending
-pub mod Going
-pub mod Requesting
-pub mod Scanning

@@ -1,4 +1,0 @@
-pub mod Finishes
-pub mod Requests
-pub mod Scans
-pub mod Servers
