@@ -1,5 +1,6 @@
 pub mod CalledOff
 pub mod Causes
+pub mod Ending
 pub mod Fits
 pub mod Heard
 pub mod Hearing

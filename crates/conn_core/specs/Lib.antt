@@ -1,4 +1,5 @@
 pub mod Doing
+pub mod Ends
 pub mod Fields
 pub mod Steps
 pub mod Uncut

@@ -5,8 +5,10 @@
 mod acts;
 mod called_off;
 mod conn;
+mod laws;
 mod next;
 mod uncut;
 
 pub use conn::Conn;
 pub use conn_asks::{Act, ConnFault};
+pub use laws::{closed_for_good, failed_for_good};
