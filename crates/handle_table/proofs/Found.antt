@@ -8,10 +8,9 @@ use Rattle.std.proofs.lemmas.Bool.Decides.{nat_tests, eqb_tells}
 use Rattle.handle_model.specs.declared.entry.Home.{Home}
 use Rattle.handle_model.specs.declared.entry.DueItem.{DueItem}
 use Rattle.handle_model.specs.Journal.{is_item_of}
-use Rattle.handle_table.specs.declared.cells.Cell.{Cell}
 use Rattle.handle_table.specs.Handles.{Handles, has, item_at, is_below, is_above, is_other, with_item, without, cookie_set, with_cookie}
 use Rattle.handle_table.specs.Kept.{Rises}
-use Rattle.handle_table.specs.Cells.{living, Climb, IsAt, IsGap, item_in, one, fresh, fresh_cell}
+use Rattle.handle_table.specs.Cells.{Cell, live_cell, dead_cell, living, item_in, fresh, is_live, Climb, IsAt, IsGap, IsLiveAt}
 use Rattle.handle_table.proofs.Edits.{rises_more, none_below}
 use Rattle.handle_table.proofs.Items.{item_low}
 use Rattle.handle_table.proofs.Wires.{known, not_known}
@@ -147,8 +146,6 @@ found_none cells h i r w = found_gap 0 cells h i r w
 pub no_gap : (cells : List Cell) (h i : ℕ) → Climb 0 cells → IsGap cells h i → has (living cells) h ≡ true → ⊥
 no_gap cells h i r w t = let f = none_has (living cells) h (found_gap 0 cells h i r w) in cc
 
-pub ruleset finding = (found_read, found_none, common_steps)
-
 -- EDITS OF A CELL
 
 pub closed_at : (low : ℕ) (cells : List Cell) (h i : ℕ) (y : Cell) → Climb low cells → IsAt cells h i → y.live ≡ false → living (set cells i y) ≡ without h (living cells)
@@ -247,9 +244,6 @@ climb_insert low (c ∷ cells) (suc i) y r w le small =
     let lt = w.low 0 c (omega arith) in
     (r.0, r.1, climb_insert (c.item.serial + 1) cells i y r.2 (tail_gap y.item.serial i c cells w) (omega arith) small)
 
-abbrev pub is_live : Cell → Bool
-is_live c = c.live
-
 pub climb_filter : (low : ℕ) (cells : List Cell) → Climb low cells → Climb low (filter is_live cells)
 climb_filter low [] r = tt
 climb_filter low (c ∷ cells) r =
@@ -266,7 +260,10 @@ living_filter (c ∷ cells) = elim (cases_Bool c.live) [ inl l ↦ rw l (ap (λ 
 
 -- COUNTS
 
-pub length_set : (cells : List Cell) (i : ℕ) (x y : Cell) → i < length cells → x ≡ get_or cells i x → length (living (set cells i y)) + one x.live ≡ length (living cells) + one y.live
+abbrev one : Bool → ℕ
+one b = if b then 1 else 0
+
+length_set : (cells : List Cell) (i : ℕ) (x y : Cell) → i < length cells → x ≡ get_or cells i x → length (living (set cells i y)) + one x.live ≡ length (living cells) + one y.live
 length_set [] i x y lt e = absurd (omega arith)
 length_set (c ∷ cells) zero x y lt e =
     let same : x.live ≡ c.live = ap (λ (z : Cell). z.live) e in
@@ -297,9 +294,27 @@ length_insert (c ∷ cells) (suc i) y le m =
       | inr l ↦ rw l rest
     ]
 
-pub one_few : (b : Bool) → one b ≤ 1
-one_few true = omega arith
-one_few false = omega arith
+read_set : (cells : List Cell) (i : ℕ) (y : Cell) → i < length cells → length (living (set cells i y)) + one (get_or cells i y).live ≡ length (living cells) + one y.live
+read_set cells i y lt = length_set cells i (get_or cells i y) y lt (get_or_default cells i y (get_or cells i y) lt)
+
+-- as many live, one more, one less
+pub length_kept : (cells : List Cell) (i : ℕ) (y : Cell) → i < length cells → IsLiveAt cells i true → y.live ≡ true → length (living (set cells i y)) ≡ length (living cells)
+length_kept cells i y lt was m =
+    let n = read_set cells i y lt in
+    let a : one (get_or cells i y).live ≡ 1 = ap one (was y) in
+    let b : one y.live ≡ 1 = ap one m in omega arith
+
+pub length_more : (cells : List Cell) (i : ℕ) (y : Cell) → i < length cells → IsLiveAt cells i false → y.live ≡ true → length (living (set cells i y)) ≡ length (living cells) + 1
+length_more cells i y lt was m =
+    let n = read_set cells i y lt in
+    let a : one (get_or cells i y).live ≡ 0 = ap one (was y) in
+    let b : one y.live ≡ 1 = ap one m in omega arith
+
+pub length_less : (cells : List Cell) (i : ℕ) (y : Cell) → i < length cells → IsLiveAt cells i true → y.live ≡ false → length (living (set cells i y)) + 1 ≡ length (living cells)
+length_less cells i y lt was m =
+    let n = read_set cells i y lt in
+    let a : one (get_or cells i y).live ≡ 1 = ap one (was y) in
+    let b : one y.live ≡ 0 = ap one m in omega arith
 
 -- FRESH CELLS
 
@@ -315,15 +330,53 @@ pub climb_fresh : (low : ℕ) (items : List DueItem) → Rises low items → Cli
 climb_fresh low [] r = tt
 climb_fresh low (i ∷ items) r = (r.0, r.1, climb_fresh (i.serial + 1) items r.2)
 
-pub ruleset putting = (put_gap, put_at, climb_set, climb_insert, length_set, length_insert, common_steps)
+-- WHAT STANDS AT A PLACE
 
-pub ruleset closing = (closed_at, has_live, climb_set, length_set, common_steps)
+some_live : (c : Cell) (x : DueItem) → item_in c ≡ Some x → (c.live ≡ true) × (c.item ≡ x)
+some_live c x e =
+    elim (cases_Bool c.live) [
+      | inl l ↦ let f = rw l at e in (l, cc)
+      | inr l ↦ absurd (let f = rw l at e in cc)
+    ]
 
-pub ruleset setting = (cookie_at, has_live, climb_set, length_set, common_steps)
+none_live : (c : Cell) → item_in c ≡ None → c.live ≡ false
+none_live c e =
+    elim (cases_Bool c.live) [
+      | inl l ↦ absurd (let f = rw l at e in cc)
+      | inr l ↦ l
+    ]
+
+-- a cell of which an item was read is live, and one of which none was is dead
+pub live_as : (cells : List Cell) (i : ℕ) (x : DueItem) → ((c : Cell) → Some x ≡ item_in (get_or cells i c)) → IsLiveAt cells i true
+live_as cells i x e = λ d. (some_live (get_or cells i d) x (sym (e d))).0
+
+pub dead_as : (cells : List Cell) (i : ℕ) → ((c : Cell) → None ≡ item_in (get_or cells i c)) → IsLiveAt cells i false
+dead_as cells i e = λ d. none_live (get_or cells i d) (sym (e d))
+
+-- the cell of a live handle is live
+pub live_at : (cells : List Cell) (h i : ℕ) → Climb 0 cells → IsAt cells h i → has (living cells) h ≡ true → IsLiveAt cells i true
+live_at cells h i r w t = λ d. has_live cells h i (get_or cells i d) r w (get_or_default cells i d (get_or cells i d) w.within) t
+
+pub not_dead : (cells : List Cell) (h i : ℕ) → Climb 0 cells → IsAt cells h i → has (living cells) h ≡ true → ((c : Cell) → None ≡ item_in (get_or cells i c)) → ⊥
+not_dead cells h i r w t e = let l = live_at cells h i r w t no_cell in let d = dead_as cells i e no_cell in cc
+
+-- the item that was read has the serial of the place
+pub read_serial : (cells : List Cell) (h i : ℕ) (x : DueItem) → IsAt cells h i → ((c : Cell) → Some x ≡ item_in (get_or cells i c)) → x.serial ≡ h
+read_serial cells h i x w e = ap (λ (z : DueItem). z.serial) (sym (some_live (get_or cells i no_cell) x (sym (e no_cell))).1) ∙ w.here no_cell
+
+pub at_serial : (cells : List Cell) (h i : ℕ) (x : DueItem) → IsAt cells h i → ((c : Cell) → Some x ≡ item_in (get_or cells i c)) → IsAt cells x.serial i
+at_serial cells h i x w e = subst (λ n. IsAt cells n i) (sym (read_serial cells h i x w e)) w
+
+pub cookie_written : (cells : List Cell) (h i k : ℕ) (x : DueItem) → Climb 0 cells → IsAt cells h i → ((c : Cell) → Some x ≡ item_in (get_or cells i c)) → living (set cells i (live_cell (record { serial = x.serial; kind = x.kind; cookie = k }))) ≡ with_cookie h k (living cells)
+cookie_written cells h i k x r w e =
+    let c : Cell = get_or cells i no_cell in
+    let there = some_live c x (sym (e no_cell)) in
+    let y : DueItem = record { serial = x.serial; kind = x.kind; cookie = k } in
+    let made : y ≡ record { serial = h; kind = c.item.kind; cookie = k } =
+    ap (λ (z : DueItem). record { serial = z.serial; kind = z.kind; cookie = k }) (sym there.1) ∙ ap (λ n. record { serial = n; kind = c.item.kind; cookie = k }) (w.here no_cell) in
+    cookie_at 0 cells h i k c (live_cell y) r w (get_or_default cells i no_cell c w.within) there.0 refl made
 
 abbrev pub handles_with : Home → ℕ → List DueItem → Handles
 handles_with home room items = record { home = home; items = items; room = room }
-
-pub ruleset shedding = (climb_filter, living_filter, common_steps)
 
 pub ruleset beginning = (climb_fresh, living_fresh, common_steps)

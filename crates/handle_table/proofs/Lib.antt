@@ -3,7 +3,9 @@ pub mod Found
 pub mod Items
 pub mod Live
 pub mod Named
+pub mod Placed
 pub mod Search
+pub mod Serials
 pub mod Started
 pub mod Steps
 pub mod Wires

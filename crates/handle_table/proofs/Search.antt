@@ -4,14 +4,10 @@ use Rattle.std.proofs.lemmas.Grind.{common_steps}
 use Rattle.std.specs.List.Sorted.{IsPartitionedBy, IsPartitionPoint}
 use Rattle.std.proofs.lemmas.List.{get_or_default}
 use Rattle.std.proofs.lemmas.Bool.{cases_lt, ltb-true, ltb-false, lt-ltb}
-use Rattle.handle_table.specs.declared.cells.Cell.{Cell}
-use Rattle.handle_table.specs.Cells.{Climb, IsPlace, IsAt, IsGap}
+use Rattle.handle_table.specs.Cells.{Cell, Climb, IsPlace, IsGap}
 
 pub no_cell : Cell
 no_cell = record { item = record { serial = 0; kind = 0; cookie = 0 }; live = false }
-
-abbrev pub is_low : ℕ → Cell → Bool
-is_low h c = nat_lt c.item.serial h
 
 -- the serials from a place on are not below the least that may stand there
 pub climb_low : (low : ℕ) (cells : List Cell) (j : ℕ) (d : Cell) → Climb low cells → j < length cells → low ≤ (get_or cells j d).item.serial
@@ -19,36 +15,14 @@ climb_low low [] j d r lt = absurd (omega arith)
 climb_low low (c ∷ cells) zero d r lt = r.0
 climb_low low (c ∷ cells) (suc j) d r lt = let more = climb_low (c.item.serial + 1) cells j d r.2 (omega arith) in let first = r.0 in omega arith
 
-pub climb_order : (low : ℕ) (cells : List Cell) (j k : ℕ) (d : Cell) → Climb low cells → j < k → k < length cells → (get_or cells j d).item.serial < (get_or cells k d).item.serial
+climb_order : (low : ℕ) (cells : List Cell) (j k : ℕ) (d : Cell) → Climb low cells → j < k → k < length cells → (get_or cells j d).item.serial < (get_or cells k d).item.serial
 climb_order low [] j k d r lt l = absurd (omega arith)
 climb_order low (c ∷ cells) zero zero d r lt l = absurd (omega arith)
 climb_order low (c ∷ cells) zero (suc k) d r lt l = let more = climb_low (c.item.serial + 1) cells k d r.2 (omega arith) in omega arith
 climb_order low (c ∷ cells) (suc j) zero d r lt l = absurd (omega arith)
 climb_order low (c ∷ cells) (suc j) (suc k) d r lt l = climb_order (c.item.serial + 1) cells j k d r.2 (omega arith) (omega arith)
 
--- what a search for a place asks, and what it answers
-pub parted : (cells : List Cell) (h : ℕ) → Climb 0 cells → IsPartitionedBy (is_low h) cells
-parted cells h r i j d le lt p =
-    elim (cases_lt i j) [
-      | inl below ↦
-          let less = climb_order 0 cells i j d r below lt in
-          let low : (get_or cells j d).item.serial < h = ltb-true _ _ p in lt-ltb (get_or cells i d).item.serial h (omega arith)
-      | inr same ↦ let e : j ≡ i = omega arith in subst (λ (k : ℕ). is_low h (get_or cells k d) ≡ true) e p
-    ]
-
-pub placed : (cells : List Cell) (h i : ℕ) → i ≤ length cells → IsPartitionPoint (λ y. is_low h y ≡ true) (λ y. is_low h y ≡ false) cells i → IsPlace cells h i
-placed cells h i le p =
-    record {
-      within = le;
-      low = λ j d lt. ltb-true _ _ (p.0 j d (omega arith) lt);
-      high = λ j d le' lt. ltb-false _ _ (p.1 j d le' lt);
-    }
-
--- the place of a serial that is there, by what was read at the place
-pub at_read : (cells : List Cell) (h i : ℕ) (e : Cell) → i < length cells → (get_or cells i e).item.serial ≡ h → IsAt cells h i
-at_read cells h i e lt q = record { within = lt; here = λ d. ap (λ (x : Cell). x.item.serial) (get_or_default cells i d e lt) ∙ q }
-
--- and of one that is not
+-- the place of a serial that is not there, by what was read at the place
 pub gap_read : (cells : List Cell) (h i : ℕ) (e : Cell) → Climb 0 cells → IsPlace cells h i → (i < length cells → (get_or cells i e).item.serial ≢ h) → IsGap cells h i
 gap_read cells h i e r p n =
     record {

@@ -3,4 +3,5 @@ pub mod Ended
 pub mod Handles
 pub mod Kept
 pub mod Laws
+pub mod Places
 pub mod Uses

@@ -6,6 +6,8 @@ mod cells;
 mod ended;
 mod known;
 mod laws;
+mod places;
+mod serial_index;
 mod table;
 mod uses;
 

@@ -3,8 +3,9 @@ ghost use Rattle.std.specs.Prelude.{◌≡◌, ◌+◌, ◌<◌, ◌≤◌, ◌^
 ghost use Rattle.handle_model.specs.Bases.{serials_of};
 ghost use Rattle.handle_model.specs.Sound.{rise_above, at_most};
 
-use crate::cells::{Cell, are_living, cells_of, counted, item_at, item_of, put_living, seek};
+use crate::cells::{index_of, item_at, item_of, seek};
 use crate::known::LiveHandles;
+use crate::serial_index::SerialIndex;
 use crate::uses::{cookie, fault};
 use handle_model::{Base, DueItem, DueItems, Home, Slot};
 use rpc_base::{Items, NoMemory, WireHandle};
@@ -16,10 +17,9 @@ use std::mem;
 #[derive(Drop)]
 pub struct HandleTable {
     home: Home,
-    cells: Vec<Cell>,
+    index: SerialIndex,
     due: Vec<DueItem>,
     given: Vec<DueItem>,
-    live: usize,
     room: usize,
     alloc: Global,
 }
@@ -30,9 +30,9 @@ impl Model for HandleTable {
 
     ghost Value = { Handles };
 
-    ghost view = { λ t. record { home = t.home; items = living t.cells.items; room = t.room } };
+    ghost view = { λ t. record { home = t.home; items = living t.index.cells; room = t.room } };
 
-    ghost invariant = { λ t. IsKept t.cells t.due t.given t.live t.room };
+    ghost invariant = { λ t. IsKept t.index t.due t.given t.room };
 }
 
 impl LiveHandles for HandleTable {
@@ -47,7 +47,7 @@ impl LiveHandles for HandleTable {
         ensures { result ≡ item_named self.now.home self.now.items slot.now }
     {
         match slot.named() {
-            Some(wire) => item_of(self.home, self.cells.as_slice(), &wire),
+            Some(wire) => item_of(self.home, &self.index, &wire),
             None => None,
         }
     }
@@ -63,10 +63,9 @@ impl HandleTable {
     {
         HandleTable {
             home: Home { boot, group },
-            cells: Vec::new(alloc),
+            index: SerialIndex::new(alloc),
             due: Vec::new(alloc),
             given: Vec::new(alloc),
-            live: 0,
             room: 0,
             alloc,
         }
@@ -83,18 +82,17 @@ impl HandleTable {
         requires small { base.now.opens < 2 ^ 32 }
         ensures { IfOk result (λ table. table ≡ record { home = home; items = base.now.handles; room = 0 }) }
     {
-        let cells = cells_of(alloc, base.handles.as_slice())?;
-        let live = cells.len();
+        let index = index_of(alloc, base.handles.as_slice())?;
+        let live = index.live();
         let mut due = Vec::new(alloc);
         due.reserve(live)?;
         let mut given = Vec::new(alloc);
         given.reserve(live)?;
         Ok(HandleTable {
             home,
-            cells,
+            index,
             due,
             given,
-            live,
             room: 0,
             alloc,
         })
@@ -113,10 +111,10 @@ impl HandleTable {
         if n <= self.room {
             return Ok(());
         }
-        let Some(all) = self.live.checked_add(n) else {
+        let Some(all) = self.index.live().checked_add(n) else {
             return Err(NoMemory);
         };
-        self.cells.reserve(n)?;
+        self.index.reserve(n)?;
         self.due.reserve(all)?;
         self.given.reserve(all)?;
         self.room = n;
@@ -127,7 +125,7 @@ impl HandleTable {
     pub fn find(&self, wire: &WireHandle) -> Option<u32>
         ensures { result ≡ spec.found self.now.home self.now.items wire.now }
     {
-        match item_of(self.home, self.cells.as_slice(), wire) {
+        match item_of(self.home, &self.index, wire) {
             Some(item) => Some(item.serial),
             None => None,
         }
@@ -137,7 +135,7 @@ impl HandleTable {
     pub fn look(&self, serial: u32) -> Option<(u32, u64)>
         ensures { result ≡ spec.looked self.now.items serial }
     {
-        match item_at(self.cells.as_slice(), serial) {
+        match item_at(&self.index, serial) {
             Some(item) => Some((item.kind, item.cookie)),
             None => None,
         }
@@ -154,7 +152,7 @@ impl HandleTable {
     pub fn lists(&self, items: &[DueItem]) -> bool
         ensures { IsTrue result ↔ (items.now ≡ self.now.items) }
     {
-        are_living(self.cells.as_slice(), items)
+        self.index.are_living(items)
     }
 
     /// A list of the live handles, by rising serial.
@@ -165,8 +163,8 @@ impl HandleTable {
         ensures { IfOk result (λ items. items ≡ self.now.items) }
     {
         let mut items = Vec::new(alloc);
-        items.reserve(self.live)?;
-        put_living(self.cells.as_slice(), &mut items);
+        items.reserve(self.index.live())?;
+        self.index.put_living(&mut items);
         Ok(Items::from_vec(items))
     }
 
@@ -174,7 +172,7 @@ impl HandleTable {
     pub fn live(&self) -> usize
         ensures { result ≡ length self.now.items }
     {
-        self.live
+        self.index.live()
     }
 
     /// A handle is live from now on. The serials may come in any order.
@@ -193,57 +191,42 @@ impl HandleTable {
     }
 
     /// A handle is live no more.
-    #[tactic(auto, using(crate::proofs::Found::closing))]
     pub fn close(&mut self, serial: u32)
         requires { spec.has self.old.items serial ≡ true }
         ensures items { self.new.items ≡ spec.without serial self.old.items }
         ensures room { self.new.room ≡ self.old.room }
         ensures home { self.new.home ≡ self.old.home }
     {
-        match seek(self.cells.as_slice(), serial) {
+        match seek(&self.index, serial) {
             Ok(at) => {
-                let cell = self.cells[at];
-                self.live -= 1;
-                self.cells[at] = Cell {
-                    live: false,
-                    ..cell
-                };
+                self.index.close(at, serial);
                 self.shed();
             }
             Err(_) => {}
         }
     }
 
-    /// Lets go of the cells without a live handle, where they are more than the others.
-    #[tactic(auto, using(crate::proofs::Found::shedding))]
+    /// Lets go of the places without a live handle, where they are more than the others.
     fn shed(&mut self)
         ensures { self.new ≡ self.old }
     {
-        if self.cells.len() / 2 > self.live {
-            self.cells.retain(|cell| cell.live);
+        if self.index.len() / 2 > self.index.live() {
+            self.index.sweep();
         }
     }
 
     /// A live handle has another cookie.
-    #[tactic(auto, using(crate::proofs::Found::setting))]
     pub fn set(&mut self, serial: u32, cookie: u64)
         requires { spec.has self.old.items serial ≡ true }
         ensures items { self.new.items ≡ spec.with_cookie serial cookie self.old.items }
         ensures room { self.new.room ≡ self.old.room }
         ensures home { self.new.home ≡ self.old.home }
     {
-        match seek(self.cells.as_slice(), serial) {
-            Ok(at) => {
-                let cell = self.cells[at];
-                self.cells[at] = Cell {
-                    item: DueItem {
-                        serial,
-                        kind: cell.item.kind,
-                        cookie,
-                    },
-                    live: true,
-                };
-            }
+        match seek(&self.index, serial) {
+            Ok(at) => match self.index.item(at) {
+                Some(item) => self.index.set(at, DueItem { cookie, ..item }),
+                None => {}
+            },
             Err(_) => {}
         }
     }
@@ -269,36 +252,29 @@ impl HandleTable {
         ensures lists { (result.0 ≡ self.old.items) × (result.1 ≡ self.old.items) }
         ensures table { self.new ≡ record { home = self.old.home; items = []; room = 0 } }
     {
-        let cells = mem::replace(&mut self.cells, Vec::new(self.alloc));
+        let index = mem::replace(&mut self.index, SerialIndex::new(self.alloc));
         let mut due = mem::replace(&mut self.due, Vec::new(self.alloc));
         let mut given = mem::replace(&mut self.given, Vec::new(self.alloc));
-        self.live = 0;
         self.room = 0;
-        put_living(cells.as_slice(), &mut due);
-        put_living(cells.as_slice(), &mut given);
+        index.put_living(&mut due);
+        index.put_living(&mut given);
         (Items::from_vec(due), Items::from_vec(given))
     }
 
     /// Puts a handle in its place.
-    #[tactic(auto, using(crate::proofs::Found::putting))]
     pub(crate) fn put(&mut self, item: DueItem)
         requires { 0 < self.old.room }
         ensures items { self.new.items ≡ spec.with_item item self.old.items }
         ensures room { self.new.room + 1 ≡ self.old.room }
         ensures home { self.new.home ≡ self.old.home }
     {
-        let cell = Cell { item, live: true };
         self.room -= 1;
-        match seek(self.cells.as_slice(), item.serial) {
-            Ok(at) => {
-                let old = self.cells[at];
-                self.live = self.live + 1 - counted(old);
-                self.cells[at] = cell;
-            }
-            Err(at) => {
-                self.live += 1;
-                self.cells.insert(at, cell).unwrap();
-            }
+        match seek(&self.index, item.serial) {
+            Ok(at) => match self.index.item(at) {
+                Some(_) => self.index.set(at, item),
+                None => self.index.fill(at, item),
+            },
+            Err(at) => self.index.insert(at, item),
         }
     }
 }

@@ -1,13 +1,10 @@
-use Rattle.std.proofs.Common.{arith}
-use Rattle.handle_table.proofs.Search.{no_cell, at_read, gap_read}
+use Rattle.std.proofs.Common.{sym, ◌∙◌, arith}
+use Rattle.handle_table.proofs.Search.{no_cell, gap_read}
 use Rattle.handle_table.proofs.cells.seek.Goals as goal
-use Rattle.handle_table.proofs.cells.seek.Goals.{else-at-cells-via-then-at-cells+else-cells-at, else-at-cells-via-else-at-cells}
+use Rattle.handle_table.proofs.cells.seek.Goals.{else-at-len-via-then-at-len+else-serial, else-at-len-via-else-at-len}
 
-pub returns-then-cells-at : goal.returns-then-cells-at
-returns-then-cells-at c = at_read _ _ _ _ c.if-at-cells.true c.if-cells-at.true
-
-pub returns-else-at-cells : goal.returns-else-at-cells
-returns-else-at-cells c = elim c.else-at-cells.branch [
-  | else-at-cells-via-then-at-cells+else-cells-at w ↦ gap_read _ _ _ _ c.requires c.place-at.ensures (λ lt. w.if-cells-at.false)
-  | else-at-cells-via-else-at-cells w ↦ gap_read _ _ _ no_cell c.requires c.place-at.ensures (λ lt. absurd (omega (arith, w.if-at-cells.false)))
+pub returns-else-at-len : goal.returns-else-at-len
+returns-else-at-len c = elim c.else-at-len.branch [
+  | else-at-len-via-then-at-len+else-serial w ↦ gap_read _ _ _ no_cell c.requires c.below-at.ensures (λ lt e. w.if-serial.false (sym (w.serial.ensures no_cell) ∙ e))
+  | else-at-len-via-else-at-len w ↦ gap_read _ _ _ no_cell c.requires c.below-at.ensures (λ lt. absurd (omega (arith, w.if-at-len.false, c.len.ensures)))
 ]

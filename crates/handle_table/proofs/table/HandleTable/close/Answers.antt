@@ -1,32 +1,41 @@
-use Rattle.std.proofs.Common.{◌≡◌, ◌+◌, ◌≤◌, true, false, ◌∙◌, ap, sym, refl, arith}
-use Rattle.handle_table.specs.declared.cells.Cell.{Cell}
-use Rattle.handle_table.specs.Handles.{has}
-use Rattle.handle_table.specs.Cells.{living}
-use Rattle.handle_table.proofs.Found.{climb_set, length_set, has_live, no_gap}
+use Rattle.std.proofs.Common.{◌≡◌, ◌+◌, true, length, refl, sym, ◌∙◌, ap, arith}
+use Rattle.handle_table.specs.Handles.{has, without}
+use Rattle.handle_table.specs.Cells.{living, dead_cell}
+use Rattle.handle_table.proofs.Found.{climb_set, length_less, live_at, closed_at, no_gap}
 use Rattle.handle_table.proofs.table.HandleTable.close.Goals as goal
+
+pub close-requires-clause-live : goal.close-requires-clause-live
+close-requires-clause-live c =
+    let at = rw c.in-Ok.is at c.seek.ensures in
+    let there : has (living c.self.inside.index.cells) c.args.serial ≡ true = ap (λ v. has v.items c.args.serial) c.self.view_is ∙ c.requires in
+    live_at c.self.inside.index.cells c.args.serial c.in-Ok.at c.self.invariant.rises at there
 
 pub invariant_of-self : goal.invariant_of-self
 invariant_of-self c =
-    let at = rw (c.in-Ok.is, c.as_slice.ensures.value) at c.seek.ensures in
+    let at = rw c.in-Ok.is at c.seek.ensures in
     let kept = c.self.invariant in
-    let there : has (living c.self.inside.cells.items) c.args.serial ≡ true = ap (λ v. has v.items c.args.serial) c.self.view_is ∙ c.requires in
-    let live = has_live _ _ _ c.index-cell.result.now kept.rises at c.index-cell.ensures there in
-    let count = rw live at (length_set _ _ c.index-cell.result.now (record { item = c.index-cell.result.now.item; live = false }) at.within c.index-cell.ensures) in
-    let was = kept.counted in
-    let here = at.here c.index-cell.result.now in
-    let read = ap (λ (x : Cell). x.item.serial) c.index-cell.ensures in
-    record {
-      rises = climb_set 0 _ c.args.serial _ (record { item = c.index-cell.result.now.item; live = false }) kept.rises at (read ∙ here);
-      counted = omega arith;
+    let there : has (living c.self.inside.index.cells) c.args.serial ≡ true = ap (λ v. has v.items c.args.serial) c.self.view_is ∙ c.requires in
+    let live = live_at c.self.inside.index.cells c.args.serial c.in-Ok.at kept.rises at there in
+    let less = length_less c.self.inside.index.cells c.in-Ok.at (dead_cell c.args.serial) at.within live refl in
+    rw c.close.ensures
+    (record {
+      rises = climb_set 0 c.self.inside.index.cells c.args.serial c.in-Ok.at (dead_cell c.args.serial) kept.rises at refl;
       places = kept.places;
       due_places = omega (arith, kept.due_places);
       given_places = omega (arith, kept.given_places);
       no_due = kept.no_due;
       no_given = kept.no_given;
-    }
+    })
+
+pub returns-in-Ok-clause-items : goal.returns-in-Ok-clause-items
+returns-in-Ok-clause-items c =
+    let at = rw c.in-Ok.is at c.seek.ensures in
+    ap (λ v. v.items) c.shed.ensures
+    ∙ (ap (λ v. living v.cells) c.close.ensures
+    ∙ (closed_at 0 c.self.inside.index.cells c.args.serial c.in-Ok.at (dead_cell c.args.serial) c.self.invariant.rises at refl ∙ ap (λ v. without c.args.serial v.items) c.self.view_is))
 
 pub returns-in-Err-clause-items : goal.returns-in-Err-clause-items
 returns-in-Err-clause-items c =
-    let gap = rw (c.in-Err.is, c.as_slice.ensures.value) at c.seek.ensures in
-    let there : has (living c.self.inside.cells.items) c.args.serial ≡ true = ap (λ v. has v.items c.args.serial) c.self.view_is ∙ c.requires in
-    absurd (no_gap _ _ _ c.self.invariant.rises gap there)
+    let gap = rw c.in-Err.is at c.seek.ensures in
+    let there : has (living c.self.inside.index.cells) c.args.serial ≡ true = ap (λ v. has v.items c.args.serial) c.self.view_is ∙ c.requires in
+    absurd (no_gap c.self.inside.index.cells c.args.serial _ c.self.invariant.rises gap there)

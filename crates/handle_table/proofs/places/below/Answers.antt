@@ -1,7 +1,7 @@
 use Rattle.std.proofs.Common.{rules}
 use Rattle.std.proofs.lemmas.List.Sorted.{IsPartitionPoint-from_clause}
-use Rattle.handle_table.proofs.Search.{is_low, parted, placed}
-use Rattle.handle_table.proofs.cells.place.Goals as goal
+use Rattle.handle_table.proofs.Serials.{is_low, parted, placed}
+use Rattle.handle_table.proofs.places.below.Goals as goal
 
 pub returns : goal.returns
 returns c =
