@@ -31,7 +31,8 @@ use Rattle.hub_story.specs.Still.{IsTaken as HubTaken}
 use Rattle.group_hub.specs.declared.hub.Hub.{Hub}
 use Rattle.group_hub.specs.declared.pass.Pass.{Pass}
 use Rattle.group_hub.specs.Shards.{shard_of}
-use Rattle.group_hub.specs.Passes.{IsPassOf, at_shard, CallsAt}
+use Rattle.hub_story.specs.declared.item.Item.{Item}
+use Rattle.group_hub.specs.Passes.{IsPassOf, at_shard, CallsAt, LooksAt}
 use Rattle.hub_shard.specs.declared.answer.Retired.{Retired}
 use Rattle.pdu_stream.specs.declared.joined.Joined.{Joined}
 use Rattle.ndr_table.specs.Tables.{TableForm}
@@ -58,7 +59,7 @@ use Rattle.server_steps.specs.Lines.{server}
 use Rattle.server_steps.specs.Calls.{request, IsCalled, IsAsking, IsWaiting, IsCalledOff, IsTaken, IsSettled}
 use Rattle.server_steps.specs.Steps.{TakesSo}
 use Rattle.server_steps.proofs.Suiting.{filled_first, first_small, taken_suits}
-use Rattle.server_steps.proofs.Holding.{none_shut, one_shut, retired_still, Stepped, stepped, entered}
+use Rattle.server_steps.proofs.Holding.{none_shut, one_shut, retired_still, Stepped, stepped, entered, marked}
 
 -- ---- what has an open call
 
@@ -254,6 +255,33 @@ module _ {K : Type 0} (shows : K → Shown) (may : Call → Bool → Ans → Typ
         iface = x.iface;
         slots = x.slots;
         called = called_then l q k a x (taking.Wait m) call pass still x.slots Waiting o.so.0 o.so.4 o.so.5;
+        has = still.has_call l.group l.number k tt x.has;
+        apart = x.apart;
+        unmarked = x.unmarked;
+        asked = x.asked;
+        opened = x.opened;
+        before = x.before;
+        numbered = x.numbered;
+        fits = x.fits;
+      }
+
+  -- a look at its group leaves it waiting
+  pub waits_on : (l : Line K) (q : Pass) (k : ℕ) (a : Asked) (Says : List Item → Type 0) (x : IsWaiting shows may tables hub l k a) → LooksAt hub.boot l.group l.pass q Says → IsPassOf hub q
+      → StillHas (at_shard l.pass (shard_of l.group)) (at_shard q (shard_of l.group)) [] → IsWaiting shows may tables hub (record l { pass = q }) k a
+  waits_on l q k a Says x looks pass still =
+      let turns = request x.j x.iface [] (Accepted k x.slots Waiting) ∷ x.called.turns in
+      record {
+        j = x.j;
+        iface = x.iface;
+        slots = x.slots;
+        called = record {
+          pass = pass;
+          serves = still.serves l.group l.number tt x.called.serves;
+          turns = x.called.turns;
+          done = x.called.done;
+          held = marked served hub.boot l.began.value l.pass q l.group l.number l.retired false turns x.called.held looks.here.0 [] looks.here.1 looks.others (λ o. refl);
+          told = x.called.told;
+        };
         has = still.has_call l.group l.number k tt x.has;
         apart = x.apart;
         unmarked = x.unmarked;
