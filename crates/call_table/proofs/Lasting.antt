@@ -1,11 +1,10 @@
 -- The last call ahead of a waiting one, by its rows and by the journal.
-use Rattle.std.proofs.Common.{◌≡◌, ℕ, ◌≤◌, ◌<◌, max, Bool, true, false, ◌&&◌, ◌||◌, ◌==◌, nat_lt, if◌then◌else◌, Option, Some, None, List, [], ◌∷◌, ◌++◌, refl, sym, ◌∙◌, ap, subst, arith, inl, inr}
+use Rattle.std.proofs.Common.{◌≡◌, ℕ, ◌≤◌, max, Bool, true, false, ◌&&◌, ◌||◌, ◌==◌, nat_lt, if◌then◌else◌, Option, Some, None, List, [], ◌∷◌, ◌++◌, refl, sym, ◌∙◌, ap, subst, arith, inl, inr}
 use Rattle.std.specs.List.{list_any, filter}
 use Rattle.std.specs.Option.{option_or}
 use Rattle.std.proofs.lemmas.Bool.{eq-eqb, ltb-true, ltb-false, cases_Bool}
 use Rattle.std.proofs.lemmas.Bool.Decides.{eqb_tells}
 use Rattle.std.proofs.lemmas.List.Folds.{list_any-append}
-use Rattle.handle_model.specs.declared.entry.Slot.{Slot}
 use Rattle.handle_model.specs.Bases.{is_number}
 use Rattle.handle_model.specs.History.{History}
 use Rattle.handle_model.specs.Journal.{Legal, asked, accepted, taken, slots_in, slots, waits, runs, waiting, running, any_clash, conflict, least, blocker}
@@ -13,7 +12,7 @@ use Rattle.handle_model.proofs.Tests.{or_right}
 use Rattle.call_table.specs.declared.row.Row.{Row}
 use Rattle.call_table.specs.Rows.{calls, blocks_running, blocks_waiting}
 use Rattle.call_table.specs.Shown.{rows_of}
-use Rattle.call_table.specs.Ahead.{greater, greatest, calls_ahead, last_ahead, is_ahead, last_of, last_at, ShowsLast, NoneAheadOfFree}
+use Rattle.call_table.specs.Ahead.{greater, greatest, calls_ahead, last_ahead, is_ahead, last_of, ShowsLast, NoneAheadOfFree}
 use Rattle.call_table.proofs.Calls.{number_taken}
 use Rattle.call_table.proofs.Found.{has_number, is_of, number_filter, number_calls, taken_runs, waits_listed, running_numbers, waiting_numbers, slots_shown, none_least}
 
