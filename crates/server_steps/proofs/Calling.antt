@@ -1,7 +1,7 @@
 -- Where a request comes to, by what its group answers of its call.
 use Rattle.std.proofs.Common.{◌≡◌, ℕ, ◌+◌, ◌-◌, ◌^◌, ◌<◌, Bool, true, false, Option, List, [], ◌∷◌, ◌++◌, length, filter, refl, sym, ap, ◌∙◌, subst, arith}
 use Rattle.std.specs.List.{list_any}
-use Rattle.std.proofs.lemmas.List.{append_cancel_right}
+use Rattle.std.proofs.lemmas.List.{append_cancel_right, append-nil}
 use Rattle.rpc_base.specs.declared.identifiers.Status.{Status}
 use Rattle.rpc_outside.specs.Links.{Shown}
 use Rattle.handle_model.specs.declared.entry.Home.{Home}
@@ -58,6 +58,8 @@ use Rattle.server_steps.specs.Held.{past_at, Held}
 use Rattle.server_steps.specs.Lines.{server}
 use Rattle.server_steps.specs.Calls.{request, IsCalled, IsAsking, IsWaiting, IsCalledOff, IsTaken, IsSettled}
 use Rattle.server_steps.specs.Steps.{TakesSo}
+use Rattle.server_ends.specs.Owning.{Grown}
+use Rattle.server_ends.proofs.PassLemmas.{grown_more}
 use Rattle.server_steps.proofs.Suiting.{filled_first, first_small, taken_suits}
 use Rattle.server_steps.proofs.Holding.{none_shut, one_shut, retired_still, Stepped, stepped, entered, marked}
 
@@ -83,6 +85,18 @@ module _ (s : Server) (boot : ℕ) (p q r : Pass) (g c : ℕ) (retired : Option 
         entered s boot p q r g c retired false (open_turn offs slots' fate ∷ ts) h Answers step o.es retired false (open_turn o.offs o.slots o.fate ∷ ts) same
         (subst (λ (z : List Entry × List Entry). Made s (home_of boot g) c z.0 false (open_turn o.offs o.slots o.fate ∷ ts) z.1) (λ i. (sym step.after i, o.grows i)) o.made)
         (h.retired_is ∙ retired_still g o.es h.mine (ap (list_any is_shut) same ∙ none))
+
+-- ---- a look at a group enters nothing
+
+grown_self : (s : ℕ) (p : Pass) → Grown s p p []
+grown_self s p = record {
+  fronts = λ t low. ([], sym (append-nil (at_shard p t).log));
+  owns = ([], sym (append-nil (at_shard p s).own), refl);
+  others = λ t low apart. refl;
+}
+
+pub looks_none : (boot g : ℕ) (p q : Pass) (Says : List Item → Type 0) → LooksAt boot g p q Says → Grown (shard_of g) p q []
+looks_none boot g p q Says looks = grown_more boot (shard_of g) p p q [] looks.here.0 [] (grown_self (shard_of g) p) looks.here.1 looks.others
 
 -- ---- which entries come
 

@@ -1,4 +1,7 @@
 //! Which connections are woken when a call is over.
+ghost use Rattle.std.specs.Prelude.{◌≡◌, []};
+ghost use Rattle.group_hub.specs.Shards.{shard_of};
+ghost use Rattle.server_ends.specs.Owning.{Grown};
 ghost use Rattle.server_steps.specs.Lines.{IsSame};
 ghost use Rattle.server_steps.specs.Calls.{IsWaiting};
 
@@ -55,6 +58,8 @@ impl<K: Link> Line<K> {
     ) -> Listening
         requires { IsWaiting K.shows (M.may _manager.now) (M.tables _manager.now) hub.now self.old call _asked.now }
         ensures same { IsSame self.old self.new }
+        ensures group { self.new.group ≡ self.old.group }
+        ensures nothing { Grown (shard_of self.old.group) self.old.pass self.new.pass [] }
         ensures waits { IsWaiting K.shows (M.may _manager.now) (M.tables _manager.now) hub.now self.new call _asked.now }
     {
         let last = hub.last_in_way(rt, &mut self.pass, self.group, call);
