@@ -1,6 +1,6 @@
 -- A group is kept by each entry that fits.
 use Rattle.std.proofs.Common.{◌≡◌, ℕ, ◌+◌, ◌≤◌, true, false, Option, List, [], ◌∷◌, ◌++◌, length, refl, sym, ◌∙◌, ap, subst, arith, reverse}
-use Rattle.std.specs.List.{filter, list_any}
+use Rattle.std.specs.List.{filter}
 use Rattle.std.proofs.lemmas.List.{length-reverse}
 use Rattle.handle_model.specs.declared.entry.Home.{Home}
 use Rattle.handle_model.specs.declared.entry.Asked.{Asked}
@@ -8,7 +8,7 @@ use Rattle.handle_model.specs.declared.entry.Entry.{Entry}
 use Rattle.handle_model.specs.declared.base.Base.{Base}
 use Rattle.handle_model.specs.declared.entry.Entry.TheVariants.{Accept, Take, Deny, Cancel, Orphan}
 use Rattle.handle_model.specs.Slots.{opens}
-use Rattle.handle_model.specs.Journal.{waits, runs, is_shut, Fits}
+use Rattle.handle_model.specs.Journal.{waits, runs, Fits}
 use Rattle.handle_model.specs.History.{History, IsSound, since, with_entry, size}
 use Rattle.handle_model.proofs.Reversed.{reverse-snoc}
 use Rattle.handle_model.proofs.Tests.{and_left, or_right}
@@ -78,27 +78,6 @@ roomier home log new handles handles' calls calls' counts kept same spare h i ro
         issues = λ u. omega (arith, kept.shows.issues u, room);
       });
     }
-
--- of a group that has ended no room for handles is kept
-pub emptied : (home : Home) (log new : Logged) (handles handles' : Handles) (calls calls' : OpenCalls) (counts : Counts) → IsKept home log handles calls counts → list_any is_shut (logged home log).past ≡ true
-    → new ≡ log → handles'.home ≡ home → handles'.items ≡ handles.items → calls'.rows ≡ calls.rows → IsKept home new handles' calls' counts
-emptied home log new handles handles' calls calls' counts kept shut same home_is items rows =
-    let shows = kept.shows in
-    subst (λ (l : Logged). IsKept home l handles' calls' counts) (sym same) (record {
-      sound = kept.sound;
-      begun = kept.begun;
-      owes = kept.owes;
-      shows = record {
-        home_is = home_is;
-        items_are = items ∙ shows.items_are;
-        rows_are = rows ∙ shows.rows_are;
-        joined_is = shows.joined_is;
-        conns_are = shows.conns_are;
-        accepted_is = shows.accepted_is;
-        opened_is = shows.opened_is;
-        issues = λ u. absurd (let f = sym shut ∙ u in cc);
-      };
-    })
 
 pub accept_kept : (home : Home) (log new : Logged) (k : ℕ) (a : Asked) (handles handles' : Handles) (calls calls' : OpenCalls) (counts : Counts) (n : ℕ) → IsKept home log handles calls counts → Fits (logged home log) (Accept k a) → Came log (Accept k a) new → log.spare + 4 ≡ new.spare → handles'.home ≡ handles.home → handles'.items ≡ handles.items → calls'.rows ≡ calls.rows ++ record { call = k; conn = a.conn; slots = a.slots; place = size (logged home log); runs = false; cancelled = false; orphaned = false } ∷ [] → n ≡ length (filter opens a.slots) → openings_of calls.rows + n ≤ handles'.room → IsKept home new handles' calls' (record { joined = counts.joined; conns = counts.conns; accepted = counts.accepted + 1; opened = counts.opened + n })
 accept_kept home log new k a handles handles' calls calls' counts n kept fits entries spare h i r o room =
