@@ -175,7 +175,7 @@ over_shown j k l lt =
 abbrev pub has_number : ℕ → List ℕ → Bool
 has_number m xs = list_any (is_number m) xs
 
-none_least : (xs : List ℕ) → least xs ≡ None → xs ≡ []
+pub none_least : (xs : List ℕ) → least xs ≡ None → xs ≡ []
 none_least [] e = refl
 none_least (x ∷ xs) e = absurd (none_lesser x (least xs) e)
   where
@@ -230,7 +230,7 @@ least_same xs ys h = least_as xs ys (least xs) (least ys) h refl refl
 
 -- BLOCKERS
 
-number_filter : (p : ℕ → Bool) (m : ℕ) (xs : List ℕ) → has_number m (filter p xs) ≡ (has_number m xs && p m)
+pub number_filter : (p : ℕ → Bool) (m : ℕ) (xs : List ℕ) → has_number m (filter p xs) ≡ (has_number m xs && p m)
 number_filter p m [] = refl
 number_filter p m (x ∷ xs) =
     elim (eqb_tells x m) [
@@ -250,7 +250,7 @@ number_filter p m (x ∷ xs) =
     and_off true = refl
     and_off false = refl
 
-number_calls : (p : Row → Bool) (m : ℕ) (rows : List Row) → has_number m (calls (filter p rows)) ≡ list_any (is_of m p) rows
+pub number_calls : (p : Row → Bool) (m : ℕ) (rows : List Row) → has_number m (calls (filter p rows)) ≡ list_any (is_of m p) rows
 number_calls p m [] = refl
 number_calls p m (r ∷ rows) =
     elim (cases_Bool (p r)) [
@@ -279,14 +279,14 @@ running_row j ss m (Some a) l e =
       | inr r ↦ elim (cases_Bool (waits j m)) [ inl w ↦ rw (w, r) refl | inr w ↦ rw (w, r) refl ]
     ]
 
-taken_runs : (j : History) (m : ℕ) (b : Bool) → ((is_taken j m && runs j m) && b) ≡ (runs j m && b)
+pub taken_runs : (j : History) (m : ℕ) (b : Bool) → ((is_taken j m && runs j m) && b) ≡ (runs j m && b)
 taken_runs j m b =
     elim (cases_Bool (runs j m)) [
       | inl r ↦ let t = runs_taken j m r in rw (r, t) refl
       | inr r ↦ elim (cases_Bool (is_taken j m)) [ inl t ↦ rw (r, t) refl | inr t ↦ rw (r, t) refl ]
     ]
 
-running_numbers : (j : History) (k m : ℕ) → Legal j → has_number m (calls (filter (blocks_running (slots j k)) (rows_of j))) ≡ has_number m (filter (conflict j k) (running j))
+pub running_numbers : (j : History) (k m : ℕ) → Legal j → has_number m (calls (filter (blocks_running (slots j k)) (rows_of j))) ≡ has_number m (filter (conflict j k) (running j))
 running_numbers j k m l =
     number_calls (blocks_running (slots j k)) m (rows_of j) ∙ (any_rows j m (blocks_running (slots j k)) ∙ (running_row j (slots j k) m (asked j m) l refl ∙ sym (number_filter (conflict j k) m (running j) ∙ (ap (λ b. b && conflict j k m) (number_filter (runs j) m (taken j) ∙ ap (λ b. b && runs j m) (number_taken j m)) ∙ taken_runs j m (conflict j k m)))))
 
@@ -298,11 +298,11 @@ waiting_row j ss k m (Some a) e =
       | inr w ↦ elim (cases_Bool (runs j m)) [ inl r ↦ rw (w, r) refl | inr r ↦ rw (w, r) refl ]
     ]
 
-waits_listed : (j : History) (m : ℕ) (o : Option Asked) (b : Bool) → asked j m ≡ o → ((has_number m (accepted j) && waits j m) && b) ≡ (waits j m && b)
+pub waits_listed : (j : History) (m : ℕ) (o : Option Asked) (b : Bool) → asked j m ≡ o → ((has_number m (accepted j) && waits j m) && b) ≡ (waits j m && b)
 waits_listed j m None b e = let idle : waits j m ≡ false = rw e refl in rw idle (elim (cases_Bool (has_number m (accepted j))) [ inl t ↦ rw t refl | inr t ↦ rw t refl ])
 waits_listed j m (Some a) b e = let t = asked_listed j m a e in rw t refl
 
-waiting_numbers : (j : History) (k m : ℕ) → has_number m (calls (filter (blocks_waiting (slots j k) k) (rows_of j))) ≡ has_number m (filter (λ n. nat_lt n k && conflict j k n) (waiting j))
+pub waiting_numbers : (j : History) (k m : ℕ) → has_number m (calls (filter (blocks_waiting (slots j k) k) (rows_of j))) ≡ has_number m (filter (λ n. nat_lt n k && conflict j k n) (waiting j))
 waiting_numbers j k m =
     number_calls (blocks_waiting (slots j k) k) m (rows_of j) ∙ (any_rows j m (blocks_waiting (slots j k) k) ∙ (waiting_row j (slots j k) k m (asked j m) refl ∙ sym (number_filter (λ n. nat_lt n k && conflict j k n) m (waiting j) ∙ (ap (λ b. b && (nat_lt m k && conflict j k m)) (number_filter (waits j) m (accepted j)) ∙ waits_listed j m (asked j m) (nat_lt m k && conflict j k m) refl))))
 

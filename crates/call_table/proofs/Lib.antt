@@ -3,6 +3,8 @@ pub mod Counts
 pub mod Follows
 pub mod Found
 pub mod Keyed
+pub mod Lasting
+pub mod Later
 pub mod Marks
 pub mod Nearest
 pub mod Order

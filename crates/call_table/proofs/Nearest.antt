@@ -142,7 +142,7 @@ pub record Came (q : ℕ) (cs : List QueuedCall) (rows : List Row) (k from at : 
   pub is_there : IsIn q cs k at
   pub none_between : (n : ℕ) (d : Row) → from ≤ n → n < at → n < length rows → is_in q (queued (get_or rows n d)) ≡ false
 
-row_in : (cs : List QueuedCall) (rows : List Row) (n : ℕ) (d : Row) → cs ≡ map queued rows → n < length rows → get_or cs n (queued d) ≡ queued (get_or rows n d)
+pub row_in : (cs : List QueuedCall) (rows : List Row) (n : ℕ) (d : Row) → cs ≡ map queued rows → n < length rows → get_or cs n (queued d) ≡ queued (get_or rows n d)
 row_in cs rows n d e lt = ap (λ xs. get_or xs n (queued d)) e ∙ get_or-map queued rows n d (queued d) lt
 
 pub came : (q : ℕ) (cs : List QueuedCall) (rows : List Row) (k from at : ℕ) (d : Row) → Rises 0 rows → cs ≡ map queued rows → IsNext q cs from (Some k) → IsRow rows k at → Came q cs rows k from at

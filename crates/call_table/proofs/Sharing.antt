@@ -7,12 +7,14 @@ use Rattle.rpc_base.specs.declared.identifiers.WireHandle.{WireHandle}
 use Rattle.handle_model.specs.declared.entry.Slot.{Slot}
 use Rattle.handle_model.specs.Slots.{named, is_exclusive, clash, same_wire, is_null}
 use Rattle.handle_model.specs.Journal.{any_clash}
-use Rattle.handle_model.proofs.Tests.{and_left, and_right}
+use Rattle.handle_model.proofs.Tests.{and_left, and_right, or_cases}
 use Rattle.wait_list.specs.Stands.{is_same}
 use Rattle.wait_list.specs.Waiting.{some_of, numbers, has}
 use Rattle.call_table.specs.declared.row.Row.{Row}
 use Rattle.call_table.specs.declared.blocks.Blockers.{Blockers}
 use Rattle.call_table.specs.declared.blocks.Blockers.TheVariants.{Running, WaitingBelow}
+use Rattle.call_table.specs.Rows.{blocks_running, blocks_waiting}
+use Rattle.call_table.specs.Ahead.{is_ahead}
 use Rattle.call_table.specs.Queues.{queue_of, queue_in, queues_of, shares_one, shares, blocks}
 
 -- FOUR QUEUES
@@ -98,3 +100,15 @@ filter_as p q (x ∷ rows) h = rw (h x, filter_as p q rows h) refl
 pub blocks_shared : (kind : Blockers) (ss : List Slot) (rows : List Row) → filter (λ r. shares ss r && blocks kind ss r) rows ≡ filter (blocks kind ss) rows
 blocks_shared kind ss rows =
     filter_as (λ r. shares ss r && blocks kind ss r) (blocks kind ss) rows (λ r. and_kept (shares ss r) (blocks kind ss r) (λ h. clash_shares ss r (blocks_clash kind ss r h)))
+
+-- and so is what is ahead
+ahead_clash : (ss : List Slot) (k : ℕ) (r : Row) → is_ahead ss k r ≡ true → any_clash ss r.slots ≡ true
+ahead_clash ss k r h =
+    elim (or_cases (blocks_running ss r) (blocks_waiting ss k r) h) [
+      | inl a ↦ blocks_clash Running ss r a
+      | inr a ↦ blocks_clash (WaitingBelow k) ss r a
+    ]
+
+pub ahead_shared : (ss : List Slot) (k : ℕ) (rows : List Row) → filter (λ r. shares ss r && is_ahead ss k r) rows ≡ filter (is_ahead ss k) rows
+ahead_shared ss k rows =
+    filter_as (λ r. shares ss r && is_ahead ss k r) (is_ahead ss k) rows (λ r. and_kept (shares ss r) (is_ahead ss k r) (λ h. clash_shares ss r (ahead_clash ss k r h)))

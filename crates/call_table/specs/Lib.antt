@@ -1,3 +1,4 @@
+pub mod Ahead
 pub mod Based
 pub mod Kept
 pub mod Keys

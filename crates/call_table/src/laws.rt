@@ -1,4 +1,5 @@
 //! What the table of a legal journal shows, each law the contract of a function that does nothing.
+ghost use Rattle.call_table.specs.Ahead.{ShowsLast, NoneAheadOfFree};
 ghost use Rattle.call_table.specs.Laws.{ShowsBase, ShowsRow, ShowsStage, ShowsSlots, ShowsBlocker, ShowsCounts, FollowsEntries, NumbersRise, ShowsCalls, ShowsAsked};
 
 /// The rows of a base are those of its calls.
@@ -24,6 +25,16 @@ pub fn shows_slots()
 /// What stands in the way of a waiting call is its blocker.
 pub fn shows_blocker()
     ensures { ShowsBlocker }
+{}
+
+/// The last call in the way of a waiting call is that of the journal.
+pub fn shows_last()
+    ensures { ShowsLast }
+{}
+
+/// A waiting call has none in its way exactly where it has no blocker.
+pub fn none_ahead_of_free()
+    ensures { NoneAheadOfFree }
 {}
 
 /// There are as many calls, and as many handles that they may issue, as in the journal.

@@ -2,6 +2,7 @@
 //! table takes memory in `of` and `reserve` alone.
 #![tactic(auto)]
 
+mod ahead;
 mod based;
 mod blocking;
 mod blocks;
@@ -19,8 +20,8 @@ mod tally;
 
 pub use held::OpenRows;
 pub use laws::{
-    follows_entries, numbers_rise, shows_asked, shows_base, shows_blocker, shows_calls,
-    shows_counts, shows_row, shows_slots, shows_stage,
+    follows_entries, none_ahead_of_free, numbers_rise, shows_asked, shows_base, shows_blocker,
+    shows_calls, shows_counts, shows_last, shows_row, shows_slots, shows_stage,
 };
 pub use row::{CallSlots, Row};
 pub use table::CallTable;

@@ -5,9 +5,11 @@ ghost use Rattle.handle_model.specs.Bases.{numbers_of};
 ghost use Rattle.handle_model.specs.Sound.{rise, at_most, is_within};
 ghost use Rattle.handle_model.specs.Journal.{least};
 ghost use Rattle.call_table.specs.Shown.{base_rows};
+ghost use Rattle.call_table.specs.Ahead.{last_at};
 ghost use Rattle.call_table.specs.Based.{asked_at, stored_calls};
 ghost use Rattle.std.specs.Option.{option_copied};
 
+use crate::ahead::last_of;
 use crate::based::{least_place, stored, stored_calls};
 use crate::blocking::blocker_of;
 use crate::held::OpenRows;
@@ -149,6 +151,17 @@ impl CallTable {
         let at = place(&self.rows, call);
         let row = self.rows.row(at);
         blocker_of(row.slots.as_slice(), call, &self.rows, &self.queues)
+    }
+
+    /// The last of the calls that stand in the way of a waiting call: the greatest of the running ones that
+    /// use a handle which one of the two alone may use, and of the waiting ones of a lesser number.
+    pub fn last_ahead(&self, call: u32) -> Option<u32>
+        requires { spec.waits_at self.now.rows call ≡ true }
+        ensures { result ≡ last_at self.now.rows call }
+    {
+        let at = place(&self.rows, call);
+        let row = self.rows.row(at);
+        last_of(row.slots.as_slice(), call, &self.rows, &self.queues)
     }
 
     /// How many calls wait or run.

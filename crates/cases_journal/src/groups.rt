@@ -1,8 +1,9 @@
 //! Calls on groups, one a line: `CALL -> ANSWER`. A call is written as the line of the entry that it makes; what the group
 //! gives itself, numbers and cookies, is of no account there. `group ID` begins a group, and `journal` is followed by the
-//! lines of its journal, each behind a `=`; `entries`, `entry PLACE`, `asked CALL` and `stage CALL` ask the group, and `fold`
+//! lines of its journal, each behind a `=`; `entries`, `entry PLACE`, `asked CALL`, `stage CALL` and `ahead CALL` ask the group, and `fold`
 //! up to where its journal may be folded, and the base of all its entries. `N x CALL` makes a call so often, and the answer is
-//! that to the last one. `cancelled ACCEPT` cancels the call that is accepted. A call whose condition doesn't hold is not made.
+//! that to the last one. `cancelled ACCEPT` cancels the call that is accepted, and `give_back`
+//! has the group give memory back. A call whose condition doesn't hold is not made.
 
 mod answer;
 mod calls;
@@ -91,6 +92,10 @@ fn called(alloc: Global, group: &mut Group, call: &str) -> Result<Answer, NoMemo
     match word {
         "cancelled" => return given_up(alloc, group, rest),
         "thinned" => return of_queue(alloc, rest),
+        "give_back" => {
+            group.give_back();
+            return Ok(Answer::Stays);
+        }
         _ => {}
     }
     let Ok(number) = rest.parse::<u32>() else {
@@ -102,6 +107,7 @@ fn called(alloc: Global, group: &mut Group, call: &str) -> Result<Answer, NoMemo
         "refilled" => refilled(alloc, number),
         "asked" => Ok(Answer::Asked(group.asked(number))),
         "stage" => Ok(Answer::Stage(group.stage(number))),
+        "ahead" => Ok(Answer::Ahead(group.last_ahead(number))),
         "entry" => entry_at(alloc, group, number as usize),
         _ => made(alloc, group, call),
     }

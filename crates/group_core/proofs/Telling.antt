@@ -1,5 +1,6 @@
 -- What a group's tables say of a call, and what its calls add.
-use Rattle.std.proofs.Common.{◌≡◌, ℕ, ◌+◌, ◌≤◌, Bool, true, false, ◌||◌, if◌then◌else◌, Option, Some, None, List, [], ◌∷◌, length, take, refl, sym, ◌∙◌, ap, subst, arith}
+use Rattle.std.proofs.Common.{◌≡◌, ℕ, ◌+◌, ◌≤◌, Bool, true, false, ◌||◌, if◌then◌else◌, Option, Some, None, List, [], ◌∷◌, length, take, refl, sym, ◌∙◌, ap, subst, arith, inl, inr}
+use Rattle.std.proofs.lemmas.Bool.{cases_Bool}
 use Rattle.std.proofs.lemmas.Grind.{common_steps}
 use Rattle.handle_model.specs.declared.entry.Home.{Home}
 use Rattle.handle_model.specs.declared.entry.Slot.{Slot}
@@ -15,17 +16,19 @@ use Rattle.handle_table.specs.Uses.{fault_at, cookies_at}
 use Rattle.handle_table.proofs.Named.{fault_shown, cookies_shown}
 use Rattle.call_table.specs.declared.row.Row.{Row}
 use Rattle.call_table.specs.Rows.{OpenCalls, row_at, slots_in, slots_at, conflict_of, waits_at, runs_at, no_cookies}
+use Rattle.call_table.specs.Ahead.{greatest, calls_ahead, last_ahead, last_at}
 use Rattle.call_table.specs.Shown.{row_in, row_as, call_row}
 use Rattle.call_table.specs.Based.{asked_at}
 use Rattle.call_table.specs.Laws.{open_asked}
 use Rattle.call_table.proofs.Stored.{asked_shown}
+use Rattle.call_table.proofs.Lasting.{last_shown}
 use Rattle.call_table.proofs.Found.{row_shown, slots_shown, waits_shown, runs_shown, conflict_shown}
 use Rattle.group_core.specs.declared.counts.Counts.{Counts}
 use Rattle.group_core.specs.declared.judge.Judged.{Judged}
 use Rattle.group_core.specs.declared.judge.Judged.TheVariants.{Free, AtFault, Blocked, NotWaiting}
 use Rattle.group_core.specs.Adds.{Adds}
 use Rattle.group_core.specs.Calls.{cookie_row, first_serial, is_cancellable, is_orphanable}
-use Rattle.group_core.specs.Judges.{Judges, waits_in, runs_in, tells_in, drops_in, left_in, stage_in}
+use Rattle.group_core.specs.Judges.{Judges, waits_in, runs_in, tells_in, drops_in, left_in, stage_in, ahead_in}
 use Rattle.group_core.specs.Stages.{stage_of}
 use Rattle.group_core.specs.Kept.{IsKept, Logged, Came, logged}
 use Rattle.group_core.proofs.Found.{waits_row, runs_row, tells_row, drops_row, left_row}
@@ -82,6 +85,18 @@ JudgesPast j k NotWaiting = waits j k ≡ false
 blocker_is : (home : Home) (log : Logged) (handles : Handles) (calls : OpenCalls) (counts : Counts) (k : ℕ) → IsKept home log handles calls counts → waits (logged home log) k ≡ true → conflict_of calls.rows k ≡ blocker (logged home log) k
 blocker_is home log handles calls counts k kept w =
     ap (λ (rs : List Row). conflict_of rs k) kept.shows.rows_are ∙ conflict_shown (logged home log) k kept.sound.legal w
+
+-- the last in its way
+pub ahead_is : (home : Home) (log : Logged) (handles : Handles) (calls : OpenCalls) (counts : Counts) (k : ℕ) → IsKept home log handles calls counts → ahead_in calls.rows k ≡ last_ahead (logged home log) k
+ahead_is home log handles calls counts k kept =
+    let j = logged home log in
+    let w : waits_in (row_at calls.rows k) ≡ waits j k = waits_is home log handles calls counts k kept in
+    elim (cases_Bool (waits j k)) [
+      | inl t ↦
+          ap (λ b. if b then last_at calls.rows k else None) (w ∙ t)
+          ∙ (ap (λ (rs : List Row). last_at rs k) kept.shows.rows_are ∙ last_shown j k kept.sound.legal t)
+      | inr f ↦ ap (λ b. if b then last_at calls.rows k else None) (w ∙ f) ∙ sym (ap (λ b. if b then greatest (calls_ahead j k) else None) f)
+    ]
 
 fault_is : (home : Home) (log : Logged) (handles : Handles) (calls : OpenCalls) (counts : Counts) (k : ℕ) → IsKept home log handles calls counts → waits (logged home log) k ≡ true → fault_at handles.home handles.items (slots_at calls.rows k) ≡ fault (logged home log) k
 fault_is home log handles calls counts k kept w =

@@ -7,6 +7,7 @@ use Rattle.handle_table.specs.Handles.{Handles}
 use Rattle.handle_table.specs.Uses.{fault_at, cookies_at}
 use Rattle.call_table.specs.declared.row.Row.{Row}
 use Rattle.call_table.specs.Rows.{row_at, slots_at, conflict_of}
+use Rattle.call_table.specs.Ahead.{last_at}
 use Rattle.group_core.specs.declared.answer.Cancelled.{Cancelled}
 use Rattle.group_core.specs.declared.answer.Cancelled.TheVariants as cancelled
 use Rattle.group_core.specs.declared.answer.Orphaned.{Orphaned}
@@ -62,6 +63,10 @@ JudgesOrphan row orphaned.Late = (waits_in row ≡ false) × (drops_in row ≡ f
 -- where a call is
 abbrev pub stage_in : Option Row → Stage
 stage_in row = if waits_in row then stage.Waiting else (if runs_in row then stage.Running else stage.Over)
+
+-- the last call in the way of one that waits
+abbrev pub ahead_in : List Row → ℕ → Option ℕ
+ahead_in rows k = if waits_in (row_at rows k) then last_at rows k else None
 
 -- the Cancel and the Orphan that a call has not had
 abbrev pub left_in : Option Row → ℕ

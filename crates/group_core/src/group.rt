@@ -5,6 +5,7 @@ ghost use Rattle.std.specs.Option.{option_copied};
 ghost use Rattle.handle_model.specs.Journal as journal;
 ghost use Rattle.handle_model.specs.Bases.{empty_base};
 ghost use Rattle.handle_model.specs.History.{IsSound, since};
+ghost use Rattle.call_table.specs.Ahead as ahead;
 ghost use Rattle.call_table.specs.Laws.{open_asked};
 ghost use Rattle.journal_tables.specs.Folding.{BaseBegun};
 ghost use Rattle.group_core.specs.Stages as stages;
@@ -13,7 +14,7 @@ use crate::answer::{Cancelled, JoinRefusal, Orphaned, Stage, Taking};
 use crate::counts::{Counts, join_limit};
 use crate::fold::make_way;
 use crate::journal::Journal;
-use crate::judge::{Judged, entered, judge, judge_cancel, judge_orphan, stage_of};
+use crate::judge::{Judged, ahead_of, entered, judge, judge_cancel, judge_orphan, stage_of};
 use crate::log::Log;
 use call_table::CallTable;
 use handle_model::{Asked, Base, Entry, Home, JoinLimit, Slot};
@@ -211,6 +212,15 @@ impl Group {
         stage_of(&self.calls, call)
     }
 
+    /// The last of the calls that stand in the way of one that waits: the greatest of the running ones in
+    /// conflict with it, and of the waiting ones of a lesser number. There is none exactly where the call
+    /// doesn't wait or has no blocker (law `call_table::none_ahead_of_free`). It takes no memory.
+    pub fn last_ahead(&self, call: u32) -> Option<u32>
+        ensures { result ≡ ahead.last_ahead self.now call }
+    {
+        ahead_of(&self.calls, call)
+    }
+
     /// The slots of a call that waits or runs. It takes no memory.
     pub fn slots(&self, call: u32) -> &[Slot]
         requires { (journal.waits self.now call || journal.runs self.now call) ≡ true }
@@ -229,6 +239,18 @@ impl Group {
     {
         let journal = self.log.journal();
         self.calls.asked(journal.base(), journal.as_slice(), call)
+    }
+
+    /// Gives memory back where the group has ended: what it keeps is its journal, with room for no more.
+    pub fn give_back(&mut self)
+        ensures { self.new ≡ self.old }
+    {
+        if !self.has_shut() || self.handles.live() != 0 || !self.calls.is_empty() {
+            return;
+        }
+        self.handles = HandleTable::new(self.alloc, self.home.boot, self.home.group);
+        self.calls = CallTable::new(self.alloc);
+        self.log.trim();
     }
 
     /// Whether a call was cancelled after it was taken. It takes no memory.

@@ -145,6 +145,14 @@ impl Journal {
         self.entries.push_reserved(entry);
     }
 
+    /// Gives memory back for which no entry is to come.
+    pub(crate) fn trim(&mut self)
+        ensures { self.new ≡ self.old }
+    {
+        let wanted = self.entries.len() + self.spare;
+        self.entries.shrink_to(wanted);
+    }
+
     /// Drops the oldest entries, for a base that stands for them. Memory that is then far too much is
     /// given back.
     pub(crate) fn fold(&mut self, base: Base, count: usize)

@@ -88,6 +88,20 @@ pub fn stage_of(table: &CallTable, call: u32) -> Stage
     }
 }
 
+/// The last call that stands in the way of a call that waits.
+pub fn ahead_of(table: &CallTable, call: u32) -> Option<u32>
+    requires { spec.waits_in (row_at table.now.rows call) ≡ true → waits_at table.now.rows call ≡ true }
+    ensures { result ≡ spec.ahead_in table.now.rows call }
+{
+    let Some(row) = table.row(call) else {
+        return None;
+    };
+    if row.runs {
+        return None;
+    }
+    table.last_ahead(call)
+}
+
 /// The cookies of the slots, in a row of four.
 fn cookie_row(handles: &HandleTable, slots: &[Slot]) -> CookieRow
     requires { length slots.now ≤ 4 }

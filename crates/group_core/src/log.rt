@@ -120,6 +120,14 @@ impl Log {
         self.journal.fold(base, count);
     }
 
+    /// Gives memory back for which no entry is to come.
+    pub fn trim(&mut self)
+        ensures { self.new ≡ self.old }
+    {
+        self.marks.trim();
+        self.journal.trim();
+    }
+
     /// Whether a call was asked to end.
     pub fn asked(&self, call: u32) -> bool
         ensures { result ≡ kept.is_asked_in self.now call }

@@ -78,6 +78,16 @@ impl Marks {
         Ok(())
     }
 
+    /// Gives memory back for which there is to be no room.
+    pub fn trim(&mut self)
+        ensures { self.new ≡ self.old }
+    {
+        let wanted = self.early.len() + self.room;
+        self.early.shrink_to(wanted);
+        let wanted = self.later.len() + self.room;
+        self.later.shrink_to(wanted);
+    }
+
     /// A further call is accepted.
     pub fn accept(&mut self)
         requires { 1 ≤ self.old.room }

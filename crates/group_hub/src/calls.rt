@@ -3,6 +3,7 @@ ghost use Rattle.std.specs.Prelude.{◌≡◌, ◌≤◌, ℕ, true, IfOk, [], �
 ghost use Rattle.handle_model.specs.declared.entry.Entry.TheVariants as entry;
 ghost use Rattle.group_core.specs.Calls.{Accepts, Takes, Cancels, Orphans};
 ghost use Rattle.group_core.specs.declared.answer.Stage.TheVariants.{Over};
+ghost use Rattle.call_table.specs.Ahead.{last_ahead};
 ghost use Rattle.group_core.specs.Stages.{stage_of, is_asked};
 ghost use Rattle.hub_story.specs.declared.item.Item.TheVariants.{Of};
 ghost use Rattle.hub_story.specs.Directories.{is_retired_id};
@@ -156,5 +157,25 @@ impl Hub {
         let number = shard_of(group);
         self.shard(number)
             .asked(rt, &mut pass.shards[number], group, call)
+    }
+
+    /// The last of the calls that stand in the way of one that waits, as `Group::last_ahead`. It enters nothing
+    /// and takes no memory.
+    pub fn last_in_way<R: Wait>(
+        &self,
+        rt: &R,
+        pass: &mut Pass,
+        group: u32,
+        call: u32,
+    ) -> Option<u32>
+        requires pass { IsPassOf self.now pass.old }
+        requires known { Knows (at_shard pass.old (shard_of group)) group call }
+        ensures pass { IsPassOf self.now pass.new }
+        ensures call { LooksAt self.now.boot group pass.old pass.new (λ log. result ≡ last_ahead (journal_in self.now.boot group log) call) }
+        ensures still { StillHas (at_shard pass.old (shard_of group)) (at_shard pass.new (shard_of group)) [] }
+    {
+        let number = shard_of(group);
+        self.shard(number)
+            .last_in_way(rt, &mut pass.shards[number], group, call)
     }
 }

@@ -3,6 +3,7 @@ ghost use Rattle.std.specs.Prelude.{◌≡◌, ◌≤◌, ℕ, true, IfOk, [], �
 ghost use Rattle.handle_model.specs.declared.entry.Entry.TheVariants as entry;
 ghost use Rattle.group_core.specs.Calls.{Accepts, Takes, Cancels, Orphans};
 ghost use Rattle.group_core.specs.declared.answer.Stage.TheVariants.{Over};
+ghost use Rattle.call_table.specs.Ahead.{last_ahead};
 ghost use Rattle.group_core.specs.Stages.{stage_of, is_asked};
 ghost use Rattle.hub_story.specs.declared.item.Item.TheVariants.{Of};
 ghost use Rattle.hub_story.specs.Directories.{is_retired_id};
@@ -20,7 +21,7 @@ use crate::lock::ShardLock;
 use crate::shard_pass::ShardPass;
 use group_core::{AcceptRefusal, Cancelled, Orphaned, Stage, Taking};
 use handle_model::{Asked, Outcomes, Said};
-use hub_shard::{Accept, Ask, Cancel, End, HubRest, Leave, Orphan, Stand, Take};
+use hub_shard::{Accept, Ask, Cancel, End, HubRest, LastAhead, Leave, Orphan, Stand, Take};
 use std::sync::Wait;
 
 impl ShardLock {
@@ -148,5 +149,23 @@ impl ShardLock {
         ensures running { IsToldWhileItRuns self.now.boot group pass.new.log call result }
     {
         self.run::<Ask, R>(rt, pass, Ask { group, call })
+    }
+
+    /// The last of the calls that stand in the way of one that waits, as `Group::last_ahead`. It enters nothing
+    /// and takes no memory.
+    pub fn last_in_way<R: Wait>(
+        &self,
+        rt: &R,
+        pass: &mut ShardPass,
+        group: u32,
+        call: u32,
+    ) -> Option<u32>
+        requires pass { IsPassOf self.now pass.old }
+        requires known { Knows pass.old group call }
+        ensures pass { IsPassOf self.now pass.new }
+        ensures call { LooksWhere self.now.boot self.now.number pass.old pass.new (λ log. result ≡ last_ahead (journal_in self.now.boot group log) call) }
+        ensures still { StillHas pass.old pass.new [] }
+    {
+        self.run::<LastAhead, R>(rt, pass, LastAhead { group, call })
     }
 }

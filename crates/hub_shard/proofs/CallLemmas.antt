@@ -12,6 +12,8 @@ use Rattle.handle_model.specs.Bases.{empty_base}
 use Rattle.handle_model.specs.Journal.{is_open, is_shut, runs, suit, slots, cookies_for}
 use Rattle.handle_model.specs.History.{History, IsSound, since, with_entry}
 use Rattle.handle_model.proofs.Steps.{open_unshut, runs_unshut}
+use Rattle.call_table.specs.Ahead.{last_ahead}
+use Rattle.call_table.proofs.Lasting.{last_alike}
 use Rattle.group_core.specs.declared.answer.AcceptRefusal.{AcceptRefusal}
 use Rattle.group_core.specs.declared.answer.AcceptRefusal.TheVariants as refusal
 use Rattle.group_core.specs.declared.answer.Taking.{Taking}
@@ -31,7 +33,7 @@ use Rattle.hub_story.specs.declared.item.Item.{Item}
 use Rattle.hub_story.specs.Directories.{is_opened_id, is_retired_id, index_of}
 use Rattle.hub_story.specs.Histories.{marks_in, past_in, journal_in, home_of}
 use Rattle.hub_story.specs.Folded.{kept_with, kept_since, kept}
-use Rattle.hub_story.proofs.WholeLemmas.{Keeps, accepts_whole, takes_whole, cancels_whole, orphans_whole, settles_whole, stage_kept, open_kept, runs_mine, suit_kept, slots_kept}
+use Rattle.hub_story.proofs.WholeLemmas.{Keeps, accepts_whole, takes_whole, cancels_whole, orphans_whole, settles_whole, alike_kept, waits_kept, runs_kept, stage_kept, open_kept, runs_mine, suit_kept, slots_kept}
 use Rattle.hub_shard.specs.declared.answer.HubRest.{HubRest}
 use Rattle.hub_shard.specs.declared.answer.HubRest.TheVariants.{Stays, Shut}
 use Rattle.hub_shard.specs.declared.shard.Listed.{Listed}
@@ -131,3 +133,10 @@ module _ (x : ShardView) (log : List Item) (g : ℕ) (t : Told x log) (o : is_op
 
   pub asked_there : (k : ℕ) → (not (listed_at x (index_of g)).retired && is_asked (group_of x g) k) ≡ (not (is_retired_id (marks_in log) g) && is_asked (kept (journal_in x.boot g log)) k)
   asked_there k = λ i. not (opened_flag x log g t o i) && is_asked (opened_keeps x log g t o i) k
+
+  pub last_there : (k : ℕ) → last_ahead (group_of x g) k ≡ last_ahead (journal_in x.boot g log) k
+  last_there k =
+      let l = (t.story.sound g).legal in
+      ap (λ z. last_ahead z k) (opened_keeps x log g t o)
+      ∙ last_alike (kept (journal_in x.boot g log)) (journal_in x.boot g log) k (waits_kept (home_of x.boot g) (past_in g log) l) (runs_kept (home_of x.boot g) (past_in g log) l)
+      (alike_kept (home_of x.boot g) (past_in g log) l).asked_same

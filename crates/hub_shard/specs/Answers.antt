@@ -1,5 +1,5 @@
 -- What the acts of a shard ask of its history, what they answer, and what they add.
-use Rattle.std.specs.Prelude.{◌≡◌, ℕ, ◌<◌, ◌≤◌, Bool, true, false, ◌&&◌, not, Result, List, [], ◌∷◌, length}
+use Rattle.std.specs.Prelude.{◌≡◌, ℕ, ◌<◌, ◌≤◌, Bool, true, false, ◌&&◌, not, Option, Result, List, [], ◌∷◌, length}
 use Rattle.std.specs.List.{list_any}
 use Rattle.handle_model.specs.declared.entry.Asked.{Asked}
 use Rattle.handle_model.specs.declared.entry.DueItem.{DueItem}
@@ -8,6 +8,7 @@ use Rattle.handle_model.specs.declared.entry.Entry.TheVariants as entry
 use Rattle.handle_model.specs.Journal.{is_open, is_shut, runs, suit, slots}
 use Rattle.handle_model.specs.History.{History}
 use Rattle.handle_model.specs.Further.{with_entries}
+use Rattle.call_table.specs.Ahead.{last_ahead}
 use Rattle.group_core.specs.declared.answer.AcceptRefusal.{AcceptRefusal}
 use Rattle.group_core.specs.declared.answer.Taking.{Taking}
 use Rattle.group_core.specs.declared.answer.Cancelled.{Cancelled}
@@ -31,6 +32,7 @@ use Rattle.hub_shard.specs.declared.calls.End.{End}
 use Rattle.hub_shard.specs.declared.calls.Leave.{Leave}
 use Rattle.hub_shard.specs.declared.calls.Stand.{Stand}
 use Rattle.hub_shard.specs.declared.calls.Ask.{Ask}
+use Rattle.hub_shard.specs.declared.calls.LastAhead.{LastAhead}
 
 -- the items are entries of one group, which answers by its journal before and after them
 abbrev pub Answers : ℕ → ℕ → List Item → List Item → (History → History → Type 0) → Type 0
@@ -95,3 +97,9 @@ asks_ask a boot log = is_opened_id (marks_in log) a.group ≡ true
 -- by the journal as the group keeps it; never of a group that was retired
 abbrev pub gives_ask : Ask → ℕ → ℕ → List Item → Bool → List Item → Type 0
 gives_ask a boot s log r more = (more ≡ []) × (r ≡ (not (is_retired_id (marks_in log) a.group) && is_asked (kept (journal_in boot a.group log)) a.call))
+
+abbrev pub asks_ahead : LastAhead → ℕ → List Item → Type 0
+asks_ahead a boot log = is_opened_id (marks_in log) a.group ≡ true
+
+abbrev pub gives_ahead : LastAhead → ℕ → ℕ → List Item → Option ℕ → List Item → Type 0
+gives_ahead a boot s log r more = (more ≡ []) × (r ≡ last_ahead (journal_in boot a.group log) a.call)

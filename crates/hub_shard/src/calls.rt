@@ -4,6 +4,7 @@ ghost use Rattle.std.specs.List.{list_any};
 ghost use Rattle.handle_model.specs.Journal as journal;
 ghost use Rattle.group_core.specs.Calls.{Accepts, Takes, Cancels, Orphans, Ends};
 ghost use Rattle.group_core.specs.Conns.{Leaves};
+ghost use Rattle.call_table.specs.Ahead.{last_ahead};
 ghost use Rattle.group_core.specs.Stages.{stage_of, is_asked};
 ghost use Rattle.hub_shard.specs.Shards.{Has, Touched, group_of, listed_at};
 ghost use Rattle.hub_story.specs.Directories.{index_of};
@@ -159,6 +160,14 @@ impl Shard {
     {
         let listed = &self.groups[index_of(group)];
         !listed.retired && listed.group.asked(call)
+    }
+
+    fn last_in_way(&self, group: u32, call: u32) -> Option<u32>
+        requires { Has self.now group }
+        ensures { result ≡ last_ahead (group_of self.now group) call }
+    {
+        let listed = &self.groups[index_of(group)];
+        listed.group.last_ahead(call)
     }
 }
 
@@ -380,5 +389,26 @@ impl Act for Ask {
 
     fn act(self, shard: &mut Shard) -> (bool, u64) {
         (shard.asked(self.group, self.call), 0)
+    }
+}
+
+/// It is asked which call is the last in the way of one that waits.
+#[derive(Clone, Copy)]
+pub struct LastAhead {
+    pub group: u32,
+    pub call: u32,
+}
+
+impl Act for LastAhead {
+    ghost use Rattle.hub_shard.specs.Answers.{asks_ahead, gives_ahead};
+
+    type Answer = Option<u32>;
+
+    ghost asks = { asks_ahead };
+
+    ghost gives = { gives_ahead };
+
+    fn act(self, shard: &mut Shard) -> (Option<u32>, u64) {
+        (shard.last_in_way(self.group, self.call), 0)
     }
 }

@@ -18,7 +18,7 @@ mod shard;
 
 pub use act::Act;
 pub use answer::{Absence, FindRefusal, HubRest, OpenRefusal, Retired, ShutKey};
-pub use calls::{Accept, Ask, Cancel, End, Leave, Orphan, Stand, Take};
+pub use calls::{Accept, Ask, Cancel, End, LastAhead, Leave, Orphan, Stand, Take};
 pub use copy::Copied;
 pub use find::Find;
 pub use opening::OpenNext;

@@ -1,12 +1,22 @@
 //! A group that has ended is retired.
 ghost use Rattle.std.specs.Prelude.{◌≡◌, ◌≤◌};
 ghost use Rattle.hub_shard.specs.Shards.{Has};
-ghost use Rattle.hub_shard.specs.Retirings.{RetiresAs};
+ghost use Rattle.hub_shard.specs.Retirings.{retired_listed, RetiresAs};
 
 use crate::act::Act;
 use crate::answer::{Retired, ShutKey};
-use crate::shard::{Shard, index_of};
+use crate::shard::{Listed, Shard, index_of};
 use hub_story::Mark;
+
+impl Listed {
+    /// Its handles were run down: of what it has, it keeps its journal.
+    fn retire(&mut self)
+        ensures { self.new ≡ retired_listed self.old }
+    {
+        self.group.give_back();
+        self.retired = true;
+    }
+}
 
 impl Shard {
     /// Marks a group as retired, in the room that was made when it was opened.
@@ -17,7 +27,7 @@ impl Shard {
     {
         self.open_groups -= 1;
         self.marks.push_reserved(Mark::Retired(group));
-        self.groups[index_of(group)].retired = true;
+        self.groups[index_of(group)].retire();
     }
 }
 

@@ -117,4 +117,5 @@ module _ {K M : Type 0} (shows : K → Shown) (may : M → Call → Bool → Ans
   pub goes_from : (a b : Line K) (w : Went K) → IsSame a b → Goes shows may tables s b w → Goes shows may tables s a w
   goes_from a b (went.On l) same x = (same_then a b l same x.0, x.1)
   goes_from a b (went.Stop l why) same x = (same_then a b l same x.0, x.1)
+  goes_from a b (went.Drop l why k) same x = (same_then a b l same x.0, x.1)
   goes_from a b (went.Over r) same x = over_from a b r same x

@@ -120,4 +120,5 @@ module _ {K M : Type 0} (shows : K → Shown) (may : M → Call → Bool → Ans
   abbrev pub Goes : Line K → Went K → Type 0
   Goes old (went.On l) = IsSame old l × IsReady shows (may s.manager.now) (tables s.manager.now) s.hub.now l
   Goes old (went.Stop l why) = IsSame old l × IsStopping shows (may s.manager.now) (tables s.manager.now) s.hub.now l why
+  Goes old (went.Drop l why k) = IsSame old l × IsStopping shows (may s.manager.now) (tables s.manager.now) s.hub.now l why
   Goes old (went.Over r) = IsOverFrom old r

@@ -18,7 +18,7 @@ use rpc_base::Status;
 use rpc_outside::Link;
 use server_calls::{Manager, Ready, prepared};
 use server_ends::Finished;
-use server_steps::{Fault, Heard, Line, Server, Stop};
+use server_steps::{Fault, Heard, Line, Listening, Server, Stop, turn_of};
 use std::sync::Wait;
 use std::sync::atomic::AtomicU64;
 use std::thread::Threads;
@@ -45,6 +45,8 @@ pub(crate) enum Went<K: Link> {
     On(Line<K>),
     /// It doesn't go on.
     Stop(Line<K>, Stop),
+    /// It doesn't go on, and its call of that number waits.
+    Drop(Line<K>, Stop, u32),
     /// It is over.
     Over(Finished<K>),
 }
@@ -55,7 +57,8 @@ fn rest<R: Wait>(rt: &R) {
 }
 
 /// Waits until a call is taken or denied, and hears meanwhile whether it is called off. A call that can't be taken at once has its
-/// link listen to its group, and rests in a take of it, or without one where what came has to wait.
+/// link listen for the end of the last call in its way, and rests in a take of it, or without one where what came has to wait. It
+/// rests only where a look since it listens still found that call the last.
 fn await_turn<R: Wait, K: Link, M: Manager>(
     rt: &R,
     server: Server<'_, M>,
@@ -68,7 +71,7 @@ fn await_turn<R: Wait, K: Link, M: Manager>(
     ensures awaits { Awaits K.shows M.may M.tables server.entry call asked.now result line.new }
 {
     let Server { hub, manager, .. } = server;
-    let (mut is_waiting, mut listens) = (false, false);
+    let mut ahead = Listening::nothing();
     for _ in rt.forever() {
         match line.take(rt, hub, manager, call, asked) {
             Taking::Run(row, serial) => return Awaited::Run(row, serial),
@@ -78,14 +81,14 @@ fn await_turn<R: Wait, K: Link, M: Manager>(
             Taking::Dropped => unreachable!(),
             Taking::Wait(_) => {}
         }
-        if !is_waiting {
-            is_waiting = true;
-            listens = line.wire.link.listen(rt, line.group);
+        ahead = line.listen_ahead(rt, hub, manager, call, asked, ahead);
+        if ahead.call.is_none() {
+            continue;
         }
         match line.hear_waiting(hub, manager, call, asked) {
             Heard::Nothing => {
                 let must_wait = line.wire.conn.must_wait();
-                if !listens || (must_wait && !line.wire.link.rest(rt)) {
+                if !ahead.listens || (must_wait && !line.wire.link.rest(rt)) {
                     rest(rt);
                 }
             }
@@ -146,20 +149,17 @@ fn serve_ready<R: Wait + Threads + Sync, K: Link, M: Manager + Sync>(
     let mut line = line;
     let call = match line.accept(rt, server.hub, server.manager, given, marked) {
         Ok(call) => call,
-        Err(status) => {
-            line.wire.link.ring(rt, line.group);
-            return answer(server, line, &Reply::Never(status));
-        }
+        Err(status) => return answer(server, line, &Reply::Never(status)),
     };
     let awaited = await_turn(rt, server, &mut line, call, &asked);
     line.wire.link.unlisten(rt);
     let (row, serial) = match awaited {
         Awaited::Run(row, serial) => (row, serial),
         Awaited::Told(reply) => {
-            line.wire.link.ring(rt, line.group);
+            line.wire.link.ring(rt, turn_of(line.group, call));
             return answer(server, line, &reply);
         }
-        Awaited::Stop(why) => return Went::Stop(line, why),
+        Awaited::Stop(why) => return Went::Drop(line, why, call),
     };
     let taken = TakenCall {
         call,

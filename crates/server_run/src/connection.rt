@@ -18,7 +18,7 @@ use manager_api::Served;
 use rpc_outside::Link;
 use server_calls::Manager;
 use server_ends::{Ending, Finished};
-use server_steps::{Line, Server, Stop, Wire, close};
+use server_steps::{Line, Server, Stop, Wire, close, ring_over};
 use std::alloc::Global;
 use std::sync::Wait;
 use std::thread::Threads;
@@ -64,13 +64,14 @@ fn finish_alone<K: Link, M: Manager>(
     }
 }
 
-/// A connection of a group that doesn't go on leaves, and is closed.
+/// A connection of a group that doesn't go on leaves, and is closed. A call of it that waits is then over.
 fn finish<R: Wait, K: Link, M: Manager>(
     rt: &R,
     hub: &Hub,
     manager: &M,
     line: Line<K>,
     why: Stop,
+    waiting: Option<u32>,
 ) -> Finished<K>
     requires { IsStopping K.shows (M.may manager.now) (M.tables manager.now) hub.now line why }
     ensures pass { IsPassOf hub.now result.pass }
@@ -78,7 +79,7 @@ fn finish<R: Wait, K: Link, M: Manager>(
 {
     let mut line = line;
     line.leave(rt, hub, manager, why);
-    line.wire.link.ring(rt, line.group);
+    ring_over(rt, &line.wire.link, line.group, waiting);
     let Line {
         wire,
         pass,
@@ -112,7 +113,12 @@ fn serve_calls<R: Wait + Threads + Sync, K: Link, M: Manager + Sync>(
     for _ in rt.forever() {
         match serve_next(rt, server, line) {
             Went::On(next) => line = next,
-            Went::Stop(line, why) => return finish(rt, server.hub, server.manager, line, why),
+            Went::Stop(line, why) => {
+                return finish(rt, server.hub, server.manager, line, why, None);
+            }
+            Went::Drop(line, why, call) => {
+                return finish(rt, server.hub, server.manager, line, why, Some(call));
+            }
             Went::Over(finished) => return finished,
         }
     }
@@ -155,7 +161,7 @@ pub fn serve_connection<R: Wait + Threads + Sync, K: Link, M: Manager + Sync>(
     };
     match enter(rt, hub, manager, wire, pass) {
         Entered::Joined(line) => return serve_calls(rt, server, line),
-        Entered::Stopped(line, why) => return finish(rt, hub, manager, line, why),
+        Entered::Stopped(line, why) => return finish(rt, hub, manager, line, why, None),
         Entered::Alone(wire, pass, why) => return finish_alone(manager, hub, wire, pass, why),
     }
 }

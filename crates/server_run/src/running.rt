@@ -11,7 +11,7 @@ use ndr_value::Message;
 use rpc_outside::Link;
 use server_calls::{Manager, Room, first_cookies};
 use server_ends::Finished;
-use server_steps::{Gone, Line, RunningCall, Server, Task, Worked};
+use server_steps::{Gone, Line, RunningCall, Server, Task, Worked, turn_of};
 use std::sync::Wait;
 use std::sync::atomic::AtomicU64;
 use std::thread::Threads;
@@ -68,7 +68,7 @@ fn finish_departed<R: Wait, K: Link, M: Manager>(
         retired,
         ..
     } = gone;
-    link.ring(rt, group);
+    link.ring(rt, turn_of(group, call));
     Finished {
         link,
         pass,
@@ -121,7 +121,7 @@ pub(crate) fn run_call<R: Wait + Threads + Sync, K: Link, M: Manager + Sync>(
     match run_beside(rt, server, line, running, cookies, task) {
         Beside::On(mut line, orphaned, worked) => {
             let reply = line.end(rt, hub, manager, call, asked, cookies, orphaned, worked);
-            line.wire.link.ring(rt, line.group);
+            line.wire.link.ring(rt, turn_of(line.group, call));
             Ran::On(line, reply)
         }
         Beside::Left(departed, worked) => {

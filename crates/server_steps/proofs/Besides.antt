@@ -85,7 +85,7 @@ use Rattle.server_steps.proofs.LeaveLemmas.{held_settled, serves_ended}
 
 -- ---- what the pass of a worker knows
 
-known_in : (c k : ℕ) (past : List Entry) → list_any (accepts_of c k) past ≡ true → list_any (accepts k) past ≡ true
+pub known_in : (c k : ℕ) (past : List Entry) → list_any (accepts_of c k) past ≡ true → list_any (accepts k) past ≡ true
 known_in c k [] h = absurd cc
 known_in c k (Accept m a ∷ past) h = by_tests (m == k) (a.conn == c) (known_in c k past) h
   where

@@ -1,7 +1,7 @@
 -- Where a request comes to, by what its group answers of its call.
 use Rattle.std.proofs.Common.{◌≡◌, ℕ, ◌+◌, ◌-◌, ◌^◌, ◌<◌, Bool, true, false, Option, List, [], ◌∷◌, ◌++◌, length, filter, refl, sym, ap, ◌∙◌, subst, arith}
 use Rattle.std.specs.List.{list_any}
-use Rattle.std.proofs.lemmas.List.{append_cancel_right}
+use Rattle.std.proofs.lemmas.List.{append_cancel_right, append-nil}
 use Rattle.rpc_base.specs.declared.identifiers.Status.{Status}
 use Rattle.rpc_outside.specs.Links.{Shown}
 use Rattle.handle_model.specs.declared.entry.Home.{Home}
@@ -31,7 +31,8 @@ use Rattle.hub_story.specs.Still.{IsTaken as HubTaken}
 use Rattle.group_hub.specs.declared.hub.Hub.{Hub}
 use Rattle.group_hub.specs.declared.pass.Pass.{Pass}
 use Rattle.group_hub.specs.Shards.{shard_of}
-use Rattle.group_hub.specs.Passes.{IsPassOf, at_shard, CallsAt}
+use Rattle.hub_story.specs.declared.item.Item.{Item}
+use Rattle.group_hub.specs.Passes.{IsPassOf, at_shard, CallsAt, LooksAt}
 use Rattle.hub_shard.specs.declared.answer.Retired.{Retired}
 use Rattle.pdu_stream.specs.declared.joined.Joined.{Joined}
 use Rattle.ndr_table.specs.Tables.{TableForm}
@@ -57,8 +58,10 @@ use Rattle.server_steps.specs.Held.{past_at, Held}
 use Rattle.server_steps.specs.Lines.{server}
 use Rattle.server_steps.specs.Calls.{request, IsCalled, IsAsking, IsWaiting, IsCalledOff, IsTaken, IsSettled}
 use Rattle.server_steps.specs.Steps.{TakesSo}
+use Rattle.server_ends.specs.Owning.{Grown}
+use Rattle.server_ends.proofs.PassLemmas.{grown_more}
 use Rattle.server_steps.proofs.Suiting.{filled_first, first_small, taken_suits}
-use Rattle.server_steps.proofs.Holding.{none_shut, one_shut, retired_still, Stepped, stepped, entered}
+use Rattle.server_steps.proofs.Holding.{none_shut, one_shut, retired_still, Stepped, stepped, entered, marked}
 
 -- ---- what has an open call
 
@@ -82,6 +85,18 @@ module _ (s : Server) (boot : ℕ) (p q r : Pass) (g c : ℕ) (retired : Option 
         entered s boot p q r g c retired false (open_turn offs slots' fate ∷ ts) h Answers step o.es retired false (open_turn o.offs o.slots o.fate ∷ ts) same
         (subst (λ (z : List Entry × List Entry). Made s (home_of boot g) c z.0 false (open_turn o.offs o.slots o.fate ∷ ts) z.1) (λ i. (sym step.after i, o.grows i)) o.made)
         (h.retired_is ∙ retired_still g o.es h.mine (ap (list_any is_shut) same ∙ none))
+
+-- ---- a look at a group enters nothing
+
+grown_self : (s : ℕ) (p : Pass) → Grown s p p []
+grown_self s p = record {
+  fronts = λ t low. ([], sym (append-nil (at_shard p t).log));
+  owns = ([], sym (append-nil (at_shard p s).own), refl);
+  others = λ t low apart. refl;
+}
+
+pub looks_none : (boot g : ℕ) (p q : Pass) (Says : List Item → Type 0) → LooksAt boot g p q Says → Grown (shard_of g) p q []
+looks_none boot g p q Says looks = grown_more boot (shard_of g) p p q [] looks.here.0 [] (grown_self (shard_of g) p) looks.here.1 looks.others
 
 -- ---- which entries come
 
@@ -254,6 +269,33 @@ module _ {K : Type 0} (shows : K → Shown) (may : Call → Bool → Ans → Typ
         iface = x.iface;
         slots = x.slots;
         called = called_then l q k a x (taking.Wait m) call pass still x.slots Waiting o.so.0 o.so.4 o.so.5;
+        has = still.has_call l.group l.number k tt x.has;
+        apart = x.apart;
+        unmarked = x.unmarked;
+        asked = x.asked;
+        opened = x.opened;
+        before = x.before;
+        numbered = x.numbered;
+        fits = x.fits;
+      }
+
+  -- a look at its group leaves it waiting
+  pub waits_on : (l : Line K) (q : Pass) (k : ℕ) (a : Asked) (Says : List Item → Type 0) (x : IsWaiting shows may tables hub l k a) → LooksAt hub.boot l.group l.pass q Says → IsPassOf hub q
+      → StillHas (at_shard l.pass (shard_of l.group)) (at_shard q (shard_of l.group)) [] → IsWaiting shows may tables hub (record l { pass = q }) k a
+  waits_on l q k a Says x looks pass still =
+      let turns = request x.j x.iface [] (Accepted k x.slots Waiting) ∷ x.called.turns in
+      record {
+        j = x.j;
+        iface = x.iface;
+        slots = x.slots;
+        called = record {
+          pass = pass;
+          serves = still.serves l.group l.number tt x.called.serves;
+          turns = x.called.turns;
+          done = x.called.done;
+          held = marked served hub.boot l.began.value l.pass q l.group l.number l.retired false turns x.called.held looks.here.0 [] looks.here.1 looks.others (λ o. refl);
+          told = x.called.told;
+        };
         has = still.has_call l.group l.number k tt x.has;
         apart = x.apart;
         unmarked = x.unmarked;

@@ -9,6 +9,7 @@ ghost use Rattle.server_steps.specs.Steps.{AcceptsSo, TakesSo};
 ghost use Rattle.server_steps.specs.Stops.{refused_as};
 
 use crate::line::Line;
+use crate::turns::turn_of;
 use group_core::{AcceptRefusal, Taking};
 use group_hub::Hub;
 use handle_model::Asked;
@@ -30,7 +31,8 @@ pub fn accept_status(refusal: AcceptRefusal) -> Status
 }
 
 impl<K: Link> Line<K> {
-    /// Has the group accept the call of a request, and cancel it at once where the request is marked so.
+    /// Has the group accept the call of a request, and cancel it at once where the request is marked so, which wakes whoever
+    /// waited for it already.
     ///
     /// # Errors
     ///
@@ -53,6 +55,7 @@ impl<K: Link> Line<K> {
         };
         if marked {
             let _ = hub.cancel(rt, &mut self.pass, self.group, call);
+            self.wire.link.ring(rt, turn_of(self.group, call));
             return Err(Status::NCA_S_FAULT_CANCEL);
         }
         Ok(call)

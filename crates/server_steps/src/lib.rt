@@ -19,6 +19,7 @@ mod leaving;
 mod line;
 mod probing;
 mod stop;
+mod turns;
 mod wire;
 mod working;
 
@@ -29,5 +30,6 @@ pub use gone::Gone;
 pub use line::Line;
 pub use probing::{HubProbe, Place};
 pub use stop::Stop;
+pub use turns::{Listening, ring_over, turn_of};
 pub use wire::{Fault, Heard, Wire};
 pub use working::{Promised, RunningCall, Server, Task, Worked, work};

@@ -21,6 +21,8 @@ pub enum Answer {
     Shut(Vec<DueItem>),
     Asked(bool),
     Stage(Stage),
+    /// The last call in the way.
+    Ahead(Option<u32>),
     /// An entry's line.
     Line(Vec<u8>),
     /// The condition of the call doesn't hold, so it was not made.
@@ -45,6 +47,7 @@ impl fmt::Display for Answer {
             Answer::Shut(items) => write!(f, "{items:?}"),
             Answer::Asked(asked) => write!(f, "{asked}"),
             Answer::Stage(stage) => write!(f, "{stage:?}"),
+            Answer::Ahead(ahead) => write!(f, "{ahead:?}"),
             Answer::Line(line) => {
                 match str::from_utf8(line.as_slice()) {
                     Ok(line) => write!(f, "{line}"),
