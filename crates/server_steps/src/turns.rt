@@ -63,12 +63,12 @@ impl<K: Link> Line<K> {
         ensures waits { IsWaiting K.shows (M.may _manager.now) (M.tables _manager.now) hub.now self.new call _asked.now }
     {
         let last = hub.last_in_way(rt, &mut self.pass, self.group, call);
-        listening(rt, &self.wire.link, self.group, last, before)
+        listen_for(rt, &self.wire.link, self.group, last, before)
     }
 }
 
 /// What a link listens for once that call is the last in the way.
-fn listening<R: Wait, K: Link>(
+fn listen_for<R: Wait, K: Link>(
     rt: &R,
     link: &K,
     group: u32,
