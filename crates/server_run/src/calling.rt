@@ -81,9 +81,8 @@ fn await_turn<R: Wait, K: Link, M: Manager>(
             Taking::Dropped => unreachable!(),
             Taking::Wait(_) => {}
         }
-        let before = ahead.call;
         ahead = line.listen_ahead(rt, hub, manager, call, asked, ahead);
-        if ahead.call.is_none() || ahead.call != before {
+        if ahead.call.is_none() {
             continue;
         }
         match line.hear_waiting(hub, manager, call, asked) {
