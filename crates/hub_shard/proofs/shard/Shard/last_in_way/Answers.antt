@@ -1,4 +1,4 @@
-use Rattle.std.proofs.Common.{◌≡◌, ◌∙◌, ap, slice_index_or}
+use Rattle.std.proofs.Common.{◌≡◌, ◌∙◌, ap, List, slice_index_or}
 use Rattle.call_table.specs.Ahead.{last_ahead}
 use Rattle.hub_story.specs.Directories.{index_of}
 use Rattle.hub_shard.specs.declared.shard.Listed.{Listed}
