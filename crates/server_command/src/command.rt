@@ -44,7 +44,7 @@ where
     ensures why { IfErr result (IsWhy D.Link.shows (May (shown_by (λ t. t) echo)) (tables_with (shown_by (λ t. t) echo)) boot (D.shows door.old) at most (D.shows door.new)) }
 {
     let tally = Arc::new(alloc, Tally::new())?;
-    let service = DeskService::new(alloc, at, echo, Arc::try_clone(&tally)?)?;
+    let (service, desks) = DeskService::new(alloc, at, echo, Arc::try_clone(&tally)?)?;
     let service = Arc::new(alloc, service)?;
-    serve_over(rt, alloc, boot, &service, door, at, most, &tally)
+    serve_over(rt, alloc, boot, &service, desks, door, at, most, &tally)
 }
