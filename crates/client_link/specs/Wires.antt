@@ -59,6 +59,11 @@ pub record Spoken (interface : TableForm) (a b : Shown) (events : List ClientEve
 abbrev pub Stays : {K : Type 0} → Wire K → Wire K → Type 0
 Stays old new = new ≡ record old { client = new.client; feed = new.feed; link = new.link }
 
+-- Nothing was begun: the machine is in its state, and nothing was heard, taken or put. It is open where the link failed.
+abbrev pub IsUnbegun : {K : Type 0} → Wire K → BeginFault → Wire K → Type 0
+IsUnbegun old begin.Failed new = ⊤
+IsUnbegun old _ new = (state new.client ≡ state old.client) × (new.feed ≡ old.feed) × (new.link ≡ old.link)
+
 -- the count rose so often, or stands at its type's end
 abbrev pub RoseBy : ℕ → ℕ → ℕ → Type 0
 RoseBy times before now = min (before + times) (2 ^ 64 - 1) ≤ now

@@ -6,7 +6,7 @@ ghost use Rattle.client_core.specs.Calls.{IsMessage};
 ghost use Rattle.client_core.specs.States.{at_start, is_bound, is_calling};
 ghost use Rattle.client_core.specs.Histories.ClientEvent.{DidBind, DidCall, DidCancel};
 ghost use Rattle.client_core.specs.State.{state};
-ghost use Rattle.client_link.specs.Wires.{IsOpen, Stays, Lived, HasBegun, IsTooLong};
+ghost use Rattle.client_link.specs.Wires.{IsOpen, Stays, Lived, HasBegun, IsUnbegun, IsTooLong};
 
 use client_core::Client;
 use ndr_codec::EncodeFault;
@@ -85,6 +85,7 @@ impl<K: Link> Wire<K> {
         requires open { IsOpen K.shows self.old.link }
         ensures stays { Stays self.old self.new }
         ensures begins { HasBegun K.shows (DidBind group) (λ m. ⊥) self.old result self.new }
+        ensures unbegun { IfErr result (λ why. IsUnbegun self.old why self.new) }
         ensures short { IfErr result (λ fault. fault ≢ BeginFault.TooLong) }
         ensures open { IsOpen K.shows self.new.link }
     {
@@ -106,6 +107,7 @@ impl<K: Link> Wire<K> {
         requires open { IsOpen K.shows self.old.link }
         ensures stays { Stays self.old self.new }
         ensures begins { HasBegun K.shows (DidCall op (msg message.now)) (λ m. IsTooLong m.interface op (msg message.now)) self.old result self.new }
+        ensures unbegun { IfErr result (λ why. IsUnbegun self.old why self.new) }
         ensures open { IsOpen K.shows self.new.link }
     {
         let octets = match self.client.call(op, message) {
@@ -127,6 +129,7 @@ impl<K: Link> Wire<K> {
         requires open { IsOpen K.shows self.old.link }
         ensures stays { Stays self.old self.new }
         ensures begins { HasBegun K.shows DidCancel (λ m. ⊥) self.old result self.new }
+        ensures unbegun { IfErr result (λ why. IsUnbegun self.old why self.new) }
         ensures open { IsOpen K.shows self.new.link }
     {
         let octets = self.client.cancel()?;

@@ -1,5 +1,5 @@
 //! The events of an interface's text, and what its names stand for.
-ghost use Rattle.std.specs.Prelude.{◌≡◌, ◌∷◌, [], reverse, OnOk, option_copied};
+ghost use Rattle.std.specs.Prelude.{◌≡◌, ◌∷◌, [], reverse, OnOk, OnErr, option_copied};
 ghost use Rattle.std.specs.List.{count_by};
 ghost use Rattle.rpc_base.specs.Named.{at_name};
 ghost use Rattle.idl_outline.specs.Kept as kept;
@@ -101,7 +101,8 @@ impl Outline {
     /// `NoMemory` where there is no memory for it; the outline is then as it was.
     #[tactic(auto, using(crate::proofs::Past::kept))]
     pub fn happen(&mut self, event: Event) -> Result<(), NoMemory>
-        ensures { OnOk result (self.new ≡ event ∷ self.old) }
+        ensures ok { OnOk result (self.new ≡ event ∷ self.old) }
+        ensures err { OnErr result (self.new ≡ self.old) }
     {
         let operations = self.operations + one_if(is_operation(&event));
         let typedefs = self.typedefs + one_if(is_typedef(&event));

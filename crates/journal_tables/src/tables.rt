@@ -135,10 +135,11 @@ impl Tables {
     /// Makes room for what the entry adds.
     ///
     /// # Errors
-    /// `NoMemory` where memory runs out; what the tables hold is then as before.
+    /// `NoMemory` where memory runs out; the tables are then as before.
     pub fn reserve(&mut self, entry: &Entry) -> Result<(), NoMemory>
         ensures ok { OnOk result (spec.HasRoom self.new entry.now) }
         ensures same { self.new.tables ≡ self.old.tables }
+        ensures err { OnErr result (self.new ≡ self.old) }
     {
         match entry {
             Entry::Join { .. } => self.reserve_conns(1)?,
@@ -153,6 +154,7 @@ impl Tables {
     fn reserve_issues(&mut self, results: &[Outcome]) -> Result<(), NoMemory>
         ensures ok { OnOk result (issue_count results.now ≤ self.new.handle_room) }
         ensures same { self.new.tables ≡ self.old.tables }
+        ensures err { OnErr result (self.new ≡ self.old) }
     {
         self.reserve_handles(results.len())
     }

@@ -14,6 +14,7 @@ use Rattle.conn_asks.specs.Answers.{closing}
 use Rattle.conn_asks.specs.States.{accepted, IsStuck, MayFail}
 use Rattle.conn_core.specs.Fields.{KeepsState, Knows}
 use Rattle.conn_core.specs.Steps.{IsFree, behind}
+use Rattle.mpx_asks.specs.declared.open_calls.OpenCall.{OpenCall}
 use Rattle.mpx_asks.specs.Among.{MpxState, AsksAmong, is_many, DoesWithin, SkipsAmong, SkipsAllAmong, ActsOr}
 use Rattle.mpx_conn.specs.declared.next.Step.{Step}
 use Rattle.mpx_conn.specs.declared.next.Step.TheVariants.{Stuck, Skipped, Acted}
@@ -23,6 +24,11 @@ use Rattle.mpx_conn.specs.Fields.{MpxFields, IsAmong}
 abbrev pub Shortens : Result Step NoMemory → ℕ → ℕ → Type 0
 Shortens (Ok Skipped) old new = new < old
 Shortens _ old new = ⊤
+
+-- the same calls are unanswered where nothing was done, and where memory ran out
+abbrev pub KeepsCalls : Result Step NoMemory → List OpenCall → List OpenCall → Type 0
+KeepsCalls (Ok (Acted act)) old new = ⊤
+KeepsCalls _ old new = new ≡ old
 
 -- a step from a state
 abbrev pub StepsFrom : MpxState → Result Step NoMemory → MpxFields → Type 0

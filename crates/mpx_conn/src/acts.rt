@@ -1,5 +1,5 @@
 //! What is done at what a PDU asks.
-ghost use Rattle.std.specs.Prelude.{◌≡◌, ◌<◌, ◌≤◌, ℕ, length, IfOk};
+ghost use Rattle.std.specs.Prelude.{◌≡◌, ◌<◌, ◌≤◌, ℕ, length, IfOk, OnErr};
 ghost use Rattle.pdu_codec.specs.Constants.{least_fragment};
 ghost use Rattle.presentation.specs.Offers.{interface_of};
 ghost use Rattle.conn_asks.specs.declared.events.Ask.TheVariants as asks;
@@ -72,6 +72,7 @@ fn call(
 ) -> Result<Done, NoMemory>
     ensures calls { IfOk result (λ done. CallsWithin (has joined.call_id out.old) (is_full out.old) (interface_of contexts.now.accepted joined.context) joined out.old done.0 done.1 out.new) }
     ensures can { IfOk result (λ done. CanStand done.1) }
+    ensures kept { OnErr result (out.new ≡ out.old) }
 {
     let caller = Caller {
         order: joined.order,
@@ -114,6 +115,7 @@ pub(crate) fn act(
     requires { IsAnswerable ask }
     ensures acts { ActsWith contexts.old out.old agreement ask result contexts.new out.new }
     ensures can { IfOk result (λ done. CanStand done.1) }
+    ensures kept { OnErr result (out.new ≡ out.old) }
 {
     match ask {
         Ask::Bind(caller, _, body) => bind(alloc, contexts, agreement, caller, body),

@@ -92,7 +92,8 @@ impl MpxConn {
     ///
     /// `NoMemory` where there is no memory for the act or the fragments: it is that for good then.
     pub fn next(&mut self) -> Result<Option<Act>, NoMemory>
-        ensures { Leads (λ m n. GoesAmong m result n) self.old self.new }
+        ensures goes { Leads (λ m n. GoesAmong m result n) self.old self.new }
+        ensures kept { OnErr result (self.new.out ≡ self.old.out) }
     {
         match self.go() {
             Ok(act) => Ok(act),

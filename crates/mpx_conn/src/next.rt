@@ -1,5 +1,5 @@
 //! The next act of a connection.
-ghost use Rattle.std.specs.Prelude.{◌≡◌, ◌<◌, ◌||◌, length};
+ghost use Rattle.std.specs.Prelude.{◌≡◌, ◌<◌, ◌||◌, length, OnErr};
 ghost use Rattle.pdu_stream.specs.Cuts.{IsStop};
 ghost use Rattle.conn_asks.specs.Asks.{is_bind, offered_by};
 ghost use Rattle.conn_asks.specs.declared.events.Waits.TheVariants.{Nothing};
@@ -25,13 +25,14 @@ pub enum Step {
 
 impl MpxConn {
     ghost use Rattle.conn_core.specs.Steps.{Passes};
-    ghost use Rattle.mpx_conn.specs.Steps.{Shortens, Stops, StepsFrom, GoesFrom, IsFreeAmong, HearsAt};
+    ghost use Rattle.mpx_conn.specs.Steps.{Shortens, KeepsCalls, Stops, StepsFrom, GoesFrom, IsFreeAmong, HearsAt};
     ghost use Rattle.mpx_conn.specs.Fields.{IsAmong};
 
     /// The steps up to the next act.
     pub(crate) fn go(&mut self) -> Result<Option<Act>, NoMemory>
         ensures passes { Passes self.old.conn self.new.conn }
         ensures goes { (m : AState) → IsAmong self.old m → GoesFrom m result self.new }
+        ensures kept { OnErr result (self.new.out ≡ self.old.out) }
     {
         loop {
             match self.step()? {
@@ -46,6 +47,7 @@ impl MpxConn {
         ensures passes { Passes self.old.conn self.new.conn }
         ensures shorter { Shortens result (length self.old.conn.fed.rest) (length self.new.conn.fed.rest) }
         ensures steps { (m : AState) → IsAmong self.old m → StepsFrom m result self.new }
+        ensures kept { KeepsCalls result self.old.out self.new.out }
     {
         match &self.waits {
             Waits::Nothing => self.step_free(),
@@ -61,6 +63,7 @@ impl MpxConn {
         ensures passes { Passes self.old.conn self.new.conn }
         ensures shorter { Shortens result (length self.old.conn.fed.rest) (length self.new.conn.fed.rest) }
         ensures steps { (m : AState) → IsAmong self.old m → StepsFrom m result self.new }
+        ensures kept { KeepsCalls result self.old.out self.new.out }
     {
         match self.feed.next() {
             Ok(Some(pdu)) => self.hear(pdu),
@@ -78,6 +81,7 @@ impl MpxConn {
         ensures ids { self.new.conn.served.ids ≡ self.old.conn.served.ids }
         ensures agreement { self.new.conn.agreement ≡ self.old.conn.agreement }
         ensures heard { (m : AState) → IsFreeAmong self.old m → HearsAt m pdu result self.new }
+        ensures kept { KeepsCalls result self.old.out self.new.out }
     {
         let bound = self.bound;
         self.bound = is_bound(bound, &pdu);

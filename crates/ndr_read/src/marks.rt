@@ -1,5 +1,5 @@
 //! What is noted of a stub while it is read.
-ghost use Rattle.std.specs.Prelude.{◌≡◌, [], ◌∷◌, ◌++◌, OnOk};
+ghost use Rattle.std.specs.Prelude.{◌≡◌, [], ◌∷◌, ◌++◌, OnOk, OnErr};
 
 use ndr_model::Mark;
 use rpc_base::NoMemory;
@@ -57,9 +57,10 @@ impl Marks {
     ///
     /// # Errors
     ///
-    /// `NoMemory` where memory runs out.
+    /// `NoMemory` where memory runs out; the marks are then as before.
     pub fn push(&mut self, mark: Mark) -> Result<(), NoMemory>
-        ensures { OnOk result (self.new ≡ self.old ++ mark ∷ []) }
+        ensures ok { OnOk result (self.new ≡ self.old ++ mark ∷ []) }
+        ensures err { OnErr result (self.new ≡ self.old) }
     {
         if self.all.is_empty() {
             if self.count < FEW {

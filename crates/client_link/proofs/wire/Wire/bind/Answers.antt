@@ -21,3 +21,8 @@ returns-in_err-put_all-clause-open g c = c.in_err-put_all.ensures.1.1.closed ∙
 
 pub returns-clause-open : goal.returns-clause-open
 returns-clause-open g c = c.in_ok-put_all.ensures.closed ∙ c.requires.open
+
+pub returns-in_err-put_all-clause-unbegun : goal.returns-in_err-put_all-clause-unbegun
+returns-in_err-put_all-clause-unbegun g c =
+    let p = err_from_is_err_and c.from_residual-in_err-put_all.result c.from_residual-in_err-put_all.ensures.1 in
+    rw (p.1, p.2) tt

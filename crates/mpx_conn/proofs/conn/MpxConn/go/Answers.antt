@@ -1,4 +1,4 @@
-use Rattle.std.proofs.Common.{Ok, subst}
+use Rattle.std.proofs.Common.{Ok, subst, ◌∙◌}
 use Rattle.std.proofs.lemmas.Result.{err_from_is_err_and}
 use Rattle.conn_core.proofs.Passing.{passes_then}
 use Rattle.mpx_conn.specs.declared.next.Step.{Step}
@@ -22,6 +22,7 @@ loop-act-preserved c =
     record {
       passes = passes_then c.args.self.now.conn t.conn u.conn c.loop-act.invariant.passes c.step.ensures.passes;
       goes = λ m at. skip_more m t u (c.loop-act.invariant.goes m at) (λ n here. subst (λ (x : Step). StepsFrom n (Ok x) u) c.in-Skipped.is (c.in_ok-step.ensures.steps n here));
+      kept = (rw c.in-Skipped.is at c.in_ok-step.ensures.kept) ∙ c.loop-act.invariant.kept;
     }
 
 pub returns-in_err-step-clause-goes : goal.returns-in_err-step-clause-goes
