@@ -20,10 +20,13 @@ build_bench() { # [NAME]
     sum=$("$top/tools/lay.py" "$room" "$name") || return 1
     bench=$room/crates/$name/out/$name
     if [ -x "$bench" ] && [ "$sum" = "$(cat "$room/built" 2>/dev/null)" ]; then return 0; fi
-    (cd "$room/crates/$name" && rt run </dev/null >"$room/said" 2>&1) || {
+    rm -f "$bench"
+    # It plays the program too, which prints more than nothing: only that it is there counts.
+    (cd "$room" && rt ci </dev/null >"$room/said" 2>&1) || :
+    if [ ! -x "$bench" ]; then
         tail -n 20 "$room/said" >&2
         return 1
-    }
+    fi
     echo "$sum" >"$room/built"
 }
 
