@@ -1,14 +1,13 @@
 //! A server over a door in memory.
 ghost use Rattle.std.specs.Prelude.{IfOk};
-ghost use Rattle.std.specs.Arc.{arc_value};
-ghost use Rattle.group_hub.specs.Passes.{IsPassOf};
+ghost use Rattle.cases_served.specs.Passes.{AreOf};
 
 use crate::tied::{Running, Tied, Ties};
 use base_words::{put, put_decimal};
 use cases_base::put_debug;
 use cases_links::{LinkPlan, PlayDoor, PlayLink};
 use desk_counts::Tally;
-use desk_locks::DeskService;
+use desk_locks::{DeskService, SharedPass};
 use group_hub::{Hub, Pass};
 use rpc_base::{NoMemory, Numbers};
 use rpc_outside::Address;
@@ -27,6 +26,13 @@ pub struct Done {
     pub joined: Option<(u32, u32)>,
     pub puts: Vec<u8>,
     pub ends: Vec<u8>,
+}
+
+/// A thread's passes of a server's groups and of its services.
+#[derive(Drop)]
+pub struct Passes {
+    pub groups: Pass,
+    pub desks: SharedPass,
 }
 
 /// A server of the built-in services, with its groups.
@@ -69,9 +75,9 @@ fn done_of(alloc: Global, settled: Settled<CountLink<PlayLink>>) -> Result<Done,
 }
 
 impl Server {
-    /// A new one, whose calls run so, and the pass to its groups.
-    pub fn new(alloc: Global, running: Running) -> Result<(Server, Pass), NoMemory>
-        ensures { IfOk result (λ made. IsPassOf (arc_value made.0.hub) made.1) }
+    /// A new one, whose calls run so, and its first passes.
+    pub fn new(alloc: Global, running: Running) -> Result<(Server, Passes), NoMemory>
+        ensures { IfOk result (λ made. AreOf made.0 made.1) }
     {
         let at = Address {
             ip: [127, 0, 0, 1],
@@ -79,9 +85,9 @@ impl Server {
         };
         let ties = Ties::new(alloc)?;
         let tally = Arc::new(alloc, Tally::new())?;
-        let desks = DeskService::new(alloc, at, None, tally.clone()?)?;
-        let service = Arc::new(alloc, Tied::new(desks, running, ties.copy()?))?;
-        let (hub, pass) = Hub::new(alloc, BOOT)?;
+        let (service, desks) = DeskService::new(alloc, at, None, tally.clone()?)?;
+        let service = Arc::new(alloc, Tied::new(service, running, ties.copy()?))?;
+        let (hub, groups) = Hub::new(alloc, BOOT)?;
         let hub = Arc::new(alloc, hub)?;
         let server = Server {
             hub,
@@ -89,7 +95,7 @@ impl Server {
             ties,
             tally,
         };
-        Ok((server, pass))
+        Ok((server, Passes { groups, desks }))
     }
 
     /// Serves a link of each plan, all side by side: what they come to, in their order.
@@ -97,21 +103,29 @@ impl Server {
         &self,
         rt: R,
         alloc: Global,
-        pass: Pass,
+        passes: Passes,
         plans: Vec<LinkPlan>,
-    ) -> Result<(Pass, Vec<Done>), NoMemory>
-        requires { IsPassOf (arc_value self.now.hub) pass }
-        ensures { IfOk result (λ round. IsPassOf (arc_value self.now.hub) round.0) }
+    ) -> Result<(Passes, Vec<Done>), NoMemory>
+        requires { AreOf self.now passes }
+        ensures { IfOk result (λ round. AreOf self.now round.0) }
     {
         let most = u32::try_from(plans.len()).unwrap_or(u32::MAX);
         let mut door = PlayDoor::new(alloc, plans, Numbers::new(alloc));
         let (service, hub) = (&self.service, &self.hub);
-        let round = serve(rt, alloc, service, hub, pass, &mut door, most, &self.tally);
-        let Round { pass, finished, .. } = round;
+        let Passes { groups, desks } = passes;
+        let tally = &self.tally;
+        let (round, desks) = serve(
+            rt, alloc, service, hub, groups, desks, &mut door, most, tally,
+        );
+        let Round {
+            pass: groups,
+            finished,
+            ..
+        } = round;
         let mut done = Vec::new(alloc);
         for settled in finished {
             done.push(done_of(alloc, settled)?)?;
         }
-        Ok((pass, done))
+        Ok((Passes { groups, desks }, done))
     }
 }

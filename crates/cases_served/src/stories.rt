@@ -19,9 +19,10 @@
 ghost use Rattle.std.specs.Prelude.{IfOk};
 ghost use Rattle.std.specs.Arc.{arc_value};
 ghost use Rattle.group_hub.specs.Passes.{IsPassOf};
+ghost use Rattle.cases_served.specs.Passes.{AreOf};
 
 use crate::seen::{Case, Links, judged, put_audit, put_joined};
-use crate::server::Server;
+use crate::server::{Passes, Server};
 use crate::setup::Setup;
 use base_words::put_decimal;
 use cases_base::{
@@ -40,24 +41,24 @@ fn rounds<R: Wait + Threads + Send + Sync + Copy + 'static>(
     alloc: Global,
     case: Case<'_>,
     server: &Server,
-    pass: Pass,
+    passes: Passes,
     links: &mut Links<'_>,
     count: u32,
-) -> Result<(Pass, Step), NoMemory>
-    requires { IsPassOf (arc_value server.now.hub) pass }
-    ensures { IfOk result (λ r. IsPassOf (arc_value server.now.hub) r.0) }
+) -> Result<(Passes, Step), NoMemory>
+    requires { AreOf server.now passes }
+    ensures { IfOk result (λ r. AreOf server.now r.0) }
 {
-    let mut pass = pass;
+    let mut passes = passes;
     for _ in 0..count {
         let Some(plans) = links.plans(alloc, case, &server.ties)? else {
-            return Ok((pass, Step::Outside));
+            return Ok((passes, Step::Outside));
         };
-        let (next, done) = server.round(rt, alloc, pass, plans)?;
-        pass = next;
+        let (next, done) = server.round(rt, alloc, passes, plans)?;
+        passes = next;
         links.done = done;
     }
     links.to_come.clear();
-    Ok((pass, Step::Held))
+    Ok((passes, Step::Held))
 }
 
 /// So many groups are opened: what the hub answers at last.
@@ -163,21 +164,22 @@ fn stepped<'a, R: Wait + Threads + Send + Sync + Copy + 'static>(
     alloc: Global,
     case: Case<'_>,
     server: &Server,
-    pass: Pass,
+    passes: Passes,
     links: &mut Links<'a>,
     line: &'a str,
     come: &mut Vec<u8>,
-) -> Result<(Pass, Step), NoMemory>
-    requires { IsPassOf (arc_value server.now.hub) pass }
-    ensures { IfOk result (λ r. IsPassOf (arc_value server.now.hub) r.0) }
+) -> Result<(Passes, Step), NoMemory>
+    requires { AreOf server.now passes }
+    ensures { IfOk result (λ r. AreOf server.now r.0) }
 {
     if let ("serve", count) = first_word(line) {
         let count = count.parse::<u32>().unwrap_or(1);
-        return rounds(rt, alloc, case, server, pass, links, count);
+        return rounds(rt, alloc, case, server, passes, links, count);
     }
-    let mut pass = pass;
-    let step = asked(&rt, alloc, case.names, server, &mut pass, links, line, come)?;
-    Ok((pass, step))
+    let mut passes = passes;
+    let groups = &mut passes.groups;
+    let step = asked(&rt, alloc, case.names, server, groups, links, line, come)?;
+    Ok((passes, step))
 }
 
 /// Plays the steps of a case in one way. Of one that differs the others aren't played: it is given, and what came is put.
@@ -188,13 +190,13 @@ fn differing<'a, R: Wait + Threads + Send + Sync + Copy + 'static>(
     steps: &[&'a StoryLine],
     come: &mut Vec<u8>,
 ) -> Result<Option<&'a StoryLine>, CasesFault> {
-    let (server, mut pass) = Server::new(alloc, case.setup.running(case.way))?;
+    let (server, mut passes) = Server::new(alloc, case.setup.running(case.way))?;
     let mut links = Links::new(alloc);
     for line in steps {
         come.clear();
         let text = line.text.as_str();
-        let (next, step) = stepped(rt, alloc, case, &server, pass, &mut links, text, come)?;
-        pass = next;
+        let (next, step) = stepped(rt, alloc, case, &server, passes, &mut links, text, come)?;
+        passes = next;
         match step {
             Step::Held => {}
             Step::Outside => return Err(CasesFault::Line(line.number)),

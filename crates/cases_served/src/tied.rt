@@ -2,7 +2,8 @@
 ghost use Rattle.std.specs.Prelude.{◌≡◌, false};
 
 use cases_links::{Flag, Flags, Gates, is_open, open};
-use desk_locks::DeskService;
+use desk_locks::{DeskService, SharedPass};
+use desk_told::Telling;
 use handle_model::{CookieRow, Due};
 use manager_api::{Answer, Probe, Served};
 use ndr_value::Message;
@@ -111,7 +112,9 @@ fn is_told<P: Probe>(probe: &mut P, asks: u32) -> bool
 
 impl Tied {
     /// Before the first call.
-    pub fn new(desks: DeskService, running: Running, ties: Ties) -> Tied {
+    pub fn new(desks: DeskService, running: Running, ties: Ties) -> Tied
+        ensures { result.desks ≡ desks }
+    {
         Tied {
             desks,
             running,
@@ -153,39 +156,62 @@ impl Tied {
 impl Manager for Tied {
     ghost use Rattle.std.specs.Prelude.{⊤};
     ghost use Rattle.desk_locks.specs.Calls.{tables_of};
+    ghost use Rattle.desk_locks.specs.Passes.{IsPassOf};
+
+    type Pass = SharedPass;
 
     ghost tables = { λ s. tables_of s.desks };
 
+    ghost is_pass = { λ s pass. IsPassOf s.desks pass };
+
     ghost may = { λ s call told answer. ⊤ };
 
-    fn call<R: Wait, P: Probe>(
+    ghost enters = { λ s before call told answer after. ⊤ };
+
+    ghost runs_down = { λ s before item after. ⊤ };
+
+    ghost splits = { λ s before kept other. ⊤ };
+
+    ghost joins = { λ s before other after. ⊤ };
+
+    fn call<R: Wait, P: Telling>(
         &self,
         rt: &R,
+        pass: SharedPass,
         iface: u16,
         op: u16,
         message: Message,
         cookies: CookieRow,
         probe: &mut P,
-    ) -> Answer {
+    ) -> (SharedPass, Answer) {
         if is_told(probe, self.running.asks) {
-            return Answer::Fault(Status::NCA_S_FAULT_CANCEL);
+            return (pass, Answer::Fault(Status::NCA_S_FAULT_CANCEL));
         }
         if self.running.held == Some(op) {
             self.wait();
         }
         if self.running.meets && !self.has_company() {
-            return Answer::Fault(Status::NCA_S_FAULT_UNSPEC);
+            return (pass, Answer::Fault(Status::NCA_S_FAULT_UNSPEC));
         }
-        self.desks.call(rt, iface, op, message, cookies, probe)
+        self.desks
+            .call(rt, pass, iface, op, message, cookies, probe)
     }
 
     fn is_brief(&self, _iface: u16, _op: u16, _stub: usize) -> bool {
         self.running.is_brief
     }
 
-    fn rundown<R: Wait>(&self, rt: &R, due: Due) {
+    fn rundown<R: Wait>(&self, rt: &R, pass: SharedPass, due: Due) -> SharedPass {
         self.rundowns.fetch_add(1, Ordering::SeqCst);
-        self.desks.rundown(rt, due);
+        self.desks.rundown(rt, pass, due)
+    }
+
+    fn split(&self, pass: &mut SharedPass) -> SharedPass {
+        self.desks.split(pass)
+    }
+
+    fn join(&self, pass: &mut SharedPass, other: SharedPass) {
+        self.desks.join(pass, other);
     }
 }
 

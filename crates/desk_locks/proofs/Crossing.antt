@@ -1,4 +1,5 @@
 -- What the services consist of may cross threads, stage by stage: one search through all of it would be too long.
+use denote.RattleType.{RattleType}
 use denote.Param.Send.{IsSend, IsSync, sendable}
 use Rattle.std.proofs.Crossing.{crosses}
 use Rattle.std.proofs.MapsCrossing.{crosses as maps}
@@ -12,6 +13,12 @@ use Rattle.echo_manager.specs.contracts.probe.ProbeDesk as Probe
 use Rattle.store_manager.specs.contracts.desk.StoreDesk as Store
 use Rattle.epm_manager.specs.contracts.desk.EpmDesk as Map
 use Rattle.desk_counts.specs.contracts.tally.Tally as Tally
+use Rattle.turn_lock.proofs.lock.TurnLock.TheSendSync.{the_field_send as lock_send, the_field_sync as lock_sync}
+use Rattle.manager_api.specs.declared.desk.FixedDesk.{Ghosts as Fixed}
+use Rattle.manager_api.specs.declared.desk.Desk.{Ghosts as Answering}
+use Rattle.handle_model.specs.declared.due.Rundown.{Ghosts as Running}
+use Rattle.desk_told.specs.contracts.state.DeskState as State
+use Rattle.desk_told.specs.contracts.desk.ToldDesk as Told
 use Rattle.desk_locks.specs.contracts.shared.SharedDesks as Desks
 use Rattle.desk_locks.specs.contracts.service.DeskService as Service
 
@@ -58,6 +65,15 @@ tally_send = search sendable depth 40
 tally_sync : IsSync (Tally.the_field).row
 tally_sync = search (crosses, sendable) depth 40
 
+state_send : (D : RattleType) → IsSend D → IsSend (State.the_row D)
+state_send D s = search (crosses, sendable) depth 40
+
+told_send : (D : RattleType) (f : Fixed D.Denot) (a : Answering D.Denot) (r : Running D.Denot) → IsSend D → IsSend (Told.the_field D f a r).row
+told_send D f a r s = let t = state_send D s in search (crosses, lock_send, sendable) depth 40
+
+told_sync : (D : RattleType) (f : Fixed D.Denot) (a : Answering D.Denot) (r : Running D.Denot) → IsSend D → IsSync (Told.the_field D f a r).row
+told_sync D f a r s = let t = state_send D s in search (crosses, lock_sync, sendable) depth 40
+
 pub desks_send : IsSend (Desks.the_field).row
 desks_send =
     let a = table_send in
@@ -66,7 +82,7 @@ desks_send =
     let d = tally_send in
     let e = tally_sync in
     let f = probe_send in
-    search (crosses, items_send, sendable) depth 40
+    search (crosses, items_send, told_send, sendable) depth 40
 
 pub desks_sync : IsSync (Desks.the_field).row
 desks_sync =
@@ -76,7 +92,7 @@ desks_sync =
     let d = tally_send in
     let e = tally_sync in
     let f = probe_send in
-    search (crosses, items_sync, sendable) depth 40
+    search (crosses, items_sync, told_sync, sendable) depth 40
 
 -- ---- the service
 

@@ -1,6 +1,7 @@
 -- Which service gives up the state behind a handle whose group has ended.
-use Rattle.std.specs.Prelude.{ℕ, ◌==◌, Bool, ◌&&◌, if◌then◌else◌}
+use Rattle.std.specs.Prelude.{◌≡◌, ℕ, ◌==◌, Bool, ◌&&◌, if◌then◌else◌}
 use Rattle.desk_service.specs.Rundowns.{iface_in}
+use Rattle.desk_locks.specs.declared.shared.SharedDesks.{SharedDesks}
 use Rattle.desk_locks.specs.declared.keeper.Keeper.{Keeper}
 use Rattle.desk_locks.specs.declared.keeper.Keeper.TheVariants as keepers
 
@@ -29,3 +30,11 @@ place_at echoes iface =
 -- that of the interface in the handle's kind
 abbrev pub place_for : Bool → ℕ → Place
 place_for echoes kind = place_at echoes (iface_in kind)
+
+-- a keeper of these services is one of them
+abbrev pub HoldsOwn : SharedDesks → Keeper → Type 0
+HoldsOwn d (keepers.Probe desk) = desk.now ≡ d.probe
+HoldsOwn d (keepers.Store desk) = desk.now ≡ d.store
+HoldsOwn d (keepers.Endpoints desk) = desk.now ≡ d.endpoints
+HoldsOwn d keepers.Management = Unit {0}
+HoldsOwn d (keepers.Echo table) = Unit {0}

@@ -7,7 +7,9 @@
 mod endpoints;
 mod keeper;
 mod lasting;
+mod laws;
 mod locked;
+mod pass;
 mod served;
 mod service;
 mod shared;
@@ -16,6 +18,8 @@ mod shared;
 const BRIEF: usize = 65_536;
 
 pub use keeper::Keeper;
+pub use laws::{chains_gain, each_stands_once};
 pub use locked::Locked;
+pub use pass::SharedPass;
 pub use service::DeskService;
 pub use shared::SharedDesks;

@@ -1,11 +1,13 @@
 //! The service with which connections are served.
 ghost use Rattle.std.specs.Prelude.{◌≡◌};
 
+use crate::pass::SharedPass;
 use crate::shared::SharedDesks;
 use desk_counts::Tally;
 use desk_service::tables_with;
+use desk_told::Telling;
 use handle_model::{CookieRow, Due};
-use manager_api::{Answer, Probe, Served};
+use manager_api::{Answer, Served};
 use ndr_table::Table;
 use ndr_value::Message;
 use rpc_base::NoMemory;
@@ -54,8 +56,9 @@ impl DeskService {
     ghost use Rattle.desk_service.specs.Shows.{shown_by};
     ghost use Rattle.desk_locks.specs.Calls.{echo_of};
     ghost use Rattle.desk_locks.specs.Offers.{OffersAll};
+    ghost use Rattle.desk_locks.specs.Passes.{IsFresh, IsPassOf};
 
-    /// The services before the first call, with an echo of that interface. Each interface is registered in the endpoint
+    /// The services before the first call, with an echo of that interface, and their first pass. Each interface is registered in the endpoint
     /// map at the address. Management tells the numbers of `tally`.
     ///
     /// # Errors
@@ -66,45 +69,73 @@ impl DeskService {
         at: Address,
         echo: Option<Table>,
         tally: Arc<Tally, Global>,
-    ) -> Result<DeskService, NoMemory>
-        ensures echo { IfOk result (λ service. echo_of service ≡ shown_by (λ t. t) echo) }
-        ensures offers { IfOk result (OffersAll at) }
+    ) -> Result<(DeskService, SharedPass), NoMemory>
+        ensures echo { IfOk result (λ made. echo_of made.0 ≡ shown_by (λ t. t) echo) }
+        ensures offers { IfOk result (λ made. OffersAll at made.0) }
+        ensures pass { IfOk result (λ made. IsPassOf made.0 made.1) }
+        ensures fresh { IfOk result (λ made. IsFresh made.0 made.1) }
     {
         let served = tables_with(alloc, echo.as_ref())?;
-        let desks = SharedDesks::new(alloc, at, echo, tally)?;
-        Ok(shared(DeskService {
+        let (desks, pass) = SharedDesks::new(alloc, at, echo, tally)?;
+        let service = DeskService {
             alloc,
             desks,
             served,
-        }))
+        };
+        Ok((shared(service), pass))
     }
 }
 
 impl Manager for DeskService {
     ghost use Rattle.desk_locks.specs.Calls.{echo_of, tables_of, May};
+    ghost use Rattle.desk_locks.specs.Entering.{Enters};
+    ghost use Rattle.desk_locks.specs.Passes.{IsPassOf, Splits, Joins};
+    ghost use Rattle.desk_locks.specs.Rundowns.{RanDown};
+
+    type Pass = SharedPass;
 
     ghost tables = { tables_of };
 
-    ghost may = { λ s call told answer. May (echo_of s) call told answer };
+    ghost is_pass = { IsPassOf };
 
-    fn call<R: Wait, P: Probe>(
+    ghost may = { λ m call told answer. May (echo_of m) call told answer };
+
+    ghost enters = { Enters };
+
+    ghost runs_down = { RanDown };
+
+    ghost splits = { λ m before kept other. Splits before kept other };
+
+    ghost joins = { λ m before other after. Joins before other after };
+
+    fn call<R: Wait, P: Telling>(
         &self,
         rt: &R,
+        pass: SharedPass,
         iface: u16,
         op: u16,
         message: Message,
         cookies: CookieRow,
         probe: &mut P,
-    ) -> Answer {
-        self.desks.call(rt, iface, op, message, cookies, probe)
+    ) -> (SharedPass, Answer) {
+        self.desks
+            .call(rt, pass, iface, op, message, cookies, probe)
     }
 
     fn is_brief(&self, iface: u16, op: u16, stub: usize) -> bool {
         self.desks.is_brief(iface, op, stub)
     }
 
-    fn rundown<R: Wait>(&self, rt: &R, due: Due) {
-        self.desks.rundown(rt, due);
+    fn rundown<R: Wait>(&self, rt: &R, pass: SharedPass, due: Due) -> SharedPass {
+        self.desks.rundown(rt, pass, due)
+    }
+
+    fn split(&self, pass: &mut SharedPass) -> SharedPass {
+        self.desks.split(pass)
+    }
+
+    fn join(&self, pass: &mut SharedPass, other: SharedPass) {
+        self.desks.join(pass, other);
     }
 }
 

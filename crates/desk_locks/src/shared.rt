@@ -1,5 +1,8 @@
 //! The built-in services of a server, each behind a lock of its own.
-ghost use Rattle.std.specs.Prelude.{◌≡◌, ◌≤◌, length};
+ghost use Rattle.std.specs.Prelude.{◌≡◌, ◌≤◌, true, false, length};
+ghost use Rattle.ndr_value.specs.Values.{msg};
+ghost use Rattle.manager_api.specs.Answers.{ans, cancelled};
+ghost use Rattle.manager_api.specs.ServedCalls.{IsCall, Owed};
 ghost use Rattle.desk_service.specs.Calls.{ids_in};
 ghost use Rattle.desk_service.specs.Shows.{shown_by};
 ghost use Rattle.desk_service.specs.State.{tables_with};
@@ -7,14 +10,15 @@ ghost use Rattle.desk_service.specs.State.{tables_with};
 use crate::BRIEF;
 use crate::endpoints::endpoint_map;
 use crate::keeper::Keeper;
-use crate::lasting::{echo, manage};
-use crate::locked::Locked;
+use crate::lasting::{echo, manage, run_down_echo, run_down_managed};
+use crate::pass::SharedPass;
 use desk_counts::Tally;
 use desk_service::tables_with as offered;
+use desk_told::{Telling, ToldDesk};
 use echo_manager::ProbeDesk;
 use epm_manager::EpmDesk;
 use handle_model::{CookieRow, Due};
-use manager_api::{Answer, Probe};
+use manager_api::Answer;
 use ndr_table::Table;
 use ndr_value::Message;
 use rpc_base::{Items, NoMemory, SyntaxId};
@@ -40,9 +44,9 @@ const MANAGEMENT: u16 = 3;
 #[derive(Drop)]
 pub struct SharedDesks {
     alloc: Global,
-    probe: Locked<ProbeDesk>,
-    store: Locked<StoreDesk>,
-    endpoints: Locked<EpmDesk>,
+    probe: ToldDesk<ProbeDesk>,
+    store: ToldDesk<StoreDesk>,
+    endpoints: ToldDesk<EpmDesk>,
     ids: Items<SyntaxId>,
     tally: Arc<Tally, Global>,
     echo: Option<Table>,
@@ -52,12 +56,13 @@ pub struct SharedDesks {
 
 impl SharedDesks {
     ghost use Rattle.std.specs.Prelude.{IfOk, is_some};
-    ghost use Rattle.desk_locks.specs.Calls.{echo_of};
+    ghost use Rattle.desk_locks.specs.Calls.{echo_of, tables_of, May};
     ghost use Rattle.desk_locks.specs.Offers.{OffersAll};
-    ghost use Rattle.desk_locks.specs.Keepers.{place_for, place_of};
+    ghost use Rattle.desk_locks.specs.Keepers.{place_for, place_of, HoldsOwn};
+    ghost use Rattle.desk_locks.specs.Passes.{IsFresh, IsPassOf};
 
-    /// The services before the first call, with an echo of that interface. Each interface is registered
-    /// in the endpoint map at the address. `tally` has the numbers of calls and packets.
+    /// The services before the first call, with an echo of that interface, and their first pass. Each interface is
+    /// registered in the endpoint map at the address. `tally` has the numbers of calls and packets.
     ///
     /// # Errors
     ///
@@ -67,27 +72,39 @@ impl SharedDesks {
         at: Address,
         echo: Option<Table>,
         tally: Arc<Tally, Global>,
-    ) -> Result<SharedDesks, NoMemory>
-        ensures echo { IfOk result (λ desks. echo_of desks ≡ shown_by (λ t. t) echo) }
-        ensures offers { IfOk result (OffersAll at) }
+    ) -> Result<(SharedDesks, SharedPass), NoMemory>
+        ensures echo { IfOk result (λ made. echo_of made.0 ≡ shown_by (λ t. t) echo) }
+        ensures offers { IfOk result (λ made. OffersAll at made.0) }
+        ensures pass { IfOk result (λ made. IsPassOf made.0 made.1) }
+        ensures fresh { IfOk result (λ made. IsFresh made.0 made.1) }
     {
         let ids = offered(alloc, echo.as_ref())?.ids(alloc)?;
-        let endpoints = endpoint_map(alloc, ids.as_slice(), at)?;
-        Ok(SharedDesks {
+        let map = endpoint_map(alloc, ids.as_slice(), at)?;
+        let (probe, of_probe) = ToldDesk::new(alloc, ProbeDesk::new(alloc))?;
+        let (store, of_store) = ToldDesk::new(alloc, StoreDesk::new(alloc))?;
+        let (endpoints, of_endpoints) = ToldDesk::new(alloc, map)?;
+        let desks = SharedDesks {
             alloc,
-            probe: Locked::new(ProbeDesk::new(alloc)),
-            store: Locked::new(StoreDesk::new(alloc)),
-            endpoints: Locked::new(endpoints),
+            probe,
+            store,
+            endpoints,
             ids,
             tally,
             echo,
-        })
+        };
+        let pass = SharedPass {
+            probe: of_probe,
+            store: of_store,
+            endpoints: of_endpoints,
+        };
+        Ok((desks, pass))
     }
 
     /// The service that kept something behind the handles of a kind: that of the interface in it, and the probe where none
     /// of that number is served.
     pub fn keeper(&self, kind: u32) -> Keeper<'_>
-        ensures { place_of result ≡ place_for (is_some self.now.echo) kind }
+        ensures place { place_of result ≡ place_for (is_some self.now.echo) kind }
+        ensures own { HoldsOwn self.now result }
     {
         match (kind / (1 << 16), &self.echo) {
             (1, _) => Keeper::Store(&self.store),
@@ -97,30 +114,25 @@ impl SharedDesks {
             _ => Keeper::Probe(&self.probe),
         }
     }
-}
 
-impl Manager for SharedDesks {
-    ghost use Rattle.desk_locks.specs.Calls.{echo_of, tables_of, May};
-
-    ghost tables = { tables_of };
-
-    ghost may = { λ m call told answer. May (echo_of m) call told answer };
-
-    fn call<R: Wait, P: Probe>(
+    /// Has a service answer that keeps nothing: management, or the echo.
+    fn answer_unkept<P: Telling>(
         &self,
-        rt: &R,
         iface: u16,
         op: u16,
         message: Message,
         cookies: CookieRow,
         probe: &mut P,
-    ) -> Answer {
+    ) -> Answer
+        requires call { IsCall (tables_of self.now) (record { iface = iface; op = op; message = msg message; cookies = cookies }) }
+        requires unkept { 3 ≤ iface }
+        requires untold { P.told probe.old ≡ false }
+        ensures may { May (echo_of self.now) (record { iface = iface; op = op; message = msg message; cookies = cookies }) (P.told probe.new) (ans result) }
+        ensures owes { Owed (tables_of self.now) (record { iface = iface; op = op; message = msg message; cookies = cookies }) (ans result) }
+        ensures told { ans result ≡ cancelled → P.told probe.new ≡ true }
+        ensures key { P.key probe.new ≡ P.key probe.old }
+    {
         match iface {
-            PROBE => self.probe.answer(rt, iface, op, message, cookies, probe),
-            STORE => self.store.answer(rt, iface, op, message, cookies, probe),
-            ENDPOINTS => self
-                .endpoints
-                .answer(rt, iface, op, message, cookies, probe),
             MANAGEMENT => {
                 let (ids, tally) = (&self.ids, &self.tally);
                 manage(self.alloc, ids, tally, iface, op, message, cookies, probe)
@@ -131,12 +143,96 @@ impl Manager for SharedDesks {
             },
         }
     }
+}
+
+impl Manager for SharedDesks {
+    ghost use Rattle.desk_locks.specs.Calls.{echo_of, tables_of, May};
+    ghost use Rattle.desk_locks.specs.Entering.{Enters};
+    ghost use Rattle.desk_locks.specs.Passes.{IsPassOf, Splits, Joins};
+    ghost use Rattle.desk_locks.specs.Rundowns.{RanDown};
+
+    type Pass = SharedPass;
+
+    ghost tables = { tables_of };
+
+    ghost is_pass = { IsPassOf };
+
+    ghost may = { λ m call told answer. May (echo_of m) call told answer };
+
+    ghost enters = { Enters };
+
+    ghost runs_down = { RanDown };
+
+    ghost splits = { λ m before kept other. Splits before kept other };
+
+    ghost joins = { λ m before other after. Joins before other after };
+
+    fn call<R: Wait, P: Telling>(
+        &self,
+        rt: &R,
+        pass: SharedPass,
+        iface: u16,
+        op: u16,
+        message: Message,
+        cookies: CookieRow,
+        probe: &mut P,
+    ) -> (SharedPass, Answer) {
+        let mut pass = pass;
+        match iface {
+            PROBE => {
+                let (desk, mine) = (&self.probe, pass.probe);
+                let (mine, answer) = desk.answer(rt, mine, iface, op, message, cookies, probe);
+                pass.probe = mine;
+                (pass, answer)
+            }
+            STORE => {
+                let (desk, mine) = (&self.store, pass.store);
+                let (mine, answer) = desk.answer(rt, mine, iface, op, message, cookies, probe);
+                pass.store = mine;
+                (pass, answer)
+            }
+            ENDPOINTS => {
+                let (desk, mine) = (&self.endpoints, pass.endpoints);
+                let (mine, answer) = desk.answer(rt, mine, iface, op, message, cookies, probe);
+                pass.endpoints = mine;
+                (pass, answer)
+            }
+            _ => (pass, self.answer_unkept(iface, op, message, cookies, probe)),
+        }
+    }
 
     fn is_brief(&self, _iface: u16, _op: u16, stub: usize) -> bool {
         stub <= BRIEF
     }
 
-    fn rundown<R: Wait>(&self, rt: &R, due: Due) {
-        self.keeper(due.kind()).run_down(rt, self.alloc, due);
+    fn rundown<R: Wait>(&self, rt: &R, pass: SharedPass, due: Due) -> SharedPass {
+        let mut pass = pass;
+        match self.keeper(due.kind()) {
+            Keeper::Probe(desk) => pass.probe = desk.run_down(rt, pass.probe, due),
+            Keeper::Store(desk) => pass.store = desk.run_down(rt, pass.store, due),
+            Keeper::Endpoints(desk) => pass.endpoints = desk.run_down(rt, pass.endpoints, due),
+            Keeper::Management => run_down_managed(self.alloc, due),
+            Keeper::Echo(table) => run_down_echo(self.alloc, table, due),
+        }
+        pass
+    }
+
+    fn split(&self, pass: &mut SharedPass) -> SharedPass {
+        SharedPass {
+            probe: self.probe.split(&mut pass.probe),
+            store: self.store.split(&mut pass.store),
+            endpoints: self.endpoints.split(&mut pass.endpoints),
+        }
+    }
+
+    fn join(&self, pass: &mut SharedPass, other: SharedPass) {
+        let SharedPass {
+            probe,
+            store,
+            endpoints,
+        } = other;
+        self.probe.join(&mut pass.probe, probe);
+        self.store.join(&mut pass.store, store);
+        self.endpoints.join(&mut pass.endpoints, endpoints);
     }
 }

@@ -8,8 +8,9 @@ ghost use Rattle.desk_text.specs.Played.{InSomeState};
 
 use crate::played::play;
 use desk_steps::Steps;
+use desk_told::Telling;
 use handle_model::{CookieRow, Due};
-use manager_api::{Answer, Probe};
+use manager_api::Answer;
 use ndr_table::Table;
 use ndr_value::Message;
 use server_calls::Manager;
@@ -90,23 +91,41 @@ impl<S: Steps + Drop> Manager for TextService<S> {
 
     ghost may = { λ service call told answer. InSomeState (shown service.table) S.step call answer };
 
-    fn call<R: Wait, P: Probe>(
+    // Its lock tells no history.
+    type Pass = ();
+
+    ghost is_pass = { λ service pass. Unit {0} };
+
+    ghost enters = { λ service before call told answer after. Unit {0} };
+
+    ghost runs_down = { λ service before item after. Unit {0} };
+
+    ghost splits = { λ service before kept other. Unit {0} };
+
+    ghost joins = { λ service before other after. Unit {0} };
+
+    fn call<R: Wait, P: Telling>(
         &self,
         rt: &R,
+        _pass: (),
         iface: u16,
         op: u16,
         message: Message,
         cookies: CookieRow,
         _probe: &mut P,
-    ) -> Answer {
-        self.answer(rt, iface, op, &message, &cookies)
+    ) -> ((), Answer) {
+        ((), self.answer(rt, iface, op, &message, &cookies))
     }
 
     fn is_brief(&self, _iface: u16, _op: u16, stub: usize) -> bool {
         stub <= BRIEF
     }
 
-    fn rundown<R: Wait>(&self, rt: &R, due: Due) {
+    fn rundown<R: Wait>(&self, rt: &R, _pass: (), due: Due) {
         self.run_down(rt, due);
     }
+
+    fn split(&self, _pass: &mut ()) {}
+
+    fn join(&self, _pass: &mut (), _other: ()) {}
 }

@@ -11,10 +11,11 @@ use crate::offered::{ENDPOINTS, HELLO};
 use desk_counts::Tally;
 use desk_locks::Locked;
 use desk_text::TextService;
+use desk_told::Telling;
 use epm_manager::EpmDesk;
 use handle_model::{CookieRow, Due};
 use hello_desk::Hello;
-use manager_api::{Answer, Probe, Served};
+use manager_api::{Answer, Served};
 use ndr_table::Table;
 use ndr_value::Message;
 use rpc_base::{Items, NoMemory, SyntaxId};
@@ -73,23 +74,41 @@ impl Manager for HelloDesks {
 
     ghost may = { λ service call told answer. May (shown service.hello.table) call told answer };
 
-    fn call<R: Wait, P: Probe>(
+    // Its locks tell no history.
+    type Pass = ();
+
+    ghost is_pass = { λ service pass. Unit {0} };
+
+    ghost enters = { λ service before call told answer after. Unit {0} };
+
+    ghost runs_down = { λ service before item after. Unit {0} };
+
+    ghost splits = { λ service before kept other. Unit {0} };
+
+    ghost joins = { λ service before other after. Unit {0} };
+
+    fn call<R: Wait, P: Telling>(
         &self,
         rt: &R,
+        _pass: (),
         iface: u16,
         op: u16,
         message: Message,
         cookies: CookieRow,
         probe: &mut P,
-    ) -> Answer {
+    ) -> ((), Answer) {
         match iface {
-            HELLO => self.hello.answer(rt, iface, op, &message, &cookies),
-            ENDPOINTS => self
-                .endpoints
-                .answer(rt, iface, op, message, cookies, probe),
+            HELLO => ((), self.hello.answer(rt, iface, op, &message, &cookies)),
+            ENDPOINTS => {
+                let desk = &self.endpoints;
+                ((), desk.answer(rt, iface, op, message, cookies, probe))
+            }
             _ => {
                 let (ids, tally) = (&self.ids, &self.tally);
-                manage(self.alloc, ids, tally, iface, op, message, cookies, probe)
+                (
+                    (),
+                    manage(self.alloc, ids, tally, iface, op, message, cookies, probe),
+                )
             }
         }
     }
@@ -98,7 +117,7 @@ impl Manager for HelloDesks {
         self.hello.is_brief(iface, op, stub)
     }
 
-    fn rundown<R: Wait>(&self, rt: &R, due: Due) {
+    fn rundown<R: Wait>(&self, rt: &R, _pass: (), due: Due) {
         // A handle's kind is its interface's number times 65,536, and the number of its type.
         match due.kind() / (1 << 16) {
             0 => self.hello.run_down(rt, due),
@@ -106,4 +125,8 @@ impl Manager for HelloDesks {
             _ => run_down_managed(self.alloc, due),
         }
     }
+
+    fn split(&self, _pass: &mut ()) {}
+
+    fn join(&self, _pass: &mut (), _other: ()) {}
 }

@@ -47,7 +47,7 @@ where
     let tally = Arc::new(alloc, Tally::new())?;
     let service = HelloService::new(alloc, at, hello, Arc::try_clone(&tally)?)?;
     let service = Arc::new(alloc, service)?;
-    serve_over(rt, alloc, boot, &service, door, at, most, &tally)
+    serve_over(rt, alloc, boot, &service, (), door, at, most, &tally)
 }
 
 /// A server of that boot word listens at the address, and serves up to so many connections that come to the door, with

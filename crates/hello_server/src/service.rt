@@ -4,8 +4,9 @@ ghost use Rattle.std.specs.Prelude.{◌≡◌};
 use crate::desks::HelloDesks;
 use crate::offered::tables_with;
 use desk_counts::Tally;
+use desk_told::Telling;
 use handle_model::{CookieRow, Due};
-use manager_api::{Answer, Probe, Served};
+use manager_api::{Answer, Served};
 use ndr_table::Table;
 use ndr_value::Message;
 use rpc_base::NoMemory;
@@ -84,25 +85,43 @@ impl Manager for HelloService {
 
     ghost may = { λ service call told answer. May (shown service.hello.table) call told answer };
 
-    fn call<R: Wait, P: Probe>(
+    // Its locks tell no history.
+    type Pass = ();
+
+    ghost is_pass = { λ service pass. Unit {0} };
+
+    ghost enters = { λ service before call told answer after. Unit {0} };
+
+    ghost runs_down = { λ service before item after. Unit {0} };
+
+    ghost splits = { λ service before kept other. Unit {0} };
+
+    ghost joins = { λ service before other after. Unit {0} };
+
+    fn call<R: Wait, P: Telling>(
         &self,
         rt: &R,
+        _pass: (),
         iface: u16,
         op: u16,
         message: Message,
         cookies: CookieRow,
         probe: &mut P,
-    ) -> Answer {
-        self.desks.call(rt, iface, op, message, cookies, probe)
+    ) -> ((), Answer) {
+        self.desks.call(rt, (), iface, op, message, cookies, probe)
     }
 
     fn is_brief(&self, iface: u16, op: u16, stub: usize) -> bool {
         self.desks.is_brief(iface, op, stub)
     }
 
-    fn rundown<R: Wait>(&self, rt: &R, due: Due) {
-        self.desks.rundown(rt, due);
+    fn rundown<R: Wait>(&self, rt: &R, _pass: (), due: Due) {
+        self.desks.rundown(rt, (), due);
     }
+
+    fn split(&self, _pass: &mut ()) {}
+
+    fn join(&self, _pass: &mut (), _other: ()) {}
 }
 
 impl Service for HelloService {

@@ -14,6 +14,7 @@ use Rattle.rpc_app.specs.Obeys.{Shelf, Output, IsKept, Put, TellsText, IsTaken, 
 use Rattle.server_command.specs.Tables.{tables_with}
 use Rattle.server_command.specs.Serves.{May}
 use Rattle.server_command.specs.Serves as command
+use Rattle.server_command.specs.Desks.{ServesDesks}
 
 -- what a door counted and told before, and counts and tells now
 pub record Doorway (K : Type 0) : Type 0 where
@@ -66,6 +67,7 @@ module _ {K : Type 0} (shows : K → Shown) where
     pub printed : List ℕ
     pub logged : List ℕ
     pub serves : command.Serves shows (May echo) (tables_with echo) boot door.before task.at task.most door.after printed logged status
+    pub desks : ServesDesks shows echo boot door.before task.at task.most door.after printed logged status
     pub put : puts printed logged
 
   -- with the interface of the task's interface text

@@ -11,8 +11,9 @@ ghost use Rattle.server_calls.specs.Ready.{Repeats};
 
 use crate::manager::Manager;
 use crate::{Ended, Room, end_of, row_for, same_message};
+use desk_told::Telling;
 use handle_model::{Asked, Home, Outcomes, Said};
-use manager_api::{Probe, Served};
+use manager_api::Served;
 use ndr_value::Message;
 use rpc_base::Status;
 use std::alloc::Global;
@@ -50,11 +51,12 @@ fn twice(alloc: Global, said: Said) -> (Said, Said)
 /// Has the manager answer a call that was taken with these cookies, one for each slot, and ends it so. While it runs the
 /// probe tells whether it was cancelled. `message` and `again` are the call's message. Where there is no memory for the
 /// response's octets, its end says nca_s_fault_remote_no_memory; the results stand.
-pub fn run<R: Wait, M: Manager, P: Probe>(
+pub fn run<R: Wait, M: Manager, P: Telling>(
     rt: &R,
     alloc: Global,
     served: &Served,
     manager: &M,
+    pass: M::Pass,
     home: Home,
     asked: &Asked,
     message: Message,
@@ -62,7 +64,8 @@ pub fn run<R: Wait, M: Manager, P: Probe>(
     cookies: &[Option<u64>],
     room: Room,
     probe: &mut P,
-) -> Answered
+) -> (M::Pass, Answered)
+    requires pass { M.is_pass manager.now pass }
     requires served { M.tables manager.now ≡ tables_in served.now }
     requires slots { HasSlots (tables_in served.now) asked.now.iface asked.now.op asked.now.order asked.now.stub asked.now.slots }
     requires few { length asked.now.slots ≤ 4 }
@@ -70,20 +73,25 @@ pub fn run<R: Wait, M: Manager, P: Probe>(
     requires message { IsAsked (tables_in served.now) asked.now.iface asked.now.op asked.now.order asked.now.stub (msg message) }
     requires again { IsAsked (tables_in served.now) asked.now.iface asked.now.op asked.now.order asked.now.stub (msg again.now) }
     requires untold { P.told probe.old ≡ false }
-    ensures meets { Meets home (tables_in served.now) (M.may manager.now) asked.now cookies.now (P.told probe.new) result.results result.said }
+    ensures pass { M.is_pass manager.now result.0 }
+    ensures meets { Meets home (tables_in served.now) (M.may manager.now) asked.now cookies.now (P.told probe.new) result.1.results result.1.said }
+    // The pass has had that one call answered, as the end says.
+    ensures enters { Meets home (tables_in served.now) (λ c told a. M.enters manager.now pass c told a result.0) asked.now cookies.now (P.told probe.new) result.1.results result.1.said }
     ensures key { P.key probe.new ≡ P.key probe.old }
-    ensures suit { suit asked.now.slots result.results ≡ true }
-    ensures told { result.told ≡ result.said }
-    ensures fits { FitsStub (Some result.said) }
+    ensures suit { suit asked.now.slots result.1.results ≡ true }
+    ensures told { result.1.told ≡ result.1.said }
+    ensures fits { FitsStub (Some result.1.said) }
 {
     same_message(served, asked, &message, again);
     let row = row_for(served, asked, again, cookies);
-    let answer = manager.call(rt, asked.iface, asked.op, message, row, probe);
+    let (iface, op) = (asked.iface, asked.op);
+    let (pass, answer) = manager.call(rt, pass, iface, op, message, row, probe);
     let Ended { results, said } = end_of(alloc, served, home, asked, again, cookies, answer, room);
     let (said, told) = twice(alloc, said);
-    Answered {
+    let answered = Answered {
         results,
         said,
         told,
-    }
+    };
+    (pass, answered)
 }

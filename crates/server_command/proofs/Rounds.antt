@@ -6,6 +6,7 @@ use Rattle.rpc_base.specs.declared.fault.OutFault.TheVariants as faults
 use Rattle.rpc_outside.specs.Links.{Shown}
 use Rattle.rpc_outside.specs.Doors.{DoorShown, ListensAt, Listens}
 use Rattle.rpc_outside.specs.declared.address.Address.{Address}
+use Rattle.handle_model.specs.declared.entry.DueItem.{DueItem}
 use Rattle.ndr_table.specs.Tables.{TableForm}
 use Rattle.manager_api.specs.Answers.{Ans}
 use Rattle.manager_api.specs.Calls.{Call}
@@ -16,6 +17,8 @@ use Rattle.server_rounds.specs.declared.round.Round.{Round}
 use Rattle.server_rounds.specs.declared.round.Stop.{Stop}
 use Rattle.server_rounds.specs.declared.round.Stop.TheVariants.{Done, DoorClosed, DoorFault, Memory}
 use Rattle.server_rounds.specs.Rounds.{IsRound, Stops}
+use Rattle.server_rounds.specs.Desks.{RoundHad}
+use Rattle.server_command.specs.Desks.{ServesHad}
 use Rattle.server_command.specs.Doors.{links_in, AreOut, TakesBack}
 use Rattle.server_command.specs.Serves.{IsFirst, IsOver, Serves, HasFailed, IsWhy, fault_with}
 use Rattle.server_command.proofs.Doors.{are_out}
@@ -117,3 +120,19 @@ module _ {K : Type 0} (shows : K → Shown) (may : Call → Bool → Ans → Typ
   pub unheard : (boot : ℕ) (a b : DoorShown K) (at : Address) (most : ℕ) (why : OutFault) → Listens a at (Err why) b → IsWhy shows may tables boot a at most b why
   unheard boot a b at most faults.Failed h = record { failed = h.0; done = inl h.1 }
   unheard boot a b at most faults.Memory h = record { failed = tt; done = inl h }
+
+module _ {S K P : Type 0} (shows : K → Shown) (may : S → Call → Bool → Ans → Type 0) (tables : S → List TableForm) (is_pass : S → P → Type 0) (enters : S → P → Call → Bool → Ans → P → Type 0)
+    (runs_down : S → P → DueItem → P → Type 0) (splits joins : S → P → P → P → Type 0) (service : S) (desks : P) where
+  -- with what the service's passes had
+  pub serves_had : (h : Hub) (boot : ℕ) (p : Pass) (before heard left after : DoorShown K) (at : Address) (most : ℕ) (r : Round K) (printed logged_text : List ℕ) (status : ℕ) (last : P) → h.boot ≡ boot → IsFirst boot p
+      → ListensAt before heard at → IsRound shows (may service) (tables service) h p heard most r left → IsPassOf h r.pass → TakesBack left (links_in r.finished.items) after
+      → IsOver shows h r.pass r.finished.items r.stop printed logged_text status
+      → is_pass service last → RoundHad tables enters runs_down splits joins service h.boot desks r.finished.items last
+      → ServesHad shows may tables is_pass enters runs_down splits joins service desks boot before at most after printed logged_text status
+  unfolding serves
+  serves_had h boot p before heard left after at most r printed logged_text status last boot_is new listens round pass back over of had = record {
+    serves = serves shows (may service) (tables service) h boot p before heard left after at most r printed logged_text status boot_is new listens round pass back over;
+    last = last;
+    last_pass = of;
+    had = had;
+  }

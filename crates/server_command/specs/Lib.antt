@@ -1,4 +1,5 @@
 pub mod Connections
+pub mod Desks
 pub mod Doors
 pub mod Groups
 pub mod Holds

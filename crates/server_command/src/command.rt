@@ -4,6 +4,7 @@ ghost use Rattle.desk_locks.specs.Tables.{shown_by};
 ghost use Rattle.desk_locks.specs.Tables.{tables_with};
 ghost use Rattle.desk_locks.specs.Calls.{May};
 ghost use Rattle.server_command.specs.Serves.{Serves, IsWhy};
+ghost use Rattle.server_command.specs.Desks.{ServesDesks};
 
 use crate::over::serve_over;
 use crate::printed::Printed;
@@ -41,10 +42,11 @@ where
     D::Link: 'static,
     requires { most ≤ 1000000 }
     ensures serves { IfOk result (λ p. Serves D.Link.shows (May (shown_by (λ t. t) echo)) (tables_with (shown_by (λ t. t) echo)) boot (D.shows door.old) at most (D.shows door.new) p.out p.log p.status) }
+    ensures desks { IfOk result (λ p. ServesDesks D.Link.shows (shown_by (λ t. t) echo) boot (D.shows door.old) at most (D.shows door.new) p.out p.log p.status) }
     ensures why { IfErr result (IsWhy D.Link.shows (May (shown_by (λ t. t) echo)) (tables_with (shown_by (λ t. t) echo)) boot (D.shows door.old) at most (D.shows door.new)) }
 {
     let tally = Arc::new(alloc, Tally::new())?;
-    let service = DeskService::new(alloc, at, echo, Arc::try_clone(&tally)?)?;
+    let (service, desks) = DeskService::new(alloc, at, echo, Arc::try_clone(&tally)?)?;
     let service = Arc::new(alloc, service)?;
-    serve_over(rt, alloc, boot, &service, door, at, most, &tally)
+    serve_over(rt, alloc, boot, &service, desks, door, at, most, &tally)
 }

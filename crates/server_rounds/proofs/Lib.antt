@@ -1,3 +1,4 @@
+pub mod Desks
 pub mod Doors
 pub mod Endings
 pub mod Groups

@@ -10,10 +10,10 @@ use Rattle.server_rounds.specs.declared.running.Place.{Place}
 use Rattle.server_rounds.specs.declared.running.Place.TheVariants.{There, Here}
 use Rattle.server_rounds.specs.Served.{IsServed}
 
-module _ {S K : Type 0} (shows : K → Shown) (may : S → Call → Bool → Ans → Type 0) (tables : S → List TableForm) where
-  abbrev pub Keeps : Promised S K → Finished K → Type 0
+module _ {S K P : Type 0} (shows : K → Shown) (may : S → Call → Bool → Ans → Type 0) (tables : S → List TableForm) where
+  abbrev pub Keeps : Promised S K P → Finished K → Type 0
   Keeps p r = IsServed shows (may p.service.value) (tables p.service.value) p.hub.value p.began.value p.came.value r
 
-  abbrev pub WillKeep : Place S K → Promised S K → Type 0
+  abbrev pub WillKeep : Place S K P → Promised S K P → Type 0
   WillKeep (There handle) p = (r : Finished K) → Keeps handle.promise r → Keeps p r
-  WillKeep (Here r) p = Keeps p r
+  WillKeep (Here e) p = Keeps p e.finished

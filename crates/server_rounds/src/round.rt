@@ -7,6 +7,7 @@ ghost use Rattle.server_rounds.specs.Passes.{TakesIn};
 ghost use Rattle.server_rounds.specs.Served.{IsSettled};
 ghost use Rattle.server_rounds.specs.Rounds.{IsRound, Stops, HandsOutAll, came, passes};
 ghost use Rattle.server_rounds.specs.Serving.{IsServing, Keeps, links_of, Goes};
+ghost use Rattle.server_rounds.specs.Desks.{ServingHad, RoundHad};
 
 use crate::serving::Serving;
 use crate::settled::Settled;
@@ -45,6 +46,7 @@ pub struct Round<K> {
 
 impl<S: Service, K: Link> Serving<S, CountLink<K>> {
     /// Serves the next connection that comes to the door, or says why there is none.
+    #[tactic(auto, using(crate::proofs::Desks::had_same))]
     fn accept_next<R: Wait + Threads + Send + Sync + Copy + 'static, D: Door<Link = K>>(
         &mut self,
         rt: R,
@@ -56,10 +58,13 @@ impl<S: Service, K: Link> Serving<S, CountLink<K>> {
     ) -> Option<Stop>
     where
         S: Send + Sync + Drop + 'static,
+        S::Pass: 'static,
         K: 'static,
         requires serving { IsServing K.shows S.may S.tables (arc_value hub.now) self.old }
+        requires had { ServingHad S.tables S.is_pass S.enters S.runs_down S.splits S.joins (arc_value hub.now) self.old }
         requires service { self.old.service.value ≡ arc_value service.now }
         ensures serving { IsServing K.shows S.may S.tables (arc_value hub.now) self.new }
+        ensures had { ServingHad S.tables S.is_pass S.enters S.runs_down S.splits S.joins (arc_value hub.now) self.new }
         ensures keeps { Keeps self.old self.new }
         ensures goes { Goes (D.shows door.old) (links_of self.old) result (D.shows door.new) (links_of self.new) }
     {
@@ -91,17 +96,20 @@ impl<S: Service, K: Link> Serving<S, CountLink<K>> {
     ) -> Stop
     where
         S: Send + Sync + Drop + 'static,
+        S::Pass: 'static,
         K: 'static,
         requires serving { IsServing K.shows S.may S.tables (arc_value hub.now) self.old }
+        requires had { ServingHad S.tables S.is_pass S.enters S.runs_down S.splits S.joins (arc_value hub.now) self.old }
         requires service { self.old.service.value ≡ arc_value service.now }
         requires none { links_of self.old ≡ [] }
         ensures serving { IsServing K.shows S.may S.tables (arc_value hub.now) self.new }
+        ensures had { ServingHad S.tables S.is_pass S.enters S.runs_down S.splits S.joins (arc_value hub.now) self.new }
         ensures keeps { Keeps self.old self.new }
         ensures door { HandsOutAll (D.shows door.old) (D.shows door.new) (links_of self.new) }
         ensures stop { Stops (D.shows door.old) (D.shows door.new) most (length (links_of self.new)) result }
     {
         for count in 0..most {
-            self.tidy(&rt, alloc, &**hub, count);
+            self.tidy(&rt, alloc, &**service, &**hub, count);
             match self.accept_next(rt, alloc, service, hub, door, tally) {
                 Some(stop) => return stop,
                 None => {}
@@ -115,23 +123,39 @@ impl<S: Service, K: Link> Serving<S, CountLink<K>> {
 impl<S: Service, K: Link> Serving<S, K> {
     /// Waits until all of them are over.
     #[tactic(auto, using(crate::proofs::Servings::settled_all, crate::proofs::Servings::takes_all))]
-    fn settle_all<R: Threads>(mut self, rt: &R, hub: &Hub, stop: Stop) -> Round<K>
+    fn settle_all<R: Threads>(
+        mut self,
+        rt: &R,
+        service: &S,
+        hub: &Hub,
+        stop: Stop,
+    ) -> (Round<K>, S::Pass)
+        requires service { self.service.value ≡ service.now }
         requires serving { IsServing K.shows S.may S.tables hub.now self }
-        ensures pass { IsPassOf hub.now result.pass }
-        ensures settled { AllByRecursion (IsSettled K.shows (S.may self.service.value) (S.tables self.service.value) hub.now self.first.value) result.finished.items }
-        ensures takes { TakesIn self.first.value (passes result.finished.items) result.pass }
-        ensures links { came result.finished.items ≡ links_of self }
-        ensures stop { result.stop ≡ stop }
+        requires had { ServingHad S.tables S.is_pass S.enters S.runs_down S.splits S.joins hub.now self }
+        ensures pass { IsPassOf hub.now result.0.pass }
+        ensures desks { S.is_pass service.now result.1 }
+        ensures had { RoundHad S.tables S.enters S.runs_down S.splits S.joins service.now hub.now.boot self.first_desks.value result.0.finished.items result.1 }
+        ensures settled { AllByRecursion (IsSettled K.shows (S.may self.service.value) (S.tables self.service.value) hub.now self.first.value) result.0.finished.items }
+        ensures takes { TakesIn self.first.value (passes result.0.finished.items) result.0.pass }
+        ensures links { came result.0.finished.items ≡ links_of self }
+        ensures stop { result.0.stop ≡ stop }
     {
         while !self.running.is_empty() {
-            self.settle_first(rt, hub);
+            self.settle_first(rt, service, hub);
         }
-        let Serving { pass, finished, .. } = self;
-        Round {
+        let Serving {
+            pass,
+            desks,
+            finished,
+            ..
+        } = self;
+        let round = Round {
             pass,
             finished,
             stop,
-        }
+        };
+        (round, desks)
     }
 }
 
@@ -144,20 +168,26 @@ pub fn serve<R, S, D>(
     service: &Arc<S, Global>,
     hub: &Arc<Hub, Global>,
     pass: Pass,
+    desks: S::Pass,
     door: &mut D,
     most: u32,
     tally: &Arc<Tally, Global>,
-) -> Round<CountLink<D::Link>>
+) -> (Round<CountLink<D::Link>>, S::Pass)
 where
     R: Wait + Threads + Send + Sync + Copy + 'static,
     S: Service + Send + Sync + Drop + 'static,
+    S::Pass: 'static,
     D: Door,
     D::Link: 'static,
     requires pass { IsPassOf (arc_value hub.now) pass }
-    ensures pass { IsPassOf (arc_value hub.now) result.pass }
-    ensures round { IsRound D.Link.shows (S.may (arc_value service.now)) (S.tables (arc_value service.now)) (arc_value hub.now) pass (D.shows door.old) most result (D.shows door.new) }
+    requires desks { S.is_pass (arc_value service.now) desks }
+    ensures pass { IsPassOf (arc_value hub.now) result.0.pass }
+    ensures round { IsRound D.Link.shows (S.may (arc_value service.now)) (S.tables (arc_value service.now)) (arc_value hub.now) pass (D.shows door.old) most result.0 (D.shows door.new) }
+    ensures desks { S.is_pass (arc_value service.now) result.1 }
+    // Each connection had its calls answered and its handles run down in a chain of passes of the service, which the last has taken in.
+    ensures had { RoundHad S.tables S.enters S.runs_down S.splits S.joins (arc_value service.now) (arc_value hub.now).boot desks result.0.finished.items result.1 }
 {
-    let mut serving = Serving::new(alloc, &**service, &**hub, pass);
+    let mut serving = Serving::new(alloc, &**service, &**hub, pass, desks);
     let stop = serving.accept_all(rt, alloc, service, hub, door, most, tally);
-    serving.settle_all(&rt, &**hub, stop)
+    serving.settle_all(&rt, &**service, &**hub, stop)
 }

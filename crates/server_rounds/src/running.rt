@@ -6,6 +6,8 @@ ghost use Rattle.group_hub.specs.Passes.{IsPassOf};
 ghost use Rattle.server_ends.specs.Finishes.{Finishes};
 ghost use Rattle.server_rounds.specs.Served.{AreNumbers, IsServed, finished_of};
 ghost use Rattle.server_rounds.specs.Running.{Keeps, WillKeep};
+ghost use Rattle.server_rounds.specs.Desks.{KeepsHad, WillKeepHad};
+ghost use Rattle.server_run.specs.Deeds.{IsHad};
 
 use crate::settled::Settled;
 use group_hub::{Hub, Pass};
@@ -24,42 +26,53 @@ const STACK: usize = 4 << 20;
 
 /// That the connection of a link is served at a hub, with that pass.
 #[derive(Drop)]
-pub(crate) struct Promised<S, K> {
+pub(crate) struct Promised<S: Service, K> {
     pub(crate) service: Snapshot<S>,
     pub(crate) hub: Snapshot<Hub>,
     pub(crate) began: Snapshot<Pass>,
+    pub(crate) desks: Snapshot<S::Pass>,
     pub(crate) came: Snapshot<K>,
 }
 
-impl<S, K> Promised<S, K> {
-    fn of(service: &S, hub: &Hub, began: &Pass, came: &K) -> Promised<S, K>
+/// A connection that is over, and the manager's pass that it gave back.
+#[derive(Drop)]
+pub(crate) struct Ended<K, P> {
+    pub(crate) finished: Finished<K>,
+    pub(crate) desks: P,
+}
+
+impl<S: Service, K> Promised<S, K> {
+    fn of(service: &S, hub: &Hub, began: &Pass, desks: &S::Pass, came: &K) -> Promised<S, K>
         ensures service { result.service.value ≡ service.now }
         ensures hub { result.hub.value ≡ hub.now }
         ensures began { result.began.value ≡ began.now }
+        ensures desks { result.desks.value ≡ desks.now }
         ensures came { result.came.value ≡ came.now }
     {
         Promised {
             service: Snapshot::of(service),
             hub: Snapshot::of(hub),
             began: Snapshot::of(began),
+            desks: Snapshot::of(desks),
             came: Snapshot::of(came),
         }
     }
 }
 
-impl<S: Service, K: Link> Promise<Finished<K>> for Promised<S, K> {
+impl<S: Service, K: Link> Promise<Ended<K, S::Pass>> for Promised<S, K> {
     ghost use Rattle.server_rounds.specs.Running.{Keeps};
+    ghost use Rattle.server_rounds.specs.Desks.{KeepsHad};
 
-    ghost kept_by = { λ p r. Keeps K.shows S.may S.tables p r };
+    ghost kept_by = { λ p e. Keeps K.shows S.may S.tables p e.finished × KeepsHad S.tables S.is_pass S.enters S.runs_down S.splits S.joins p e };
 }
 
 /// Where a connection is served.
 #[derive(Drop)]
 pub(crate) enum Place<S: Service, K: Link> {
     /// In a thread of its own.
-    There(PromisedHandle<Finished<K>, Promised<S, K>>),
+    There(PromisedHandle<Ended<K, S::Pass>, Promised<S, K>>),
     /// It is over, and its thread, if it had one, was joined.
-    Here(Finished<K>),
+    Here(Ended<K, S::Pass>),
 }
 
 /// A connection that is being served, or was.
@@ -78,18 +91,25 @@ fn serve_one<R: Wait + Threads + Sync, S: Service + Sync, K: Link>(
     hub: &Hub,
     is_turned_away: bool,
     pass: Pass,
+    desks: S::Pass,
     link: K,
-) -> Finished<K>
+) -> Ended<K, S::Pass>
     requires pass { IsPassOf hub.now pass }
     requires new { IsNew (K.shows link) }
-    ensures pass { IsPassOf hub.now result.pass }
-    ensures finishes { Finishes K.shows (S.may service.now) (S.tables service.now) hub.now.boot pass (K.shows link) result }
+    requires desks { S.is_pass service.now desks }
+    ensures pass { IsPassOf hub.now result.finished.pass }
+    ensures finishes { Finishes K.shows (S.may service.now) (S.tables service.now) hub.now.boot pass (K.shows link) result.finished }
+    ensures desks { S.is_pass service.now result.desks }
+    ensures had { IsHad S.tables S.enters S.runs_down S.splits S.joins service.now hub.now.boot pass desks result.finished result.desks }
 {
     if is_turned_away {
-        return turn_away(service, hub, pass, link);
+        let finished = turn_away(service, hub, pass, link);
+        return Ended { finished, desks };
     }
     let table = service.served();
-    serve_connection(rt, service.alloc(), hub, pass, link, table, service)
+    let alloc = service.alloc();
+    let (finished, desks) = serve_connection(rt, alloc, hub, pass, desks, link, table, service);
+    Ended { finished, desks }
 }
 
 /// Serves a connection in a thread of its own, unless it is said to be over already, as where no thread could be started.
@@ -99,16 +119,20 @@ fn serve_there<R: Wait + Threads + Sync + Copy, S: Service + Sync + Drop, K: Lin
     hub: Arc<Hub, Global>,
     over: Arc<AtomicBool, Global>,
     pass: Pass,
+    desks: S::Pass,
     link: K,
-) -> Finished<K>
+) -> Ended<K, S::Pass>
     requires pass { IsPassOf (arc_value hub) pass }
     requires new { IsNew (K.shows link) }
-    ensures { IsServed K.shows (S.may (arc_value service)) (S.tables (arc_value service)) (arc_value hub) pass link result }
+    requires desks { S.is_pass (arc_value service) desks }
+    ensures served { IsServed K.shows (S.may (arc_value service)) (S.tables (arc_value service)) (arc_value hub) pass link result.finished }
+    ensures desks { S.is_pass (arc_value service) result.desks }
+    ensures had { IsHad S.tables S.enters S.runs_down S.splits S.joins (arc_value service) (arc_value hub).boot pass desks result.finished result.desks }
 {
     let is_turned_away = over.load(Ordering::SeqCst);
-    let finished = serve_one(&rt, &*service, &*hub, is_turned_away, pass, link);
+    let ended = serve_one(&rt, &*service, &*hub, is_turned_away, pass, desks, link);
     over.store(true, Ordering::SeqCst);
-    finished
+    ended
 }
 
 impl<S: Service, K: Link> Running<S, K> {
@@ -120,41 +144,50 @@ impl<S: Service, K: Link> Running<S, K> {
         hub: &Arc<Hub, Global>,
         over: Arc<AtomicBool, Global>,
         pass: Pass,
+        desks: S::Pass,
         link: K,
     ) -> Running<S, K>
     where
         S: Send + Sync + Drop + 'static,
+        S::Pass: 'static,
         K: 'static,
         requires pass { IsPassOf (arc_value hub.now) pass }
         requires new { IsNew (K.shows link) }
+        requires desks { S.is_pass (arc_value service.now) desks }
         ensures service { result.promise.service.value ≡ arc_value service.now }
         ensures hub { result.promise.hub.value ≡ arc_value hub.now }
         ensures began { result.promise.began.value ≡ pass }
+        ensures desks { result.promise.desks.value ≡ desks }
         ensures came { result.promise.came.value ≡ link }
         ensures kept { WillKeep K.shows S.may S.tables result.place result.promise }
+        ensures had { WillKeepHad S.tables S.is_pass S.enters S.runs_down S.splits S.joins result.place result.promise }
     {
-        let promise = Promised::of(&**service, &**hub, &pass, &link);
+        let promise = Promised::of(&**service, &**hub, &pass, &desks, &link);
         let (Ok(mine), Ok(theirs), Ok(flag)) = (
             Arc::try_clone(service),
             Arc::try_clone(hub),
             Arc::try_clone(&over),
         ) else {
-            let place = Place::Here(serve_one(&rt, &**service, &**hub, true, pass, link));
+            let ended = serve_one(&rt, &**service, &**hub, true, pass, desks, link);
+            let place = Place::Here(ended);
             return Running {
                 place,
                 promise,
                 over,
             };
         };
-        let again = Promised::of(&**service, &**hub, &pass, &link);
+        let again = Promised::of(&**service, &**hub, &pass, &desks, &link);
         let place = match Builder::new().stack_size(STACK).spawn_with(
             &rt,
             again,
-            move || -> Finished<K>
+            move || -> Ended<K, S::Pass>
                 requires pass { IsPassOf (arc_value theirs) pass }
                 requires new { IsNew (K.shows link) }
-                ensures { IsServed K.shows (S.may (arc_value mine)) (S.tables (arc_value mine)) (arc_value theirs) pass link result }
-            { serve_there(rt, mine, theirs, flag, pass, link) },
+                requires desks { S.is_pass (arc_value mine) desks }
+                ensures served { IsServed K.shows (S.may (arc_value mine)) (S.tables (arc_value mine)) (arc_value theirs) pass link result.finished }
+                ensures desks { S.is_pass (arc_value mine) result.desks }
+                ensures had { IsHad S.tables S.enters S.runs_down S.splits S.joins (arc_value mine) (arc_value theirs).boot pass desks result.finished result.desks }
+            { serve_there(rt, mine, theirs, flag, pass, desks, link) },
         ) {
             Ok(child) => Place::There(child),
             Err(refused) => {
@@ -177,8 +210,10 @@ impl<S: Service, K: Link> Running<S, K> {
     /// Joins its thread, where the connection is over.
     pub(crate) fn rest<R: Threads>(self, rt: &R) -> Running<S, K>
         requires kept { WillKeep K.shows S.may S.tables self.place self.promise }
+        requires had { WillKeepHad S.tables S.is_pass S.enters S.runs_down S.splits S.joins self.place self.promise }
         ensures promise { result.promise ≡ self.promise }
         ensures kept { WillKeep K.shows S.may S.tables result.place result.promise }
+        ensures had { WillKeepHad S.tables S.is_pass S.enters S.runs_down S.splits S.joins result.place result.promise }
     {
         let Running {
             place,
@@ -200,22 +235,25 @@ impl<S: Service, K: Link> Running<S, K> {
         }
     }
 
-    /// Waits until the connection is over, and gives back its pass.
-    pub(crate) fn finish<R: Threads>(self, rt: &R) -> (Settled<K>, Pass)
+    /// Waits until the connection is over, and gives back its passes.
+    pub(crate) fn finish<R: Threads>(self, rt: &R) -> (Settled<K>, Pass, S::Pass)
         requires kept { WillKeep K.shows S.may S.tables self.place self.promise }
+        requires had { WillKeepHad S.tables S.is_pass S.enters S.runs_down S.splits S.joins self.place self.promise }
         ensures came { result.0.came.value ≡ self.promise.came.value }
         ensures began { result.0.began.value ≡ self.promise.began.value }
         ensures pass { result.1 ≡ result.0.pass.value }
         ensures served { Keeps K.shows S.may S.tables self.promise (finished_of result.0) }
         ensures numbers { AreNumbers result.0.joined }
+        ensures had { KeepsHad S.tables S.is_pass S.enters S.runs_down S.splits S.joins self.promise (record { finished = finished_of result.0; desks = result.2 }) }
     {
         let Running { place, promise, .. } = self;
-        let finished = match place {
+        let Ended { finished, desks } = match place {
             Place::There(child) => child.join(rt),
-            Place::Here(finished) => finished,
+            Place::Here(ended) => ended,
         };
         let Promised { began, came, .. } = promise;
-        settled(finished, came, began)
+        let (settled, pass) = settled(finished, came, began);
+        (settled, pass, desks)
     }
 }
 

@@ -5,6 +5,7 @@ ghost use Rattle.std.specs.VecDeque.{deque_len, deque_capacity};
 ghost use Rattle.rpc_outside.specs.Links.{IsNew};
 ghost use Rattle.group_hub.specs.Passes.{IsPassOf};
 ghost use Rattle.server_rounds.specs.Serving.{IsServing, HasRoom, links_of, Keeps, Same};
+ghost use Rattle.server_rounds.specs.Desks.{ServingHad};
 
 use crate::running::Running;
 use crate::settled::Settled;
@@ -31,25 +32,39 @@ const MANY: usize = 1_024;
 #[derive(Drop)]
 pub(crate) struct Serving<S: Service, K: Link> {
     pub(crate) pass: Pass,
+    /// The manager's pass.
+    pub(crate) desks: S::Pass,
     pub(crate) finished: Vec<Settled<K>>,
     pub(crate) running: VecDeque<Running<S, K>>,
     pub(crate) service: Snapshot<S>,
     pub(crate) first: Snapshot<Pass>,
+    pub(crate) first_desks: Snapshot<S::Pass>,
 }
 
 impl<S: Service, K: Link> Serving<S, K> {
     /// No connection yet. It takes no memory.
-    pub(crate) fn new(alloc: Global, service: &S, hub: &Hub, pass: Pass) -> Serving<S, K>
+    pub(crate) fn new(
+        alloc: Global,
+        service: &S,
+        hub: &Hub,
+        pass: Pass,
+        desks: S::Pass,
+    ) -> Serving<S, K>
         requires pass { IsPassOf hub.now pass }
+        requires desks { S.is_pass service.now desks }
         ensures serving { IsServing K.shows S.may S.tables hub.now result }
+        ensures had { ServingHad S.tables S.is_pass S.enters S.runs_down S.splits S.joins hub.now result }
         ensures service { result.service.value ≡ service.now }
         ensures first { result.first.value ≡ pass }
+        ensures first_desks { result.first_desks.value ≡ desks }
         ensures links { links_of result ≡ [] }
     {
         let _ = hub;
         Serving {
             first: Snapshot::of(&pass),
+            first_desks: Snapshot::of(&desks),
             pass,
+            desks,
             finished: Vec::new(alloc),
             running: VecDeque::new(alloc),
             service: Snapshot::of(service),
@@ -80,25 +95,32 @@ impl<S: Service, K: Link> Serving<S, K> {
     )
     where
         S: Send + Sync + Drop + 'static,
+        S::Pass: 'static,
         K: 'static,
         requires serving { IsServing K.shows S.may S.tables (arc_value hub.now) self.old }
+        requires had { ServingHad S.tables S.is_pass S.enters S.runs_down S.splits S.joins (arc_value hub.now) self.old }
         requires service { self.old.service.value ≡ arc_value service.now }
         requires room { HasRoom self.old }
         requires new { IsNew (K.shows link) }
         ensures serving { IsServing K.shows S.may S.tables (arc_value hub.now) self.new }
+        ensures had { ServingHad S.tables S.is_pass S.enters S.runs_down S.splits S.joins (arc_value hub.now) self.new }
         ensures keeps { Keeps self.old self.new }
         ensures links { links_of self.new ≡ links_of self.old ++ link ∷ [] }
     {
         let pass = (**hub).split(&mut self.pass);
-        let running = Running::start(rt, service, hub, over, pass, link);
+        let desks = (**service).split(&mut self.desks);
+        let running = Running::start(rt, service, hub, over, pass, desks, link);
         self.running.push_back_reserved(running);
     }
 
     /// Waits until the first of those that are being served is over, and takes in its pass.
-    pub(crate) fn settle_first<R: Threads>(&mut self, rt: &R, hub: &Hub)
+    pub(crate) fn settle_first<R: Threads>(&mut self, rt: &R, service: &S, hub: &Hub)
         requires serving { IsServing K.shows S.may S.tables hub.now self.old }
+        requires had { ServingHad S.tables S.is_pass S.enters S.runs_down S.splits S.joins hub.now self.old }
+        requires service { self.old.service.value ≡ service.now }
         requires some { 0 < deque_len self.old.running }
         ensures serving { IsServing K.shows S.may S.tables hub.now self.new }
+        ensures had { ServingHad S.tables S.is_pass S.enters S.runs_down S.splits S.joins hub.now self.new }
         ensures keeps { Keeps self.old self.new }
         ensures links { links_of self.new ≡ links_of self.old }
         ensures fewer { deque_len self.new.running + 1 ≡ deque_len self.old.running }
@@ -106,8 +128,9 @@ impl<S: Service, K: Link> Serving<S, K> {
         let Some(running) = self.running.pop_front() else {
             unreachable!()
         };
-        let (settled, pass) = running.finish(rt);
+        let (settled, pass, desks) = running.finish(rt);
         hub.join(&mut self.pass, pass);
+        service.join(&mut self.desks, desks);
         self.finished.push_reserved(settled);
     }
 
@@ -122,25 +145,38 @@ impl<S: Service, K: Link> Serving<S, K> {
     }
 
     /// Takes in those at the front that are over.
-    pub(crate) fn settle_over<R: Threads>(&mut self, rt: &R, hub: &Hub)
+    pub(crate) fn settle_over<R: Threads>(&mut self, rt: &R, service: &S, hub: &Hub)
+        requires service { self.old.service.value ≡ service.now }
         requires serving { IsServing K.shows S.may S.tables hub.now self.old }
+        requires had { ServingHad S.tables S.is_pass S.enters S.runs_down S.splits S.joins hub.now self.old }
         ensures serving { IsServing K.shows S.may S.tables hub.now self.new }
+        ensures had { ServingHad S.tables S.is_pass S.enters S.runs_down S.splits S.joins hub.now self.new }
         ensures keeps { Keeps self.old self.new }
         ensures links { links_of self.new ≡ links_of self.old }
     {
         while self.is_first_over() {
-            self.settle_first(rt, hub);
+            self.settle_first(rt, service, hub);
         }
     }
 
     /// Takes in those that are over at the front, and joins the threads of others now and then.
-    pub(crate) fn tidy<R: Threads>(&mut self, rt: &R, alloc: Global, hub: &Hub, count: u32)
+    pub(crate) fn tidy<R: Threads>(
+        &mut self,
+        rt: &R,
+        alloc: Global,
+        service: &S,
+        hub: &Hub,
+        count: u32,
+    )
+        requires service { self.old.service.value ≡ service.now }
         requires serving { IsServing K.shows S.may S.tables hub.now self.old }
+        requires had { ServingHad S.tables S.is_pass S.enters S.runs_down S.splits S.joins hub.now self.old }
         ensures serving { IsServing K.shows S.may S.tables hub.now self.new }
+        ensures had { ServingHad S.tables S.is_pass S.enters S.runs_down S.splits S.joins hub.now self.new }
         ensures keeps { Keeps self.old self.new }
         ensures links { links_of self.new ≡ links_of self.old }
     {
-        self.settle_over(rt, hub);
+        self.settle_over(rt, service, hub);
         self.sweep(rt, alloc, hub, count);
     }
 
@@ -148,7 +184,9 @@ impl<S: Service, K: Link> Serving<S, K> {
     /// for that and there is memory for it.
     fn sweep<R: Threads>(&mut self, rt: &R, alloc: Global, hub: &Hub, count: u32)
         requires serving { IsServing K.shows S.may S.tables hub.now self.old }
+        requires had { ServingHad S.tables S.is_pass S.enters S.runs_down S.splits S.joins hub.now self.old }
         ensures serving { IsServing K.shows S.may S.tables hub.now self.new }
+        ensures had { ServingHad S.tables S.is_pass S.enters S.runs_down S.splits S.joins hub.now self.new }
         ensures keeps { Keeps self.old self.new }
         ensures links { links_of self.new ≡ links_of self.old }
         ensures len { deque_len self.new.running ≡ deque_len self.old.running }

@@ -1,5 +1,5 @@
 -- What a worker is handed may cross threads; of tables that is shown stage by stage, since one search through all of one would be too long.
---     captured_send     a closure over fifteen things crosses where each of them does;  work_send     the closure of `beside::start` does
+--     captured_send     a closure over sixteen things crosses where each of them does;  work_send     the closure of `beside::start` does
 use mathlib.Core.List.{[], ◌∷◌}
 use denote.RattleType.{RattleType}
 use denote.Struct.Struct.{Struct}
@@ -51,8 +51,8 @@ message_send = search (owners, values, items_send, sendable) depth 40 fits 20000
 room_send : IsSend Room.the_row
 room_send = search (owners, sendable) depth 40 fits 20000
 
-captured_send : (ν : Sym) (A₀ A₁ A₂ A₃ A₄ A₅ A₆ A₇ A₈ A₉ A₁₀ A₁₁ A₁₂ A₁₃ A₁₄ : RattleType) → IsSend A₀ → IsSend A₁ → IsSend A₂ → IsSend A₃ → IsSend A₄ → IsSend A₅ → IsSend A₆ → IsSend A₇ → IsSend A₈ → IsSend A₉ → IsSend A₁₀ → IsSend A₁₁ → IsSend A₁₂ → IsSend A₁₃ → IsSend A₁₄ → IsSend (TupleAt ν (A₀ ∷ A₁ ∷ A₂ ∷ A₃ ∷ A₄ ∷ A₅ ∷ A₆ ∷ A₇ ∷ A₈ ∷ A₉ ∷ A₁₀ ∷ A₁₁ ∷ A₁₂ ∷ A₁₃ ∷ A₁₄ ∷ []))
-captured_send ν A₀ A₁ A₂ A₃ A₄ A₅ A₆ A₇ A₈ A₉ A₁₀ A₁₁ A₁₂ A₁₃ A₁₄ s₀ s₁ s₂ s₃ s₄ s₅ s₆ s₇ s₈ s₉ s₁₀ s₁₁ s₁₂ s₁₃ s₁₄ = let T = type_at ν (A₀ ∷ A₁ ∷ A₂ ∷ A₃ ∷ A₄ ∷ A₅ ∷ A₆ ∷ A₇ ∷ A₈ ∷ A₉ ∷ A₁₀ ∷ A₁₁ ∷ A₁₂ ∷ A₁₃ ∷ A₁₄ ∷ []) in recorded_send (Struct (shape T)) T.D T.to T.to_one (struct_send (shape T) (s₀, (s₁, (s₂, (s₃, (s₄, (s₅, (s₆, (s₇, (s₈, (s₉, (s₁₀, (s₁₁, (s₁₂, (s₁₃, (s₁₄, tt))))))))))))))))
+captured_send : (ν : Sym) (A₀ A₁ A₂ A₃ A₄ A₅ A₆ A₇ A₈ A₉ A₁₀ A₁₁ A₁₂ A₁₃ A₁₄ A₁₅ : RattleType) → IsSend A₀ → IsSend A₁ → IsSend A₂ → IsSend A₃ → IsSend A₄ → IsSend A₅ → IsSend A₆ → IsSend A₇ → IsSend A₈ → IsSend A₉ → IsSend A₁₀ → IsSend A₁₁ → IsSend A₁₂ → IsSend A₁₃ → IsSend A₁₄ → IsSend A₁₅ → IsSend (TupleAt ν (A₀ ∷ A₁ ∷ A₂ ∷ A₃ ∷ A₄ ∷ A₅ ∷ A₆ ∷ A₇ ∷ A₈ ∷ A₉ ∷ A₁₀ ∷ A₁₁ ∷ A₁₂ ∷ A₁₃ ∷ A₁₄ ∷ A₁₅ ∷ []))
+captured_send ν A₀ A₁ A₂ A₃ A₄ A₅ A₆ A₇ A₈ A₉ A₁₀ A₁₁ A₁₂ A₁₃ A₁₄ A₁₅ s₀ s₁ s₂ s₃ s₄ s₅ s₆ s₇ s₈ s₉ s₁₀ s₁₁ s₁₂ s₁₃ s₁₄ s₁₅ = let T = type_at ν (A₀ ∷ A₁ ∷ A₂ ∷ A₃ ∷ A₄ ∷ A₅ ∷ A₆ ∷ A₇ ∷ A₈ ∷ A₉ ∷ A₁₀ ∷ A₁₁ ∷ A₁₂ ∷ A₁₃ ∷ A₁₄ ∷ A₁₅ ∷ []) in recorded_send (Struct (shape T)) T.D T.to T.to_one (struct_send (shape T) (s₀, (s₁, (s₂, (s₃, (s₄, (s₅, (s₆, (s₇, (s₈, (s₉, (s₁₀, (s₁₁, (s₁₂, (s₁₃, (s₁₄, (s₁₅, tt)))))))))))))))))
 
 global_send : IsSend Global.the_row
 global_send = search (owners, sendable) depth 40 fits 20000
@@ -69,5 +69,5 @@ word_sync = search (owners, sendable) depth 40 fits 20000
 bell_send : (K : RattleType) → IsSend K → IsSend (Option.the_row K)
 bell_send K k = search (owners, sendable) depth 40 fits 20000
 
-pub work_send : (ν : Sym) (R M K : RattleType) (σ τ υ α δ ρ : Lft) → IsSync R → IsSync M → IsSend K → IsSend (TupleAt ν (Global.the_row ∷ ShrRef (named 6) σ Served.the_row ∷ ShrRef (named 7) τ M ∷ ShrRef (named 8) υ Hub.the_row ∷ u32-field.row ∷ u32-field.row ∷ ShrRef (named 9) α Asked.the_row ∷ Array (Option.the_row u64-field.row) 4 ∷ ShrRef (named 10) δ AtomicU64.the_row ∷ ShrRef (named 11) ρ R ∷ Pass.the_row ∷ Message.the_row ∷ Message.the_row ∷ Room.the_row ∷ Option.the_row K ∷ []))
-work_send ν R M K σ τ υ α δ ρ r m k = captured_send ν Global.the_row (ShrRef (named 6) σ Served.the_row) (ShrRef (named 7) τ M) (ShrRef (named 8) υ Hub.the_row) u32-field.row u32-field.row (ShrRef (named 9) α Asked.the_row) (Array (Option.the_row u64-field.row) 4) (ShrRef (named 10) δ AtomicU64.the_row) (ShrRef (named 11) ρ R) Pass.the_row Message.the_row Message.the_row Room.the_row (Option.the_row K) global_send (shr_send (named 6) σ Served.the_row served_sync) (shr_send (named 7) τ M m) (shr_send (named 8) υ Hub.the_row hub_sync) u32_send u32_send (shr_send (named 9) α Asked.the_row asked_sync) row_send (shr_send (named 10) δ AtomicU64.the_row word_sync) (shr_send (named 11) ρ R r) pass_send message_send message_send room_send (bell_send K k)
+pub work_send : (ν : Sym) (R M D K : RattleType) (σ τ υ α δ ρ : Lft) → IsSync R → IsSync M → IsSend D → IsSend K → IsSend (TupleAt ν (Global.the_row ∷ ShrRef (named 6) σ Served.the_row ∷ ShrRef (named 7) τ M ∷ ShrRef (named 8) υ Hub.the_row ∷ u32-field.row ∷ u32-field.row ∷ ShrRef (named 9) α Asked.the_row ∷ Array (Option.the_row u64-field.row) 4 ∷ ShrRef (named 10) δ AtomicU64.the_row ∷ ShrRef (named 11) ρ R ∷ Pass.the_row ∷ D ∷ Message.the_row ∷ Message.the_row ∷ Room.the_row ∷ Option.the_row K ∷ []))
+work_send ν R M D K σ τ υ α δ ρ r m d k = captured_send ν Global.the_row (ShrRef (named 6) σ Served.the_row) (ShrRef (named 7) τ M) (ShrRef (named 8) υ Hub.the_row) u32-field.row u32-field.row (ShrRef (named 9) α Asked.the_row) (Array (Option.the_row u64-field.row) 4) (ShrRef (named 10) δ AtomicU64.the_row) (ShrRef (named 11) ρ R) Pass.the_row D Message.the_row Message.the_row Room.the_row (Option.the_row K) global_send (shr_send (named 6) σ Served.the_row served_sync) (shr_send (named 7) τ M m) (shr_send (named 8) υ Hub.the_row hub_sync) u32_send u32_send (shr_send (named 9) α Asked.the_row asked_sync) row_send (shr_send (named 10) δ AtomicU64.the_row word_sync) (shr_send (named 11) ρ R r) pass_send d message_send message_send room_send (bell_send K k)

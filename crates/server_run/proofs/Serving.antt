@@ -25,6 +25,7 @@ use Rattle.server_steps.specs.declared.working.RunningCall.{RunningCall}
 use Rattle.server_steps.specs.declared.working.Server.{Server}
 use Rattle.server_steps.specs.declared.working.Worked.{Worked}
 use Rattle.server_steps.specs.Works.{IsGiven, Works, WorksBy, Keeps}
+use Rattle.server_steps.specs.Deeds.{AnswersRow, AnswersBy, AnswersAs}
 use Rattle.server_steps.proofs.Cookies.{suit_length}
 use Rattle.server_ends.specs.declared.ended.Finished.{Finished}
 use Rattle.server_steps.specs.Lines.{IsSame}
@@ -87,12 +88,18 @@ module _ {K : Type 0} (shows : K → Shown) (may : Call → Bool → Ans → Typ
 
 -- ---- a worker's promise
 
-pub works_kept : {M : Type 0} (tables : M → List TableForm) (may : M → Call → Bool → Ans → Type 0) (p q : Promised M) (r : Worked) (s : Server M) (c : RunningCall) → p ≡ q → q.manager.value ≡ s.manager.now → q.hub.value ≡ s.hub.now → q.asked.value ≡ c.asked.now
+pub works_kept : {M P : Type 0} (tables : M → List TableForm) (may : M → Call → Bool → Ans → Type 0) (p q : Promised M P) (r : Worked P) (s : Server M) (c : RunningCall) → p ≡ q → q.manager.value ≡ s.manager.now → q.hub.value ≡ s.hub.now → q.asked.value ≡ c.asked.now
     → q.row ≡ c.row → q.group ≡ c.group → q.call ≡ c.call → Keeps tables may p r → WorksBy tables may s c r
 works_kept {M = M} tables may p q r s c same manager hub asked row group call keeps =
     let k : Keeps tables may q r = subst (λ z. Keeps tables may z r) same keeps in
     subst (λ (z : M × Hub × Asked × List (Option ℕ) × ℕ × ℕ). (cookies : List (Option ℕ)) → z.3 ≡ row_of cookies → length cookies ≡ length z.2.slots → Works (tables z.0) (may z.0) z.1 z.4 z.5 z.2 cookies r)
     (λ i. (manager i, hub i, asked i, row i, group i, call i)) k
+
+pub answers_kept : {M P : Type 0} (tables : M → List TableForm) (is_pass : M → P → Type 0) (enters : M → P → Call → Bool → Ans → P → Type 0) (p q : Promised M P) (r : Worked P) (s : Server M) (c : RunningCall) (before : P) → p ≡ q
+    → q.manager.value ≡ s.manager.now → q.desks.value ≡ before → q.hub.value ≡ s.hub.now → q.asked.value ≡ c.asked.now → q.row ≡ c.row → q.group ≡ c.group → AnswersAs tables is_pass enters p r → AnswersBy tables is_pass enters s c before r
+answers_kept {M = M} {P = P} tables is_pass enters p q r s c before same manager desks hub asked row group keeps =
+    let k : AnswersAs tables is_pass enters q r = subst (λ z. AnswersAs tables is_pass enters z r) same keeps in
+    subst (λ (z : M × P × Hub × Asked × List (Option ℕ) × ℕ). AnswersRow tables is_pass enters z.0 z.2 z.5 z.3 z.4 z.1 r) (λ i. (manager i, desks i, hub i, asked i, row i, group i)) k
 
 module _ {K M : Type 0} (shows : K → Shown) (may : M → Call → Bool → Ans → Type 0) (tables : M → List TableForm) (s : Server M) where
   pub departed_so : (old l : Line K) (c : RunningCall) (cookies : List (Option ℕ)) (d : Departed K) (w : Wire K) → IsSame old l → l.group ≡ old.group → d.gone.began.value ≡ l.began.value → w.first.value ≡ l.wire.first.value → d.gone.wire.value ≡ w

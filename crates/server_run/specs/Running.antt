@@ -54,13 +54,13 @@ pub record IsRow (a : Asked) (cookies row : List (Option ℕ)) : Type 0 where
   pub count : length cookies ≡ length a.slots
 
 -- the call was worked off, or will be
-abbrev pub StartsSo : {M : Type 0} → (M → List TableForm) → (M → Call → Bool → Ans → Type 0) → Server M → RunningCall → Started M → Type 0
-StartsSo tables may s c (started.There child) = (r : Worked) → Keeps tables may child.promise r → WorksBy tables may s c r
+abbrev pub StartsSo : {M P : Type 0} → (M → List TableForm) → (M → Call → Bool → Ans → Type 0) → Server M → RunningCall → Started M P → Type 0
+StartsSo {P = P} tables may s c (started.There child) = (r : Worked P) → Keeps tables may child.promise r → WorksBy tables may s c r
 StartsSo tables may s c (started.Here r) = WorksBy tables may s c r
 
 -- the call was worked off with the cookies of that row
-abbrev pub WorksByRow : List TableForm → (Call → Bool → Ans → Type 0) → Hub → ℕ → ℕ → Asked → List (Option ℕ) → Worked → Type 0
-WorksByRow tables may hub g k a row r = (cookies : List (Option ℕ)) → row ≡ row_of cookies → length cookies ≡ length a.slots → Works tables may hub g k a cookies r
+abbrev pub WorksByRow : {M P : Type 0} → (M → List TableForm) → (M → Call → Bool → Ans → Type 0) → M → Hub → ℕ → ℕ → Asked → List (Option ℕ) → Worked P → Type 0
+WorksByRow tables may m hub g k a row r = (cookies : List (Option ℕ)) → row ≡ row_of cookies → length cookies ≡ length a.slots → Works (tables m) (may m) hub g k a cookies r
 
 module _ {K : Type 0} (shows : K → Shown) (tables : List TableForm) where
   -- what a closed link tells of a connection, whose turns are over
@@ -80,7 +80,7 @@ module _ {K M : Type 0} (shows : K → Shown) (may : M → Call → Bool → Ans
     pub again : IsAsked (tables_in s.served.now) t.asked.iface t.asked.op t.asked.order t.asked.stub (msg t.again)
 
   -- its cookies are those of its row, and it is ready to be run
-  pub record IsToRun (l : Line K) (c : RunningCall) (cookies : List (Option ℕ)) (t : Task) : Type 0 where
+  pub record IsToRun {P : Type 0} (l : Line K) (c : RunningCall) (cookies : List (Option ℕ)) (t : Task P) : Type 0 where
     pub running : IsRunning shows (may s.manager.now) (tables s.manager.now) s.hub.now l c.call c.asked.now cookies false
     pub row : IsRow c.asked.now cookies c.row
     pub ready : IsReadyToRun tables s c t
@@ -100,7 +100,7 @@ module _ {K M : Type 0} (shows : K → Shown) (may : M → Call → Bool → Ans
     pub closing : Closing shows (tables s.manager.now) d.gone.wire.value d.why d.link d.ending
 
   -- the call was worked off
-  abbrev pub RunsBeside : Line K → RunningCall → List (Option ℕ) → Beside K → Type 0
+  abbrev pub RunsBeside : {P : Type 0} → Line K → RunningCall → List (Option ℕ) → Beside K P → Type 0
   RunsBeside old c cookies (beside.On l orphaned worked) =
       IsSame old l × (l.group ≡ old.group) × IsRunning shows (may s.manager.now) (tables s.manager.now) s.hub.now l c.call c.asked.now cookies orphaned
       × Works (tables s.manager.now) (may s.manager.now) s.hub.now c.group c.call c.asked.now cookies worked

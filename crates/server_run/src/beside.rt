@@ -6,6 +6,8 @@ ghost use Rattle.server_steps.specs.Passes.{MayAsk};
 ghost use Rattle.server_steps.specs.Works.{IsGiven, IsReadyToRun};
 ghost use Rattle.server_steps.specs.Calls.{IsRunning};
 ghost use Rattle.server_run.specs.Running.{IsRow, IsToRun, StartsSo, WorksByRow, RunsBeside};
+ghost use Rattle.server_run.specs.Deeds.{StartsAnswering, RunsQuietly};
+ghost use Rattle.server_steps.specs.Deeds.{AnswersRow};
 
 use crate::watching::{Watched, watch};
 use rpc_outside::Link;
@@ -28,20 +30,20 @@ pub(crate) struct Departed<K: Link> {
 
 /// What became of a connection while its call ran, and how the call ends.
 #[derive(Drop)]
-pub(crate) enum Beside<K: Link> {
+pub(crate) enum Beside<K: Link, P> {
     /// It goes on. Its client no longer waits for the call, or does.
-    On(Line<K>, bool, Worked),
+    On(Line<K>, bool, Worked<P>),
     /// It left.
-    Left(Departed<K>, Worked),
+    Left(Departed<K>, Worked<P>),
 }
 
 /// Where a call runs.
 #[derive(Drop)]
 pub(crate) enum Started<M: Manager> {
     /// In a thread of its own.
-    There(PromisedHandle<Worked, Promised<M>>),
+    There(PromisedHandle<Worked<M::Pass>, Promised<M>>),
     /// It ran where no thread could be started.
-    Here(Worked),
+    Here(Worked<M::Pass>),
 }
 
 /// Runs a call in a thread of the scope, or in this one where none can be started. Its end wakes the bell's link.
@@ -50,14 +52,17 @@ fn start<'s, E, R: Wait + Threads + Sync, K: Link + 's, M: Manager + Sync>(
     rt: &'s R,
     server: Server<'s, M>,
     running: RunningCall<'s>,
-    task: Task,
+    task: Task<M::Pass>,
     bell: Option<K>,
 ) -> Started<M>
-    requires { IsReadyToRun M.tables server running task }
-    ensures { StartsSo M.tables M.may server.entry running.entry result }
+    requires ready { IsReadyToRun M.tables server running task }
+    requires desks { M.is_pass server.manager.now task.desks }
+    ensures starts { StartsSo M.tables M.may server.entry running.entry result }
+    ensures answers { StartsAnswering M.tables M.is_pass M.enters server.entry running.entry task.desks result }
 {
     let promise = Promised {
         manager: Snapshot::of(server.manager),
+        desks: Snapshot::of(&task.desks),
         hub: Snapshot::of(server.hub),
         asked: Snapshot::of(running.asked),
         row: running.row,
@@ -66,11 +71,13 @@ fn start<'s, E, R: Wait + Threads + Sync, K: Link + 's, M: Manager + Sync>(
     };
     match scope.spawn_with(
         promise,
-        move || -> Worked
+        move || -> Worked<M::Pass>
             requires served { IsSync R.row × (M.tables server.manager.now ≡ tables_in server.served.now) }
             requires asks { MayAsk server.hub.now running.group running.call task.pass }
             requires given { IsGiven (tables_in server.served.now) running.asked.now running.row task.message task.again }
-            ensures { WorksByRow (M.tables server.entry.manager.now) (M.may server.entry.manager.now) server.entry.hub.now running.entry.group running.entry.call running.entry.asked.now running.entry.row result }
+            requires desks { M.is_pass server.manager.now task.desks }
+            ensures works { WorksByRow M.tables M.may server.entry.manager.now server.entry.hub.now running.entry.group running.entry.call running.entry.asked.now running.entry.row result }
+            ensures answers { AnswersRow M.tables M.is_pass M.enters server.entry.manager.now server.entry.hub.now running.entry.group running.entry.asked.now running.entry.row task.desks result }
         {
             let (server, running) = (Server { ..server }, RunningCall { ..running });
             let worked = work(rt, server, running, Task { ..task });
@@ -95,10 +102,12 @@ fn run_in_scope<'s, E, R: Wait + Threads + Sync, K: Link + 's, M: Manager + Sync
     mut line: Line<K>,
     running: RunningCall<'s>,
     cookies: &[Option<u64>],
-    task: Task,
-) -> Beside<K>
-    requires { IsToRun K.shows M.may M.tables server line running cookies.now task }
-    ensures { RunsBeside K.shows M.may M.tables server.entry line running.entry cookies.now result }
+    task: Task<M::Pass>,
+) -> Beside<K, M::Pass>
+    requires ready { IsToRun K.shows M.may M.tables server line running cookies.now task }
+    requires desks { M.is_pass server.manager.now task.desks }
+    ensures runs { RunsBeside K.shows M.may M.tables server.entry line running.entry cookies.now result }
+    ensures quiet { RunsQuietly M.tables M.is_pass M.enters server.entry running.entry task.desks line cookies.now result }
 {
     let Server { hub, manager, .. } = server;
     let RunningCall { call, asked, .. } = running;
@@ -140,10 +149,12 @@ pub(crate) fn run_beside<R: Wait + Threads + Sync, K: Link, M: Manager + Sync>(
     line: Line<K>,
     running: RunningCall<'_>,
     cookies: &[Option<u64>],
-    task: Task,
-) -> Beside<K>
-    requires { IsToRun K.shows M.may M.tables server line running cookies.now task }
-    ensures { RunsBeside K.shows M.may M.tables server.entry line running.entry cookies.now result }
+    task: Task<M::Pass>,
+) -> Beside<K, M::Pass>
+    requires ready { IsToRun K.shows M.may M.tables server line running cookies.now task }
+    requires desks { M.is_pass server.manager.now task.desks }
+    ensures runs { RunsBeside K.shows M.may M.tables server.entry line running.entry cookies.now result }
+    ensures quiet { RunsQuietly M.tables M.is_pass M.enters server.entry running.entry task.desks line cookies.now result }
 {
     let asked = running.asked;
     if server
@@ -155,13 +166,15 @@ pub(crate) fn run_beside<R: Wait + Threads + Sync, K: Link, M: Manager + Sync>(
     thread::scope(
         thread::scope_env(),
         rt,
-        |scope| -> Beside<K>
+        |scope| -> Beside<K, M::Pass>
             requires served { IsSync R.row × (M.tables server.manager.now ≡ tables_in server.served.now) }
             requires running { IsRunning K.shows (M.may server.manager.now) (M.tables server.manager.now) server.hub.now line running.call running.asked.now cookies.now false }
             requires row { IsRow running.asked.now cookies.now running.row }
             requires asks { MayAsk server.hub.now running.group running.call task.pass }
             requires given { IsGiven (tables_in server.served.now) running.asked.now running.row task.message task.again }
-            ensures { RunsBeside K.shows M.may M.tables server.entry line running.entry cookies.entry.now result }
+            requires desks { M.is_pass server.manager.now task.desks }
+            ensures runs { RunsBeside K.shows M.may M.tables server.entry line running.entry cookies.entry.now result }
+            ensures quiet { RunsQuietly M.tables M.is_pass M.enters server.entry running.entry task.desks line cookies.entry.now result }
         { run_in_scope(scope, rt, server, line, running, cookies, task) },
     )
 }

@@ -3,6 +3,7 @@ ghost use Rattle.std.specs.Prelude.{◌≡◌, []};
 ghost use Rattle.group_hub.specs.Passes.{IsPassOf};
 ghost use Rattle.server_steps.specs.Early.{IsEarly, AsksGroup, IsClosing, IsAlone};
 ghost use Rattle.server_run.specs.Entering.{Enters};
+ghost use Rattle.server_run.specs.Deeds.{EntersQuietly};
 
 use conn_asks::{Act, ConnFault};
 use group_hub::{Hub, Pass};
@@ -49,7 +50,8 @@ fn bind<R: Wait, K: Link, M: Manager>(
 ) -> Entered<K>
     requires pass { IsPassOf hub.now pass }
     requires asks { AsksGroup K.shows (M.tables manager.now) wire asked }
-    ensures { Enters K.shows (M.may manager.now) (M.tables manager.now) hub.now pass wire.first.value result }
+    ensures enters { Enters K.shows (M.may manager.now) (M.tables manager.now) hub.now pass wire.first.value result }
+    ensures quiet { EntersQuietly pass result }
 {
     match join(rt, hub, manager, wire, pass, asked) {
         Ok(line) => {
@@ -77,7 +79,8 @@ pub(crate) fn enter<R: Wait, K: Link, M: Manager>(
 ) -> Entered<K>
     requires pass { IsPassOf hub.now pass }
     requires early { IsEarly K.shows (M.tables manager.now) wire }
-    ensures { Enters K.shows (M.may manager.now) (M.tables manager.now) hub.now pass wire.first.value result }
+    ensures enters { Enters K.shows (M.may manager.now) (M.tables manager.now) hub.now pass wire.first.value result }
+    ensures quiet { EntersQuietly pass result }
 {
     let mut wire = wire;
     for _ in rt.forever() {

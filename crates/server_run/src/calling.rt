@@ -1,4 +1,5 @@
 //! The calls of a connection, one after another.
+ghost use Rattle.std.specs.Prelude.{◌≡◌};
 ghost use Rattle.conn_asks.specs.Answers.{FitsStub};
 ghost use Rattle.conn_histories.specs.Events.{word_of};
 ghost use Rattle.manager_api.specs.Served.{tables_in};
@@ -8,6 +9,8 @@ ghost use Rattle.server_steps.specs.Lines.{IsSame, IsReady};
 ghost use Rattle.server_steps.specs.Calls.{IsAsking, IsPrepared, IsWaiting, IsSettled};
 ghost use Rattle.server_run.specs.Entering.{Awaits};
 ghost use Rattle.server_run.specs.Running.{Goes};
+ghost use Rattle.server_steps.specs.Deeds.{Quiet};
+ghost use Rattle.server_run.specs.Deeds.{WentSame, WentOn};
 
 use crate::running::{Ran, TakenCall, run_call};
 use conn_asks::Act;
@@ -68,6 +71,8 @@ fn await_turn<R: Wait, K: Link, M: Manager>(
 ) -> Awaited
     requires { IsWaiting K.shows (M.may server.manager.now) (M.tables server.manager.now) server.hub.now line.old call asked.now }
     ensures same { IsSame line.old line.new }
+    ensures group { line.new.group ≡ line.old.group }
+    ensures quiet { Quiet line.old.group line.old.pass line.new.pass }
     ensures awaits { Awaits K.shows M.may M.tables server.entry call asked.now result line.new }
 {
     let Server { hub, manager, .. } = server;
@@ -116,7 +121,8 @@ fn await_turn<R: Wait, K: Link, M: Manager>(
 fn answer<K: Link, M: Manager>(server: Server<'_, M>, line: Line<K>, reply: &Reply) -> Went<K>
     requires settled { IsSettled K.shows (M.may server.manager.now) (M.tables server.manager.now) server.hub.now line reply.now }
     requires fits { FitsStub (word_of reply.now) }
-    ensures { Goes K.shows M.may M.tables server.entry line result }
+    ensures goes { Goes K.shows M.may M.tables server.entry line result }
+    ensures same { WentSame line result }
 {
     let mut line = line;
     match line.answer(server.hub, server.manager, reply) {
@@ -131,13 +137,17 @@ fn serve_ready<R: Wait + Threads + Sync, K: Link, M: Manager + Sync>(
     rt: &R,
     server: Server<'_, M>,
     line: Line<K>,
+    desks: M::Pass,
     ready: Ready,
     marked: bool,
-) -> Went<K>
+) -> (Went<K>, M::Pass)
     requires served { Serves M.tables server }
     requires prepared { IsPrepared K.shows (M.may server.manager.now) (M.tables server.manager.now) server.hub.now line ready.asked marked }
     requires ready { IsMadeReady (tables_in server.served.now) ready.asked ready }
-    ensures { Goes K.shows M.may M.tables server.entry line result }
+    requires desks { M.is_pass server.manager.now desks }
+    ensures goes { Goes K.shows M.may M.tables server.entry line result.0 }
+    ensures desks { M.is_pass server.entry.manager.now result.1 }
+    ensures on { WentOn M.tables M.enters M.runs_down M.splits M.joins server.entry.manager.now server.entry.hub.now.boot line desks result.0 result.1 }
 {
     let Ready {
         given,
@@ -149,7 +159,7 @@ fn serve_ready<R: Wait + Threads + Sync, K: Link, M: Manager + Sync>(
     let mut line = line;
     let call = match line.accept(rt, server.hub, server.manager, given, marked) {
         Ok(call) => call,
-        Err(status) => return answer(server, line, &Reply::Never(status)),
+        Err(status) => return (answer(server, line, &Reply::Never(status)), desks),
     };
     let awaited = await_turn(rt, server, &mut line, call, &asked);
     line.wire.link.unlisten(rt);
@@ -157,9 +167,9 @@ fn serve_ready<R: Wait + Threads + Sync, K: Link, M: Manager + Sync>(
         Awaited::Run(row, serial) => (row, serial),
         Awaited::Told(reply) => {
             line.wire.link.ring(rt, turn_of(line.group, call));
-            return answer(server, line, &reply);
+            return (answer(server, line, &reply), desks);
         }
-        Awaited::Stop(why) => return Went::Drop(line, why, call),
+        Awaited::Stop(why) => return (Went::Drop(line, why, call), desks),
     };
     let taken = TakenCall {
         call,
@@ -170,9 +180,10 @@ fn serve_ready<R: Wait + Threads + Sync, K: Link, M: Manager + Sync>(
         again,
         room,
     };
-    match run_call(rt, server, line, taken) {
-        Ran::On(line, reply) => answer(server, line, &reply),
-        Ran::Over(finished) => Went::Over(finished),
+    let (ran, desks) = run_call(rt, server, line, desks, taken);
+    match ran {
+        Ran::On(line, reply) => (answer(server, line, &reply), desks),
+        Ran::Over(finished) => (Went::Over(finished), desks),
     }
 }
 
@@ -181,17 +192,21 @@ fn serve_call<R: Wait + Threads + Sync, K: Link, M: Manager + Sync>(
     rt: &R,
     server: Server<'_, M>,
     line: Line<K>,
+    desks: M::Pass,
     joined: Joined,
     iface: u16,
-) -> Went<K>
+) -> (Went<K>, M::Pass)
     requires served { Serves M.tables server }
     requires asking { IsAsking K.shows (M.may server.manager.now) (M.tables server.manager.now) server.hub.now line joined iface }
-    ensures { Goes K.shows M.may M.tables server.entry line result }
+    requires desks { M.is_pass server.manager.now desks }
+    ensures goes { Goes K.shows M.may M.tables server.entry line result.0 }
+    ensures desks { M.is_pass server.entry.manager.now result.1 }
+    ensures on { WentOn M.tables M.enters M.runs_down M.splits M.joins server.entry.manager.now server.entry.hub.now.boot line desks result.0 result.1 }
 {
     let marked = joined.cancel;
     match prepared(server.alloc, server.served, line.number, joined, iface) {
-        Err(status) => answer(server, line, &Reply::Never(status)),
-        Ok(ready) => serve_ready(rt, server, line, ready, marked),
+        Err(status) => (answer(server, line, &Reply::Never(status)), desks),
+        Ok(ready) => serve_ready(rt, server, line, desks, ready, marked),
     }
 }
 
@@ -201,29 +216,35 @@ pub(crate) fn serve_next<R: Wait + Threads + Sync, K: Link, M: Manager + Sync>(
     rt: &R,
     server: Server<'_, M>,
     line: Line<K>,
-) -> Went<K>
+    desks: M::Pass,
+) -> (Went<K>, M::Pass)
     requires served { Serves M.tables server }
     requires ready { IsReady K.shows (M.may server.manager.now) (M.tables server.manager.now) server.hub.now line }
-    ensures { Goes K.shows M.may M.tables server.entry line result }
+    requires desks { M.is_pass server.manager.now desks }
+    ensures goes { Goes K.shows M.may M.tables server.entry line result.0 }
+    ensures desks { M.is_pass server.entry.manager.now result.1 }
+    ensures on { WentOn M.tables M.enters M.runs_down M.splits M.joins server.entry.manager.now server.entry.hub.now.boot line desks result.0 result.1 }
 {
     let Server { hub, manager, .. } = server;
     let mut line = line;
     match line.hear_ready(hub, manager) {
-        Heard::Nothing => Went::On(line),
+        Heard::Nothing => (Went::On(line), desks),
         Heard::Does(Act::Answer(octets)) => match line.put(hub, manager, octets.as_slice()) {
-            Ok(()) => Went::On(line),
-            Err(why) => Went::Stop(line, why),
+            Ok(()) => (Went::On(line), desks),
+            Err(why) => (Went::Stop(line, why), desks),
         },
-        Heard::Does(Act::Call(joined, iface)) => { serve_call(rt, server, line, joined, iface) }
+        Heard::Does(Act::Call(joined, iface)) => {
+            serve_call(rt, server, line, desks, joined, iface)
+        }
         Heard::Does(Act::Close(octets, fault)) => {
             let why = line.refuse(hub, manager, octets.as_slice(), fault);
-            Went::Stop(line, why)
+            (Went::Stop(line, why), desks)
         }
         Heard::Does(Act::Group(_)) => unreachable!(),
         Heard::Does(Act::Cancel(_)) => unreachable!(),
         Heard::Does(Act::Orphan(_)) => unreachable!(),
-        Heard::End => Went::Stop(line, Stop::Ended),
-        Heard::Stop(Fault::Failed) => Went::Stop(line, Stop::Failed),
-        Heard::Stop(Fault::Memory) => Went::Stop(line, Stop::Memory),
+        Heard::End => (Went::Stop(line, Stop::Ended), desks),
+        Heard::Stop(Fault::Failed) => (Went::Stop(line, Stop::Failed), desks),
+        Heard::Stop(Fault::Memory) => (Went::Stop(line, Stop::Memory), desks),
     }
 }

@@ -1,5 +1,5 @@
 //! A connection from its first octet to its end.
-ghost use Rattle.std.specs.Prelude.{◌≡◌, false};
+ghost use Rattle.std.specs.Prelude.{◌≡◌, false, None};
 ghost use Rattle.group_hub.specs.Passes.{IsPassOf};
 ghost use Rattle.manager_api.specs.Served.{tables_in};
 ghost use Rattle.server_ends.specs.Finishes.{Finishes};
@@ -10,6 +10,7 @@ ghost use Rattle.server_steps.specs.Lines.{IsReady};
 ghost use Rattle.server_steps.specs.Endings.{IsStopping};
 ghost use Rattle.server_run.specs.Entering.{FinishesAlone};
 ghost use Rattle.server_run.specs.Running.{IsOverFrom};
+ghost use Rattle.server_run.specs.Deeds.{OverOn, IsHad};
 
 use crate::binding::{Entered, enter};
 use crate::calling::{Went, serve_next};
@@ -29,6 +30,7 @@ pub fn turn_away<K: Link, M: Manager>(_manager: &M, _hub: &Hub, pass: Pass, link
     requires open { (K.shows link).closed ≡ false }
     ensures pass { IsPassOf _hub.now result.pass }
     ensures finishes { Finishes K.shows (M.may _manager.now) (M.tables _manager.now) _hub.now.boot pass (K.shows link) result }
+    ensures alone { result.joined ≡ None }
 {
     let mut link = link;
     link.close();
@@ -53,6 +55,7 @@ fn finish_alone<K: Link, M: Manager>(
     requires alone { (before : PassSpec) × IsAlone K.shows (M.tables _manager.now) (M.may _manager.now) _hub.now.boot before wire pass why }
     ensures pass { IsPassOf _hub.now result.pass }
     ensures finishes { FinishesAlone K.shows (M.may _manager.now) (M.tables _manager.now) _hub.now wire pass why result }
+    ensures alone { result.joined ≡ None }
 {
     let (link, ending) = close(wire, why);
     Finished {
@@ -70,15 +73,19 @@ fn finish<R: Wait, K: Link, M: Manager>(
     hub: &Hub,
     manager: &M,
     line: Line<K>,
+    desks: M::Pass,
     why: Stop,
     waiting: Option<u32>,
-) -> Finished<K>
-    requires { IsStopping K.shows (M.may manager.now) (M.tables manager.now) hub.now line why }
-    ensures pass { IsPassOf hub.now result.pass }
-    ensures finishes { Finishes K.shows (M.may manager.now) (M.tables manager.now) hub.now.boot line.began.value (K.shows line.wire.first.value) result }
+) -> (Finished<K>, M::Pass)
+    requires stopping { IsStopping K.shows (M.may manager.now) (M.tables manager.now) hub.now line why }
+    requires desks { M.is_pass manager.now desks }
+    ensures pass { IsPassOf hub.now result.0.pass }
+    ensures finishes { Finishes K.shows (M.may manager.now) (M.tables manager.now) hub.now.boot line.began.value (K.shows line.wire.first.value) result.0 }
+    ensures desks { M.is_pass manager.now result.1 }
+    ensures on { OverOn M.tables M.enters M.runs_down M.splits M.joins manager.now hub.now.boot line desks result.0 result.1 }
 {
     let mut line = line;
-    line.leave(rt, hub, manager, why);
+    let desks = line.leave(rt, hub, manager, desks, why);
     ring_over(rt, &line.wire.link, line.group, waiting);
     let Line {
         wire,
@@ -89,37 +96,47 @@ fn finish<R: Wait, K: Link, M: Manager>(
         began: _,
     } = line;
     let (link, ending) = close(wire, why);
-    Finished {
+    let finished = Finished {
         link,
         pass,
         joined: Some((group, number)),
         ending,
         retired,
-    }
+    };
+    (finished, desks)
 }
 
 /// Serves the requests of a connection until it is over.
-#[tactic(auto, using(crate::proofs::Serving::over_from, crate::proofs::Serving::same_then))]
+#[tactic(auto, using(crate::proofs::Serving::over_from, crate::proofs::Serving::same_then, crate::proofs::Having::over_then, crate::proofs::Having::on_then))]
 fn serve_calls<R: Wait + Threads + Sync, K: Link, M: Manager + Sync>(
     rt: &R,
     server: Server<'_, M>,
     line: Line<K>,
-) -> Finished<K>
+    desks: M::Pass,
+) -> (Finished<K>, M::Pass)
     requires served { Serves M.tables server }
     requires ready { IsReady K.shows (M.may server.manager.now) (M.tables server.manager.now) server.hub.now line }
-    ensures { IsOverFrom K.shows M.may M.tables server.entry line result }
+    requires desks { M.is_pass server.manager.now desks }
+    ensures over { IsOverFrom K.shows M.may M.tables server.entry line result.0 }
+    ensures desks { M.is_pass server.entry.manager.now result.1 }
+    ensures on { OverOn M.tables M.enters M.runs_down M.splits M.joins server.entry.manager.now server.entry.hub.now.boot line desks result.0 result.1 }
 {
     let mut line = line;
+    let mut desks = desks;
     for _ in rt.forever() {
-        match serve_next(rt, server, line) {
-            Went::On(next) => line = next,
+        let (went, after) = serve_next(rt, server, line, desks);
+        match went {
+            Went::On(next) => {
+                line = next;
+                desks = after;
+            }
             Went::Stop(line, why) => {
-                return finish(rt, server.hub, server.manager, line, why, None);
+                return finish(rt, server.hub, server.manager, line, after, why, None);
             }
             Went::Drop(line, why, call) => {
-                return finish(rt, server.hub, server.manager, line, why, Some(call));
+                return finish(rt, server.hub, server.manager, line, after, why, Some(call));
             }
-            Went::Over(finished) => return finished,
+            Went::Over(finished) => return (finished, after),
         }
     }
     unreachable!()
@@ -135,23 +152,28 @@ pub fn serve_connection<R: Wait + Threads + Sync, K: Link, M: Manager + Sync>(
     alloc: Global,
     hub: &Hub,
     pass: Pass,
+    desks: M::Pass,
     link: K,
     table: &Served,
     manager: &M,
-) -> Finished<K>
+) -> (Finished<K>, M::Pass)
     requires pass { IsPassOf hub.now pass }
     requires open { (K.shows link).closed ≡ false }
     requires table { M.tables manager.now ≡ tables_in table.now }
-    ensures pass { IsPassOf hub.now result.pass }
-    ensures finishes { Finishes K.shows (M.may manager.now) (M.tables manager.now) hub.now.boot pass (K.shows link) result }
+    requires desks { M.is_pass manager.now desks }
+    ensures pass { IsPassOf hub.now result.0.pass }
+    ensures finishes { Finishes K.shows (M.may manager.now) (M.tables manager.now) hub.now.boot pass (K.shows link) result.0 }
+    ensures desks { M.is_pass manager.now result.1 }
+    // Behind its entries stand the deeds by which the manager's pass became the one that it gives back.
+    ensures had { IsHad M.tables M.enters M.runs_down M.splits M.joins manager.now hub.now.boot pass desks result.0 result.1 }
 {
     let ids = match table.ids(alloc) {
         Ok(ids) => ids,
-        Err(_) => return turn_away(manager, hub, pass, link),
+        Err(_) => return (turn_away(manager, hub, pass, link), desks),
     };
     let wire = match Wire::new(alloc, link, ids.as_slice()) {
         Ok(wire) => wire,
-        Err(link) => return turn_away(manager, hub, pass, link),
+        Err(link) => return (turn_away(manager, hub, pass, link), desks),
     };
     let server = Server {
         alloc,
@@ -160,8 +182,10 @@ pub fn serve_connection<R: Wait + Threads + Sync, K: Link, M: Manager + Sync>(
         hub,
     };
     match enter(rt, hub, manager, wire, pass) {
-        Entered::Joined(line) => return serve_calls(rt, server, line),
-        Entered::Stopped(line, why) => return finish(rt, hub, manager, line, why, None),
-        Entered::Alone(wire, pass, why) => return finish_alone(manager, hub, wire, pass, why),
+        Entered::Joined(line) => return serve_calls(rt, server, line, desks),
+        Entered::Stopped(line, why) => return finish(rt, hub, manager, line, desks, why, None),
+        Entered::Alone(wire, pass, why) => {
+            return (finish_alone(manager, hub, wire, pass, why), desks);
+        }
     }
 }

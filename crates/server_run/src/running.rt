@@ -3,6 +3,7 @@ ghost use Rattle.std.specs.Prelude.{◌≡◌};
 ghost use Rattle.server_steps.specs.Works.{Works};
 ghost use Rattle.server_steps.specs.declared.line.Line.{Line as LineSpec};
 ghost use Rattle.server_run.specs.Running.{IsTakenWith, HasDeparted, IsOverFrom, RunsTo};
+ghost use Rattle.server_run.specs.Deeds.{GoneOn, RanOn};
 
 use crate::beside::{Beside, Departed, run_beside};
 use group_core::number_slots;
@@ -44,13 +45,17 @@ fn finish_departed<R: Wait, K: Link, M: Manager>(
     rt: &R,
     server: Server<'_, M>,
     departed: Departed<K>,
+    desks: M::Pass,
     running: RunningCall<'_>,
     cookies: &[Option<u64>],
-    worked: Worked,
-) -> Finished<K>
+    worked: Worked<M::Pass>,
+) -> (Finished<K>, M::Pass)
     requires works { Works (M.tables server.manager.now) (M.may server.manager.now) server.hub.now departed.gone.group running.call running.asked.now cookies.now worked }
     requires departed { (old : LineSpec K) × HasDeparted K.shows M.may M.tables server old running cookies.now departed }
-    ensures { (old : LineSpec K) → HasDeparted K.shows M.may M.tables server.entry old running.entry cookies.now departed → IsOverFrom K.shows M.may M.tables server.entry old result }
+    requires desks { M.is_pass server.manager.now desks × M.is_pass server.manager.now worked.desks }
+    ensures over { (old : LineSpec K) → HasDeparted K.shows M.may M.tables server.entry old running.entry cookies.now departed → IsOverFrom K.shows M.may M.tables server.entry old result.0 }
+    ensures desks { M.is_pass server.entry.manager.now result.1 }
+    ensures on { GoneOn M.tables M.enters M.runs_down M.splits M.joins server.entry.manager.now server.entry.hub.now.boot departed.gone desks running.entry.asked.now cookies.now worked result.0 result.1 }
 {
     let Departed {
         mut gone,
@@ -60,7 +65,7 @@ fn finish_departed<R: Wait, K: Link, M: Manager>(
     } = departed;
     let Server { hub, manager, .. } = server;
     let RunningCall { call, asked, .. } = running;
-    gone.end(rt, hub, manager, why, call, asked, cookies, worked);
+    let desks = gone.end(rt, hub, manager, desks, why, call, asked, cookies, worked);
     let Gone {
         pass,
         group,
@@ -69,13 +74,14 @@ fn finish_departed<R: Wait, K: Link, M: Manager>(
         ..
     } = gone;
     link.ring(rt, turn_of(group, call));
-    Finished {
+    let finished = Finished {
         link,
         pass,
         joined: Some((group, number)),
         ending,
         retired,
-    }
+    };
+    (finished, desks)
 }
 
 /// Has the manager answer a call that was taken, in a thread beside unless it is brief, and ends it so: what its client is
@@ -85,10 +91,14 @@ pub(crate) fn run_call<R: Wait + Threads + Sync, K: Link, M: Manager + Sync>(
     rt: &R,
     server: Server<'_, M>,
     mut line: Line<K>,
+    desks: M::Pass,
     taken: TakenCall,
-) -> Ran<K>
-    requires { IsTakenWith K.shows M.may M.tables server line taken }
-    ensures { RunsTo K.shows M.may M.tables server.entry line result }
+) -> (Ran<K>, M::Pass)
+    requires taken { IsTakenWith K.shows M.may M.tables server line taken }
+    requires desks { M.is_pass server.manager.now desks }
+    ensures runs { RunsTo K.shows M.may M.tables server.entry line result.0 }
+    ensures desks { M.is_pass server.entry.manager.now result.1 }
+    ensures on { RanOn M.tables M.enters M.runs_down M.splits M.joins server.entry.manager.now server.entry.hub.now.boot line desks result.0 result.1 }
 {
     let TakenCall {
         call,
@@ -104,6 +114,8 @@ pub(crate) fn run_call<R: Wait + Threads + Sync, K: Link, M: Manager + Sync>(
     let asked = &asked;
     let cookies = first_cookies(&row, asked.slots.len());
     let pass = line.split_pass(hub, manager, call, asked, cookies);
+    let mut desks = desks;
+    let other = manager.split(&mut desks);
     let done = AtomicU64::new(0);
     let running = RunningCall {
         group: line.group,
@@ -114,18 +126,24 @@ pub(crate) fn run_call<R: Wait + Threads + Sync, K: Link, M: Manager + Sync>(
     };
     let task = Task {
         pass,
+        desks: other,
         message,
         again,
         room,
     };
     match run_beside(rt, server, line, running, cookies, task) {
         Beside::On(mut line, orphaned, worked) => {
-            let reply = line.end(rt, hub, manager, call, asked, cookies, orphaned, worked);
+            let (desks, reply) = line.end(
+                rt, hub, manager, desks, call, asked, cookies, orphaned, worked,
+            );
             line.wire.link.ring(rt, turn_of(line.group, call));
-            Ran::On(line, reply)
+            (Ran::On(line, reply), desks)
         }
         Beside::Left(departed, worked) => {
-            Ran::Over(finish_departed(rt, server, departed, running, cookies, worked))
+            let (finished, desks) = finish_departed(
+                rt, server, departed, desks, running, cookies, worked,
+            );
+            (Ran::Over(finished), desks)
         }
     }
 }

@@ -2,6 +2,7 @@
 ghost use Rattle.std.specs.Prelude.{◌≡◌, false};
 ghost use Rattle.server_steps.specs.Lines.{IsSame};
 ghost use Rattle.server_steps.specs.Calls.{IsRunning};
+ghost use Rattle.server_steps.specs.Deeds.{Quiet};
 ghost use Rattle.server_run.specs.Running.{Watches};
 
 use conn_asks::Act;
@@ -45,6 +46,7 @@ pub(crate) fn watch<R: Wait, K: Link, M: Manager>(
     requires { IsRunning K.shows (M.may server.manager.now) (M.tables server.manager.now) server.hub.now line.old running.call running.asked.now cookies.now false }
     ensures same { IsSame line.old line.new }
     ensures group { line.new.group ≡ line.old.group }
+    ensures quiet { Quiet line.old.group line.old.pass line.new.pass }
     ensures watches { Watches K.shows M.may M.tables server.entry running.entry cookies.now result line.new }
 {
     let Server { hub, manager, .. } = server;

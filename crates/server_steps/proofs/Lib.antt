@@ -4,10 +4,12 @@ pub mod Besides
 pub mod Calling
 pub mod Closing
 pub mod Cookies
+pub mod Dealing
 pub mod Hearing
 pub mod Holding
 pub mod Joining
 pub mod LeaveLemmas
+pub mod Remaining
 pub mod Saying
 pub mod Suiting
 pub mod Telling

@@ -1,4 +1,5 @@
 pub mod Calls
+pub mod Deeds
 pub mod Early
 pub mod Endings
 pub mod Held

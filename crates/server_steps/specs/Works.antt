@@ -41,14 +41,14 @@ Serves tables s = tables s.manager.now ≡ tables_in s.served.now
 
 -- A call is ready to be run: the manager has the tables that are served, the pass may ask for the call, and the call has all
 -- that it is run with.
-pub record IsReadyToRun {M : Type 0} (tables : M → List TableForm) (s : Server M) (c : RunningCall) (t : Task) : Type 0 where
+pub record IsReadyToRun {M P : Type 0} (tables : M → List TableForm) (s : Server M) (c : RunningCall) (t : Task P) : Type 0 where
   pub served : Serves tables s
   pub asks : MayAsk s.hub.now c.group c.call t.pass
   pub given : IsGiven (tables_in s.served.now) c.asked.now c.row t.message t.again
 
 -- The call k of the group g ends so as its manager answered it. The manager was told of a cancel only where the pass has
 -- seen one, and the pass has entered nothing.
-pub record Works (tables : List TableForm) (may : Call → Bool → Ans → Type 0) (hub : Hub) (g k : ℕ) (a : Asked) (cookies : List (Option ℕ)) (r : Worked) : Type 0 where
+pub record Works {P : Type 0} (tables : List TableForm) (may : Call → Bool → Ans → Type 0) (hub : Hub) (g k : ℕ) (a : Asked) (cookies : List (Option ℕ)) (r : Worked P) : Type 0 where
   pub pass : IsPassOf hub r.pass
   pub none : OwnsNone r.pass
   pub told : Bool
@@ -59,13 +59,13 @@ pub record Works (tables : List TableForm) (may : Call → Bool → Ans → Type
   pub fits : FitsStub (Some r.answered.said)
 
 -- a call of a server was worked off so, with the cookies of its row
-abbrev pub WorksBy : {M : Type 0} → (M → List TableForm) → (M → Call → Bool → Ans → Type 0) → Server M → RunningCall → Worked → Type 0
+abbrev pub WorksBy : {M P : Type 0} → (M → List TableForm) → (M → Call → Bool → Ans → Type 0) → Server M → RunningCall → Worked P → Type 0
 WorksBy tables may s c r =
     (cookies : List (Option ℕ)) → c.row ≡ row_of cookies → length cookies ≡ length c.asked.now.slots
     → Works (tables s.manager.now) (may s.manager.now) s.hub.now c.group c.call c.asked.now cookies r
 
 -- the same of what was promised
-abbrev pub Keeps : {M : Type 0} → (M → List TableForm) → (M → Call → Bool → Ans → Type 0) → Promised M → Worked → Type 0
+abbrev pub Keeps : {M P : Type 0} → (M → List TableForm) → (M → Call → Bool → Ans → Type 0) → Promised M P → Worked P → Type 0
 Keeps tables may p r =
     (cookies : List (Option ℕ)) → p.row ≡ row_of cookies → length cookies ≡ length p.asked.value.slots
     → Works (tables p.manager.value) (may p.manager.value) p.hub.value p.group p.call p.asked.value cookies r

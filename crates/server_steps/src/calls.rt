@@ -7,6 +7,7 @@ ghost use Rattle.server_steps.specs.Lines.{IsSame};
 ghost use Rattle.server_steps.specs.Calls.{IsPrepared, IsWaiting, IsCalledOff, IsSettled};
 ghost use Rattle.server_steps.specs.Steps.{AcceptsSo, TakesSo};
 ghost use Rattle.server_steps.specs.Stops.{refused_as};
+ghost use Rattle.server_steps.specs.Deeds.{Quiet};
 
 use crate::line::Line;
 use crate::turns::turn_of;
@@ -47,6 +48,8 @@ impl<K: Link> Line<K> {
     ) -> Result<u32, Status>
         requires { IsPrepared K.shows (M.may _manager.now) (M.tables _manager.now) hub.now self.old given marked }
         ensures same { IsSame self.old self.new }
+        ensures group { self.new.group ≡ self.old.group }
+        ensures quiet { Quiet self.old.group self.old.pass self.new.pass }
         ensures accepts { AcceptsSo K.shows (M.may _manager.now) (M.tables _manager.now) hub.now given result self.new }
     {
         let call = match hub.accept(rt, &mut self.pass, self.group, given) {
@@ -72,6 +75,8 @@ impl<K: Link> Line<K> {
     ) -> Taking
         requires { IsWaiting K.shows (M.may _manager.now) (M.tables _manager.now) hub.now self.old call _asked.now }
         ensures same { IsSame self.old self.new }
+        ensures group { self.new.group ≡ self.old.group }
+        ensures quiet { Quiet self.old.group self.old.pass self.new.pass }
         ensures takes { TakesSo K.shows (M.may _manager.now) (M.tables _manager.now) hub.now call _asked.now result self.new }
     {
         hub.take(rt, &mut self.pass, self.group, call)
@@ -81,6 +86,8 @@ impl<K: Link> Line<K> {
     pub fn cancel<R: Wait, M: Manager>(&mut self, rt: &R, hub: &Hub, _manager: &M, call: u32)
         requires { IsCalledOff K.shows (M.may _manager.now) (M.tables _manager.now) hub.now self.old call off.Cancel }
         ensures same { IsSame self.old self.new }
+        ensures group { self.new.group ≡ self.old.group }
+        ensures quiet { Quiet self.old.group self.old.pass self.new.pass }
         ensures settled { IsSettled K.shows (M.may _manager.now) (M.tables _manager.now) hub.now self.new (Never cancelled) }
     {
         let _ = hub.cancel(rt, &mut self.pass, self.group, call);
@@ -90,6 +97,8 @@ impl<K: Link> Line<K> {
     pub fn orphan<R: Wait, M: Manager>(&mut self, rt: &R, hub: &Hub, _manager: &M, call: u32)
         requires { IsCalledOff K.shows (M.may _manager.now) (M.tables _manager.now) hub.now self.old call off.Orphan }
         ensures same { IsSame self.old self.new }
+        ensures group { self.new.group ≡ self.old.group }
+        ensures quiet { Quiet self.old.group self.old.pass self.new.pass }
         ensures settled { IsSettled K.shows (M.may _manager.now) (M.tables _manager.now) hub.now self.new Dropped }
     {
         let _ = hub.orphan(rt, &mut self.pass, self.group, call);

@@ -6,6 +6,7 @@ ghost use Rattle.server_steps.specs.Lines.{IsSame, IsJoined, IsIdle, IsReady, Is
 ghost use Rattle.server_steps.specs.Calls.{IsWaiting, IsSettled, Says};
 ghost use Rattle.server_steps.specs.Endings.{IsStopping};
 ghost use Rattle.server_steps.specs.Steps.{HeardReady, HeardWaiting, GoesOn};
+ghost use Rattle.server_steps.specs.Deeds.{SamePass};
 
 use crate::early::{put_close, stopped};
 use crate::stop::Stop;
@@ -41,6 +42,7 @@ impl<K: Link> Line<K> {
     pub fn bound<M: Manager>(&mut self, _hub: &Hub, _manager: &M, _asked: u32) -> Result<(), Stop>
         requires { IsJoined K.shows (M.may _manager.now) (M.tables _manager.now) _hub.now self.old _asked }
         ensures same { IsSame self.old self.new }
+        ensures stays { SamePass self.old self.new }
         ensures goes { GoesOn K.shows (M.may _manager.now) (M.tables _manager.now) _hub.now result self.new }
     {
         match self.wire.bound(self.group) {
@@ -53,6 +55,7 @@ impl<K: Link> Line<K> {
     pub fn hear_ready<M: Manager>(&mut self, _hub: &Hub, _manager: &M) -> Heard
         requires { IsReady K.shows (M.may _manager.now) (M.tables _manager.now) _hub.now self.old }
         ensures same { IsSame self.old self.new }
+        ensures stays { SamePass self.old self.new }
         ensures heard { HeardReady K.shows (M.may _manager.now) (M.tables _manager.now) _hub.now result self.new }
     {
         self.wire.hear()
@@ -68,6 +71,7 @@ impl<K: Link> Line<K> {
     ) -> Heard
         requires { IsWaiting K.shows (M.may _manager.now) (M.tables _manager.now) _hub.now self.old _call _asked.now }
         ensures same { IsSame self.old self.new }
+        ensures stays { SamePass self.old self.new }
         ensures heard { HeardWaiting K.shows (M.may _manager.now) (M.tables _manager.now) _hub.now _call _asked.now result self.new }
     {
         self.wire.hear()
@@ -81,6 +85,7 @@ impl<K: Link> Line<K> {
     pub fn put<M: Manager>(&mut self, _hub: &Hub, _manager: &M, octets: &[u8]) -> Result<(), Stop>
         requires { IsIdle K.shows (M.may _manager.now) (M.tables _manager.now) _hub.now self.old octets.now }
         ensures same { IsSame self.old self.new }
+        ensures stays { SamePass self.old self.new }
         ensures goes { GoesOn K.shows (M.may _manager.now) (M.tables _manager.now) _hub.now result self.new }
     {
         match self.wire.put(octets) {
@@ -99,6 +104,7 @@ impl<K: Link> Line<K> {
     ) -> Stop
         requires { IsEnding K.shows (M.may manager.now) (M.tables manager.now) _hub.now self.old octets.now fault }
         ensures same { IsSame self.old self.new }
+        ensures stays { SamePass self.old self.new }
         ensures stops { IsStopping K.shows (M.may manager.now) (M.tables manager.now) _hub.now self.new result }
     {
         put_close(&mut self.wire, manager, octets, fault)
@@ -113,6 +119,7 @@ impl<K: Link> Line<K> {
         requires settled { IsSettled K.shows (M.may manager.now) (M.tables manager.now) hub.now self.old reply.now }
         requires fits { FitsStub (word_of reply.now) }
         ensures same { IsSame self.old self.new }
+        ensures stays { SamePass self.old self.new }
         ensures goes { GoesOn K.shows (M.may manager.now) (M.tables manager.now) hub.now result self.new }
     {
         match reply {
@@ -133,6 +140,7 @@ impl<K: Link> Line<K> {
     ) -> Result<(), Stop>
         requires { Says K.shows (M.may _manager.now) (M.tables _manager.now) _hub.now self.old (option_copied said) executed }
         ensures same { IsSame self.old self.new }
+        ensures stays { SamePass self.old self.new }
         ensures goes { GoesOn K.shows (M.may _manager.now) (M.tables _manager.now) _hub.now result self.new }
     {
         match self.wire.reply(said, executed) {

@@ -3,6 +3,7 @@ ghost use Rattle.std.specs.Prelude.{◌≡◌, true, false};
 ghost use Rattle.server_steps.specs.Places.{place_at};
 ghost use Rattle.server_steps.specs.Passes.{MayAsk, HasAsked};
 
+use desk_told::Telling;
 use group_hub::{Hub, Pass};
 use manager_api::Probe;
 use std::marker::Model;
@@ -91,5 +92,11 @@ impl<'a, R: Wait> Probe for HubProbe<'a, R> {
             self.told = true;
         }
         asked
+    }
+}
+
+impl<'a, R: Wait> Telling for HubProbe<'a, R> {
+    fn has_told(&self) -> bool {
+        self.told
     }
 }

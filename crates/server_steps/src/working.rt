@@ -1,6 +1,7 @@
 //! A call runs.
 ghost use Rattle.manager_api.specs.Served.{tables_in};
 ghost use Rattle.server_steps.specs.Works.{IsReadyToRun, WorksBy};
+ghost use Rattle.server_steps.specs.Deeds.{AnswersBy};
 
 use crate::probing::HubProbe;
 use group_hub::{Hub, Pass};
@@ -43,27 +44,31 @@ pub struct RunningCall<'a> {
     pub done: &'a AtomicU64,
 }
 
-/// What a call uses up as it runs: a pass that has seen it accepted and entered nothing, its message, once for its manager
-/// and once for its end, and the room for its results.
+/// What a call uses up as it runs: a pass that has seen it accepted and entered nothing, a pass of its manager, its message,
+/// once for its manager and once for its end, and the room for its results.
 #[derive(Drop)]
-pub struct Task {
+pub struct Task<P> {
     pub pass: Pass,
+    pub desks: P,
     pub message: Message,
     pub again: Message,
     pub room: Room,
 }
 
-/// How a call ends that ran, and the pass with which its manager asked.
+/// How a call ends that ran, the pass with which its manager asked, and the manager's pass behind its answer.
 #[derive(Drop)]
-pub struct Worked {
+pub struct Worked<P> {
     pub answered: Answered,
     pub pass: Pass,
+    pub desks: P,
 }
 
 /// That a manager answers a call of a group, with the cookies of that row.
 #[derive(Drop)]
-pub struct Promised<M> {
+pub struct Promised<M: Manager> {
     pub manager: Snapshot<M>,
+    /// The manager's pass before its answer.
+    pub desks: Snapshot<M::Pass>,
     pub hub: Snapshot<Hub>,
     pub asked: Snapshot<Asked>,
     pub row: CookieRow,
@@ -71,10 +76,11 @@ pub struct Promised<M> {
     pub call: u32,
 }
 
-impl<M: Manager> Promise<Worked> for Promised<M> {
+impl<M: Manager> Promise<Worked<M::Pass>> for Promised<M> {
     ghost use Rattle.server_steps.specs.Works.{Keeps};
+    ghost use Rattle.server_steps.specs.Deeds.{AnswersAs};
 
-    ghost kept_by = { λ p r. Keeps M.tables M.may p r };
+    ghost kept_by = { λ p r. Keeps M.tables M.may p r × AnswersAs M.tables M.is_pass M.enters p r };
 }
 
 /// Has the manager answer a call that was taken, with the cookies of its row, and says that it is done. By the task's pass
@@ -83,13 +89,16 @@ pub fn work<R: Wait, M: Manager>(
     rt: &R,
     server: Server<'_, M>,
     running: RunningCall<'_>,
-    task: Task,
-) -> Worked
-    requires { IsReadyToRun M.tables server running task }
-    ensures { WorksBy M.tables M.may server.entry running.entry result }
+    task: Task<M::Pass>,
+) -> Worked<M::Pass>
+    requires ready { IsReadyToRun M.tables server running task }
+    requires desks { M.is_pass server.manager.now task.desks }
+    ensures works { WorksBy M.tables M.may server.entry running.entry result }
+    ensures answers { AnswersBy M.tables M.is_pass M.enters server.entry running.entry task.desks result }
 {
     let Task {
         pass,
+        desks,
         message,
         again,
         room,
@@ -101,11 +110,12 @@ pub fn work<R: Wait, M: Manager>(
         group: running.group,
     };
     let mut probe = HubProbe::new(rt, server.hub, pass, running.group, running.call);
-    let answered = run(
+    let (desks, answered) = run(
         rt,
         server.alloc,
         server.served,
         server.manager,
+        desks,
         home,
         asked,
         message,
@@ -116,5 +126,9 @@ pub fn work<R: Wait, M: Manager>(
     );
     running.done.store(1, Ordering::SeqCst);
     let pass = probe.into_pass(server.hub, running.group, running.call);
-    Worked { answered, pass }
+    Worked {
+        answered,
+        pass,
+        desks,
+    }
 }

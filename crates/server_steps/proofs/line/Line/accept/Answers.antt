@@ -1,10 +1,13 @@
 use Rattle.std.proofs.Common.{sym, ap, subst}
+use Rattle.std.specs.Prelude.{⊤}
+use Rattle.hub_story.specs.Calls.{IsNewCall}
 use Rattle.hub_story.specs.Passes.{Serves}
 use Rattle.group_hub.specs.Shards.{shard_of}
 use Rattle.group_hub.specs.Passes.{at_shard}
 use Rattle.handle_model.specs.declared.reply.Reply.TheVariants.{Never}
 use Rattle.server_steps.specs.Calls.{IsSettled}
 use Rattle.server_steps.proofs.Accepting.{accepted_so, accepted_marked, unaccepted_so}
+use Rattle.server_steps.proofs.Dealing.{quiet_then, quiet_unaccepted, quiet_accepted, quiet_cancelled}
 use Rattle.server_steps.proofs.line.Line.accept.Goals as goal
 
 pub accept-requires-clause-serves : goal.accept-requires-clause-serves
@@ -34,3 +37,19 @@ pub returns-clause-accepts : goal.returns-clause-accepts
 returns-clause-accepts g c =
     accepted_so g.K.Link.shows (g.M.Manager.may c.args._manager.now) (g.M.Manager.tables c.args._manager.now) c.args.hub.now c.args.self.now c.accept.new.pass c.args.given c.args.marked c.requires c.in-Ok.ensures.pass c.in-Ok.ensures.still
     c.in-Ok.call c.in-Ok.ensures.call c.in-Ok.ensures.accepted c.if-marked.false
+
+pub returns-in-Err-clause-quiet : goal.returns-in-Err-clause-quiet
+returns-in-Err-clause-quiet g c =
+    quiet_unaccepted c.args.hub.now.boot c.args.self.now.group c.args.self.now.pass c.accept.new.pass c.args.given c.in-Err.refused.0 c.in-Err.refused.1 (λ j z. ⊤) c.in-Err.ensures.call
+
+pub returns-then-marked-clause-quiet : goal.returns-then-marked-clause-quiet
+returns-then-marked-clause-quiet g c =
+    let l = c.args.self.now in
+    quiet_then l.group l.pass c.accept.new.pass c.cancel.new.pass
+    (quiet_accepted c.args.hub.now.boot l.group l.pass c.accept.new.pass c.args.given c.in-Ok.call (λ j z. IsNewCall c.in-Ok.call j) c.in-Ok.ensures.call)
+    (quiet_cancelled c.args.hub.now.boot l.group c.accept.new.pass c.cancel.new.pass c.in-Ok.call c.cancel.result c.cancel.ensures.call)
+
+pub returns-clause-quiet : goal.returns-clause-quiet
+returns-clause-quiet g c =
+    let l = c.args.self.now in
+    quiet_accepted c.args.hub.now.boot l.group l.pass c.accept.new.pass c.args.given c.in-Ok.call (λ j z. IsNewCall c.in-Ok.call j) c.in-Ok.ensures.call

@@ -1,4 +1,5 @@
 use Rattle.server_steps.proofs.Calling.{cancels_so}
+use Rattle.server_steps.proofs.Dealing.{quiet_cancelled}
 use Rattle.server_steps.proofs.line.Line.cancel.Goals as goal
 
 pub cancel-requires-clause-serves : goal.cancel-requires-clause-serves
@@ -8,3 +9,6 @@ pub returns-clause-settled : goal.returns-clause-settled
 returns-clause-settled g c =
     cancels_so g.K.Link.shows (g.M.Manager.may c.args._manager.now) (g.M.Manager.tables c.args._manager.now) c.args.hub.now c.args.self.now c.cancel.new.pass c.args.call c.cancel.ensures.pass c.cancel.ensures.still
     c.requires c.cancel.result c.cancel.ensures.call
+
+pub returns-clause-quiet : goal.returns-clause-quiet
+returns-clause-quiet g c = quiet_cancelled c.args.hub.now.boot c.args.self.now.group c.args.self.now.pass c.cancel.new.pass c.args.call c.cancel.result c.cancel.ensures.call

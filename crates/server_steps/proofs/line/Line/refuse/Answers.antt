@@ -3,7 +3,7 @@ use Rattle.server_steps.proofs.Saying.{refused_so}
 use Rattle.server_steps.proofs.line.Line.refuse.Goals as goal
 
 pub put_close-requires : goal.put_close-requires
-put_close-requires g c = (search rules, (c.requires.turns, c.requires.closing))
+put_close-requires g c = (search rules, (search rules, (c.requires.turns, c.requires.closing)))
 
 pub returns-clause-stops : goal.returns-clause-stops
 returns-clause-stops g c =
