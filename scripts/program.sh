@@ -6,9 +6,8 @@ readonly proved=$top/crates/dcerpc/out/dcerpc
 readonly released=$top/libexec/dcerpc
 # What `rt try` compiled, with run-time checks and without a proof. Nothing but `./dcerpc` runs it.
 readonly unproved=$top/out/unproved/dcerpc-unproved
-# About how many minutes of one processor the proofs below the program take from nothing, by its 80 crates of 12 s each and
-# 100 s for each 1,000 lines of code.
-readonly proof_minutes=120
+# About how many minutes of one processor the proofs below the program take from nothing, as they were measured.
+readonly proof_minutes=190
 
 # The lines of crates.txt of the crates that the program stands on, each after those that it stands on itself, and
 # the program's last.
