@@ -13,12 +13,14 @@ use Rattle.echo_manager.specs.contracts.probe.ProbeDesk as Probe
 use Rattle.store_manager.specs.contracts.desk.StoreDesk as Store
 use Rattle.epm_manager.specs.contracts.desk.EpmDesk as Map
 use Rattle.desk_counts.specs.contracts.tally.Tally as Tally
+use Rattle.atomic_table.proofs.shared.Seat.TheSendSync.{the_send as seat_send}
 use Rattle.turn_lock.proofs.lock.TurnLock.TheSendSync.{the_field_send as lock_send, the_field_sync as lock_sync}
 use Rattle.manager_api.specs.declared.desk.FixedDesk.{Ghosts as Fixed}
 use Rattle.manager_api.specs.declared.desk.Desk.{Ghosts as Answering}
 use Rattle.handle_model.specs.declared.due.Rundown.{Ghosts as Running}
 use Rattle.desk_told.specs.contracts.state.DeskState as State
 use Rattle.desk_told.specs.contracts.desk.ToldDesk as Told
+use Rattle.desk_locks.specs.contracts.pass.SharedPass as Passes
 use Rattle.desk_locks.specs.contracts.shared.SharedDesks as Desks
 use Rattle.desk_locks.specs.contracts.service.DeskService as Service
 
@@ -101,3 +103,12 @@ service_send = let a = desks_send in let b = served_send in search (crosses, sen
 
 pub service_sync : IsSync (Service.the_field).row
 service_sync = let a = desks_sync in let b = served_sync in search (crosses, sendable) depth 40
+
+-- ---- passes
+
+pub passes_send : IsSend (Passes.the_field).row
+passes_send =
+    let a : IsSend (State.the_row (Probe.the_field).row) = state_send (Probe.the_field).row probe_send in
+    let b : IsSend (State.the_row (Store.the_field).row) = state_send (Store.the_field).row store_send in
+    let c : IsSend (State.the_row (Map.the_field).row) = state_send (Map.the_field).row map_send in
+    search (crosses, seat_send, sendable) depth 40

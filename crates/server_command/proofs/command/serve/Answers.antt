@@ -1,5 +1,5 @@
 use Rattle.std.proofs.Common.{rules, ◌≡◌, Option, subst}
-use denote.Param.Send.{IsSend, sendable}
+use denote.Param.Send.{sendable}
 use Rattle.std.proofs.Crossing.{crosses}
 use Rattle.std.specs.Arc.{arc_value}
 use Rattle.ndr_table.specs.Tables.{TableForm}
@@ -8,8 +8,7 @@ use Rattle.desk_locks.specs.Tables.{tables_with}
 use Rattle.desk_locks.specs.Calls.{echo_of, May}
 use Rattle.desk_locks.specs.Offers.{OffersAll}
 use Rattle.desk_locks.specs.Passes.{IsFresh}
-use Rattle.desk_locks.proofs.Crossing.{service_send, service_sync}
-use Rattle.desk_locks.specs.contracts.pass.SharedPass as SharedPass
+use Rattle.desk_locks.proofs.Crossing.{service_send, service_sync, passes_send}
 use Rattle.server_command.specs.Serves.{Serves, IsWhy}
 use Rattle.server_command.proofs.Rounds.{if_err, if_ok}
 use Rattle.server_command.proofs.command.serve.Goals as goal
@@ -17,11 +16,8 @@ use Rattle.server_command.proofs.command.serve.Goals as goal
 pub serve_over-requires-send-S : goal.serve_over-requires-send-S
 serve_over-requires-send-S g c κs = let a = service_send in search (crosses, sendable) depth 40
 
-pass_send : IsSend (SharedPass.the_field).row
-pass_send = search (crosses, sendable) depth 40
-
 pub serve_over-requires-send-S-Pass : goal.serve_over-requires-send-S-Pass
-serve_over-requires-send-S-Pass g c κs within = pass_send
+serve_over-requires-send-S-Pass g c κs within = let a = passes_send in search (crosses, sendable) depth 40
 
 pub serve_over-requires-sync-S : goal.serve_over-requires-sync-S
 serve_over-requires-sync-S g c κs = let a = service_sync in search (crosses, sendable) depth 40
