@@ -171,7 +171,7 @@ module _ {K : Type 0} (shows : K → Shown) (task : ServeTask) (boot : ℕ) (sto
     failed_with s Q w e = rose shows (May echo) (tables_with echo) boot door.before task.at task.most door.after w.printed w.logged s w.serves e
 
     weaker : (s t : ℕ) (P Q : List ℕ → List ℕ → Type 0) → s ≡ t → (w : HasServedWith shows echo task boot door s P) → Q w.printed w.logged → HasServedWith shows echo task boot door t Q
-    weaker s t P Q e w q = subst (λ n. HasServedWith shows echo task boot door n Q) e (record { printed = w.printed; logged = w.logged; serves = w.serves; put = q })
+    weaker s t P Q e w q = subst (λ n. HasServedWith shows echo task boot door n Q) e (record { printed = w.printed; logged = w.logged; serves = w.serves; desks = w.desks; put = q })
 
     -- both texts were put
     whole : (s result : ℕ) (P : List ℕ → List ℕ → Type 0) → result ≡ s → (w : HasServedWith shows echo task boot door s P) → PutBoth out log w.printed w.logged → ServesFor shows task boot store door out log result
