@@ -11,7 +11,7 @@ use Rattle.call_world.proofs.play.play_on.Goals as goal
 pub loop-step-init : goal.loop-step-init
 loop-step-init c =
     let table = shown c.args.world.table in
-    let same = ap reverse c.reverse.ensures.after ∙ reverse-reverse c.args.moves.items in
+    let same = ap reverse c.reverse.ensures.items ∙ reverse-reverse c.args.moves.items in
     subst (λ (left : List Step). Midway table c.args.moves.items left 0 c.args.world) (sym same) (begun table c.args.moves.items c.args.world refl c.requires)
 
 pub play-requires : goal.play-requires

@@ -1,4 +1,4 @@
-use Rattle.std.proofs.Common.{refl, sym, ◌∙◌}
+use Rattle.std.proofs.Common.{ℕ, List, ◌++◌, refl, sym, ap, ◌∙◌}
 use Rattle.call_world.proofs.Lines.{cancelled, not_out}
 use Rattle.call_world.proofs.line.Line.cancel.Goals as goal
 
@@ -10,4 +10,4 @@ cancel-requires c = sym c.is_calling.ensures ∙ c.if-not-is_calling.false
 
 pub returns-in_ok-extend_from_slice : goal.returns-in_ok-extend_from_slice
 returns-in_ok-extend_from_slice c =
-    λ table. cancelled table c.args.self.now _ c.in_ok-octets.octets (sym c.is_calling.ensures ∙ c.if-not-is_calling.false) c.in_ok-octets.ensures.cancels c.in_ok-octets.ensures.same c.in_ok-extend_from_slice.ensures refl
+    λ table. cancelled table c.args.self.now _ c.in_ok-octets.octets (sym c.is_calling.ensures ∙ c.if-not-is_calling.false) c.in_ok-octets.ensures.cancels c.in_ok-octets.ensures.same (c.in_ok-extend_from_slice.ensures.items ∙ ap (λ (o : List ℕ). c.args.self.now.up.items ++ o) c.as_slice.ensures) refl

@@ -30,5 +30,5 @@ returns-in_ok-push c =
     let lt = found_within (stands_as c.args.name) x.lines.items x.lines.items c.args.at refl c.requires.found in
     let same = read_same x.lines.items c.args.at c.index.result.now s lt c.index.ensures c.index_mut.ensures.value in
     starts_so x _ c.args.name c.args.at s c.start.new.self r c.args.op (msg c.args.message.now) (record { line = c.args.at; place = c.count-place.result }) c.requires.ready.is_whole
-    (λ table. subst (λ (b : Bool). Tries (StartsOn table c.args.op (msg c.args.message.now)) b s c.start.new.self) c.if-not-done.false (c.in_ok-done.ensures table)) refl refl refl c.in_ok-push.ensures refl
+    (λ table. subst (λ (b : Bool). Tries (StartsOn table c.args.op (msg c.args.message.now)) b s c.start.new.self) c.if-not-done.false (c.in_ok-done.ensures table)) refl refl refl c.in_ok-push.ensures.items refl
     (c.count-place.ensures ∙ ap (λ (z : Wire). length z.caller.fates.items) same)
