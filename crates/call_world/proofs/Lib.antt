@@ -4,3 +4,4 @@ pub mod Lines
 pub mod Moving
 pub mod Playing
 pub mod Runs
+pub mod Telling

@@ -90,7 +90,7 @@ start_name table op m l n past new d = ap (λ (z : Line). z.name) d.0.after
 fates_count : (rows : List Row) (fs : List Told) → map fate_in rows ≡ map fate_of fs → length rows ≡ length fs
 fates_count rows fs same = sym (length-map rows fate_in) ∙ ap (λ (known : List Fate). length known) same ∙ length-map fs fate_of
 
-many_rows : (t : Caller) (e : CallerEnd) → IsCaller t e → length e.rows ≡ length t.fates.items
+pub many_rows : (t : Caller) (e : CallerEnd) → IsCaller t e → length e.rows ≡ length t.fates.items
 many_rows t e is = fates_count e.rows t.fates.items is.fates_are
 
 -- one call more was started

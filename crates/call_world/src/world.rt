@@ -1,11 +1,12 @@
 //! A world, and what each move does.
-ghost use Rattle.std.specs.Prelude.{◌≡◌, true, reverse, IfOk, OnOk, Some, None, slice_get};
+ghost use Rattle.std.specs.Prelude.{◌≡◌, true, reverse, IfOk, IfSome, OnOk, Some, None, slice_get};
 ghost use Rattle.handle_model.specs.declared.entry.Slot.TheVariants.{Shares};
 ghost use Rattle.ndr_table.specs.Shown.{shown};
 ghost use Rattle.ndr_value.specs.Values.{msg};
 ghost use Rattle.world_laws.specs.Moves.{Move as moves};
 ghost use Rattle.world_laws.specs.Ends.{number_in};
-ghost use Rattle.world_laws.specs.Worlds.{empty};
+ghost use Rattle.world_laws.specs.Worlds.{World as WorldSpec, empty};
+ghost use Rattle.world_ends.specs.Callers.{fate_of};
 
 use crate::finding::{awaiting, least, named, standing};
 use crate::handles::{is_run_down, serial_named};
@@ -71,7 +72,7 @@ fn slot_of(handle: WireHandle) -> Slot
 impl World {
     ghost use Rattle.call_world.specs.Moves.{move_of};
     ghost use Rattle.call_world.specs.Worlds.{IsWorld, IsReady, Tries, GoesFor};
-    ghost use Rattle.call_world.specs.Rows.{wanted, FindsBy, is_named, stands_as};
+    ghost use Rattle.call_world.specs.Rows.{wanted, FindsBy, IsFate, is_named, stands_as};
     ghost use Rattle.call_world.specs.Handles.{is_live, is_in_shut};
     ghost use Rattle.handle_model.specs.Journal.{waits};
     ghost use Rattle.world_server.specs.Servers.{seen, whole};
@@ -296,7 +297,9 @@ impl World {
     }
 
     /// What is known of the call that was started at that place, from 0.
-    pub fn fate(&self, at: usize) -> Option<FateRow<'_>> {
+    pub fn fate(&self, at: usize) -> Option<FateRow<'_>>
+        ensures { (w : WorldSpec) → IsWorld self.now w → IfSome result (λ row. IsFate w at (fate_of row.fate.now) row.conn row.call) }
+    {
         let started = self.starts.get(at)?;
         let line = self.lines.get(started.line)?;
         let fate = line.caller.fates.get(started.place)?;
