@@ -76,8 +76,8 @@ impl Reader<'_> {
 
     // An item of the heap: a value of the first of the interface's structures and unions whose text it is.
     fn item(&mut self) -> Option<Value> {
-        let types = self.table.types();
-        for shape in types.iter() {
+        let table = self.table;
+        for shape in table.types().iter() {
             if let Some(value) = self.value(shape) {
                 return Some(value);
             }
@@ -106,7 +106,8 @@ impl Reader<'_> {
     // So many octets of the text.
     fn part(&mut self, count: usize) -> Option<&[u8]> {
         let end = self.at.checked_add(count)?;
-        let part = self.text.get(self.at..end)?;
+        let text = self.text;
+        let part = text.get(self.at..end)?;
         self.at = end;
         Some(part)
     }

@@ -52,14 +52,14 @@ fn put_fates(alloc: Global, world: &World, into: &mut Vec<u8>) -> Result<(), NoM
 }
 
 /// What became of a handle.
-fn handle_word(world: &World, handle: WireHandle) -> &[u8] {
+fn handle_word(world: &World, handle: WireHandle) -> &'static str {
     if world.is_live(handle) {
-        b"live"
-    } else if world.in_shut(handle) {
-        b"shut"
-    } else {
-        b"neither"
+        return "live";
     }
+    if world.in_shut(handle) {
+        return "shut";
+    }
+    "neither"
 }
 
 fn handle_of(text: &str) -> Option<WireHandle> {
@@ -83,7 +83,7 @@ fn put_handles(world: &World, wanted: &[String], into: &mut Vec<u8>) -> Result<(
             put(b"handle ", into)?;
             put(text.as_bytes(), into)?;
             put(b" ", into)?;
-            put(handle_word(world, handle), into)?;
+            put(handle_word(world, handle).as_bytes(), into)?;
             put(b"\n", into)?;
         }
     }
