@@ -50,4 +50,9 @@ while IFS= read -r line; do
 done <crates.txt >"$listed"
 cat "$listed" >crates.txt
 
+# Shorter or longer names fill other lines.
+for crate in "${name}_desk" "${name}_server"; do
+    ! command -v rt >/dev/null || (cd "crates/$crate" && rt fmt >/dev/null)
+done
+
 printf 'crates/%s_desk and crates/%s_server: the interface %s has the identifier %s\n' "$name" "$name" "$name" "$uuid"
