@@ -15,6 +15,7 @@ use Rattle.desk_locks.specs.Offers.{OffersAll}
 use Rattle.desk_locks.specs.Entering.{Enters}
 use Rattle.desk_locks.specs.Rundowns.{RanDown}
 use Rattle.desk_locks.specs.Passes.{IsFresh, IsPassOf, Splits, Joins}
+use Rattle.server_command.specs.declared.printed.Printed.{Printed}
 use Rattle.server_command.specs.Serves.{Serves}
 
 module _ {S K P : Type 0} (shows : K → Shown) (may : S → Call → Bool → Ans → Type 0) (tables : S → List TableForm) (is_pass : S → P → Type 0) (enters : S → P → Call → Bool → Ans → P → Type 0)
@@ -26,6 +27,10 @@ module _ {S K P : Type 0} (shows : K → Shown) (may : S → Call → Bool → A
     pub last : P
     pub last_pass : is_pass service last
     pub had : RoundHad tables enters runs_down splits joins service serves.hub.boot first serves.round.finished.items last
+
+  -- with what is printed of them
+  abbrev pub OverHad : ℕ → DoorShown K → Address → ℕ → DoorShown K → Printed → Type 0
+  OverHad boot a at most b p = ServesHad boot a at most b p.out p.log p.status
 
 module _ {K : Type 0} (shows : K → Shown) (echo : Option TableForm) where
   -- With the built-in services and an echo of that interface, which were registered in the endpoint map at the address, and for which nothing

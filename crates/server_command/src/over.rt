@@ -2,7 +2,7 @@
 ghost use Rattle.std.specs.Prelude.{◌≡◌, ◌≤◌, IfOk, IfErr};
 ghost use Rattle.std.specs.Arc.{arc_value};
 ghost use Rattle.server_command.specs.Serves.{Serves, IsWhy};
-ghost use Rattle.server_command.specs.Desks.{ServesHad};
+ghost use Rattle.server_command.specs.Desks.{OverHad};
 
 use crate::ending::end;
 use crate::printed::Printed;
@@ -44,7 +44,7 @@ where
     requires few { most ≤ 1000000 }
     requires desks { S.is_pass (arc_value service.now) desks }
     ensures serves { IfOk result (λ p. Serves D.Link.shows (S.may (arc_value service.now)) (S.tables (arc_value service.now)) boot (D.shows door.old) at most (D.shows door.new) p.out p.log p.status) }
-    ensures had { IfOk result (λ p. ServesHad D.Link.shows S.may S.tables S.is_pass S.enters S.runs_down S.splits S.joins (arc_value service.now) desks boot (D.shows door.old) at most (D.shows door.new) p.out p.log p.status) }
+    ensures had { IfOk result (OverHad D.Link.shows S.may S.tables S.is_pass S.enters S.runs_down S.splits S.joins (arc_value service.now) desks boot (D.shows door.old) at most (D.shows door.new)) }
     ensures why { IfErr result (IsWhy D.Link.shows (S.may (arc_value service.now)) (S.tables (arc_value service.now)) boot (D.shows door.old) at most (D.shows door.new)) }
 {
     let (hub, pass) = Hub::new(alloc, boot)?;

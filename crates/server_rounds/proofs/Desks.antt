@@ -1,5 +1,5 @@
 -- What the connections of a round had their manager do, one step on.
-use Rattle.std.proofs.Common.{◌≡◌, ◌∙◌, ℕ, Bool, None, List, [], ◌∷◌, ◌++◌, refl, sym, ap, subst, append-nil}
+use Rattle.std.proofs.Common.{◌≡◌, ◌∙◌, ℕ, Bool, List, [], ◌∷◌, ◌++◌, sym, ap, subst, append-nil}
 use Rattle.std.specs.List.{AllByRecursion}
 use Rattle.handle_model.specs.declared.entry.DueItem.{DueItem}
 use Rattle.ndr_table.specs.Tables.{TableForm}
@@ -9,11 +9,8 @@ use Rattle.group_hub.specs.declared.hub.Hub.{Hub}
 use Rattle.group_hub.specs.declared.pass.Pass.{Pass}
 use Rattle.server_calls.specs.Chains.{Takes, StartsFrom}
 use Rattle.server_calls.specs.Chains.Takes.{begins, splits_off, takes_in}
-use Rattle.server_ends.specs.declared.ended.Finished.{Finished}
-use Rattle.server_run.specs.Deeds.{HadIn, IsHad}
-use Rattle.server_rounds.specs.declared.running.Ended.{Ended}
+use Rattle.server_run.specs.Deeds.{HadIn}
 use Rattle.server_rounds.specs.declared.running.Running.{Running}
-use Rattle.server_rounds.specs.declared.running.Promised.{Promised}
 use Rattle.server_rounds.specs.declared.serving.Serving.{Serving}
 use Rattle.server_rounds.specs.declared.settled.Settled.{Settled}
 use Rattle.server_rounds.specs.Served.{finished_of}
@@ -24,19 +21,6 @@ use Rattle.server_rounds.proofs.Servings.{all_swap}
 
 module _ {S K P : Type 0} (tables : S → List TableForm) (is_pass : S → P → Type 0) (enters : S → P → Call → Bool → Ans → P → Type 0) (runs_down : S → P → DueItem → P → Type 0)
     (splits joins : S → P → P → P → Type 0) (h : Hub) where
-  -- ---- a connection that is over
-
-  -- it joined no group
-  pub had_alone : (service : S) (boot : ℕ) (began : Pass) (first : P) (r : Finished K) → r.joined ≡ None → IsHad tables enters runs_down splits joins service boot began first r first
-  had_alone service boot began first r alone = subst (λ o. HadIn tables enters runs_down splits joins service boot o began first r.pass first) (sym alone) refl
-
-  -- what was promised of it
-  pub keeps_had : (p : Promised S K P) (service : S) (hub : Hub) (began : Pass) (first : P) (e : Ended K P) → p.service.value ≡ service → p.hub.value ≡ hub → p.began.value ≡ began → p.desks.value ≡ first
-      → is_pass service e.desks → IsHad tables enters runs_down splits joins service hub.boot began first e.finished e.desks → KeepsHad tables is_pass enters runs_down splits joins p e
-  keeps_had p service hub began first e service_is hub_is began_is desks_is of had =
-      subst (λ (z : S × Hub × Pass × P). is_pass z.0 e.desks × HadIn tables enters runs_down splits joins z.0 z.1.boot e.finished.joined z.2 z.3 e.finished.pass e.desks)
-      (λ i. (sym service_is i, sym hub_is i, sym began_is i, sym desks_is i)) (of, had)
-
   -- ---- a round
 
   abbrev IsHadBy : S → P → Running S K P → Type 0
