@@ -15,7 +15,6 @@ use Rattle.desk_locks.specs.Offers.{OffersAll}
 use Rattle.desk_locks.specs.Entering.{Enters}
 use Rattle.desk_locks.specs.Rundowns.{RanDown}
 use Rattle.desk_locks.specs.Passes.{IsFresh, IsPassOf, Splits, Joins}
-use Rattle.server_command.specs.declared.printed.Printed.{Printed}
 use Rattle.server_command.specs.Serves.{Serves}
 
 module _ {S K P : Type 0} (shows : K → Shown) (may : S → Call → Bool → Ans → Type 0) (tables : S → List TableForm) (is_pass : S → P → Type 0) (enters : S → P → Call → Bool → Ans → P → Type 0)
@@ -28,13 +27,9 @@ module _ {S K P : Type 0} (shows : K → Shown) (may : S → Call → Bool → A
     pub last_pass : is_pass service last
     pub had : RoundHad tables enters runs_down splits joins service serves.hub.boot first serves.round.finished.items last
 
-  -- with what is printed of them
-  abbrev pub OverHad : ℕ → DoorShown K → Address → ℕ → DoorShown K → Printed → Type 0
-  OverHad boot a at most b p = ServesHad boot a at most b p.out p.log p.status
-
 module _ {K : Type 0} (shows : K → Shown) (echo : Option TableForm) where
   -- With the built-in services and an echo of that interface, which were registered in the endpoint map at the address, and for which nothing
-  -- was done before. Each deed of theirs then stands once in the history of its service (`each_stands_once` of `desk_locks`).
+  -- was done before. Each deed of theirs then stands once in the history of its service (`each_deed_stands_once` of `served_desks`).
   pub record ServesDesks (boot : ℕ) (a : DoorShown K) (at : Address) (most : ℕ) (b : DoorShown K) (out log : List ℕ) (status : ℕ) : Type 0 where
     pub desks : SharedDesks
     pub echo_is : echo_of desks ≡ echo

@@ -6,6 +6,7 @@ pub mod Holds
 pub mod Laws
 pub mod Lines
 pub mod Logs
+pub mod Over
 pub mod Serves
 pub mod Statuses
 pub mod Sums

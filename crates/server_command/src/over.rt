@@ -2,7 +2,7 @@
 ghost use Rattle.std.specs.Prelude.{◌≡◌, ◌≤◌, IfOk, IfErr};
 ghost use Rattle.std.specs.Arc.{arc_value};
 ghost use Rattle.server_command.specs.Serves.{Serves, IsWhy};
-ghost use Rattle.server_command.specs.Desks.{OverHad};
+ghost use Rattle.server_command.specs.Over.{OverHad};
 
 use crate::ending::end;
 use crate::printed::Printed;
