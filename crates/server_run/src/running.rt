@@ -100,17 +100,10 @@ pub(crate) fn run_call<R: Wait + Threads + Sync, K: Link, M: Manager + Sync>(
     ensures desks { M.is_pass server.entry.manager.now result.1 }
     ensures on { RanOn M.tables M.enters M.runs_down M.splits M.joins server.entry.manager.now server.entry.hub.now.boot line desks result.0 result.1 }
 {
-    let TakenCall {
-        call,
-        mut asked,
-        row,
-        serial,
-        message,
-        again,
-        room,
-    } = taken;
     let Server { hub, manager, .. } = server;
-    number_slots(&mut asked.slots, (serial as usize).saturating_sub(1));
+    let TakenCall { call, row, .. } = taken;
+    let mut asked = taken.asked;
+    number_slots(&mut asked.slots, (taken.serial as usize).saturating_sub(1));
     let asked = &asked;
     let cookies = first_cookies(&row, asked.slots.len());
     let pass = line.split_pass(hub, manager, call, asked, cookies);
@@ -127,9 +120,9 @@ pub(crate) fn run_call<R: Wait + Threads + Sync, K: Link, M: Manager + Sync>(
     let task = Task {
         pass,
         desks: other,
-        message,
-        again,
-        room,
+        message: taken.message,
+        again: taken.again,
+        room: taken.room,
     };
     match run_beside(rt, server, line, running, cookies, task) {
         Beside::On(mut line, orphaned, worked) => {
