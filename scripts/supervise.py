@@ -7,7 +7,9 @@ to stop by SIGINT and SIGTERM: at the first nobody else is let in, at the second
 killed."""
 import ctypes
 import os
+import re
 import signal
+import socket
 import subprocess
 import sys
 import threading
@@ -104,6 +106,21 @@ def output():
         return Unseen()
 
 
+def with_port(words):
+    """The words of a server, with a free port in place of port 0: its endpoint map is to have it."""
+    chosen = list(words)
+    for place, word in enumerate(words):
+        given = re.fullmatch(r"([0-9]+(?:\.[0-9]+){3}):0+", word)
+        if given:
+            with socket.socket() as door:
+                try:
+                    door.bind((given[1], 0))
+                except OSError:
+                    return chosen  # (the server meets that, too)
+                chosen[place] = "%s:%d" % door.getsockname()
+    return chosen
+
+
 def start(program, words, out):
     """Starts the program, which ends where the launcher is killed."""
 
@@ -185,7 +202,7 @@ def main(program, *words):
     is_spoken, is_server = speaks(), words[:1] == ("serve",)
     out = output() if is_spoken else Unseen()
     signal.pthread_sigmask(signal.SIG_BLOCK, WATCHED)
-    child = start(program, list(words), out)
+    child = start(program, with_port(words) if is_server else list(words), out)
     out.start()
     ended = threading.Event()
     if is_server:
