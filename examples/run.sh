@@ -24,17 +24,16 @@ python_for() {
     return 1
 }
 
-# Starts a server of so many connections at a port that nobody has, and sets `server` and `port`. (At port 0 its endpoint map
-# would say so.)
+# Starts a server of so many connections at a port that nobody has, and sets `server` and `port`.
 serve() { # CONNECTIONS
     rm -f "$work/at"
-    port=$(python3 -c 'import socket; it = socket.socket(); it.bind(("127.0.0.1", 0)); print(it.getsockname()[1])')
-    DCERPC_LISTENING=$work/at "$top/dcerpc" serve "127.0.0.1:$port" --connections "$1" >"$work/lines" 2>"$work/journals" &
+    DCERPC_LISTENING=$work/at "$top/dcerpc" serve 127.0.0.1:0 --connections "$1" >"$work/lines" 2>"$work/journals" &
     server=$!
     until [ -s "$work/at" ]; do
         kill -0 "$server" 2>/dev/null || { cat "$work/journals" >&2; return 1; }
         sleep 0.1
     done
+    port=$(sed 's/.*://' "$work/at")
 }
 
 # Runs a caller, and looks at what it prints, how its connections ended and whether the journals are legal.
