@@ -49,16 +49,16 @@ more_pieces : (size : ℕ) (stub : List ℕ) (p : Parts size stub) → size < le
 more_pieces size stub p lt more =
     record { first = p.front; others = more.first ∷ more.others; are = (p.later, p.whole, p.long, omega (arith, lt, ap length p.whole, length-append p.front p.later, p.long), more.are) }
 
+cut_at : (fuel size : ℕ) (stub : List ℕ) → 1 ≤ size → length stub ≤ suc fuel → ((later : List ℕ) → length later ≤ fuel → InPieces size later) → (b : Bool) → nat_le (length stub) size ≡ b → InPieces size stub
+cut_at fuel size stub some few go true e = one_piece size stub (leb-true (length stub) size e)
+cut_at fuel size stub some few go false e =
+    let lt = leb-false (length stub) size e in
+    let p = parts size stub (omega (arith, lt)) in
+    more_pieces size stub p lt (go p.later (omega (arith, some, few, lt, ap length p.whole, length-append p.front p.later, p.long)))
+
 in_pieces : (fuel size : ℕ) (stub : List ℕ) → 1 ≤ size → length stub ≤ fuel → InPieces size stub
 in_pieces zero size stub some few = one_piece size stub (omega (arith, few))
-in_pieces (suc fuel) size stub some few = by (nat_le (length stub) size) refl
-  where
-    by : (b : Bool) → nat_le (length stub) size ≡ b → InPieces size stub
-    by true e = one_piece size stub (leb-true (length stub) size e)
-    by false e =
-        let lt = leb-false (length stub) size e in
-        let p = parts size stub (omega (arith, lt)) in
-        more_pieces size stub p lt (in_pieces fuel size p.later some (omega (arith, some, few, lt, ap length p.whole, length-append p.front p.later, p.long)))
+in_pieces (suc fuel) size stub some few = cut_at fuel size stub some few (λ later le. in_pieces fuel size later some le) (nat_le (length stub) size) refl
 
 -- ---- fragments stay lawful
 
