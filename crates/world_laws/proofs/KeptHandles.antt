@@ -174,13 +174,13 @@ record AcceptAt (past : List Entry) (k : ℕ) (a : Asked) : Type 0 where
 later_accept : (e : Entry) (past : List Entry) (k : ℕ) (a : Asked) → AcceptAt past k a → AcceptAt (e ∷ past) k a
 later_accept e past k a h = record { newer = e ∷ h.newer; older = h.older; is = ap (λ (x : List Entry). e ∷ x) h.is }
 
+accept_here : (past : List Entry) (n k : ℕ) (b a : Asked) → (asked (journal past) k ≡ Some a → AcceptAt past k a) → (is : Bool) → eqb n k ≡ is → cond is (Some b) (asked (journal past) k) ≡ Some a → AcceptAt (Accept n b ∷ past) k a
+accept_here past n k b a go true e found = record { newer = []; older = past; is = λ i. Accept (eqb-true n k e i) (some_is b a found i) ∷ past }
+accept_here past n k b a go false e found = later_accept (Accept n b) past k a (go found)
+
 accept_at : (past : List Entry) (k : ℕ) (a : Asked) → asked (journal past) k ≡ Some a → AcceptAt past k a
 accept_at [] k a h = absurd (cc (h))
-accept_at (Accept n b ∷ past) k a h = by (eqb n k) refl h
-  where
-    by : (is : Bool) → eqb n k ≡ is → cond is (Some b) (asked (journal past) k) ≡ Some a → AcceptAt (Accept n b ∷ past) k a
-    by true e found = record { newer = []; older = past; is = λ i. Accept (eqb-true n k e i) (some_is b a found i) ∷ past }
-    by false e found = later_accept (Accept n b) past k a (accept_at past k a found)
+accept_at (Accept n b ∷ past) k a h = accept_here past n k b a (accept_at past k a) (eqb n k) refl h
 accept_at (Join c ∷ past) k a h = later_accept (Join c) past k a (accept_at past k a h)
 accept_at (Take n cookies ∷ past) k a h = later_accept (Take n cookies) past k a (accept_at past k a h)
 accept_at (Deny n slot ∷ past) k a h = later_accept (Deny n slot) past k a (accept_at past k a h)
