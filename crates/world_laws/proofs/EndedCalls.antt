@@ -41,7 +41,7 @@ use Rattle.conn_histories.specs.Requests.{IsAsked}
 use Rattle.conn_histories.specs.Ends.{outcomes_of, with_wires, wires_at}
 use Rattle.world_laws.specs.Journals.{home, journal}
 use Rattle.world_laws.specs.Ends.{Row}
-use Rattle.world_laws.specs.Keeping.{IsWholeTable}
+use Rattle.world_laws.specs.Keeping.{all_go, IsWholeTable}
 use Rattle.world_laws.proofs.Lists.{some_is}
 use Rattle.world_laws.proofs.Fates.{counted, more_counted}
 use Rattle.world_laws.proofs.Finishing.{IsFinished}
@@ -165,16 +165,16 @@ finished_found table zero op order octets m a = a.found
 finished_found table (suc n) op order octets m a = absurd (cc (a.found))
 
 -- by what was asked itself
-end_of : (table : TableForm) (past newer older : List Entry) (k : ℕ) (r : Row) (results : List Outcome) (said : Said) (f : IsFinished table older k results said) → OneMessage → WrittenIsStub → IsWholeTable table → Legal (journal past)
-    → past ≡ newer ++ End k results said ∷ older → RowCall table r f.asked → RowEnd table r f.asked results said
-end_of table past newer older k r results said f one written t legal is c =
+end_of : (table : TableForm) (past newer older : List Entry) (k : ℕ) (r : Row) (results : List Outcome) (said : Said) (f : IsFinished table older k results said) → OneMessage → WrittenIsStub → IsWholeTable table → all_go table r.op ≡ true
+    → Legal (journal past) → past ≡ newer ++ End k results said ∷ older → RowCall table r f.asked → RowEnd table r f.asked results said
+end_of table past newer older k r results said f one written t go legal is c =
     let b = asked_one table f.asked.iface f.asked.op f.asked.order f.asked.stub f.message f.is in
     let message_is : f.message ≡ r.message = c.message b.operation f.message b.found b.is in
     let types_op : slice_get table.ops f.asked.op ≡ slice_get table.ops r.op = ap (slice_get table.ops) c.op in
     let kepts_are : has_kepts (uses_at table r.op) f.kepts ≡ true = subst (λ (x : ℕ). has_kepts (uses_at table x) f.kepts ≡ true) c.op f.owes.1 in
     let outs = wires_at home f.asked.slots results in
     let count : length outs ≡ count_in Response (uses_at table r.op) =
-    ap (λ (x : List Outcome). length (wires_at home f.asked.slots x)) f.results_are ∙ outs_count home f.kepts c.slots kepts_are (t.go r.op) in
+    ap (λ (x : List Outcome). length (wires_at home f.asked.slots x)) f.results_are ∙ outs_count home f.kepts c.slots kepts_are go in
     let fit : AllFit outs = outs_fit home results c.slots (wires_fit table.types c.operation Request None r.message c.of_op) (issues_fit past newer older k results said legal is) in
     record {
       kepts = f.kepts;
@@ -188,9 +188,9 @@ end_of table past newer older k r results said f one written t legal is c =
     }
 
 -- the End of a row's call by what was accepted
-pub row_end : (table : TableForm) (past newer older : List Entry) (k : ℕ) (r : Row) (results : List Outcome) (said : Said) → OneMessage → WrittenIsStub → IsWholeTable table → Legal (journal past) → past ≡ newer ++ End k results said ∷ older
-    → (w : RowAccepted table past k r) → IsFinished table older k results said → RowEnd table r w.asked results said
-row_end table past newer older k r results said one written t legal is w f =
+pub row_end : (table : TableForm) (past newer older : List Entry) (k : ℕ) (r : Row) (results : List Outcome) (said : Said) → OneMessage → WrittenIsStub → IsWholeTable table → all_go table r.op ≡ true → Legal (journal past)
+    → past ≡ newer ++ End k results said ∷ older → (w : RowAccepted table past k r) → IsFinished table older k results said → RowEnd table r w.asked results said
+row_end table past newer older k r results said one written t go legal is w f =
     let same : f.asked ≡ w.asked = asked_is past w.newer w.older newer older k w.asked f.asked (End k results said) legal w.is is f.asks in
     let call : RowCall table r f.asked = subst (λ (x : Asked). RowCall table r x) (sym same) w.call in
-    subst (λ (x : Asked). RowEnd table r x results said) same (end_of table past newer older k r results said f one written t legal is call)
+    subst (λ (x : Asked). RowEnd table r x results said) same (end_of table past newer older k r results said f one written t go legal is call)

@@ -332,6 +332,37 @@ closed_comes_null home (o ∷ os) (suc n) kind wire (outward {u = u} {us = us} {
     outward_more home u us ws t o (wires_at home ss os) wire k serial i (goes_out u u.inward u.outward refl refl (and_parts (goes_somewhere u) (list_all goes_somewhere us) g).0 i) is
     (closed_comes_null home os n kind wire more (and_parts (goes_somewhere u) (list_all goes_somewhere us) g).1 s c)
 
+-- a slot that changes a handle is one of an [in, out] parameter that named it
+pub record ChangedAt (uses : List HandleUse) (ws : List WireHandle) (wire : WireHandle) : Type 0 where
+  pub place : ℕ
+  pub changed : slice_get (changed_in uses ws) place ≡ Some wire
+
+named_later : (uses us : List HandleUse) (ws xs : List WireHandle) (w wire : WireHandle) → changed_in uses ws ≡ w ∷ changed_in us xs → ChangedAt us xs wire → ChangedAt uses ws wire
+named_later uses us ws xs w wire a n = record { place = suc n.place; changed = ap (λ (y : List WireHandle). slice_get y (suc n.place)) a ∙ n.changed }
+
+named_same : (uses us : List HandleUse) (ws xs : List WireHandle) (wire : WireHandle) → changed_in uses ws ≡ changed_in us xs → ChangedAt us xs wire → ChangedAt uses ws wire
+named_same uses us ws xs wire a n = record { place = n.place; changed = ap (λ (y : List WireHandle). slice_get y n.place) a ∙ n.changed }
+
+named_more : (u : HandleUse) (us : List HandleUse) (w : WireHandle) (ws : List WireHandle) (s : Slot) (wire : WireHandle) → u.inward ≡ true → Place u w s → ChangedAt us ws wire → ChangedAt (u ∷ us) (w ∷ ws) wire
+named_more u us w ws s wire i (stays out none) n = named_same (u ∷ us) us (w ∷ ws) ws wire (changed_by u us w ws true false i out) n
+named_more u us w ws s wire i (opens out kind serial is) n = named_later (u ∷ us) us (w ∷ ws) ws w wire (changed_by u us w ws true true i out) n
+named_more u us w ws s wire i (changes out kind is) n = named_later (u ∷ us) us (w ∷ ws) ws w wire (changed_by u us w ws true true i out) n
+
+named_here : (u : HandleUse) (us : List HandleUse) (w : WireHandle) (ws : List WireHandle) (s : Slot) (wire : WireHandle) (kind : ℕ) → u.inward ≡ true → Place u w s → s ≡ Changes kind wire → ChangedAt (u ∷ us) (w ∷ ws) wire
+named_here u us w ws s wire kind i (stays out none) is = absurd (cc (none, ap is_out is))
+named_here u us w ws s wire kind i (opens out k serial was) is = absurd (opens_changes k serial kind wire (sym was ∙ is))
+named_here u us w ws s wire kind i (changes out k was) is = record {
+  place = zero;
+  changed = ap (λ (y : List WireHandle). slice_get y zero) (changed_by u us w ws true true i out) ∙ ap (λ (x : WireHandle). Some x) (same_change k kind w wire (sym was ∙ is));
+}
+
+pub changed_at : {uses : List HandleUse} {ws : List WireHandle} {slots : List Slot} (n kind : ℕ) (wire : WireHandle) → AreSlots uses ws slots → slice_get slots n ≡ Some (Changes kind wire) → ChangedAt uses ws wire
+changed_at n kind wire no_slot s = absurd (cc (s))
+changed_at zero kind wire (inward {u = u} {us = us} {w = w} {ws = ws} {s = t} i p more) s = named_here u us w ws t wire kind i p (some_is t (Changes kind wire) s)
+changed_at (suc n) kind wire (inward {u = u} {us = us} {w = w} {ws = ws} {s = t} i p more) s = named_more u us w ws t wire i p (changed_at n kind wire more s)
+changed_at zero kind wire (outward {s = t} i k serial is more) s = absurd (opens_changes k serial kind wire (sym is ∙ some_is t (Changes kind wire) s))
+changed_at (suc n) kind wire (outward {u = u} {us = us} {ws = ws} i k serial is more) s = named_same (u ∷ us) us ws ws wire (changed_past u us ws i) (changed_at n kind wire more s)
+
 -- ---- where a handle comes from
 
 pub data CameFrom (home : Home) (slots : List Slot) (os : List Outcome) (h : WireHandle) : Type 0 where

@@ -44,7 +44,7 @@ use Rattle.world_laws.specs.Journals.{home, journal}
 use Rattle.world_laws.specs.Ends.{Row, Line, number_at}
 use Rattle.world_laws.specs.Worlds.{World, Played}
 use Rattle.world_laws.specs.Clauses.{IsOfRow, CallsAreRows, takes_of, FateIsTrue, FatesAreTrue}
-use Rattle.world_laws.specs.Keeping.{changed_in, returned_in, Keeps, AllKeep, IsThere, HandlesAreKept, IsWholeTable, AllHandlesAreKept}
+use Rattle.world_laws.specs.Keeping.{changed_in, returned_in, all_go, Keeps, AllKeep, IsThere, HandlesAreKept, IsWholeTable, AllHandlesAreKept}
 use Rattle.world_laws.proofs.Lists.{some_is}
 use Rattle.world_laws.proofs.Moving.{calls_are_rows}
 use Rattle.world_laws.proofs.Truths as truths
@@ -55,7 +55,7 @@ use Rattle.world_laws.proofs.Fates.{any_counted, more_counted, fates_are_true}
 use Rattle.world_laws.proofs.Finishing.{IsFinished, AllFinished, finished_at, all_finished}
 use Rattle.world_laws.proofs.TellFates.{TellsLine, tells_all}
 use Rattle.world_laws.proofs.RowFates.{is_told}
-use Rattle.world_laws.proofs.Handles.{CameFrom, came_from, ComesNull, closed_comes_null, suit_at, closer_changes}
+use Rattle.world_laws.proofs.Handles.{CameFrom, came_from, closed_comes_null, changed_at, suit_at, closer_changes}
 use Rattle.world_laws.proofs.Handles.CameFrom.{issued, kept}
 use Rattle.world_laws.proofs.RowCalls.{RowAccepted, row_accepted}
 use Rattle.world_laws.proofs.EndedCalls.{RowEnd, row_end, asked_is, one_end, split, older_is, any_more, issued_here}
@@ -98,15 +98,16 @@ record DoneEnd (table : TableForm) (w : World) (k : ℕ) (r : Row) (m : Msg) : T
   is : w.past ≡ newer ++ End k results said ∷ older
   wires : m.wires ≡ wires_at home accepted.asked.slots results
 
-done_end : (table : TableForm) (w : World) (i x : ℕ) (l : Line) (r : Row) (m : Msg) → OneMessage → WrittenIsStub → Facts table w → slice_get w.lines i ≡ Some l → slice_get l.caller.rows x ≡ Some r → (d : truths.WasDone table w.past l x r m) → DoneEnd table w d.number r m
-done_end table w i x l r m one written f at row d =
+done_end : (table : TableForm) (w : World) (i x : ℕ) (l : Line) (r : Row) (m : Msg) → OneMessage → WrittenIsStub → Facts table w → all_go table r.op ≡ true → slice_get w.lines i ≡ Some l → slice_get l.caller.rows x ≡ Some r
+    → (d : truths.WasDone table w.past l x r m) → DoneEnd table w d.number r m
+done_end table w i x l r m one written f go at row d =
     let e = ran_has_ended (journal d.replied.older) d.number (Out d.stub) d.replied.replies_are in
     let newer = d.replied.newer ++ e.newer in
     let is : w.past ≡ newer ++ End d.number e.results (Out d.stub) ∷ e.older =
     d.replied.is ∙ (ap (λ (y : List Entry). d.replied.newer ++ y) e.is ∙ sym (append_assoc d.replied.newer e.newer (End d.number e.results (Out d.stub) ∷ e.older))) in
     let a = accepted_at table w i x d.number l r one written f at row d.number_is in
     let finished = finished_at table newer e.older d.number e.results (Out d.stub) (subst (λ (y : List Entry). AllFinished table y) is f.finished) in
-    let end = row_end table w.past newer e.older d.number r e.results (Out d.stub) one written f.whole f.legal is a finished in
+    let end = row_end table w.past newer e.older d.number r e.results (Out d.stub) one written f.whole go f.legal is a finished in
     record {
       accepted = a;
       newer = newer;
@@ -194,29 +195,36 @@ null_kept : (h : WireHandle) → Some null_handle ≡ Some h → is_null h ≡ f
 null_kept h e n = absurd (cc (ap is_null (some_is null_handle h e), n))
 
 -- the row of a call that closed the handle wasn't told that it was kept, nor that it didn't run
-not_kept : (table : TableForm) (w : World) (j y k place : ℕ) (n : Line) (s : Row) (h : WireHandle) (newer older : List Entry) (results : List Outcome) (said : Said) (a : Asked) → OneMessage → WrittenIsStub → Facts table w
-    → slice_get w.lines j ≡ Some n → slice_get n.caller.rows y ≡ Some s → number_at n y ≡ Some k → w.past ≡ newer ++ End k results said ∷ older → (w_accepted : RowAccepted table w.past k s) → a ≡ w_accepted.asked
-    → slice_get (returned_in (uses_at table s.op) (wires_at home a.slots results)) place ≡ Some null_handle → is_null h ≡ false → (fate : Fate) → s.fate ≡ fate → Keeps table s place h fate → ⊥
-not_kept table w j y k place n s h newer older results said a one written f at row number is acc a_is null nn (fates.Done m) fate_is keeps_ =
+not_kept : (table : TableForm) (w : World) (j y k x kind : ℕ) (n : Line) (s : Row) (h : WireHandle) (newer older : List Entry) (results : List Outcome) (said : Said) → OneMessage → WrittenIsStub → Facts table w
+    → slice_get w.lines j ≡ Some n → slice_get n.caller.rows y ≡ Some s → number_at n y ≡ Some k → w.past ≡ newer ++ End k results said ∷ older → (acc : RowAccepted table w.past k s)
+    → slice_get acc.asked.slots x ≡ Some (Changes kind h) → slice_get results x ≡ Some Close → is_null h ≡ false → (fate : Fate) → s.fate ≡ fate
+    → ((place : ℕ) → slice_get (changed_in (uses_at table s.op) s.message.wires) place ≡ Some h → Keeps table s place h fate) → ⊥
+not_kept table w j y k x kind n s h newer older results said one written f at row number is acc slot closed nn (fates.Done m) fate_is keep =
+    let named_ = changed_at x kind h acc.call.slots slot in
+    let go = (keep named_.place named_.changed).0 in
+    let null = closed_comes_null home results x kind h acc.call.slots go slot closed in
     let d = knows_done table w.past n y s s.fate m fate_is ((f.lines j n at).told y s row) in
-    let e = done_end table w j y n s m one written f at row d in
+    let e = done_end table w j y n s m one written f go at row d in
     let same_k : d.number ≡ k = some_is d.number k (sym d.number_is ∙ number) in
     let theirs : w.past ≡ e.newer ++ End k e.results e.said ∷ e.older = subst (λ (i : ℕ). w.past ≡ e.newer ++ End i e.results e.said ∷ e.older) same_k e.is in
-    let few : length (filter (ends k) (newer ++ End k results said ∷ older)) ≤ 1 = subst (λ (x : List Entry). length (filter (ends k) x) ≤ 1) is (ends_once (journal w.past) k f.legal) in
+    let few : length (filter (ends k) (newer ++ End k results said ∷ older)) ≤ 1 = subst (λ (z : List Entry). length (filter (ends k) z) ≤ 1) is (ends_once (journal w.past) k f.legal) in
     let same : results ≡ e.results = one_end newer e.newer k results e.results said e.said older e.older (sym is ∙ theirs) few in
-    let one_asked : e.accepted.asked ≡ a = same_accept table w d.number k s f e.accepted acc same_k ∙ sym a_is in
-    let wires : m.wires ≡ wires_at home a.slots results = e.wires ∙ (ap (λ (x : Asked). wires_at home x.slots e.results) one_asked ∙ ap (wires_at home a.slots) (sym same)) in
-    null_kept h (sym null ∙ (ap (λ (x : List WireHandle). slice_get (returned_in (uses_at table s.op) x) place) (sym wires) ∙ keeps_)) nn
-not_kept table w j y k place n s h newer older results said a one written f at row number is acc a_is null nn (fates.Fault status true) fate_is keeps_ =
+    let one_asked : e.accepted.asked ≡ acc.asked = same_accept table w d.number k s f e.accepted acc same_k in
+    let wires : m.wires ≡ wires_at home acc.asked.slots results = e.wires ∙ (ap (λ (z : Asked). wires_at home z.slots e.results) one_asked ∙ ap (wires_at home acc.asked.slots) (sym same)) in
+    null_kept h (sym null.returned ∙ (ap (λ (z : List WireHandle). slice_get (returned_in (uses_at table s.op) z) null.place) (sym wires) ∙ (keep null.place null.changed).1)) nn
+not_kept table w j y k x kind n s h newer older results said one written f at row number is acc slot closed nn (fates.Fault status true) fate_is keep =
     let true_ = f.fates_are j y n s at row in
-    let none : takes_of w.past k ≡ 0 = subst (λ (x : Option ℕ). FateIsTrue table w.past x s (fates.Fault status true)) number (subst (λ (x : Fate). FateIsTrue table w.past (number_at n y) s x) fate_is true_) in
+    let none : takes_of w.past k ≡ 0 = subst (λ (z : Option ℕ). FateIsTrue table w.past z s (fates.Fault status true)) number (subst (λ (z : Fate). FateIsTrue table w.past (number_at n y) s z) fate_is true_) in
     let before = taken_before w.past newer older k results said f.legal is in
     let some = any_counted (takes k) older before in
     let more = more_counted (takes k) (newer ++ End k results said ∷ []) older in
-    absurd (omega (arith, none, some, more, ap (λ (x : List Entry). length (filter (takes k) x)) (split newer older (End k results said) ∙ sym is)))
-not_kept table w j y k place n s h newer older results said a one written f at row number is acc a_is null nn (fates.Fault status false) fate_is keeps_ = keeps_
-not_kept table w j y k place n s h newer older results said a one written f at row number is acc a_is null nn fates.Lost fate_is keeps_ = keeps_
-not_kept table w j y k place n s h newer older results said a one written f at row number is acc a_is null nn fates.Open fate_is keeps_ = keeps_
+    absurd (omega (arith, none, some, more, ap (λ (z : List Entry). length (filter (takes k) z)) (split newer older (End k results said) ∙ sym is)))
+not_kept table w j y k x kind n s h newer older results said one written f at row number is acc slot closed nn (fates.Fault status false) fate_is keep =
+    let named_ = changed_at x kind h acc.call.slots slot in keep named_.place named_.changed
+not_kept table w j y k x kind n s h newer older results said one written f at row number is acc slot closed nn fates.Lost fate_is keep =
+    let named_ = changed_at x kind h acc.call.slots slot in keep named_.place named_.changed
+not_kept table w j y k x kind n s h newer older results said one written f at row number is acc slot closed nn fates.Open fate_is keep =
+    let named_ = changed_at x kind h acc.call.slots slot in keep named_.place named_.changed
 
 -- a handle that each of its calls kept wasn't closed
 unclosed : (table : TableForm) (w : World) (h : WireHandle) (serial : ℕ) → OneMessage → WrittenIsStub → Facts table w → AllKeep table w h → h ≡ wire_of home serial → is_null h ≡ false → ClosedBy (journal w.past) serial → ⊥
@@ -237,9 +245,8 @@ unclosed table w h serial one written f keep h_is nn c =
     let (kind, changes) = closer_changes c.at.slot (wire_of home serial) suits_ c.at.names_it in
     let mine : slice_get acc.asked.slots c.at.place ≡ Some (Changes kind h) =
     ap (λ (x : Asked). slice_get x.slots c.at.place) (sym a_is) ∙ (slot_at ∙ (ap (λ (x : Slot). Some x) changes ∙ ap (λ (x : WireHandle). Some (Changes kind x)) (sym h_is))) in
-    let null = closed_comes_null home c.results c.at.place kind h acc.call.slots (f.whole.go o.row.op) mine c.at.is_closed in
-    let kept_ = keep o.line o.place null.place o.conn o.row o.there o.is_row null.changed in
-    not_kept table w o.line o.place k null.place o.conn o.row h c.newer c.older c.results c.said acc.asked one written f o.there o.is_row o.number c.is acc refl null.returned nn o.row.fate refl kept_
+    not_kept table w o.line o.place k c.at.place kind o.conn o.row h c.newer c.older c.results c.said one written f o.there o.is_row o.number c.is acc mine c.at.is_closed nn o.row.fate refl
+    (λ place changed. keep o.line o.place place o.conn o.row o.there o.is_row changed)
 
 -- ---- live, or run down
 
@@ -283,9 +290,9 @@ stays_there table w h one written f keep nn i =
 -- ---- the law
 
 kept_all : (table : TableForm) (w : World) → OneMessage → WrittenIsStub → Facts table w → HandlesAreKept table w
-kept_all table w one written f i x q l r m h at row fate_is wire nn keep =
+kept_all table w one written f i x q l r m h at row fate_is go wire nn keep =
     let d = knows_done table w.past l x r r.fate m fate_is ((f.lines i l at).told x r row) in
-    let e = done_end table w i x l r m one written f at row d in
+    let e = done_end table w i x l r m one written f go at row d in
     let asked_so : asked (journal w.past) d.number ≡ Some e.accepted.asked = accepted_now table w d.number r f e.accepted in
     let origin = came_from home e.accepted.asked.slots e.results q h (ap (λ (ws : List WireHandle). slice_get ws q) (sym e.wires) ∙ wire) nn in
     stays_there table w h one written f keep nn (by_origin table w d.number r m h f e asked_so origin)

@@ -35,11 +35,18 @@ returned_in (u ∷ us) [] = []
 returned_in (u ∷ us) (w ∷ ws) =
     if u.outward then (if u.inward then w ∷ returned_in us ws else returned_in us ws) else returned_in us (w ∷ ws)
 
+abbrev pub goes_somewhere : HandleUse → Bool
+goes_somewhere u = u.inward || u.outward
+
+-- each handle parameter of the operation goes in or out, as those of each interface text do
+abbrev pub all_go : TableForm → ℕ → Bool
+all_go table op = list_all goes_somewhere (uses_at table op)
+
 -- ---- rows
 
 -- at that place of its [in, out] handles the row's call was told done with the handle kept; or it didn't run
 abbrev pub Keeps : TableForm → Row → ℕ → WireHandle → Fate → Type 0
-Keeps table r place h (fates.Done m) = slice_get (returned_in (uses_at table r.op) m.wires) place ≡ Some h
+Keeps table r place h (fates.Done m) = (all_go table r.op ≡ true) × (slice_get (returned_in (uses_at table r.op) m.wires) place ≡ Some h)
 Keeps table r place h (fates.Fault status true) = ⊤
 Keeps table r place h _ = ⊥
 
@@ -59,19 +66,15 @@ pub record IsThere (past : List Entry) (h : WireHandle) : Type 0 where
 abbrev pub HandlesAreKept : TableForm → World → Type 0
 HandlesAreKept table w =
     (i x q : ℕ) (l : Line) (r : Row) (m : Msg) (h : WireHandle) → slice_get w.lines i ≡ Some l → slice_get l.caller.rows x ≡ Some r
-    → r.fate ≡ fates.Done m → slice_get m.wires q ≡ Some h → is_null h ≡ false → AllKeep table w h → IsThere w.past h
+    → r.fate ≡ fates.Done m → all_go table r.op ≡ true → slice_get m.wires q ≡ Some h → is_null h ≡ false → AllKeep table w h → IsThere w.past h
 
 -- ---- in every world
 
-abbrev pub goes_somewhere : HandleUse → Bool
-goes_somewhere u = u.inward || u.outward
-
--- what a table of the library is: its shapes nest, and its handles are parameters of its operations, which go in or out
+-- what every table of the library is: its shapes nest, and its handles are parameters of its operations
 pub record IsWholeTable (table : TableForm) : Type 0 where
   pub is : IsTable table.types table.ops table.uses
   pub shallow : IsShallow table.types table.ops
   pub sound : IsSound table.types table.ops table.uses
-  pub go : (op : ℕ) → list_all goes_somewhere (uses_at table op) ≡ true
 
 -- for every list of moves, where the journal that they leave is legal
 abbrev pub AllHandlesAreKept : Type 0
