@@ -1,5 +1,5 @@
 -- A call that the server accepted is the one that the caller asked in its place.
-use Rattle.std.proofs.Common.{◌≡◌, ℕ, zero, suc, ◌+◌, ◌≤◌, inl, inr, Bool, true, false, ◌&&◌, Option, Some, None, List, [], ◌∷◌, ◌++◌, length, refl, sym, ap, subst, ◌∙◌, append_assoc, arith}
+use Rattle.std.proofs.Common.{◌≡◌, ℕ, zero, suc, inl, inr, Bool, true, false, ◌&&◌, Option, Some, None, List, [], ◌∷◌, ◌++◌, length, refl, sym, ap, subst, ◌∙◌, append_assoc, arith}
 use Rattle.std.specs.Prelude.{slice_get}
 use Rattle.std.specs.List.{list_all}
 use Rattle.rpc_base.specs.declared.identifiers.SyntaxId.{SyntaxId}
@@ -10,7 +10,6 @@ use Rattle.handle_model.specs.History.{History}
 use Rattle.pdu_stream.specs.declared.joined.Joined.{Joined}
 use Rattle.group_core.specs.Calls.{numbered}
 use Rattle.ndr_table.specs.Tables.{TableForm}
-use Rattle.conn_asks.specs.declared.events.Act.{Act}
 use Rattle.conn_asks.specs.declared.events.Act.TheVariants as acts
 use Rattle.conn_histories.specs.Histories.{Event}
 use Rattle.conn_histories.specs.Histories.Event.{Came, Paused, Did, Decided}

@@ -1,11 +1,10 @@
 -- What became of the handles of a call that ended, and what its caller was told of them.
-use Rattle.std.proofs.Common.{◌≡◌, ◌≢◌, ℕ, zero, suc, ◌+◌, ◌^◌, ◌<◌, ◌≤◌, Bool, true, false, ◌||◌, cond, Option, Some, None, List, [], ◌∷◌, ◌++◌, length, refl, sym, ap, subst, ◌∙◌, append_assoc, arith}
+use Rattle.std.proofs.Common.{◌≡◌, ℕ, zero, suc, ◌+◌, ◌≤◌, Bool, true, false, ◌||◌, cond, Some, None, List, [], ◌∷◌, ◌++◌, length, refl, sym, ap, subst, ◌∙◌, append_assoc, arith}
 use Rattle.std.specs.Prelude.{slice_get, filter}
 use Rattle.std.specs.List.{list_any}
 use Rattle.std.proofs.lemmas.Bool.{eq-eqb}
 use Rattle.rpc_base.specs.declared.identifiers.Order.{Order}
 use Rattle.rpc_base.specs.declared.identifiers.Order.TheVariants.{Little}
-use Rattle.rpc_base.specs.Fields.{FitsHandle}
 use Rattle.rpc_base.specs.declared.identifiers.WireHandle.{WireHandle}
 use Rattle.handle_model.specs.declared.entry.Asked.{Asked}
 use Rattle.handle_model.specs.declared.entry.Outcome.{Outcome}
@@ -13,16 +12,13 @@ use Rattle.handle_model.specs.declared.entry.Said.{Said}
 use Rattle.handle_model.specs.declared.entry.Said.TheVariants.{Out}
 use Rattle.handle_model.specs.declared.entry.Entry.{Entry}
 use Rattle.handle_model.specs.declared.entry.Entry.TheVariants.{Accept, End}
-use Rattle.handle_model.specs.Slots.{wire_of}
 use Rattle.handle_model.specs.Entries.{issues, issues_in, ends}
 use Rattle.handle_model.specs.Since.{any_since}
 use Rattle.handle_model.specs.Calls.{asked}
 use Rattle.handle_model.specs.Handles.{is_issued}
-use Rattle.handle_model.specs.History.{with_entry}
 use Rattle.handle_model.specs.Rules.{Legal}
 use Rattle.handle_model.proofs.Older.{older_legal}
 use Rattle.handle_model.proofs.Accepted.{asked_stays, asks_as_accepted}
-use Rattle.handle_model.proofs.Stages.{ends_once}
 use Rattle.handle_model.proofs.Held.{opened_small}
 use Rattle.handle_model.proofs.LiveNames.{issued_within}
 use Rattle.handle_model.specs.Bases.{empty_base}
@@ -47,7 +43,7 @@ use Rattle.world_laws.proofs.Fates.{counted, more_counted}
 use Rattle.world_laws.proofs.Finishing.{IsFinished}
 use Rattle.world_laws.proofs.WireCount.{count_in, wires_are}
 use Rattle.world_laws.proofs.Rewired.{AllFit, with_others, wires_fit}
-use Rattle.world_laws.proofs.Handles.{AreSlots, outs_count, IssuesFit, outs_fit}
+use Rattle.world_laws.proofs.Handles.{outs_count, IssuesFit, outs_fit}
 use Rattle.world_laws.proofs.RowCalls.{is_op, RowCall, RowAccepted}
 use Rattle.world_laws.proofs.RowCalls.{asked_one}
 

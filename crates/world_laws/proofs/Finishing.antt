@@ -1,5 +1,5 @@
 -- Each call that ended did so by what its manager answered.
-use Rattle.std.proofs.Common.{◌≡◌, ℕ, ◌+◌, ◌≤◌, inl, inr, Bool, true, false, Option, Some, None, List, [], ◌∷◌, ◌++◌, length, refl, sym, ap, subst, ◌∙◌, append_assoc}
+use Rattle.std.proofs.Common.{◌≡◌, ℕ, ◌≤◌, inl, inr, Bool, true, false, Option, Some, None, List, [], ◌∷◌, ◌++◌, length, refl, sym, ap, subst}
 use Rattle.handle_model.specs.declared.entry.Asked.{Asked}
 use Rattle.handle_model.specs.declared.entry.Outcome.{Outcome}
 use Rattle.handle_model.specs.declared.entry.Said.{Said}
@@ -21,8 +21,6 @@ use Rattle.group_core.specs.Adds.{Adds}
 use Rattle.group_core.specs.declared.answer.Cancelled.TheVariants as cancelled
 use Rattle.group_core.specs.declared.answer.Orphaned.TheVariants as orphaned
 use Rattle.group_core.specs.declared.answer.Rest.TheVariants as rest
-use Rattle.group_core.specs.declared.answer.Taking.TheVariants as taking
-use Rattle.group_core.specs.Calls.{Takes}
 use Rattle.conn_asks.specs.declared.events.Act.{Act}
 use Rattle.conn_asks.specs.declared.events.Act.TheVariants as acts
 use Rattle.conn_histories.specs.Histories.{Decision, Event}
@@ -35,7 +33,7 @@ use Rattle.world_laws.specs.Moves.{Move as moves}
 use Rattle.world_laws.specs.Journals.{home, journal, joined, Enters, Leaves, IsAccepted, IsCancelled, IsOrphaned}
 use Rattle.world_laws.specs.Ends.{Waiting, ServerEnd, Line}
 use Rattle.world_laws.specs.Ends.{Waiting as waiting}
-use Rattle.world_laws.specs.Serving.{OfMember, OfCall, CancelsMarked, Requests, ActMeans, Decides, Means, ServerGoesBy}
+use Rattle.world_laws.specs.Serving.{OfCall, CancelsMarked, Requests, ActMeans, Decides, Means, ServerGoesBy}
 use Rattle.world_laws.specs.Calling.{IfBroken, LosesLine}
 use Rattle.world_laws.specs.Worlds.{World, empty, entered, Ends, LosesAt, LosesAll, Arrives, Comes, GoesOnFor, Tries, Plays, PlaysAll, Played}
 use Rattle.world_laws.specs.Worlds.GoesOnFor.{answered, unheard}

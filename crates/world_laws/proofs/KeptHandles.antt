@@ -1,10 +1,8 @@
 -- A handle that came in a call told done is live or was run down, as long as no row's call closed it.
-use Rattle.std.proofs.Common.{◌≡◌, ◌≢◌, ℕ, zero, suc, ◌+◌, ◌^◌, ◌<◌, ◌≤◌, ◌⊎◌, inl, inr, Bool, true, false, ◌||◌, cond, eqb, Option, Some, None, List, [], ◌∷◌, ◌++◌, length, refl, sym, ap, subst, ◌∙◌, append_assoc, arith}
+use Rattle.std.proofs.Common.{◌≡◌, ◌≢◌, ℕ, zero, suc, ◌+◌, ◌^◌, ◌≤◌, ◌⊎◌, inl, inr, Bool, true, false, ◌||◌, cond, eqb, Option, Some, List, [], ◌∷◌, ◌++◌, length, refl, sym, ap, subst, ◌∙◌, append_assoc, arith}
 use Rattle.std.specs.Prelude.{slice_get, filter, is_some}
 use Rattle.std.specs.List.{list_any}
 use Rattle.std.proofs.lemmas.Bool.{eq-eqb, eqb-true}
-use Rattle.rpc_base.specs.Fields.{FitsSyntax}
-use Rattle.rpc_base.specs.declared.identifiers.Status.{Status}
 use Rattle.rpc_base.specs.declared.identifiers.WireHandle.{WireHandle}
 use Rattle.handle_model.specs.declared.entry.Asked.{Asked}
 use Rattle.handle_model.specs.declared.entry.Slot.{Slot}
@@ -13,14 +11,12 @@ use Rattle.handle_model.specs.declared.entry.Outcome.{Outcome}
 use Rattle.handle_model.specs.declared.entry.Outcome.TheVariants.{Close, Issue}
 use Rattle.handle_model.specs.declared.entry.Said.{Said}
 use Rattle.handle_model.specs.declared.entry.Said.TheVariants.{Out}
-use Rattle.handle_model.specs.declared.entry.DueItem.{DueItem}
 use Rattle.handle_model.specs.declared.entry.Entry.{Entry}
 use Rattle.handle_model.specs.declared.entry.Entry.TheVariants.{Join, Accept, Take, Deny, Cancel, Orphan, End, Leave, Shut}
-use Rattle.handle_model.specs.Slots.{wire_of, is_null, named, names}
+use Rattle.handle_model.specs.Slots.{wire_of, is_null, named}
 use Rattle.handle_model.specs.Entries.{takes, ends, issues, is_item_of, runs_down}
 use Rattle.handle_model.specs.Calls.{asked, slots_in, slots, is_taken}
 use Rattle.handle_model.specs.Handles.{is_issued, is_live}
-use Rattle.handle_model.specs.Bases.{empty_base}
 use Rattle.handle_model.specs.Running.{AllIssued, NamesIssued}
 use Rattle.handle_model.specs.Fates.{closings, rundowns, ClosedBy}
 use Rattle.handle_model.specs.Rules.{Legal, suits, suit}
@@ -37,13 +33,13 @@ use Rattle.ndr_laws.specs.Laws.{OneMessage}
 use Rattle.ndr_laws.specs.WrittenLaws.{WrittenIsStub}
 use Rattle.manager_api.specs.Calls.{uses_at}
 use Rattle.manager_api.specs.Responses.{null_handle}
-use Rattle.conn_histories.specs.Ends.{with_wires, wires_at}
+use Rattle.conn_histories.specs.Ends.{wires_at}
 use Rattle.world_laws.specs.Moves.{Fate}
 use Rattle.world_laws.specs.Moves.{Fate as fates}
 use Rattle.world_laws.specs.Journals.{home, journal}
 use Rattle.world_laws.specs.Ends.{Row, Line, number_at}
-use Rattle.world_laws.specs.Worlds.{World, Played}
-use Rattle.world_laws.specs.Clauses.{IsOfRow, CallsAreRows, takes_of, FateIsTrue, FatesAreTrue}
+use Rattle.world_laws.specs.Worlds.{World}
+use Rattle.world_laws.specs.Clauses.{CallsAreRows, takes_of, FateIsTrue, FatesAreTrue}
 use Rattle.world_laws.specs.Keeping.{changed_in, returned_in, all_go, Keeps, AllKeep, IsThere, HandlesAreKept, IsWholeTable, AllHandlesAreKept}
 use Rattle.world_laws.proofs.Lists.{some_is}
 use Rattle.world_laws.proofs.Moving.{calls_are_rows}
@@ -52,13 +48,13 @@ use Rattle.world_laws.proofs.Truth.{TrueLine}
 use Rattle.world_laws.proofs.Worlds.{is_true}
 use Rattle.world_laws.proofs.Truths.{Knows}
 use Rattle.world_laws.proofs.Fates.{any_counted, more_counted, fates_are_true}
-use Rattle.world_laws.proofs.Finishing.{IsFinished, AllFinished, finished_at, all_finished}
+use Rattle.world_laws.proofs.Finishing.{AllFinished, finished_at, all_finished}
 use Rattle.world_laws.proofs.TellFates.{TellsLine, tells_all}
 use Rattle.world_laws.proofs.RowFates.{is_told}
 use Rattle.world_laws.proofs.Handles.{CameFrom, came_from, closed_comes_null, changed_at, suit_at, closer_changes}
 use Rattle.world_laws.proofs.Handles.CameFrom.{issued, kept}
 use Rattle.world_laws.proofs.RowCalls.{RowAccepted, row_accepted}
-use Rattle.world_laws.proofs.EndedCalls.{RowEnd, row_end, asked_is, one_end, split, older_is, any_more, issued_here}
+use Rattle.world_laws.proofs.EndedCalls.{row_end, asked_is, one_end, split, older_is, any_more, issued_here}
 
 -- ---- what is known of a world
 

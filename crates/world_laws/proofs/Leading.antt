@@ -1,6 +1,6 @@
 -- A move leads to a world only where its condition holds; and some moves do wherever it holds.
-use Rattle.std.proofs.Common.{◌≡◌, ℕ, ◌+◌, ◌≤◌, Bool, true, false, cond, Option, Some, None, Ok, List, [], ◌∷◌, ◌++◌, length, refl, sym, ap, subst, ◌∙◌, arith, length-append}
-use Rattle.std.specs.Prelude.{slice_get, is_some}
+use Rattle.std.proofs.Common.{◌≡◌, ℕ, ◌≤◌, Bool, true, false, Option, Some, None, Ok, List, [], ◌∷◌, ◌++◌, length, refl, sym, ap, subst, ◌∙◌, arith, length-append}
+use Rattle.std.specs.Prelude.{is_some}
 use Rattle.handle_model.specs.declared.entry.Outcome.{Outcome}
 use Rattle.handle_model.specs.declared.entry.Entry.{Entry}
 use Rattle.handle_model.specs.declared.entry.Entry.TheVariants.{Take, Leave, Shut}
@@ -15,18 +15,17 @@ use Rattle.ndr_model.specs.Written.{stub}
 use Rattle.manager_api.specs.declared.answer.Kept.{Kept}
 use Rattle.group_core.specs.declared.answer.Rest.TheVariants as rest
 use Rattle.group_core.specs.Calls.{cookie_row, first_serial}
-use Rattle.conn_histories.specs.Ends.{outcomes_of, with_wires, wires_at}
-use Rattle.client_core.specs.States.{Calling, at_start, is_calling}
+use Rattle.conn_histories.specs.Ends.{with_wires, wires_at}
+use Rattle.client_core.specs.States.{Calling, at_start}
 use Rattle.client_core.specs.Octets.{bind_pdu, co_cancel}
 use Rattle.client_core.specs.Calls.{binding, CancelsCall, asking}
-use Rattle.world_laws.specs.Moves.{Move}
 use Rattle.world_laws.specs.Moves.{Move as moves}
 use Rattle.world_laws.specs.Journals.{home, journal, Enters, Leaves}
 use Rattle.world_laws.specs.Ends.{Line}
 use Rattle.world_laws.specs.Calling.{lost_line}
-use Rattle.world_laws.specs.Worlds.{World, with_line, entered, opened, cancelling, Moves, Starts, Arrives, Comes, Ends, Tries, Plays}
+use Rattle.world_laws.specs.Worlds.{World, with_line, entered, opened, cancelling, Moves, Starts, Ends, Tries}
 use Rattle.world_laws.specs.Worlds.Tries.{taken, denied}
-use Rattle.world_laws.specs.Leading.{MayStart, AreOnWay, MayFinish, MayCome, OnlyWhereItMay, Leads, OpensLead, CancelsLead, LossesLead, TakesLead}
+use Rattle.world_laws.specs.Leading.{MayStart, AreOnWay, MayFinish, MayCome, OnlyWhereItMay, OpensLead, CancelsLead, LossesLead, TakesLead}
 use Rattle.world_laws.proofs.Lists.{some_is}
 
 -- ---- only where it may

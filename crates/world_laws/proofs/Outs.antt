@@ -16,9 +16,9 @@ use Rattle.client_core.specs.declared.begun.Stage.TheVariants.{Unbound, Bound}
 use Rattle.client_core.specs.declared.begun.Out.{Out}
 use Rattle.client_core.specs.declared.begun.Out.TheVariants as outs
 use Rattle.client_core.specs.declared.told.ClientFault.TheVariants.{Direction, Join, Ndr}
-use Rattle.client_core.specs.States.{Outcome, ClientState, Calling, is_binding_at, is_calling, bind_id, has_id, is_id, out_with, without_out}
+use Rattle.client_core.specs.States.{Outcome, ClientState, Calling, is_binding_at, is_calling, bind_id, has_id, is_id, out_with}
 use Rattle.client_core.specs.States.Outcome.{TBound, TNotBound, TDone, TFault, TBroken}
-use Rattle.client_core.specs.Hears.{sendable, result_told, joined_so_far, answer_fragment, AcksBind, HearsBindAck, HearsBindNak, HearsAlterResp, FaultTells, AnswersCall, HearsResponse, HearsBody}
+use Rattle.client_core.specs.Hears.{sendable, joined_so_far, answer_fragment, AcksBind, HearsBindAck, HearsBindNak, HearsAlterResp, FaultTells, AnswersCall, HearsResponse, HearsBody}
 
 -- an outcome of a call
 abbrev pub tells_call : Option Outcome → Bool

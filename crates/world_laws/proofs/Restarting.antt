@@ -1,14 +1,12 @@
 -- All connections that stand may be lost, by rising name.
-use Rattle.std.proofs.Common.{◌≡◌, ℕ, zero, suc, ◌+◌, ◌<◌, ◌≤◌, ◌⊎◌, inl, inr, Bool, true, false, cond, Some, List, [], ◌∷◌, length, refl, sym, ap, subst, ◌∙◌, arith}
+use Rattle.std.proofs.Common.{◌≡◌, ℕ, zero, suc, ◌≤◌, ◌⊎◌, inl, inr, Bool, true, false, cond, Some, List, [], ◌∷◌, refl, sym, ap, subst, ◌∙◌, arith}
 use Rattle.std.specs.Prelude.{slice_get, slice_set, nat_le}
 use Rattle.std.proofs.lemmas.Bool.{leb-true, leb-false}
 use Rattle.handle_model.specs.declared.entry.Entry.{Entry}
-use Rattle.ndr_table.specs.Tables.{TableForm}
-use Rattle.world_laws.specs.Moves.{Move as moves}
 use Rattle.world_laws.specs.Ends.{Line}
 use Rattle.world_laws.specs.Calling.{lost_line}
-use Rattle.world_laws.specs.Worlds.{World, with_line, NoneStands, IsLeast, LosesAt, LosesAll}
-use Rattle.world_laws.specs.Leading.{Leads, RestartsLead}
+use Rattle.world_laws.specs.Worlds.{World, with_line, IsLeast, LosesAt, LosesAll}
+use Rattle.world_laws.specs.Leading.{RestartsLead}
 use Rattle.world_laws.proofs.Lists.{some_is}
 use Rattle.world_laws.proofs.Leading.{some_leave}
 

@@ -1,5 +1,5 @@
 -- A message with other handles in place of its own is of the same operation, in each of its places.
-use Rattle.std.proofs.Common.{◌≡◌, ℕ, zero, suc, ◌+◌, ◌^◌, ◌<◌, ◌≤◌, List, [], ◌∷◌, ◌++◌, length, Option, Some, None, refl, sym, ap, subst, ◌∙◌, arith}
+use Rattle.std.proofs.Common.{◌≡◌, ℕ, zero, suc, List, [], ◌∷◌, ◌++◌, length, Option, Some, None, refl, sym, ap, subst, ◌∙◌, arith}
 use Rattle.std.specs.Prelude.{ℤ, slice_get, unwrap_or}
 use Rattle.rpc_base.specs.declared.identifiers.WireHandle.{WireHandle}
 use Rattle.rpc_base.specs.Fields.{FitsHandle}
@@ -7,13 +7,13 @@ use Rattle.ndr_value.specs.declared.shape.Count.{Count}
 use Rattle.ndr_value.specs.declared.shape.Count.TheVariants as counts
 use Rattle.ndr_value.specs.declared.shape.ArrayKind.{ArrayKind}
 use Rattle.ndr_value.specs.Forms.{Form, OfHandle, Forms}
-use Rattle.ndr_value.specs.Values.{Val, VHandle, Vals, count_of, Msg}
+use Rattle.ndr_value.specs.Values.{Val, VHandle, Vals, Msg}
 use Rattle.ndr_table.specs.Tables.{OpForm}
 use Rattle.ndr_model.specs.declared.way.Way.{Way}
-use Rattle.ndr_model.specs.Stub.{Entry, entries}
+use Rattle.ndr_model.specs.Stub.{Entry}
 use Rattle.ndr_model.specs.Named.{Call, named}
 use Rattle.ndr_model.specs.Agree.{IsTied}
-use Rattle.ndr_model.specs.Fits.{SuitsCounts, counts_fixed, counts_varying, counts_conformant, counts_both, Seen, with_wire, Suits, suits_bool, suits_byte, suits_char, suits_int, suits_uint, suits_enum, suits_handle, suits_text, suits_name, suits_struct, suits_empty_arm, suits_arm, suits_array, suits_ref, suits_null, suits_unique, suits_null_full, suits_new, suits_repeat, SuitEach, no_member, then_member, SuitAll, no_element, then_element, SuitEntries, no_entry, then_entry, nothing_seen, IsOfOp}
+use Rattle.ndr_model.specs.Fits.{SuitsCounts, counts_fixed, counts_varying, counts_conformant, counts_both, Seen, with_wire, Suits, suits_bool, suits_byte, suits_char, suits_int, suits_uint, suits_enum, suits_handle, suits_text, suits_name, suits_struct, suits_empty_arm, suits_arm, suits_array, suits_ref, suits_null, suits_unique, suits_null_full, suits_new, suits_repeat, SuitEach, no_member, then_member, SuitAll, no_element, then_element, SuitEntries, no_entry, then_entry, IsOfOp}
 use Rattle.ndr_model.specs.Written.{call_of}
 use Rattle.manager_api.specs.Responses.{null_handle}
 use Rattle.conn_histories.specs.Ends.{with_wires}

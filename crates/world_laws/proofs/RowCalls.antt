@@ -1,5 +1,5 @@
 -- A row's call was accepted as the caller asked it.
-use Rattle.std.proofs.Common.{◌≡◌, ℕ, zero, suc, ◌+◌, ◌^◌, ◌<◌, ◌≤◌, Option, Some, None, List, [], ◌∷◌, ◌++◌, length, map, refl, sym, ap, subst, ◌∙◌, arith}
+use Rattle.std.proofs.Common.{◌≡◌, ℕ, zero, suc, ◌+◌, ◌≤◌, Option, Some, None, List, [], ◌∷◌, ◌++◌, length, map, refl, sym, ap, subst, ◌∙◌, arith}
 use Rattle.std.specs.Prelude.{slice_get}
 use Rattle.rpc_base.specs.declared.identifiers.Order.{Order}
 use Rattle.rpc_base.specs.declared.identifiers.Order.TheVariants.{Little}
@@ -13,7 +13,6 @@ use Rattle.pdu_stream.specs.declared.joined.Joined.{Joined}
 use Rattle.pdu_stream.specs.Fragments.{most_stub}
 use Rattle.ndr_value.specs.Values.{Msg}
 use Rattle.ndr_table.specs.Tables.{OpForm, TableForm}
-use Rattle.ndr_model.specs.declared.way.Way.{Way}
 use Rattle.ndr_model.specs.declared.way.Way.TheVariants.{Request}
 use Rattle.ndr_model.specs.Message.{IsStub}
 use Rattle.ndr_model.specs.Fits.{IsOfOp}
@@ -22,7 +21,6 @@ use Rattle.ndr_laws.specs.WrittenLaws.{WrittenIsStub}
 use Rattle.manager_api.specs.Calls.{uses_at}
 use Rattle.group_core.specs.Calls.{numbered}
 use Rattle.conn_asks.specs.declared.events.Ask.{Ask}
-use Rattle.conn_asks.specs.declared.events.Ask.TheVariants as asks
 use Rattle.conn_histories.specs.Requests.{IsAsked, HasSlots, slots_for}
 use Rattle.conn_histories.specs.Entries.{asked_as}
 use Rattle.client_core.specs.States as callers
@@ -41,10 +39,9 @@ use Rattle.world_laws.specs.Telling.{IsTold}
 use Rattle.world_laws.specs.Keeping.{IsWholeTable}
 use Rattle.world_laws.proofs.Lists.{some_is}
 use Rattle.world_laws.proofs.Statics.{calls_in, calls_append}
-use Rattle.world_laws.proofs.Accepting.{WasAccepted}
 use Rattle.world_laws.proofs.Truth.{TrueLine}
 use Rattle.world_laws.proofs.AskedRows.{HasAsked}
-use Rattle.world_laws.proofs.WireCount.{count_in, wires_are}
+use Rattle.world_laws.proofs.WireCount.{wires_are}
 use Rattle.world_laws.proofs.Handles.{AreSlots, are_slots, filled_same}
 
 -- ---- what the caller asked in a place

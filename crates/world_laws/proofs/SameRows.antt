@@ -1,5 +1,5 @@
 -- Whatever a caller is told, its rows are those of the same calls.
-use Rattle.std.proofs.Common.{◌≡◌, ℕ, zero, suc, Bool, true, false, Option, Some, None, List, [], ◌∷◌, ◌++◌, length, refl, sym, ap, subst, ◌∙◌}
+use Rattle.std.proofs.Common.{◌≡◌, ℕ, zero, suc, Bool, true, false, Option, Some, None, List, [], ◌∷◌, length, refl, sym, ap, subst, ◌∙◌}
 use Rattle.std.specs.Prelude.{slice_get}
 use Rattle.handle_model.specs.declared.entry.Entry.{Entry}
 use Rattle.pdu_codec.specs.declared.pdu.Pdu.{Pdu}

@@ -1,6 +1,6 @@
 -- A call may be started wherever its condition holds: its request has fragments.
-use Rattle.std.proofs.Common.{◌≡◌, ℕ, zero, suc, ◌+◌, ◌^◌, ◌<◌, ◌≤◌, Bool, true, false, cond, eqb, Option, Some, None, Ok, List, [], ◌∷◌, ◌++◌, length, refl, sym, ap, subst, ◌∙◌, arith, length-append}
-use Rattle.std.specs.Prelude.{slice_get, nat_le}
+use Rattle.std.proofs.Common.{◌≡◌, ℕ, zero, suc, ◌<◌, ◌≤◌, Bool, true, false, List, [], ◌∷◌, ◌++◌, length, refl, sym, ap, subst, arith, length-append}
+use Rattle.std.specs.Prelude.{nat_le}
 use Rattle.std.specs.List.{flat_map}
 use Rattle.std.proofs.lemmas.Bool.{leb-true, leb-false}
 use Rattle.pdu_codec.specs.Constants.{stub_offset}
@@ -15,11 +15,9 @@ use Rattle.client_core.specs.Histories.{ClientEvent, Happens, Lives}
 use Rattle.client_core.specs.Histories.ClientEvent.{DidBind, DidAlter, DidCall, DidCancel, Received, Lost}
 use Rattle.client_laws.specs.Meeting.{IsLawful}
 use Rattle.client_laws.proofs.Keeping.{keeps}
-use Rattle.world_laws.specs.Moves.{Move}
-use Rattle.world_laws.specs.Moves.{Move as moves}
 use Rattle.world_laws.specs.Ends.{Line}
-use Rattle.world_laws.specs.Worlds.{World, Started, with_line, starting, Starts, Played}
-use Rattle.world_laws.specs.Leading.{MayStart, Leads, StartsLead}
+use Rattle.world_laws.specs.Worlds.{World, with_line, starting, Starts}
+use Rattle.world_laws.specs.Leading.{MayStart, StartsLead}
 use Rattle.world_laws.proofs.Moving.{holds}
 
 -- ---- a stub in pieces

@@ -1,5 +1,5 @@
 -- Each call that a move starts has a row, and no row is there beside these.
-use Rattle.std.proofs.Common.{◌≡◌, ◌≢◌, ℕ, zero, suc, ◌+◌, ◌<◌, ◌⊎◌, inl, inr, Bool, true, false, eqb, Some, List, [], ◌∷◌, ◌++◌, length, refl, sym, ap, subst, ◌∙◌, append-nil, append_assoc, arith}
+use Rattle.std.proofs.Common.{◌≡◌, ◌≢◌, ℕ, zero, suc, ◌<◌, ◌⊎◌, inl, inr, Bool, true, false, eqb, Some, List, [], ◌∷◌, ◌++◌, length, refl, sym, ap, subst, ◌∙◌, append-nil, append_assoc, arith}
 use Rattle.std.specs.Prelude.{slice_get, slice_set}
 use Rattle.std.proofs.lemmas.Bool.{eq-eqb, eqb-true}
 use Rattle.ndr_value.specs.Values.{Msg}
@@ -10,13 +10,13 @@ use Rattle.world_laws.specs.Moves.{Move}
 use Rattle.world_laws.specs.Moves.{Move as moves}
 use Rattle.world_laws.specs.Ends.{Row, Line, new_row, new_server}
 use Rattle.world_laws.specs.Worlds.{World, Started, empty, with_line, opened, starting, Opens, Starts, Plays, PlaysAll}
-use Rattle.world_laws.specs.Starts.{Asking, starts_in, IsRowOf, AreRowsOf, IsStarted, StartsAreRows, AllStartsAreRows}
-use Rattle.world_laws.proofs.Lists.{some_is, within, there, set_same, set_other, OfMore, of_more, more_before, more_last, length_more}
+use Rattle.world_laws.specs.Starts.{Asking, starts_in, IsRowOf, AreRowsOf, IsStarted, AllStartsAreRows}
+use Rattle.world_laws.proofs.Lists.{some_is, within, there, set_same, set_other, OfMore, of_more, more_before, more_last}
 use Rattle.world_laws.proofs.Lists.OfMore.{before, last}
 use Rattle.world_laws.proofs.Holds.{OfSet, of_set}
 use Rattle.world_laws.proofs.Holds.OfSet.{here, there_still}
-use Rattle.world_laws.proofs.Walking.{OnLines, Others, plays_on}
-use Rattle.world_laws.proofs.SameRows.{IsSameCall, IsSameLine, same_line, stays_same}
+use Rattle.world_laws.proofs.Walking.{OnLines, plays_on}
+use Rattle.world_laws.proofs.SameRows.{IsSameLine, same_line, stays_same}
 
 -- ---- of lists
 

@@ -8,7 +8,7 @@ use Rattle.world_laws.specs.Moves.{Move}
 use Rattle.world_laws.specs.Moves.{Move as moves}
 use Rattle.world_laws.specs.Moves.{Fate as fates}
 use Rattle.world_laws.specs.Ends.{Row, Line, told_if}
-use Rattle.world_laws.specs.Worlds.{World, empty, opened, starting, with_line, Opens, Starts, Plays, PlaysAll, Played}
+use Rattle.world_laws.specs.Worlds.{World, empty, opened, starting, Opens, Starts, Plays, PlaysAll, Played}
 use Rattle.world_laws.specs.Telling.{ComesInOrder, AllFatesAreTold}
 use Rattle.world_laws.proofs.Lists.{within, OfMore, of_more}
 use Rattle.world_laws.proofs.Lists.OfMore.{before, last}

@@ -1,5 +1,5 @@
 -- What holds of a connection and stays through all that happens to it.
-use Rattle.std.proofs.Common.{◌≡◌, ℕ, zero, suc, Bool, true, false, Some, Ok, List, [], ◌∷◌, ◌++◌, length, refl, sym, ap, subst, ◌∙◌, arith}
+use Rattle.std.proofs.Common.{◌≡◌, ℕ, zero, suc, Bool, true, false, Some, Ok, List, [], ◌∷◌, ◌++◌, length, refl, sym, ap, subst, ◌∙◌}
 use Rattle.std.specs.Prelude.{slice_get, slice_set}
 use Rattle.handle_model.specs.declared.entry.Entry.{Entry}
 use Rattle.ndr_table.specs.Tables.{TableForm}
@@ -12,7 +12,7 @@ use Rattle.world_laws.specs.Moves.{Move as moves}
 use Rattle.world_laws.specs.Ends.{CallerEnd, Line}
 use Rattle.world_laws.specs.Serving.{ServerDoes, ServerGoesBy}
 use Rattle.world_laws.specs.Calling.{HearsOctets, IfBroken, lost_line, LosesLine}
-use Rattle.world_laws.specs.Worlds.{World, Started, with_line, entered, LosesAt, LosesAll, cancelling, CallsOff, Arrives, Comes, GoesOnFor, Tries, Plays}
+use Rattle.world_laws.specs.Worlds.{World, with_line, entered, LosesAt, LosesAll, cancelling, CallsOff, Arrives, Comes, GoesOnFor, Tries, Plays}
 use Rattle.world_laws.specs.Worlds.GoesOnFor.{answered, unheard}
 use Rattle.world_laws.specs.Worlds.Tries.{taken, denied}
 use Rattle.world_laws.proofs.Lists.{within}

@@ -1,5 +1,5 @@
 -- Octets come in order, on both ways of each connection.
-use Rattle.std.proofs.Common.{◌≡◌, ℕ, Bool, true, false, ◌||◌, Option, Some, None, Ok, List, [], ◌∷◌, ◌++◌, refl, sym, ap, subst, ◌∙◌, append-nil, append_assoc}
+use Rattle.std.proofs.Common.{◌≡◌, ℕ, Bool, true, false, ◌||◌, Option, List, [], ◌∷◌, ◌++◌, refl, sym, ap, subst, ◌∙◌, append-nil, append_assoc}
 use Rattle.std.specs.Prelude.{is_some}
 use Rattle.handle_model.specs.declared.entry.Entry.{Entry}
 use Rattle.pdu_codec.specs.declared.pdu.Pdu.{Pdu}

@@ -1,22 +1,21 @@
 -- A message has a handle for each handle parameter that goes its way.
-use Rattle.std.proofs.Common.{◌≡◌, ℕ, zero, suc, ◌+◌, ◌<◌, Bool, true, false, List, [], ◌∷◌, ◌++◌, length, Option, Some, None, refl, sym, ap, subst, ◌∙◌, arith, length-append}
+use Rattle.std.proofs.Common.{◌≡◌, ℕ, zero, suc, ◌+◌, Bool, true, false, List, [], ◌∷◌, length, Option, Some, None, refl, sym, ap, subst, ◌∙◌, arith, length-append}
 use Rattle.std.specs.Prelude.{◌&&◌, ◌||◌, ◌==◌, slice_get, is_some, ℤ, if◌then◌else◌}
 use Rattle.std.specs.Bool.{beq}
 use Rattle.std.specs.List.{list_all}
-use Rattle.rpc_base.specs.declared.identifiers.WireHandle.{WireHandle}
 use Rattle.ndr_value.specs.declared.shape.Count.{Count}
 use Rattle.ndr_value.specs.Forms.{Form, OfHandle, OfRef, OfUnion, Forms, Body, ArmForms, no_arm, then_arm, empty, holds}
 use Rattle.ndr_value.specs.Values.{Val, Vals, no_val, Msg}
-use Rattle.ndr_value.specs.Fits.{fits_tag, with_case, with_default, or_default, selected, arm_of}
+use Rattle.ndr_value.specs.Fits.{arm_of}
 use Rattle.ndr_table.specs.declared.operation.HandleUse.{HandleUse}
 use Rattle.ndr_table.specs.Tables.{ParamForm, OpForm}
-use Rattle.ndr_table.specs.Sound.{has_member, has_element, is_tag, is_sound, each_sound, arms_sound, body_sound, own_kind, handle_kind, may_range, range_sound, param_sound, result_sound, op_sound, is_use, behind_use, behind_kind, behind_param, are_none, if_left, are_uses, each_uses, IsSound}
+use Rattle.ndr_table.specs.Sound.{has_member, has_element, is_tag, is_sound, each_sound, arms_sound, body_sound, own_kind, handle_kind, range_sound, param_sound, result_sound, op_sound, is_use, behind_kind, if_left, are_uses, each_uses, IsSound}
 use Rattle.ndr_laws.proofs.Grounded.{HasBody, EachArm, arm_has}
 use Rattle.ndr_model.specs.declared.way.Way.{Way}
 use Rattle.ndr_model.specs.declared.way.Way.TheVariants.{Request, Response}
-use Rattle.ndr_model.specs.Stub.{Entry, of_param, param_entry, goes, last_entry, entries_of, entries}
+use Rattle.ndr_model.specs.Stub.{Entry, of_param, param_entry, goes, last_entry, entries_of}
 use Rattle.ndr_model.specs.Named.{Call}
-use Rattle.ndr_model.specs.Fits.{Seen, with_wire, Suits, suits_bool, suits_byte, suits_char, suits_int, suits_uint, suits_enum, suits_handle, suits_text, suits_name, suits_struct, suits_empty_arm, suits_arm, suits_array, suits_ref, suits_null, suits_unique, suits_null_full, suits_new, suits_repeat, SuitEach, no_member, then_member, SuitAll, no_element, then_element, SuitEntries, no_entry, then_entry, nothing_seen, IsOfOp}
+use Rattle.ndr_model.specs.Fits.{Seen, Suits, suits_bool, suits_byte, suits_char, suits_int, suits_uint, suits_enum, suits_handle, suits_text, suits_name, suits_struct, suits_empty_arm, suits_arm, suits_array, suits_ref, suits_null, suits_unique, suits_null_full, suits_new, suits_repeat, SuitEach, no_member, then_member, SuitAll, no_element, then_element, SuitEntries, no_entry, then_entry, nothing_seen, IsOfOp}
 use Rattle.ndr_model.specs.Written.{call_of}
 use Rattle.manager_api.specs.Calls.{uses_or}
 

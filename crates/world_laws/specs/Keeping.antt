@@ -1,5 +1,5 @@
 -- Handles that a caller was given stay, as long as it is told of no call that closed them.
-use Rattle.std.specs.Prelude.{◌≡◌, ℕ, ◌≤◌, ◌^◌, ◌⊎◌, Bool, true, false, ◌||◌, if◌then◌else◌, Some, List, [], ◌∷◌, length, slice_get, ⊤}
+use Rattle.std.specs.Prelude.{◌≡◌, ℕ, ◌⊎◌, Bool, true, false, ◌||◌, if◌then◌else◌, Some, List, [], ◌∷◌, slice_get, ⊤}
 use Rattle.std.specs.List.{list_any, list_all}
 use Rattle.rpc_base.specs.Fields.{FitsSyntax}
 use Rattle.rpc_base.specs.declared.identifiers.WireHandle.{WireHandle}

@@ -1,6 +1,5 @@
 -- The calls that moves start, and their rows.
-use Rattle.std.specs.Prelude.{◌≡◌, ℕ, ◌≤◌, ◌^◌, Some, List, [], ◌∷◌, length, slice_get, ⊤}
-use Rattle.rpc_base.specs.Fields.{FitsSyntax}
+use Rattle.std.specs.Prelude.{◌≡◌, ℕ, Some, List, [], ◌∷◌, slice_get, ⊤}
 use Rattle.ndr_value.specs.Values.{Msg}
 use Rattle.ndr_table.specs.Tables.{TableForm}
 use Rattle.world_laws.specs.Moves.{Move}
