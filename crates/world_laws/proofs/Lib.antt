@@ -26,6 +26,7 @@ pub mod RowCalls
 pub mod RowFates
 pub mod SameRows
 pub mod Serving
+pub mod Standing
 pub mod StartLeads
 pub mod StartRows
 pub mod Starting

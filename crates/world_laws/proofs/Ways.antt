@@ -1,9 +1,11 @@
 -- Octets come in order, on both ways of each connection.
-use Rattle.std.proofs.Common.{◌≡◌, ℕ, Bool, true, false, ◌||◌, Option, List, [], ◌∷◌, ◌++◌, refl, sym, ap, subst, ◌∙◌, append-nil, append_assoc}
+use Rattle.std.proofs.Common.{◌≡◌, ℕ, Bool, true, false, ◌||◌, Option, Some, None, List, [], ◌∷◌, ◌++◌, refl, sym, ap, subst, ◌∙◌, append-nil, append_assoc, inl, arith}
 use Rattle.std.specs.Prelude.{is_some}
 use Rattle.handle_model.specs.declared.entry.Entry.{Entry}
 use Rattle.pdu_codec.specs.declared.pdu.Pdu.{Pdu}
 use Rattle.pdu_codec.specs.Pdus.{IsPdu, AreSpelled}
+use Rattle.pdu_codec.specs.declared.fault.PduFault.{PduFault}
+use Rattle.pdu_stream.specs.Cuts.{IsPartial, Remains}
 use Rattle.pdu_stream.proofs.CutLaws.{spelled_append}
 use Rattle.ndr_value.specs.Values.{Msg}
 use Rattle.ndr_table.specs.Tables.{TableForm}
@@ -36,11 +38,11 @@ no_pdu events event none = received_append events (event ∷ []) ∙ (ap (λ (x 
 -- ---- the caller sends
 
 pub opens_ways : (table : TableForm) (c group : ℕ) (octets : List ℕ) (state : ClientState) → ComesInOrder (opened table c group octets state)
-opens_ways table c group octets state = record { up = octets; to_server = append-nil octets; front = []; down = []; to_caller = refl; pdus = refl; on_way = λ s. (refl, refl) }
+opens_ways table c group octets state = record { up = octets; to_server = append-nil octets; front = []; down = []; to_caller = refl; pdus = refl; on_way = λ s. (refl, refl); waits = λ s. inl (omega arith); gone = λ s. absurd (cc (s)) }
 
-sends : (l : Line) (c : CallerEnd) (event : ClientEvent) (octets : List ℕ) → c.events ≡ l.caller.events ++ event ∷ [] → c.rest ≡ l.caller.rest → sent (event ∷ []) ≡ octets → received (event ∷ []) ≡ [] → ComesInOrder l
+sends : (l : Line) (c : CallerEnd) (event : ClientEvent) (octets : List ℕ) → l.standing ≡ true → c.events ≡ l.caller.events ++ event ∷ [] → c.rest ≡ l.caller.rest → sent (event ∷ []) ≡ octets → received (event ∷ []) ≡ [] → ComesInOrder l
     → ComesInOrder (record l { caller = c; up = l.up ++ octets })
-sends l c event octets events rest is none w = record {
+sends l c event octets stands events rest is none w = record {
   up = w.up ++ octets;
   to_server = ap sent events ∙ (sent_more l.caller.events event ∙ ((λ i. w.to_server i ++ is i) ∙ append_assoc (stream l.server.events) w.up octets));
   front = w.front;
@@ -48,19 +50,21 @@ sends l c event octets events rest is none w = record {
   to_caller = w.to_caller;
   pdus = subst (λ (ps : List Pdu). AreSpelled IsPdu ps w.front) (sym (ap received events ∙ no_pdu l.caller.events event none)) w.pdus;
   on_way = λ s. (let p = w.on_way s in (ap (λ (x : List ℕ). x ++ octets) p.0, p.1 ∙ ap (λ (x : List ℕ). x ++ l.down) (sym rest)));
+  waits = λ s. subst (λ (x : List ℕ). IsPartial x) (sym rest) (w.waits s);
+  gone = λ s. absurd (cc (stands, s));
 }
 
-pub starts_ways : (table : TableForm) (l : Line) (op : ℕ) (m : Msg) (octets : List ℕ) (state : ClientState) → ComesInOrder l → ComesInOrder (starting table l op m octets state)
-starts_ways table l op m octets state w =
-    sends l (record l.caller { events = l.caller.events ++ DidCall op m octets ∷ []; state = state; rows = l.caller.rows ++ new_row op m ∷ [] }) (DidCall op m octets) octets refl refl (append-nil octets) refl w
+pub starts_ways : (table : TableForm) (l : Line) (op : ℕ) (m : Msg) (octets : List ℕ) (state : ClientState) → l.standing ≡ true → ComesInOrder l → ComesInOrder (starting table l op m octets state)
+starts_ways table l op m octets state stands w =
+    sends l (record l.caller { events = l.caller.events ++ DidCall op m octets ∷ []; state = state; rows = l.caller.rows ++ new_row op m ∷ [] }) (DidCall op m octets) octets stands refl refl (append-nil octets) refl w
 
-pub cancels_ways : (table : TableForm) (l : Line) (octets : List ℕ) (state : ClientState) → ComesInOrder l → ComesInOrder (cancelling table l octets state)
-cancels_ways table l octets state w = sends l (record l.caller { events = l.caller.events ++ DidCancel octets ∷ []; state = state }) (DidCancel octets) octets refl refl (append-nil octets) refl w
+pub cancels_ways : (table : TableForm) (l : Line) (octets : List ℕ) (state : ClientState) → l.standing ≡ true → ComesInOrder l → ComesInOrder (cancelling table l octets state)
+cancels_ways table l octets state stands w = sends l (record l.caller { events = l.caller.events ++ DidCancel octets ∷ []; state = state }) (DidCancel octets) octets stands refl refl (append-nil octets) refl w
 
 -- ---- the server
 
-pub does_ways : (table : TableForm) (l m : Line) (past new : List Entry) (event : Event) → stream (event ∷ []) ≡ [] → ServerDoes (table ∷ []) l past event m new → ComesInOrder l → ComesInOrder m
-does_ways table l m past new event none d w =
+pub does_ways : (table : TableForm) (l m : Line) (past new : List Entry) (event : Event) → l.standing ≡ true → stream (event ∷ []) ≡ [] → ServerDoes (table ∷ []) l past event m new → ComesInOrder l → ComesInOrder m
+does_ways table l m past new event stands none d w =
     let both = (put_in_order l.server.events (event ∷ [])).0 in
     subst (λ (x : Line). ComesInOrder x) (sym d.then_) (record {
       up = w.up;
@@ -70,6 +74,8 @@ does_ways table l m past new event none d w =
       to_caller = both.puts ∙ (ap (λ (x : List ℕ). x ++ put (event ∷ [])) w.to_caller ∙ append_assoc w.front w.down (put (event ∷ [])));
       pdus = w.pdus;
       on_way = λ s. (let p = w.on_way s in (p.0, ap (λ (x : List ℕ). x ++ put (event ∷ [])) p.1 ∙ append_assoc l.caller.rest l.down (put (event ∷ []))));
+      waits = w.waits;
+      gone = λ s. absurd (cc (stands, s));
     })
 
 pub comes_ways : (table : TableForm) (l m : Line) (past new : List Entry) (front left : List ℕ) → l.standing ≡ true → l.up ≡ front ++ left → ServerDoes (table ∷ []) (record l { up = left }) past (Came front) m new → ComesInOrder l → ComesInOrder m
@@ -85,6 +91,8 @@ comes_ways table l m past new front left stands way d w =
       to_caller = both.puts ∙ (append-nil (put l.server.events) ∙ w.to_caller);
       pdus = w.pdus;
       on_way = λ s. (refl, p.1 ∙ ap (λ (x : List ℕ). l.caller.rest ++ x) (sym (append-nil l.down)));
+      waits = w.waits;
+      gone = λ s. absurd (cc (stands, s));
     })
 
 -- ---- the caller hears
@@ -147,6 +155,14 @@ or_parts : (a b c : Bool) → c ≡ (a || b) → c ≡ false → a ≡ false
 or_parts true b c e f = absurd (cc (e, f))
 or_parts false b c e f = refl
 
+or_second : (a b c : Bool) → c ≡ (a || b) → c ≡ false → b ≡ false
+or_second true b c e f = absurd (cc (e, f))
+or_second false b c e f = sym e ∙ f
+
+is_partial : (rest : List ℕ) (fault : Option PduFault) → is_some fault ≡ false → Remains rest fault → IsPartial rest
+is_partial rest None none r = r
+is_partial rest (Some fault) none r = absurd (cc (none))
+
 -- what was heard, and what is left of what the server put
 record After (l : Line) (d : CallerEnd) (left : List ℕ) (broken : Bool) : Type 0 where
   front : List ℕ
@@ -188,6 +204,9 @@ hears_ways l d came left stands way h w =
       to_caller = a.to_caller;
       pdus = a.pdus;
       on_way = λ s. ((w.on_way stands).0, a.whole refl);
+      waits = λ s.
+          subst (λ (x : CallerEnd). IsPartial x.rest) (sym h.after) (is_partial h.cut.rest h.cut.fault (or_second h.by_pdu (is_some h.cut.fault) false h.broken_is refl) h.is_cut.remains);
+      gone = λ s. absurd (cc (stands, s));
     }
 
 -- ---- the connection is lost
@@ -201,6 +220,8 @@ lost_ways l up front down to_server to_caller pdus = record {
   to_caller = to_caller;
   pdus = subst (λ (ps : List Pdu). AreSpelled IsPdu ps front) (sym (no_pdu l.caller.events (Lost (is_calling l.caller.state)) refl)) pdus;
   on_way = λ s. absurd (cc (s));
+  waits = λ s. absurd (cc (s));
+  gone = λ s. (refl, refl);
 }
 
 pub breaks_ways : (l : Line) (d : CallerEnd) (came left : List ℕ) → l.standing ≡ true → l.down ≡ came ++ left → HearsOctets l.caller came d true → ComesInOrder l → ComesInOrder (lost_line (record l { caller = d; down = left }))
