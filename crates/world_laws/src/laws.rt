@@ -36,13 +36,15 @@ pub fn starts_are_rows()
 {}
 
 /// A row's fate is what is told first behind the start of its call, by what happened at its caller's end. The octets between
-/// both ends come in order, and the caller hears the PDUs of those that came to it as a client does.
+/// both ends come in order, and the caller hears the PDUs of those that came to it as a client does. A connection stands
+/// until it is lost or its octets break the protocol.
 pub fn fates_are_told()
     ensures { AllFatesAreTold }
 {}
 
 /// A handle that came in a call told done is live or was run down, as long as each call that names it at an [in, out]
-/// parameter was told done with it kept, or that it didn't run.
+/// parameter was told done with it kept, or that it didn't run. This is so of operations each of whose handles goes in
+/// or out, as those of every interface text do.
 pub fn handles_are_kept()
     ensures { AllHandlesAreKept }
 {
