@@ -51,7 +51,7 @@ fn of_values(alloc: Global, subject: &str, text: &str) -> Result<Option<Told>, C
     Ok(Some(told))
 }
 
-/// What cases of journals, groups and desks come to.
+/// What cases of journals, groups, desks and worlds come to.
 fn of_groups<R: Threads>(
     rt: &R,
     alloc: Global,
@@ -63,6 +63,7 @@ fn of_groups<R: Threads>(
         "journals" => cases_journal::journal_texts(alloc, text)?,
         "groups" => cases_journal::group_calls(alloc, text)?,
         "desks" => cases_desks::desk_calls(rt, alloc, text)?,
+        "worlds" => cases_worlds::worlds(alloc, text)?,
         _ => return Ok(None),
     };
     Ok(Some(told))

@@ -41,7 +41,7 @@ use Rattle.world_laws.proofs.Worlds.{is_true}
 
 -- ---- counting
 
-counted : (p : Entry → Bool) (newer older : List Entry) (e : Entry) → p e ≡ true → 1 ≤ length (filter p (newer ++ e ∷ older))
+pub counted : (p : Entry → Bool) (newer older : List Entry) (e : Entry) → p e ≡ true → 1 ≤ length (filter p (newer ++ e ∷ older))
 counted p [] older e is = by (p e) is
   where
     by : (b : Bool) → b ≡ true → 1 ≤ length (cond b (e ∷ filter p older) (filter p older))
@@ -53,7 +53,7 @@ counted p (x ∷ newer) older e is = by (p x) (counted p newer older e is)
     by true h = omega arith
     by false h = h
 
-more_counted : (p : Entry → Bool) (newer older : List Entry) → length (filter p older) ≤ length (filter p (newer ++ older))
+pub more_counted : (p : Entry → Bool) (newer older : List Entry) → length (filter p older) ≤ length (filter p (newer ++ older))
 more_counted p [] older = omega arith
 more_counted p (x ∷ newer) older = by (p x) (more_counted p newer older)
   where
@@ -61,7 +61,7 @@ more_counted p (x ∷ newer) older = by (p x) (more_counted p newer older)
     by true h = omega (arith, h)
     by false h = h
 
-any_counted : (p : Entry → Bool) (past : List Entry) → any_since false p past ≡ true → 1 ≤ length (filter p past)
+pub any_counted : (p : Entry → Bool) (past : List Entry) → any_since false p past ≡ true → 1 ≤ length (filter p past)
 any_counted p [] h = absurd (cc (h))
 any_counted p (x ∷ past) h = by (p x) h (any_counted p past)
   where
@@ -76,7 +76,7 @@ some_of None h = absurd (cc (h))
 some_of (Some a) h = (a, refl)
 
 -- a call that was taken was asked so, then and later
-was_asked : (older newer : List Entry) (k : ℕ) → Legal (journal (newer ++ older)) → Legal (journal older) → is_taken (journal older) k ≡ true → (a : Asked) × (asked (journal (newer ++ older)) k ≡ Some a)
+pub was_asked : (older newer : List Entry) (k : ℕ) → Legal (journal (newer ++ older)) → Legal (journal older) → is_taken (journal older) k ≡ true → (a : Asked) × (asked (journal (newer ++ older)) k ≡ Some a)
 was_asked older newer k legal before taken =
     let some = some_of (asked (journal older) k) (taken_asked_since home empty_base older k before taken) in
     (some.0, asked_stays (journal older) newer k some.0 legal some.1)

@@ -203,6 +203,7 @@ hears_true table past l d front left broken t stands h is =
         rows = t.rows ∙ sym r.rows;
         told = λ x row at. knows_same table past l d l.up left l.standing x row row.fate (r.told x row at);
         waits = t.waits;
+        accepted = t.accepted;
         phase = λ s. r.phase whole;
       };
       ends = record {
@@ -212,6 +213,7 @@ hears_true table past l d front left broken t stands h is =
         rows = t.rows ∙ sym r.rows;
         told = λ x row at. knows_same table past l d l.up left false x row row.fate (r.told x row at);
         waits = t.waits;
+        accepted = t.accepted;
         phase = λ s. absurd (cc (s));
       };
     }

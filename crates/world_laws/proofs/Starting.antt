@@ -17,7 +17,7 @@ use Rattle.client_core.specs.Calls.{Binds}
 use Rattle.client_laws.specs.Ends.{request_of}
 use Rattle.client_laws.specs.Sending.{bind_asked, cancel_asked, EventsAsk}
 use Rattle.world_laws.specs.Moves.{Fate as fates}
-use Rattle.world_laws.specs.Ends.{Row, Line, new_row, told_if}
+use Rattle.world_laws.specs.Ends.{Row, Line, new_row, told_if, number_in}
 use Rattle.world_laws.specs.Calling.{lost_line}
 use Rattle.world_laws.specs.Worlds.{opened, starting, cancelling}
 use Rattle.world_laws.proofs.Lists.{OfMore, of_more, more_last, length_more}
@@ -27,6 +27,7 @@ use Rattle.world_laws.proofs.Asked.{ask_more}
 use Rattle.world_laws.proofs.Truths.{Knows, answered, Phase}
 use Rattle.world_laws.proofs.Truths.Phase.{unbound, binding, free, calling, answering, dropped}
 use Rattle.world_laws.proofs.Truth.{TrueLine}
+use Rattle.world_laws.proofs.Accepting.{WasAccepted, AllAccepted, was_with}
 use Rattle.world_laws.proofs.Knowing.{knows_same, says_same}
 use Rattle.world_laws.proofs.Told.{OfLast, of_last}
 use Rattle.world_laws.proofs.Told.OfLast.{old, changed}
@@ -42,11 +43,15 @@ opens_true table past c group octets state binds = record {
   rows = refl;
   told = λ x r at. absurd (none_at x r at);
   waits = tt;
+  accepted = λ x k e. absurd (none_numbered x k e);
   phase = λ s. unbound (ap (λ (x : ClientState). is_bound x) binds.1) (ap (λ (x : ClientState). x.call) binds.1) refl refl;
 }
   where
     none_at : (x : ℕ) (r : Row) → (let rs : List Row = [] in slice_get rs x) ≡ Some r → ⊥
     none_at x r at = absurd (cc (at))
+
+    none_numbered : (x k : ℕ) → number_in (slice_get [] x) ≡ Some k → ⊥
+    none_numbered x k e = absurd (cc (e))
 
 -- ---- a call is started
 
@@ -107,6 +112,7 @@ starts_true table past l op m octets state bound none (o, found, (short, (reques
       rows = ap length js_is ∙ (length_more (calls_in t.asked) j ∙ (ap (λ (n : ℕ). n + 1) t.rows ∙ sym (length_more l.caller.rows (new_row op m))));
       told = λ x r at. told x r (of_more l.caller.rows (new_row op m) x r at);
       waits = t.waits;
+      accepted = λ x k e. subst (λ (js : List Joined). WasAccepted table past js x k) (sym js_is) (was_with table past (calls_in t.asked) (j ∷ []) x k (t.accepted x k e));
       phase = λ s. subst (λ (js : List Joined). Phase (starting table l op m octets state) past js) (sym js_is) (starts_phase table past l op m octets state o (calls_in t.asked) o.maybe refl after bound none t.rows (t.phase stands));
     }
   where
@@ -140,6 +146,7 @@ cancels_true table past l octets state cancels stands t =
       rows = ap length (calls_cancel t.asked l.caller.state.call) ∙ t.rows;
       told = λ x r at. knows_same table past l _ (l.up ++ octets) l.down l.standing x r r.fate (t.told x r at);
       waits = t.waits;
+      accepted = subst (λ (js : List Joined). AllAccepted table past js l.server.numbers) (sym (calls_cancel t.asked l.caller.state.call)) t.accepted;
       phase = λ s. subst (λ (x : ClientState). Phase (cancelling table l octets x) past (calls_in (t.asked ++ first))) (sym cancels.1)
           (subst (λ (js : List Joined). Phase (cancelling table l octets l.caller.state) past js) (sym (calls_cancel t.asked l.caller.state.call)) (phase_cancel table past l octets (calls_in t.asked) (t.phase stands)));
     }
@@ -159,6 +166,7 @@ lost_true table past l t = record {
   rows = t.rows ∙ sym (rows_if (is_calling l.caller.state) fates.Lost l.caller.rows);
   told = λ x r at. told x r (rows_told (is_calling l.caller.state) l.caller.rows x r at);
   waits = t.waits;
+  accepted = t.accepted;
   phase = λ s. absurd (cc (s));
 }
   where

@@ -1,5 +1,5 @@
 -- What a server did on a connection, by what its caller asked: each answer is that of the call asked in its place.
-use Rattle.std.proofs.Common.{◌≡◌, ℕ, ◌+◌, ◌^◌, ◌<◌, ◌≤◌, Bool, true, false, ◌&&◌, List, [], ◌∷◌, ◌++◌, length, Option, Some, refl, sym, ap, subst, ◌∙◌, arith}
+use Rattle.std.proofs.Common.{◌≡◌, ℕ, zero, suc, ◌+◌, ◌^◌, ◌<◌, ◌≤◌, Bool, true, false, ◌&&◌, List, [], ◌∷◌, ◌++◌, length, Option, Some, refl, sym, ap, subst, ◌∙◌, arith}
 use Rattle.std.proofs.lemmas.Bool.{eq-eqb, le-leb}
 use Rattle.std.specs.Str.{bytes_eq}
 use Rattle.std.specs.Prelude.{slice_get, not}
@@ -131,6 +131,29 @@ plain_front (asks.Broken c f ∷ more) b h = absurd h
 abbrev pub no_bind : Event → Bool
 no_bind e = not (is_bind e)
 
+-- the requests that came, in order
+abbrev pub called : List Event → List Joined
+called [] = []
+called (Did (acts.Call j number) ∷ later) = j ∷ called later
+called (_ ∷ later) = called later
+
+-- the second begins with the first
+abbrev pub FrontOf : List Joined → List Joined → Type 0
+FrontOf [] js = Unit {0}
+FrontOf (a ∷ more) [] = ⊥
+FrontOf (a ∷ more) (j ∷ js) = (a ≡ j) × FrontOf more js
+
+front_more : (given js more : List Joined) → FrontOf given js → FrontOf given (js ++ more)
+front_more [] js more h = tt
+front_more (a ∷ given) [] more h = absurd h
+front_more (a ∷ given) (j ∷ js) more h = (h.0, front_more given js more h.1)
+
+-- what is behind so many
+abbrev pub beyond : ℕ → List Joined → List Joined
+beyond zero js = js
+beyond (suc n) [] = []
+beyond (suc n) (j ∷ js) = beyond n js
+
 -- no bind is answered, nothing else but calls, and each in its place
 -- (so many calls came before)
 pub record Answers (n most : ℕ) (all : List Event) (js : List Joined) : Type 0 where
@@ -139,14 +162,15 @@ pub record Answers (n most : ℕ) (all : List Event) (js : List Joined) : Type 0
   pub high : done all + n ≤ length (answers_in all) + 1
   pub clean : list_all is_clean all ≡ true
   pub unbound : list_all no_bind all ≡ true
+  pub calls : FrontOf (called all) (beyond n js)
 
 nothing : (n most : ℕ) (js : List Joined) → n ≤ 1 → Answers n most [] js
-nothing n most js few = record { pairs = tt; low = omega arith; high = omega (arith, few); clean = refl; unbound = refl }
+nothing n most js few = record { pairs = tt; low = omega arith; high = omega (arith, few); clean = refl; unbound = refl; calls = tt }
 
 calls_off : (offs end : List Event) (more others : List Ask) (n most : ℕ) (js : List Joined) → CallsOff offs more others → Answers n most end js → Answers n most (offs ++ end) js
 calls_off [] end more others n most js h x = x
-calls_off (Did (acts.Cancel id) ∷ later) end more others n most js (behind, is, h) x = (let r = calls_off later end behind others n most js h x in record { pairs = r.pairs; low = omega (arith, r.low); high = omega (arith, r.high); clean = r.clean; unbound = r.unbound })
-calls_off (Did (acts.Orphan id) ∷ later) end more others n most js (behind, is, h) x = (let r = calls_off later end behind others n most js h x in record { pairs = r.pairs; low = omega (arith, r.low); high = omega (arith, r.high); clean = r.clean; unbound = r.unbound })
+calls_off (Did (acts.Cancel id) ∷ later) end more others n most js (behind, is, h) x = (let r = calls_off later end behind others n most js h x in record { pairs = r.pairs; low = omega (arith, r.low); high = omega (arith, r.high); clean = r.clean; unbound = r.unbound; calls = r.calls })
+calls_off (Did (acts.Orphan id) ∷ later) end more others n most js (behind, is, h) x = (let r = calls_off later end behind others n most js h x in record { pairs = r.pairs; low = omega (arith, r.low); high = omega (arith, r.high); clean = r.clean; unbound = r.unbound; calls = r.calls })
 calls_off (Did (acts.Answer octets) ∷ later) end more others n most js h x = absurd h
 calls_off (Did (acts.Group asked) ∷ later) end more others n most js h x = absurd h
 calls_off (Did (acts.Call j number) ∷ later) end more others n most js h x = absurd h
@@ -158,7 +182,7 @@ calls_off (Decided decision octets ∷ later) end more others n most js h x = ab
 ends_call : (j : Joined) (most : ℕ) (Then : List Event → Type 0) (others : List Ask) (end : List Event) (js : List Joined) → ((rest : List Event) → Then rest → Answers 0 most rest js)
     → EndsCall (caller_of j) most j.maybe Then others end → Answers 1 most end (j ∷ js)
 ends_call j most Then others [] js go h = nothing 1 most (j ∷ js) (omega arith)
-ends_call j most Then others (Decided (Reply said executed) octets ∷ later) js go h = (let r = go later h.1 in record { pairs = (h.0, r.pairs); low = omega (arith, r.low); high = omega (arith, r.high); clean = r.clean; unbound = r.unbound })
+ends_call j most Then others (Decided (Reply said executed) octets ∷ later) js go h = (let r = go later h.1 in record { pairs = (h.0, r.pairs); low = omega (arith, r.low); high = omega (arith, r.high); clean = r.clean; unbound = r.unbound; calls = r.calls })
 ends_call j most Then others (Decided (ToGroup group) octets ∷ later) js go h = absurd h
 ends_call j most Then others (Decided (RefuseGroup reason) octets ∷ later) js go h = absurd h
 ends_call j most Then others (Came octets ∷ later) js go h = absurd h
@@ -170,7 +194,7 @@ plays_call : (number : ℕ) (j : Joined) (most : ℕ) (Then : List Event → Typ
 plays_call number j most Then more all js little go (later, whole, (offs, others, end, parts, off, ends)) =
     let r = calls_off offs end more others 1 most (j ∷ js) off (ends_call j most Then others end js go ends) in
     let s : Answers 1 most later (j ∷ js) = subst (λ (x : List Event). Answers 1 most x (j ∷ js)) (sym parts) r in
-    subst (λ (x : List Event). Answers 0 most x (j ∷ js)) (sym whole) (record { pairs = s.pairs; low = omega (arith, s.low); high = omega (arith, s.high); clean = subst (λ (o : Order). (is_little o && list_all is_clean later) ≡ true) (sym little) s.clean; unbound = s.unbound })
+    subst (λ (x : List Event). Answers 0 most x (j ∷ js)) (sym whole) (record { pairs = s.pairs; low = omega (arith, s.low); high = omega (arith, s.high); clean = subst (λ (o : Order). (is_little o && list_all is_clean later) ≡ true) (sym little) s.clean; unbound = s.unbound; calls = (refl, s.calls) })
 
 plain : (asked : List Ask) (k : Negotiated) (all : List Event) (number : ℕ) → interface_of k.accepted 0 ≡ Some number → ArePlain asked → Plays k asked all → Answers 0 k.agreement.max_xmit all (calls_in asked)
 plain [] k all number found are h = subst (λ (x : List Event). Answers 0 k.agreement.max_xmit x []) (sym h) (nothing 0 k.agreement.max_xmit [] (omega arith))
@@ -194,7 +218,7 @@ whole_binds : (syntax : SyntaxId) (asked : ℕ) (k : Negotiated) (more : List As
     → ArePlain more → all ≡ Did (acts.Group asked) ∷ later
     → Binds (caller (bind_pdu syntax asked) 0) (ready_ack (agreement_of (bind_of syntax asked) 0) (accepting ∷ [])) (λ agreement rest. Plays (record k { agreement = agreement }) more rest) more later
     → Whole syntax asked all (calls_in more)
-whole_binds syntax asked k more [] all accepted are whole h = unbound 1432 (omega arith, omega arith) (subst (λ (x : List Event). Answers 0 1432 x (calls_in more)) (sym whole) (record { pairs = tt; low = omega arith; high = omega arith; clean = refl; unbound = refl }))
+whole_binds syntax asked k more [] all accepted are whole h = unbound 1432 (omega arith, omega arith) (subst (λ (x : List Event). Answers 0 1432 x (calls_in more)) (sym whole) (record { pairs = tt; low = omega arith; high = omega arith; clean = refl; unbound = refl; calls = tt }))
 whole_binds syntax asked k more (Decided (ToGroup group) octets ∷ later) all accepted are whole h =
     bound 4280 (omega arith, omega arith) (Decided (ToGroup group) octets) later whole refl h.0
     (plain more (record k { agreement = agreement_with (ready_ack (agreement_of (bind_of syntax asked) 0) (accepting ∷ [])) group }) later 0 (ap (λ (xs : List Accepted). interface_of xs 0) accepted) are h.1)
@@ -228,6 +252,6 @@ none_done syntax group js = unbound 1432 (omega arith, omega arith) (nothing 0 1
 -- ---- with more calls asked
 
 pub more_asked : (syntax : SyntaxId) (group : ℕ) (all : List Event) (js more : List Joined) → Whole syntax group all js → Whole syntax group all (js ++ more)
-more_asked syntax group all js more (unbound most lawful a) = unbound most lawful (record { pairs = pairs_more most (answers_in all) js more a.pairs; low = a.low; high = a.high; clean = a.clean; unbound = a.unbound })
+more_asked syntax group all js more (unbound most lawful a) = unbound most lawful (record { pairs = pairs_more most (answers_in all) js more a.pairs; low = a.low; high = a.high; clean = a.clean; unbound = a.unbound; calls = front_more (called all) js more a.calls })
 more_asked syntax group all js more (bound most lawful decided later is binds so a) =
-    bound most lawful decided later is binds so (record { pairs = pairs_more most (answers_in later) js more a.pairs; low = a.low; high = a.high; clean = a.clean; unbound = a.unbound })
+    bound most lawful decided later is binds so (record { pairs = pairs_more most (answers_in later) js more a.pairs; low = a.low; high = a.high; clean = a.clean; unbound = a.unbound; calls = front_more (called later) js more a.calls })

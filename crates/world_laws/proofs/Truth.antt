@@ -34,6 +34,7 @@ use Rattle.world_laws.proofs.Serving.{Brings, brings, of_member, marked}
 use Rattle.world_laws.proofs.Serving.Brings.{same, refused, accepts_it}
 use Rattle.world_laws.proofs.Statics.{Answer, answers_in, calls_in, ArePlain, is_little, is_clean, Whole}
 use Rattle.world_laws.proofs.Asked.{asked_so, done_so}
+use Rattle.world_laws.proofs.Accepting.{last_called, AllAccepted, all_later, accepted_on}
 use Rattle.world_laws.proofs.Ending.{answers_append, last_clean, last_bind, whole_low, whole_high, last_answer}
 use Rattle.world_laws.proofs.Truths.{still_replied, Knows, answered, HasBound, Says, Phase}
 use Rattle.world_laws.proofs.Truths.{NeverRan as never}
@@ -50,6 +51,7 @@ pub record TrueLine (table : TableForm) (past : List Entry) (l : Line) : Type 0 
   pub rows : length (calls_in asked) ≡ length l.caller.rows
   pub told : (x : ℕ) (r : Row) → slice_get l.caller.rows x ≡ Some r → Knows table past l x r r.fate
   pub waits : WaitIs l.server.waiting l.server.numbers
+  pub accepted : AllAccepted table past (calls_in asked) l.server.numbers
   pub phase : l.standing ≡ true → Phase l past (calls_in asked)
 
 -- ---- what a row knows stays true
@@ -79,6 +81,7 @@ true_later table past new l grows h = record {
   rows = h.rows;
   told = λ x r at. knows_on table past new l l x r r.fate (same_numbers l.server.numbers) grows (h.told x r at);
   waits = h.waits;
+  accepted = all_later table past new (calls_in h.asked) l.server.numbers grows h.accepted;
   phase = λ s. phase_same l past new (calls_in h.asked) l.server l.down refl refl (λ b. b) (same_numbers l.server.numbers) grows (h.phase s);
 }
 
@@ -235,6 +238,14 @@ phase_on table past new l (Decided (RefuseGroup reason) octets) state after js s
     let p = bind_pdu_of table past new l.server after s.group l.server.waiting (RefuseGroup reason) octets refl s.means.1 b.0 in
     subst (λ (d : List ℕ). Phase (served l t (l.down ++ d)) new js) (sym (append-nil octets)) (phase_binds l past new js t octets p.0 p.1 b.1 (seen l.server.events, event, [], is, refl) h)
 
+-- a request that comes is the one asked in its place
+its_call : (table : TableForm) (group : ℕ) (t : ServerEnd) (event : Event) (j : Joined) (iface : ℕ) (js : List Joined) → event ≡ Did (acts.Call j iface) → Whole table.id group (seen t.events) js → Whole table.id group (seen (t.events ++ event ∷ [])) js
+    → length t.numbers ≡ done t.events → slice_get js (length t.numbers) ≡ Some j
+its_call table group t event j iface js is w0 w count =
+    last_called table.id group (length t.numbers) (seen t.events) j iface js w0
+    (subst (λ (x : List Event). Whole table.id group x js) (saw t (Did (acts.Call j iface))) (subst (λ (e : Event). Whole table.id group (seen (t.events ++ e ∷ [])) js) is w))
+    (done_seen t.events ∙ sym count)
+
 pub serves_true : (table : TableForm) (past new : List Entry) (l : Line) (event : Event) (state : ConnState) (after : ServerEnd) (up : List ℕ) → FitsSyntax table.id → length table.ops ≤ 2 ^ 16 → LineHolds table l → l.standing ≡ true
     → Happens l.server.state event state → Means (table ∷ []) past l.server event after new → AllEnds past → sent l.caller.events ≡ stream (l.server.events ++ event ∷ []) ++ up → TrueLine table past l
     → TrueLine table new (record l { up = up; server = record after { events = l.server.events ++ event ∷ []; state = state }; down = l.down ++ put (event ∷ []) }) × (is_clean event ≡ true)
@@ -268,6 +279,7 @@ serves_true table past new l event state after up fits few holds stands happens 
         rows = h.rows;
         told = λ x r at. knows_on table past new l n x r r.fate (brings_more past new l.server after (does_in event) b) grows (h.told x r at);
         waits = waits_on table past new l.server after event (is_cleaned table holds.once.group l.server event js w) means h.waits;
+        accepted = accepted_on table past new l.server after event js (is_cleaned table holds.once.group l.server event js w) grows means (λ j iface is. its_call table holds.once.group l.server event j iface js is w0 w holds.numbers) h.accepted;
         phase = λ stood. phase_up (served l (record after { events = l.server.events ++ event ∷ []; state = state }) (l.down ++ put (event ∷ []))) new js up p;
       },
       is_cleaned table holds.once.group l.server event js w,

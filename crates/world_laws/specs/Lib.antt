@@ -4,6 +4,10 @@ pub mod Counts
 pub mod Ends
 pub mod Firsts
 pub mod Journals
+pub mod Keeping
+pub mod Leading
 pub mod Moves
 pub mod Serving
+pub mod Starts
+pub mod Telling
 pub mod Worlds

@@ -5,4 +5,8 @@
 
 mod laws;
 
-pub use laws::{calls_are_rows, fates_are_true, opens_first, takes_none_first};
+pub use laws::{
+    calls_are_rows, cancels_lead, fates_are_told, fates_are_true, handles_are_kept, losses_lead,
+    only_where_it_may, opens_first, opens_lead, restarts_lead, starts_are_rows, starts_lead,
+    takes_lead, takes_none_first,
+};

@@ -1,0 +1,9 @@
+use Rattle.ndr_table.specs.Shown.{shown}
+use Rattle.call_world.specs.Moves.{moves_of}
+use Rattle.call_world.proofs.Playing.{if_ok}
+use Rattle.call_world.proofs.Runs.{leads_so}
+use Rattle.call_world.proofs.play.play_world.Goals as goal
+
+pub returns-clause-leads : goal.returns-clause-leads
+returns-clause-leads c =
+    if_ok c.play_all.result _ _ (λ x played. leads_so (shown c.args.table.now) (moves_of c.args.moves.items) x c.is_syntax.ensures c.is_whole.ensures.few c.calls_are_rows.ensures c.fates_are_true.ensures played) c.play_all.ensures.played

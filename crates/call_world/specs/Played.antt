@@ -1,0 +1,30 @@
+-- What a list of moves leaves.
+use Rattle.std.specs.Prelude.{◌≡◌, ℕ, List}
+use Rattle.ndr_table.specs.Shown.{shown}
+use Rattle.ndr_table.specs.Tables.{TableForm}
+use Rattle.world_laws.specs.Moves.{Move}
+use Rattle.world_laws.specs.Worlds.{World, Played, StopsAt}
+use Rattle.world_laws.specs.Clauses.{CallsAreRows, FatesAreTrue}
+use Rattle.call_world.specs.declared.play.WorldFault.{WorldFault}
+use Rattle.call_world.specs.declared.play.WorldFault.TheVariants.{NotNow, Memory}
+use Rattle.call_world.specs.declared.world.World.{World as Machine}
+use Rattle.call_world.specs.Worlds.{IsWorld}
+use Rattle.std.specs.Prelude.{⊤}
+
+-- The moves lead there, one after the other. Whatever they are: no two of the calls that were started have one number, and
+-- each call that the server accepted is one of these; and what the caller knows of each of them is true.
+pub record Leads (table : TableForm) (moves : List Move) (x : Machine) : Type 0 where
+  pub world : World
+  pub played : Played table moves world
+  pub is_world : IsWorld x world
+  pub rows : CallsAreRows world
+  pub fates : FatesAreTrue table world
+
+-- the same before anything is said of the calls
+abbrev pub IsPlayed : TableForm → List Move → Machine → Type 0
+IsPlayed table moves x = (shown x.table ≡ table) × (w : World) × Played table moves w × IsWorld x w
+
+-- the first move that can't be played then
+abbrev pub Stops : TableForm → List Move → WorldFault → Type 0
+Stops table moves (NotNow i) = StopsAt table moves i
+Stops table moves Memory = ⊤
