@@ -102,7 +102,7 @@ pub record Stays (l n : Line) : Type 0 where
   pub rows : length l.caller.rows ≤ length n.caller.rows
 
 pub row_set : (ls : List Line) (i : ℕ) (l n : Line) (s : Started) → slice_get ls i ≡ Some l → length l.caller.rows ≤ length n.caller.rows → HasRow ls s → HasRow (slice_set ls i n) s
-row_set ls i l n s at more (k, k_at, few) = placed (decided s.line i (eqb s.line i) refl)
+row_set ls i l n s at more (k, k_at, few) = placed (decided i s.line (eqb s.line i) refl)
   where
     placed : (s.line ≡ i) ⊎ (s.line ≢ i) → HasRow (slice_set ls i n) s
     placed (inl same) =

@@ -1,5 +1,5 @@
 -- Moves of a program's world are moves of the world that it is.
-use Rattle.std.proofs.Common.{◌≡◌, ◌≢◌, ℕ, ◌+◌, ◌<◌, ◌≤◌, ◌==◌, Bool, true, false, Option, Some, None, Ok, List, [], ◌∷◌, ◌++◌, length, map, refl, sym, ap, subst, ◌∙◌, arith}
+use Rattle.std.proofs.Common.{◌≡◌, ◌≢◌, ℕ, zero, suc, ◌+◌, ◌<◌, ◌≤◌, ◌==◌, Bool, true, false, Option, Some, None, Ok, List, [], ◌∷◌, ◌++◌, length, map, refl, sym, ap, subst, ◌∙◌, arith}
 use Rattle.std.specs.Prelude.{slice_get, slice_set}
 use Rattle.handle_model.specs.declared.entry.Asked.{Asked}
 use Rattle.handle_model.specs.declared.entry.Entry.{Entry}
@@ -18,6 +18,7 @@ use Rattle.world_ends.specs.declared.caller.Caller.{Caller}
 use Rattle.world_ends.specs.declared.fate.Fate.{Fate as Told}
 use Rattle.call_world.specs.declared.world.Started.{Started as Place}
 use Rattle.std.proofs.lemmas.List.{length-map}
+use Rattle.group_core.specs.declared.answer.Taking.{Taking}
 use Rattle.group_core.specs.declared.answer.Taking.TheVariants as taking
 use Rattle.group_core.specs.Calls as calls
 use Rattle.conn_histories.specs.Requests.{IsAsked, op_in, op_of}

@@ -1,6 +1,7 @@
 -- What is known of a call that was started, as the program has it.
-use Rattle.std.proofs.Common.{◌≡◌, ℕ, zero, suc, ◌<◌, ◌≤◌, Option, Some, None, List, [], ◌∷◌, length, map, sym, ap, ◌∙◌, arith}
+use Rattle.std.proofs.Common.{◌≡◌, ℕ, zero, suc, ◌<◌, ◌≤◌, Option, Some, None, List, [], ◌∷◌, length, map, get_or, refl, sym, ap, subst, ◌∙◌, arith}
 use Rattle.std.proofs.lemmas.List.{length-map}
+use Rattle.std.proofs.lemmas.Option.{slice_get_read, slice_get_past}
 use Rattle.std.specs.Prelude.{slice_get}
 use Rattle.world_laws.specs.Moves.{Fate}
 use Rattle.world_laws.specs.Ends.{Line, number_in}
@@ -15,6 +16,13 @@ use Rattle.call_world.specs.Rows.{IsFate}
 use Rattle.call_world.specs.Worlds.{HasRow, IsWorld, started_of}
 use Rattle.call_world.proofs.Lining.{line_at, wire_at}
 use Rattle.call_world.proofs.Moving.{many_rows}
+
+-- what was read
+pub read_at : {A : Type 0} (xs ys : List A) (i : ℕ) (x : A) → xs ≡ ys → i < length xs → x ≡ get_or xs i x → slice_get ys i ≡ Some x
+read_at xs ys i x same lt read = subst (λ (zs : List _). slice_get zs i ≡ Some x) same (slice_get_read xs (length xs) i x refl lt read)
+
+pub read_none : {A : Type 0} (xs ys : List A) (i : ℕ) → xs ≡ ys → length xs ≤ i → slice_get ys i ≡ None
+read_none xs ys i same all = subst (λ (zs : List _). slice_get zs i ≡ None) same (slice_get_past xs i all)
 
 get_map : {A B : Type 0} (f : A → B) (xs : List A) (i : ℕ) (x : A) → slice_get xs i ≡ Some x → slice_get (map f xs) i ≡ Some (f x)
 get_map f [] i x at = absurd (cc (at))
@@ -41,19 +49,8 @@ fate_is x w at p t f call is begun on told number =
 
 -- ---- nothing is known only behind the last call that was started
 
-none_from : {A : Type 0} (xs : List A) (i : ℕ) → slice_get xs i ≡ None → length xs ≤ i
-none_from [] i e = omega arith
-none_from (x ∷ xs) zero e = absurd (cc (e))
-none_from (x ∷ xs) (suc i) e = omega (arith, none_from xs i e)
-
 not_none : {A : Type 0} (x : A) (o : Option A) → o ≡ Some x → o ≡ None → ⊥
 not_none x o found none = absurd (cc (found, none))
-
-started_count : (x : Machine) (w : World) → IsWorld x w → length w.starts ≡ length x.starts.items
-started_count x w is = ap (λ (ss : List Started). length ss) (sym is.starts) ∙ length-map x.starts.items started_of
-
-pub never_started : (x : Machine) (w : World) (at : ℕ) → IsWorld x w → slice_get x.starts.items at ≡ None → length w.starts ≤ at
-never_started x w at is none = omega (arith, none_from x.starts.items at none, started_count x w is)
 
 -- the row of a call that was started
 row_of : (x : Machine) (w : World) (at : ℕ) (p : Place) → IsWorld x w → slice_get x.starts.items at ≡ Some p → HasRow w.lines (started_of p)

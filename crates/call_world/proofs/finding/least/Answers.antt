@@ -1,4 +1,4 @@
-use Rattle.std.proofs.Common.{◌≡◌, ℕ, ◌+◌, ◌<◌, true, Option, Some, None, length, sym, subst, ◌∙◌, arith}
+use Rattle.std.proofs.Common.{◌≡◌, ℕ, ◌+◌, ◌<◌, true, Option, Some, None, length, sym, ap, subst, ◌∙◌, arith}
 use Rattle.call_world.specs.declared.line.Line.{Line as Wire}
 use Rattle.call_world.specs.Rows.{is_lesser}
 use Rattle.call_world.proofs.Places.{LeastBefore, least_new, least_old, least_none, least_some, read_same}
@@ -16,7 +16,8 @@ loop-at-preserved c =
           let t = w.index-lines-at-then-is_lesser.result in
           let same = read_same ts i c.index-lines-at.result t lt c.index-lines-at.is w.index-lines-at-then-is_lesser.is in
           let lesser = subst (λ (z : Wire). is_lesser o z ≡ true) same (sym c.is_lesser.ensures ∙ w.if-is_lesser.true) in
-          subst (λ (q : Option (ℕ × ℕ)). LeastBefore ts q (i + 1)) (sym w.least-is) (least_new ts i t lt w.index-lines-at-then-is_lesser.is o c.loop-at.invariant lesser)
+          let same_now = ap (λ (z : Wire). let q : Option (ℕ × ℕ) = Some (z.name, i) in q) w.index-lines-at-then-is_lesser.is ∙ sym w.least-is in
+          subst (λ (q : Option (ℕ × ℕ)). LeastBefore ts q (i + 1)) same_now (least_new ts i t lt w.index-lines-at-then-is_lesser.is o c.loop-at.invariant lesser)
       | else-is_lesser w ↦
           subst (λ (q : Option (ℕ × ℕ)). LeastBefore ts q (i + 1)) (sym w.least-is)
           (least_old ts i c.index-lines-at.result lt c.index-lines-at.is o c.loop-at.invariant (sym c.is_lesser.ensures ∙ w.if-is_lesser.false))
