@@ -11,5 +11,5 @@ bind-requires c = ap is_bound c.new-caller.ensures.state
 
 pub returns : goal.returns
 returns c =
-    opened_is (shown c.args.table.now) c.args.name c.args.group _ c.new-caller.result c.in_ok-octets.octets c.in_ok-ids.ids (c.new-caller.ensures.state ∙ ap at_start c.in_ok-copy.ensures) (ap (λ v. v.items) c.new-caller.ensures.rest) c.new-caller.ensures.fates
+    opened_is (shown c.args.table.now) c.args.name c.args.group _ c.new-caller.result c.in_ok-octets.octets c.in_ok-ids.ids (c.new-caller.ensures.state ∙ ap at_start c.in_ok-copy.ensures) c.new-caller.ensures.rest c.new-caller.ensures.fates
     c.in_ok-octets.ensures.binds c.in_ok-octets.ensures.same c.into_vec.ensures (c.in_ok-ids.ensures.exact ∙ ap (map (λ (t : TableForm). t.id)) (c.served.ensures ∙ c.requires)) (λ l e d. c.in_ok-serving.ensures l (e ∙ ap new_server (sym c.as_slice.ensures)) d) refl refl
