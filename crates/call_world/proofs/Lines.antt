@@ -66,13 +66,13 @@ module _ (table : TableForm) (op : ℕ) (m : Msg) (s : Wire) where
       )
 
   pub unbound : (t : Wire) → is_bound (state s.caller.client) ≡ false → Tries (StartsOn table op m) false s t
-  unbound t no l is n d = let b = ap is_bound (sym is.caller.state_is) ∙ d.bound in let f = sym b ∙ no in absurd cc
+  unbound t free l is n d = let b = ap is_bound (sym is.caller.state_is) ∙ d.bound in let f = sym b ∙ free in absurd cc
 
   pub busy : (t : Wire) → is_calling (state s.caller.client) ≡ true → Tries (StartsOn table op m) false s t
-  busy t yes l is n d = let b = ap is_calling (sym is.caller.state_is) ∙ d.free in let f = sym b ∙ yes in absurd cc
+  busy t out l is n d = let b = ap is_calling (sym is.caller.state_is) ∙ d.free in let f = sym b ∙ out in absurd cc
 
   pub untaken : (t : Wire) → (IsMessage (state s.caller.client).interface op m → ⊥) → Tries (StartsOn table op m) false s t
-  untaken t no l is n d = no (subst (λ (z : ClientState). IsMessage z.interface op m) is.caller.state_is d.message)
+  untaken t other l is n d = other (subst (λ (z : ClientState). IsMessage z.interface op m) is.caller.state_is d.message)
 
   -- a message has one length
   length_is : (z : ClientState) (o p : OpForm) → slice_get z.interface.ops op ≡ Some o → slice_get z.interface.ops op ≡ Some p → length (asking z.interface o m) ≡ length (asking z.interface p m)
@@ -114,7 +114,7 @@ module _ (table : TableForm) (s : Wire) where
       )
 
   pub not_out : (t : Wire) → is_calling (state s.caller.client) ≡ false → Tries (CallsOffOn table) false s t
-  not_out t no l is n d = let b = ap is_calling (sym is.caller.state_is) ∙ d.out in let f = sym b ∙ no in absurd cc
+  not_out t free l is n d = let b = ap is_calling (sym is.caller.state_is) ∙ d.out in let f = sym b ∙ free in absurd cc
 
 -- ---- octets move
 
@@ -162,7 +162,7 @@ arrives_front x y s t u count some enough comes rests up same =
     arrives x y s t u count (take count s.up.items) (drop count s.up.items) (sym (take-append-drop count s.up.items)) (length-take-le count s.up.items enough) (omega (arith, some)) comes rests up same
 
 pub not_so_many : (tables : List TableForm) (x y : ServerView) (s t : Wire) (count : ℕ) → ((front left : List ℕ) → Moves count s.up.items front left → ⊥) → TriesWith (ArrivesOn tables count) false x s y t
-not_so_many tables x y s t count no l is n new d = no d.front d.left (is.up ∙ d.way.0, d.way.1, d.way.2)
+not_so_many tables x y s t count none l is n new d = none d.front d.left (is.up ∙ d.way.0, d.way.1, d.way.2)
 
 -- ---- octets come to the caller
 
@@ -257,7 +257,7 @@ module _ (x y : ServerView) (s t : Wire) (count : ℕ) (some : count ≢ 0) (eno
       breaks x y s t count (take count s.serving.down.items) (drop count s.serving.down.items) (sym (take-append-drop count s.serving.down.items)) (length-take-le count s.serving.down.items enough) (omega (arith, some)) u told serving down same loses
 
 pub not_so_many_down : (x y : ServerView) (s t : Wire) (count : ℕ) → ((front left : List ℕ) → Moves count s.serving.down.items front left → ⊥) → TriesWith (ComesOn count) false x s y t
-not_so_many_down x y s t count no l is n new d = no d.front d.left (is.serves.down_is ∙ d.way.0, d.way.1, d.way.2)
+not_so_many_down x y s t count none l is n new d = none d.front d.left (is.serves.down_is ∙ d.way.0, d.way.1, d.way.2)
 
 -- ---- a new connection
 

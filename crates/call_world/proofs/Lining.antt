@@ -1,5 +1,5 @@
 -- Connections of a program, and those of the world that it is.
-use Rattle.std.proofs.Common.{◌≡◌, ◌≢◌, ℕ, zero, suc, ◌+◌, ◌<◌, ◌⊎◌, inl, inr, Bool, true, false, eqb, Option, Some, None, List, [], ◌∷◌, ◌++◌, length, map, refl, sym, ap, subst, ◌∙◌, arith}
+use Rattle.std.proofs.Common.{◌≡◌, ◌≢◌, ℕ, zero, suc, ◌+◌, ◌<◌, ◌≤◌, ◌⊎◌, inl, inr, Bool, true, false, eqb, Option, Some, None, List, [], ◌∷◌, ◌++◌, length, map, refl, sym, ap, subst, ◌∙◌, arith}
 use Rattle.std.specs.Prelude.{slice_get, slice_set}
 use Rattle.std.proofs.lemmas.Bool.{eq-eqb, eqb-true}
 use Rattle.std.proofs.lemmas.List.{length-set, append-nil}
@@ -10,14 +10,14 @@ use Rattle.conn_histories.specs.Histories.{Event}
 use Rattle.conn_histories.specs.Histories.Event.{Came, Paused, Did, Decided}
 use Rattle.world_laws.specs.Ends.{Line}
 use Rattle.world_laws.specs.Serving.{ServerDoes, ServerGoesOn, ServerGoesBy}
-use Rattle.world_laws.specs.Worlds.{World, OfLine, with_line, IsNew}
-use Rattle.world_laws.proofs.Lists.{some_is, set_same, set_other, within, there, OfMore, of_more, length_more}
+use Rattle.world_laws.specs.Worlds.{World, Started, OfLine, with_line, IsNew}
+use Rattle.world_laws.proofs.Lists.{some_is, set_same, set_other, within, there, OfMore, of_more, more_before, length_more}
 use Rattle.world_laws.proofs.Lists.OfMore.{before, last}
 use Rattle.world_server.specs.Servers.{ServerView, seen, IsWhole}
 use Rattle.call_world.specs.declared.line.Line.{Line as Wire}
 use Rattle.call_world.specs.declared.world.World.{World as Machine}
 use Rattle.call_world.specs.Lines.{IsLine, TriesWith}
-use Rattle.call_world.specs.Worlds.{AreLines, AreApart, IsWorld, started_of}
+use Rattle.call_world.specs.Worlds.{AreLines, AreApart, HasRow, HaveRows, IsWorld, started_of}
 
 -- ---- a list with another item at a place
 
@@ -94,18 +94,46 @@ apart_more w c n a fresh named j k x y at_x at_y same = apart j k x y (of_more w
     apart j k x y (last e same) (before at_k) name = absurd (fresh k y at_k (sym name ∙ ap (λ (z : Line). z.name) same ∙ named))
     apart j k x y (last e same) (last f alike) name = e ∙ sym f
 
+-- ---- calls that were started
+
+-- a connection that goes on keeps its name, and each of its calls
+pub record Stays (l n : Line) : Type 0 where
+  pub named : n.name ≡ l.name
+  pub rows : length l.caller.rows ≤ length n.caller.rows
+
+pub row_set : (ls : List Line) (i : ℕ) (l n : Line) (s : Started) → slice_get ls i ≡ Some l → length l.caller.rows ≤ length n.caller.rows → HasRow ls s → HasRow (slice_set ls i n) s
+row_set ls i l n s at more (k, k_at, few) = placed (decided i s.line (eqb s.line i) refl)
+  where
+    placed : (s.line ≡ i) ⊎ (s.line ≢ i) → HasRow (slice_set ls i n) s
+    placed (inl same) =
+        let alike : k ≡ l = some_is k l (sym k_at ∙ ap (slice_get ls) same ∙ at) in
+        let rows : length k.caller.rows ≡ length l.caller.rows = ap (λ (z : Line). length z.caller.rows) alike in
+        (n, ap (slice_get (slice_set ls i n)) same ∙ set_same ls i n (within ls i l at), omega (arith, few, more, rows))
+    placed (inr other) = (k, set_other ls i s.line n other ∙ k_at, few)
+
+pub rows_more : (ls : List Line) (l : Line) (ss : List Started) → HaveRows ls ss → HaveRows (ls ++ l ∷ []) ss
+rows_more ls l ss rows n s at = let h = rows n s at in (h.0, more_before ls l s.line h.0 h.1, h.2)
+
+pub rows_start : (ls : List Line) (ss : List Started) (new : Started) → HaveRows ls ss → HasRow ls new → HaveRows ls (ss ++ new ∷ [])
+rows_start ls ss new rows has n s at = placed (of_more ss new n s at)
+  where
+    placed : OfMore ss new n s → HasRow ls s
+    placed (before found) = rows n s found
+    placed (last e same) = subst (λ (z : Started). HasRow ls z) (sym same) has
+
 -- ---- a connection of a world changes
 
-pub world_set : (x y : Machine) (w : World) (i : ℕ) (t : Wire) (l n : Line) (new : List Entry) → IsWorld x w → slice_get w.lines i ≡ Some l → n.name ≡ l.name → IsLine t n
+pub world_set : (x y : Machine) (w : World) (i : ℕ) (t : Wire) (l n : Line) (new : List Entry) → IsWorld x w → slice_get w.lines i ≡ Some l → Stays l n → IsLine t n
     → y.lines.items ≡ slice_set x.lines.items i t → (seen y.server).past ≡ new → IsWhole (seen y.server) → (seen y.server).tables ≡ (seen x.server).tables → shown y.table ≡ shown x.table → y.starts ≡ x.starts
     → IsWorld y (with_line w i n new)
-world_set x y w i t l n new is at named is_line lines past is_whole tables table starts = record {
+world_set x y w i t l n new is at stays is_line lines past is_whole tables table starts = record {
   lines = subst (λ (ts : List Wire). AreLines ts (slice_set w.lines i n)) (sym lines) (lines_set x.lines.items w.lines i t n is.lines (within w.lines i l at) is_line);
-  apart = apart_set w.lines i l n is.apart at named;
+  apart = apart_set w.lines i l n is.apart at stays.named;
   past = past;
   is_whole = is_whole;
   tables = tables ∙ is.tables ∙ ap (λ (z : TableForm). z ∷ []) (sym table);
   starts = ap (λ z. map started_of z.items) starts ∙ is.starts;
+  rows = λ k s found. row_set w.lines i l n s at stays.rows (is.rows k s found);
 }
 
 -- what happens on the one connection of that name that stands
@@ -113,9 +141,9 @@ abbrev pub OnLine : (Line → List Entry → Line → List Entry → Type 0) →
 OnLine Does w c v = OfLine w c (λ i l. (n : Line) × (new : List Entry) × Does l w.past n new × (v ≡ with_line w i n new))
 
 module _ (Does : Line → List Entry → Line → List Entry → Type 0) (x y : Machine) (w : World) (c i : ℕ) (s t : Wire) (is : IsWorld x w) (at : slice_get x.lines.items i ≡ Some s) (named : s.name ≡ c) (stands : s.standing ≡ true) where
-  pub on_line : ((l n : Line) (past new : List Entry) → Does l past n new → n.name ≡ l.name) → TriesWith Does true (seen x.server) s (seen y.server) t → y.lines.items ≡ slice_set x.lines.items i t
+  pub on_line : ((l n : Line) (past new : List Entry) → Does l past n new → Stays l n) → TriesWith Does true (seen x.server) s (seen y.server) t → y.lines.items ≡ slice_set x.lines.items i t
       → shown y.table ≡ shown x.table → y.starts ≡ x.starts → (v : World) × OnLine Does w c v × IsWorld y v
-  on_line same tried lines table starts =
+  on_line stays tried lines table starts =
       let f = line_at x.lines.items w.lines i s is.lines at in
       let l = f.0 in
       let d = tried.2 l f.2 in
@@ -124,12 +152,12 @@ module _ (Does : Line → List Entry → Line → List Entry → Type 0) (x y : 
       let does : Does l w.past n new = subst (λ (p : List Entry). Does l p n new) is.past d.1 in
       let v = with_line w i n new in (
         v,
-        (i, l, f.1, sym f.2.name ∙ named, sym f.2.standing ∙ stands, n, new, does, refl),
-        world_set x y w i t l n new is f.1 (same l n w.past new does) d.2 lines refl tried.0 tried.1 table starts,
+        (i, l, f.1, sym f.2.name ∙ named, sym f.2.standing ∙ stands, (n, new, does, refl)),
+        world_set x y w i t l n new is f.1 (stays l n w.past new does) d.2 lines refl tried.0 tried.1 table starts,
       )
 
   pub off_line : (z : ServerView) → TriesWith Does false (seen x.server) s z t → (v : World) → OnLine Does w c v → ⊥
-  off_line z tried v (j, m, at_m, name, stand, n, new, does, after) =
+  off_line z tried v (j, m, at_m, name, stand, (n, new, does, after)) =
       let f = line_at x.lines.items w.lines i s is.lines at in
       let same : i ≡ j = is.apart i j f.0 m f.1 at_m (sym f.2.name ∙ named ∙ sym name) in
       let alike : f.0 ≡ m = some_is f.0 m (sym f.1 ∙ ap (slice_get w.lines) same ∙ at_m) in

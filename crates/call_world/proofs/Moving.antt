@@ -1,5 +1,5 @@
 -- Moves of a program's world are moves of the world that it is.
-use Rattle.std.proofs.Common.{◌≡◌, ◌≢◌, ℕ, ◌+◌, ◌<◌, ◌≤◌, ◌==◌, Bool, true, false, Option, Some, None, Ok, List, [], ◌∷◌, ◌++◌, length, map, refl, sym, ap, subst, ◌∙◌, arith}
+use Rattle.std.proofs.Common.{◌≡◌, ◌≢◌, ℕ, zero, suc, ◌+◌, ◌<◌, ◌≤◌, ◌==◌, Bool, true, false, Option, Some, None, Ok, List, [], ◌∷◌, ◌++◌, length, map, refl, sym, ap, subst, ◌∙◌, arith}
 use Rattle.std.specs.Prelude.{slice_get, slice_set}
 use Rattle.handle_model.specs.declared.entry.Asked.{Asked}
 use Rattle.handle_model.specs.declared.entry.Entry.{Entry}
@@ -18,6 +18,7 @@ use Rattle.world_ends.specs.declared.caller.Caller.{Caller}
 use Rattle.world_ends.specs.declared.fate.Fate.{Fate as Told}
 use Rattle.call_world.specs.declared.world.Started.{Started as Place}
 use Rattle.std.proofs.lemmas.List.{length-map}
+use Rattle.group_core.specs.declared.answer.Taking.{Taking}
 use Rattle.group_core.specs.declared.answer.Taking.TheVariants as taking
 use Rattle.group_core.specs.Calls as calls
 use Rattle.conn_histories.specs.Requests.{IsAsked, op_in, op_of}
@@ -27,7 +28,7 @@ use Rattle.ndr_model.specs.declared.way.Way.TheVariants.{Response}
 use Rattle.ndr_model.specs.Written.{stub}
 use Rattle.conn_histories.specs.Ends.{outcomes_of, with_wires, wires_at}
 use Rattle.world_laws.specs.Journals.{home}
-use Rattle.world_laws.specs.Ends.{Row, CallerEnd, Line}
+use Rattle.world_laws.specs.Ends.{Row, CallerEnd, Line, new_row}
 use Rattle.world_laws.specs.Ends.Waiting.{Call}
 use Rattle.world_laws.specs.Moves.{Fate}
 use Rattle.world_laws.specs.Moves.{Move as moves}
@@ -37,7 +38,8 @@ use Rattle.world_laws.specs.Worlds.{World, Started, empty, OfLine, with_line, en
 use Rattle.world_laws.specs.Worlds.{Tries as TriesMove}
 use Rattle.world_laws.specs.Worlds.GoesOnFor.{answered, unheard}
 use Rattle.world_laws.specs.Worlds.Tries.{taken, denied}
-use Rattle.world_laws.proofs.Lists.{some_is, within, length_more}
+use Rattle.world_laws.proofs.Callers as callers
+use Rattle.world_laws.proofs.Lists.{some_is, within, set_same, length_more}
 use Rattle.world_server.specs.Servers.{ServerView, seen, IsWhole, Goes, Whole, whole}
 use Rattle.world_server.specs.Finishes.{MayEnd, EndsSo, Finishes, octets_out}
 use Rattle.world_ends.specs.Servings.{IsServing, Rests, waiting_of}
@@ -45,10 +47,10 @@ use Rattle.world_ends.specs.declared.serving.Waiting.TheVariants as waits
 use Rattle.call_world.specs.declared.line.Line.{Line as Wire}
 use Rattle.call_world.specs.declared.world.World.{World as Machine}
 use Rattle.call_world.specs.Lines.{IsLine, IsOpened, StartsOn, CallsOffOn, ArrivesOn, ComesOn, Tries, TriesWith}
-use Rattle.call_world.specs.Worlds.{AreLines, AreApart, IsWorld, started_of}
+use Rattle.call_world.specs.Worlds.{AreLines, AreApart, HaveRows, IsWorld, started_of}
 use Rattle.call_world.specs.Worlds as worlds
 use Rattle.call_world.specs.Rows.{wanted}
-use Rattle.call_world.proofs.Lining.{line_at, wire_at, lines_set, lines_more, apart_set, apart_more, world_set, OnLine, on_line, off_line, NoneStandsAs, none_stands, goes_else}
+use Rattle.call_world.proofs.Lining.{line_at, wire_at, lines_set, lines_more, apart_set, apart_more, Stays, rows_more, rows_start, world_set, OnLine, on_line, off_line, NoneStandsAs, none_stands, goes_else}
 
 -- ---- what needs no server
 
@@ -63,28 +65,34 @@ not_alone Does x s t tried l is n new d = tried l is n d.0
 
 -- ---- a move on a connection that stands
 
-pub lose_name : (l n : Line) (past new : List Entry) → LosesLine l past n new → n.name ≡ l.name
-lose_name l n past new d = ap (λ (z : Line). z.name) d.0
+stays_as : (l n : Line) → n.name ≡ l.name → length n.caller.rows ≡ length l.caller.rows → Stays l n
+stays_as l n name rows = record { named = name; rows = omega (arith, rows) }
 
-arrive_name : (tables : List TableForm) (count : ℕ) (l n : Line) (past new : List Entry) → ArrivesOn tables count l past n new → n.name ≡ l.name
-arrive_name tables count l n past new d = ap (λ (z : Line). z.name) (goes_else tables d.came n d.then_ new d.goes_on) ∙ ap (λ (z : Line). z.name) d.comes.then_
+pub lose_stays : (l n : Line) (past new : List Entry) → LosesLine l past n new → Stays l n
+lose_stays l n past new d = stays_as l n (ap (λ (z : Line). z.name) d.0) (ap (λ (z : Line). length z.caller.rows) d.0 ∙ (callers.loses l.caller).rows)
 
-abbrev pub Ending : Bool → Line → List Entry → Line → List Entry → Type 0
-Ending true l past n new = LosesLine l past n new
-Ending false l past n new = (n ≡ l) × (new ≡ past)
+arrive_stays : (tables : List TableForm) (count : ℕ) (l n : Line) (past new : List Entry) → ArrivesOn tables count l past n new → Stays l n
+arrive_stays tables count l n past new d =
+    let rest = goes_else tables d.came n d.then_ new d.goes_on in
+    stays_as l n (ap (λ (z : Line). z.name) rest ∙ ap (λ (z : Line). z.name) d.comes.then_) (ap (λ (z : Line). length z.caller.rows) rest ∙ ap (λ (z : Line). length z.caller.rows) d.comes.then_)
 
-come_name : (count : ℕ) (l n : Line) (past new : List Entry) → ComesOn count l past n new → n.name ≡ l.name
-come_name count l n past new d = named d.broken d.is_line
+come_stays : (count : ℕ) (l n : Line) (past new : List Entry) → ComesOn count l past n new → Stays l n
+come_stays count l n past new d = stays d.broken d.is_line
   where
-    named : (b : Bool) → IfBroken b (LosesLine (record l { caller = d.caller; down = d.left }) past n new) ((n ≡ record l { caller = d.caller; down = d.left }) × (new ≡ past)) → n.name ≡ l.name
-    named true i = ap (λ (z : Line). z.name) i.0
-    named false i = ap (λ (z : Line). z.name) i.0
+    heard : length d.caller.rows ≡ length l.caller.rows
+    heard = (callers.hears_octets l.caller d.caller d.front d.broken d.hears).rows
 
-call_off_name : (table : TableForm) (l n : Line) (past new : List Entry) → Alone (CallsOffOn table) l past n new → n.name ≡ l.name
-call_off_name table l n past new d = ap (λ (z : Line). z.name) d.0.after
+    stays : (b : Bool) → IfBroken b (LosesLine (record l { caller = d.caller; down = d.left }) past n new) ((n ≡ record l { caller = d.caller; down = d.left }) × (new ≡ past)) → Stays l n
+    stays true i = stays_as l n (ap (λ (z : Line). z.name) i.0) (ap (λ (z : Line). length z.caller.rows) i.0 ∙ (callers.loses d.caller).rows ∙ heard)
+    stays false i = stays_as l n (ap (λ (z : Line). z.name) i.0) (ap (λ (z : Line). length z.caller.rows) i.0 ∙ heard)
 
-start_name : (table : TableForm) (op : ℕ) (m : Msg) (l n : Line) (past new : List Entry) → Alone (StartsOn table op m) l past n new → n.name ≡ l.name
-start_name table op m l n past new d = ap (λ (z : Line). z.name) d.0.after
+call_off_stays : (table : TableForm) (l n : Line) (past new : List Entry) → Alone (CallsOffOn table) l past n new → Stays l n
+call_off_stays table l n past new d = stays_as l n (ap (λ (z : Line). z.name) d.0.after) (ap (λ (z : Line). length z.caller.rows) d.0.after)
+
+start_stays : (table : TableForm) (op : ℕ) (m : Msg) (l n : Line) (past new : List Entry) → Alone (StartsOn table op m) l past n new → Stays l n
+start_stays table op m l n past new d =
+    let more : length n.caller.rows ≡ length l.caller.rows + 1 = ap (λ (z : Line). length z.caller.rows) d.0.after ∙ length_more l.caller.rows (new_row op m) in
+    record { named = ap (λ (z : Line). z.name) d.0.after; rows = omega (arith, more) }
 
 -- the calls of a connection, and what is known of each
 fates_count : (rows : List Row) (fs : List Told) → map fate_in rows ≡ map fate_of fs → length rows ≡ length fs
@@ -110,7 +118,7 @@ module _ (x y : Machine) (c i : ℕ) (s t : Wire) (at : slice_get x.lines.items 
   loses tried lines table starts = (
     table,
     λ w is.
-        let r = on_line LosesLine x y w c i s t is at named stands lose_name tried lines table starts in
+        let r = on_line LosesLine x y w c i s t is at named stands lose_stays tried lines table starts in
         (r.0, r.1, r.2),
   )
 
@@ -119,8 +127,8 @@ module _ (x y : Machine) (c i : ℕ) (s t : Wire) (at : slice_get x.lines.items 
   arrives count tried lines table starts = (
     table,
     λ w is.
-        let r = on_line (ArrivesOn (seen x.server).tables count) x y w c i s t is at named stands (arrive_name (seen x.server).tables count) tried lines table starts in
-        let (j, l, there, name, stand, n, new, does, after) = r.1 in
+        let r = on_line (ArrivesOn (seen x.server).tables count) x y w c i s t is at named stands (arrive_stays (seen x.server).tables count) tried lines table starts in
+        let (j, l, there, name, stand, (n, new, does, after)) = r.1 in
         let d : ArrivesOn (shown x.table ∷ []) count l w.past n new = subst (λ (ts : List TableForm). ArrivesOn ts count l w.past n new) is.tables does in
         (r.0, (j, l, there, name, stand, record { front = d.front; left = d.left; way = d.way; came = d.came; then_ = d.then_; comes = d.comes; line = n; past = new; goes_on = d.goes_on; after = after }), r.2),
   )
@@ -133,10 +141,12 @@ module _ (x y : Machine) (c i : ℕ) (s t : Wire) (at : slice_get x.lines.items 
         there,
         name,
         stand,
-        a.line,
-        a.past,
-        subst (λ (ts : List TableForm). ArrivesOn ts count l w.past a.line a.past) (sym is.tables) (record { front = a.front; left = a.left; way = a.way; came = a.came; then_ = a.then_; comes = a.comes; goes_on = a.goes_on }),
-        a.after,
+        (
+          a.line,
+          a.past,
+          subst (λ (ts : List TableForm). ArrivesOn ts count l w.past a.line a.past) (sym is.tables) (record { front = a.front; left = a.left; way = a.way; came = a.came; then_ = a.then_; comes = a.comes; goes_on = a.goes_on }),
+          a.after,
+        ),
       )
 
   pub comes : (count : ℕ) → TriesWith (ComesOn count) true (seen x.server) s (seen y.server) t → y.lines.items ≡ slice_set x.lines.items i t → shown y.table ≡ shown x.table → y.starts ≡ x.starts
@@ -144,23 +154,23 @@ module _ (x y : Machine) (c i : ℕ) (s t : Wire) (at : slice_get x.lines.items 
   comes count tried lines table starts = (
     table,
     λ w is.
-        let r = on_line (ComesOn count) x y w c i s t is at named stands (come_name count) tried lines table starts in
-        let (j, l, there, name, stand, n, new, d, after) = r.1 in
+        let r = on_line (ComesOn count) x y w c i s t is at named stands (come_stays count) tried lines table starts in
+        let (j, l, there, name, stand, (n, new, d, after)) = r.1 in
         (r.0, (j, l, there, name, stand, record { front = d.front; left = d.left; way = d.way; caller = d.caller; broken = d.broken; hears = d.hears; line = n; past = new; is_line = d.is_line; after = after }), r.2),
   )
 
   pub comes_not : (z : ServerView) (count : ℕ) → TriesWith (ComesOn count) false (seen x.server) s z t → worlds.Tries (moves.ToCaller c count) false x y
   comes_not z count tried w is v (j, l, there, name, stand, a) =
       off_line (ComesOn count) x y w c i s t is at named stands z tried v
-      (j, l, there, name, stand, a.line, a.past, record { front = a.front; left = a.left; way = a.way; caller = a.caller; broken = a.broken; hears = a.hears; is_line = a.is_line }, a.after)
+      (j, l, there, name, stand, (a.line, a.past, record { front = a.front; left = a.left; way = a.way; caller = a.caller; broken = a.broken; hears = a.hears; is_line = a.is_line }, a.after))
 
   pub calls_off : TriesWith (Alone (CallsOffOn (shown x.table))) true (seen x.server) s (seen y.server) t → y.lines.items ≡ slice_set x.lines.items i t → shown y.table ≡ shown x.table → y.starts ≡ x.starts
       → worlds.Tries (moves.Cancel c) true x y
   calls_off tried lines table starts = (
     table,
     λ w is.
-        let r = on_line (Alone (CallsOffOn (shown x.table))) x y w c i s t is at named stands (call_off_name (shown x.table)) tried lines table starts in
-        let (j, l, there, name, stand, n, new, (d, same), after) = r.1 in
+        let r = on_line (Alone (CallsOffOn (shown x.table))) x y w c i s t is at named stands (call_off_stays (shown x.table)) tried lines table starts in
+        let (j, l, there, name, stand, (n, new, (d, same), after)) = r.1 in
         let is_after : r.0 ≡ with_line w j (cancelling (shown x.table) l d.octets d.state) w.past = after ∙ ap (λ (p : List Entry). with_line w j n p) same ∙ ap (λ (z : Line). with_line w j z w.past) d.after in
         (r.0, (j, l, there, name, stand, record { out = d.out; octets = d.octets; state = d.state; cancels = d.cancels; after = is_after }), r.2),
   )
@@ -169,7 +179,7 @@ module _ (x y : Machine) (c i : ℕ) (s t : Wire) (at : slice_get x.lines.items 
   calls_off_not tried w is v (j, l, there, name, stand, a) =
       let n : Line = cancelling (shown x.table) l a.octets a.state in
       off_line (Alone (CallsOffOn (shown x.table))) x y w c i s t is at named stands (seen x.server) tried v
-      (j, l, there, name, stand, n, w.past, (record { out = a.out; octets = a.octets; state = a.state; cancels = a.cancels; after = refl }, refl), a.after)
+      (j, l, there, name, stand, (n, w.past, (record { out = a.out; octets = a.octets; state = a.state; cancels = a.cancels; after = refl }, refl), a.after))
 
   -- a call is started, and is the last one
   module _ (op : ℕ) (m : Msg) where
@@ -177,7 +187,7 @@ module _ (x y : Machine) (c i : ℕ) (s t : Wire) (at : slice_get x.lines.items 
     starts_not tried w is v (j, l, there, name, stand, a) =
         let n : Line = starting (shown x.table) l op m a.octets a.state in
         off_line (Alone (StartsOn (shown x.table) op m)) x y w c i s t is at named stands (seen x.server) tried (with_line w j n w.past)
-        (j, l, there, name, stand, n, w.past, (record { bound = a.bound; free = a.free; message = a.message; octets = a.octets; state = a.state; calls = a.calls; after = refl }, refl), refl)
+        (j, l, there, name, stand, (n, w.past, (record { bound = a.bound; free = a.free; message = a.message; octets = a.octets; state = a.state; calls = a.calls; after = refl }, refl), refl))
 
     pub starts : (p : Place) → TriesWith (Alone (StartsOn (shown x.table) op m)) true (seen x.server) s (seen y.server) t → y.lines.items ≡ slice_set x.lines.items i t → shown y.table ≡ shown x.table
         → y.starts.items ≡ x.starts.items ++ p ∷ [] → p.line ≡ i → p.place ≡ length s.caller.fates.items → worlds.Tries (moves.Start c op m) true x y
@@ -185,8 +195,8 @@ module _ (x y : Machine) (c i : ℕ) (s t : Wire) (at : slice_get x.lines.items 
       table,
       λ w is.
           let z : Machine = record y { starts = x.starts } in
-          let r = on_line (Alone (StartsOn (shown x.table) op m)) x z w c i s t is at named stands (start_name (shown x.table) op m) tried lines table refl in
-          let (j, l, there, name, stand, n, new, (d, same), after) = r.1 in
+          let r = on_line (Alone (StartsOn (shown x.table) op m)) x z w c i s t is at named stands (start_stays (shown x.table) op m) tried lines table refl in
+          let (j, l, there, name, stand, (n, new, (d, same), after)) = r.1 in
           let f = line_at x.lines.items w.lines i s is.lines at in
           let here : i ≡ j = is.apart i j f.0 l f.1 there (sym f.2.name ∙ named ∙ sym name) in
           let alike : f.0 ≡ l = some_is f.0 l (sym f.1 ∙ ap (slice_get w.lines) here ∙ there) in
@@ -194,6 +204,7 @@ module _ (x y : Machine) (c i : ℕ) (s t : Wire) (at : slice_get x.lines.items 
           let begun : Line = starting (shown x.table) l op m d.octets d.state in
           let is_after : r.0 ≡ with_line w j begun w.past = after ∙ ap (λ (q : List Entry). with_line w j n q) same ∙ ap (λ (k : Line). with_line w j k w.past) d.after in
           let new_start : Started = record { line = j; place = length l.caller.rows } in
+          let last_row : length l.caller.rows < length begun.caller.rows = omega (arith, length_more l.caller.rows (new_row op m)) in
           let v : World = record (with_line w j begun w.past) { starts = w.starts ++ new_start ∷ [] } in (
             v,
             (j, l, there, name, stand, record { bound = d.bound; free = d.free; message = d.message; octets = d.octets; state = d.state; calls = d.calls; after = refl }),
@@ -204,6 +215,7 @@ module _ (x y : Machine) (c i : ℕ) (s t : Wire) (at : slice_get x.lines.items 
               is_whole = r.2.is_whole;
               tables = r.2.tables;
               starts = one_more x.starts.items y.starts.items w.starts p new_start more is.starts (line ∙ here) many;
+              rows = rows_start (slice_set w.lines j begun) w.starts new_start (subst (λ (u : World). HaveRows u.lines u.starts) is_after r.2.rows) (begun, set_same w.lines j begun (within w.lines j l there), last_row);
             },
           ),
     )
@@ -257,6 +269,7 @@ opens x y c group t none wants o lines same = (
           is_whole = subst (λ z. IsWhole (seen z)) (sym server) is.is_whole;
           tables = ap (λ z. (seen z).tables) server ∙ is.tables ∙ ap (λ (z : Machine). shown z.table ∷ []) (sym same);
           starts = ap (λ (z : Machine). map started_of z.starts.items) same ∙ is.starts;
+          rows = rows_more w.lines l w.starts is.rows;
         },
       ),
 )
@@ -267,7 +280,7 @@ named_already x y c group i t at named w is v o =
     o.fresh i f.0 f.1 (sym f.2.name ∙ named)
 
 pub not_wanted : (x y : Machine) (c group : ℕ) → group ≢ wanted x.lines.items → worlds.Tries (moves.Open c group) false x y
-not_wanted x y c group no w is v o = no (o.wanted ∙ sym (wanted_is x.lines.items w.lines is.lines.count))
+not_wanted x y c group other w is v o = other (o.wanted ∙ sym (wanted_is x.lines.items w.lines is.lines.count))
 
 -- ---- the server's journal goes on
 
@@ -279,6 +292,7 @@ entered_is x y w Says is e = record {
   is_whole = e.1.is_whole;
   tables = e.1.tables ∙ is.tables ∙ ap (λ (z : Machine). shown z.table ∷ []) (sym e.0);
   starts = ap (λ (z : Machine). map started_of z.starts.items) e.0 ∙ is.starts;
+  rows = is.rows;
 }
 
 -- ---- takes
@@ -308,8 +322,8 @@ module _ (x y : Machine) (k : ℕ) where
 
   -- where it can't be taken now
   pub takes_not : ((w : World) → IsWorld x w → (journals.waits (whole w.past) k ≡ true) → (journals.blocker (whole w.past) k ≡ None) → ⊥) → worlds.Tries (moves.Take k) false x y
-  takes_not no w is v (taken row serial past t after) = no w is t.0 t.1
-  takes_not no w is v (denied slot past t goes) = no w is t.0 t.1
+  takes_not cannot w is v (taken row serial past t after) = cannot w is t.0 t.1
+  takes_not cannot w is v (denied slot past t goes) = cannot w is t.0 t.1
 
 -- ---- the end of a call
 
@@ -323,7 +337,7 @@ found_first t (suc i) op o e = absurd (cc (e))
 
 module _ (x y : Machine) (k : ℕ) (kepts : List Kept) (m : Msg) where
   pub ends_not : (z : List Entry) → Finishes (seen x.server).tables (seen x.server).past k kepts m false z → worlds.Tries (moves.Finish k kepts m) false x y
-  ends_not z no w is v (past, e, goes) =
+  ends_not z cannot w is v (past, e, goes) =
       let table = shown x.table in
       let may : MayEnd (table ∷ []) w.past k kepts m = record {
         runs = e.runs;
@@ -342,7 +356,7 @@ module _ (x y : Machine) (k : ℕ) (kepts : List Kept) (m : Msg) where
               (e.octets_are ∙ ap (λ (rs : List Outcome). stub table.types e.is.operation Response e.asked.order (Some e.message) (with_wires m (wires_at home e.asked.slots rs))) e.results_are) e.short;
         };
       } in
-      no.0 (subst (λ (ts : List TableForm). MayEnd ts (seen x.server).past k kepts m) (sym is.tables) (subst (λ (p : List Entry). MayEnd (table ∷ []) p k kepts m) (sym is.past) may))
+      cannot.0 (subst (λ (ts : List TableForm). MayEnd ts (seen x.server).past k kepts m) (sym is.tables) (subst (λ (p : List Entry). MayEnd (table ∷ []) p k kepts m) (sym is.past) may))
 
   -- the call ends, and the connection that waits for it goes on
   pub ends_so : (z : Machine) → worlds.Enters (λ past new. Finishes (seen x.server).tables past k kepts m true new) x z → worlds.GoesFor k z y → worlds.Tries (moves.Finish k kepts m) true x y
@@ -413,6 +427,6 @@ answered_goes x y k i s t at stands waits rests same lines table starts = (
       } in (
         with_line w i n new,
         answered i l n new f.1 (sym f.2.standing ∙ stands) (sym f.2.serves.place.waiting_is ∙ waits) on refl,
-        world_set x y w i t l n new is f.1 (ap (λ (z : Line). z.name) rest) is_line lines refl rests.0 rests.1 table starts,
+        world_set x y w i t l n new is f.1 (stays_as l n (ap (λ (z : Line). z.name) rest) (ap (λ (z : Line). length z.caller.rows) rest)) is_line lines refl rests.0 rests.1 table starts,
       ),
 )

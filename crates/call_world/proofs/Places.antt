@@ -24,10 +24,10 @@ pub found : (p : Wire → Bool) (ts : List Wire) (i : ℕ) (t : Wire) → i < le
 found p ts i t lt read is = (t, read_is ts i t lt read, is)
 
 pub none_more : (p : Wire → Bool) (ts : List Wire) (i : ℕ) (t : Wire) → NoneBefore p ts i → i < length ts → t ≡ get_or ts i t → p t ≡ false → NoneBefore p ts (i + 1)
-none_more p ts i t none lt read no j s at less = at_place (decided i j (eqb j i) refl)
+none_more p ts i t none lt read fails j s at less = at_place (decided i j (eqb j i) refl)
   where
     at_place : (j ≡ i) ⊎ (j ≢ i) → p s ≡ false
-    at_place (inl same) = ap p (some_is s t (sym at ∙ ap (slice_get ts) same ∙ read_is ts i t lt read)) ∙ no
+    at_place (inl same) = ap p (some_is s t (sym at ∙ ap (slice_get ts) same ∙ read_is ts i t lt read)) ∙ fails
     at_place (inr other) = none j s at (omega (arith, less, other))
 
 pub none_in : (p : Wire → Bool) (ts : List Wire) (n : ℕ) → NoneBefore p ts n → length ts ≤ n → FindsBy p ts None
@@ -60,11 +60,11 @@ module _ (ts : List Wire) (i : ℕ) (t : Wire) (lt : i < length ts) (read : t �
       at_place below j s at less stands (inr other) = omega (arith, below, l_least j s at (omega (arith, less, other)) stands)
 
   pub least_old : (o : Option (ℕ × ℕ)) → LeastBefore ts o i → is_lesser o t ≡ false → LeastBefore ts o (i + 1)
-  least_old None least not_lesser j s at less stands = at_place (decided i j (eqb j i) refl)
+  least_old None least not_lesser = λ j s at less stands. at_place j s at less stands (decided i j (eqb j i) refl)
     where
-      at_place : (j ≡ i) ⊎ (j ≢ i) → ⊥
-      at_place (inl same) = both_ways t.standing not_lesser (ap (λ (z : Wire). z.standing) (sym (same_here j s at same)) ∙ stands)
-      at_place (inr other) = least j s at (omega (arith, less, other)) stands
+      at_place : (j : ℕ) (s : Wire) → slice_get ts j ≡ Some s → j < i + 1 → s.standing ≡ true → (j ≡ i) ⊎ (j ≢ i) → ⊥
+      at_place j s at less stands (inl same) = both_ways t.standing not_lesser (ap (λ (z : Wire). z.standing) (sym (same_here j s at same)) ∙ stands)
+      at_place j s at less stands (inr other) = least j s at (omega (arith, less, other)) stands
   least_old (Some (name, k)) (l, l_at, l_stands, l_name, l_least) not_lesser =
       (l, l_at, l_stands, l_name, λ j s at less stands. at_place j s at less stands (decided i j (eqb j i) refl))
     where

@@ -35,7 +35,7 @@ use Rattle.call_world.specs.Worlds as worlds
 use Rattle.call_world.specs.Rows.{FindsBy, FindsLeast, awaits, is_awaiting}
 use Rattle.call_world.proofs.Lining.{line_at, wire_at, on_line}
 use Rattle.call_world.proofs.Places.{Read}
-use Rattle.call_world.proofs.Moving.{Alone, alone, not_alone, arrives, arrives_not, comes, comes_not, calls_off, calls_off_not, starts, starts_not, lose_name, takes_run, takes_denied, takes_not, ends_not, ends_so, unheard_goes}
+use Rattle.call_world.proofs.Moving.{Alone, alone, not_alone, arrives, arrives_not, comes, comes_not, calls_off, calls_off_not, starts, starts_not, lose_stays, takes_run, takes_denied, takes_not, ends_not, ends_so, unheard_goes}
 
 -- what holds of an answer that came gives what else holds of it
 pub if_ok : {A E : Type 0} (r : Result A E) (P Q : A → Type 0) → ((a : A) → P a → Q a) → IfOk r P → IfOk r Q
@@ -96,7 +96,7 @@ loses_more x y z i s t before least at stands tried lines table starts = (
   table ∙ before.1,
   λ w is.
       let b = before.2 w is in
-      let r = on_line LosesLine y z b.0 s.name i s t b.1 at refl stands lose_name tried lines table starts in
+      let r = on_line LosesLine y z b.0 s.name i s t b.1 at refl stands lose_stays tried lines table starts in
       (r.0, r.2, λ names v all. b.2 (s.name ∷ names) v (least_is y b.0 i b.1 least s at, (r.0, r.1, all))),
 )
 
@@ -127,7 +127,7 @@ blocker_in x w k is none = subst (λ (p : List Entry). journals.blocker (whole p
 
 module _ (x y : Machine) (k : ℕ) where
   pub takes_unwaiting : journals.waits (whole (seen x.server).past) k ≡ false → worlds.Tries (moves.Take k) false x y
-  takes_unwaiting no = takes_not x y k (λ w is waits blocker. both_ways (journals.waits (whole (seen x.server).past) k) no (waits_in x w k is waits))
+  takes_unwaiting over = takes_not x y k (λ w is waits blocker. both_ways (journals.waits (whole (seen x.server).past) k) over (waits_in x w k is waits))
 
   module _ (a : Taking) where
     abbrev pub TakesIn : ServerView → Type 0
@@ -202,7 +202,7 @@ on_ok (Err e) P Q f h = tt
 
 -- ---- the empty world
 
-none_at : (i : ℕ) (l : Line) → (let ls : List Line = [] in slice_get ls i) ≡ Some l → ⊥
+none_at : {A : Type 0} (i : ℕ) (l : A) → (let ls : List A = [] in slice_get ls i) ≡ Some l → ⊥
 none_at i l e = absurd (cc (e))
 
 pub begun_is : (x : Machine) → x.lines.items ≡ [] → x.starts.items ≡ [] → (seen x.server).past ≡ [] → IsWhole (seen x.server) → (seen x.server).tables ≡ shown x.table ∷ [] → IsWorld x empty
@@ -214,6 +214,7 @@ begun_is x lines starts past is_whole tables =
       is_whole = is_whole;
       tables = tables;
       starts = ap (map started_of) starts;
+      rows = λ n s found. absurd (none_at n s found);
     }
 
 pub world_ready : (x : Machine) (w : World) → IsWorld x w → IsReady x

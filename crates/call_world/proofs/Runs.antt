@@ -40,7 +40,7 @@ get_behind (y ∷ a) x b = get_behind a x b
 
 moves_length : (a : List Step) → length (moves_of a) ≡ length a
 moves_length [] = refl
-moves_length (s ∷ a) = ap (λ (n : ℕ). n + 1) (moves_length a)
+moves_length (s ∷ a) = omega (arith, moves_length a)
 
 -- the moves before what is left are played, and there are so many
 pub record Midway (table : TableForm) (all left : List Step) (place : ℕ) (x : Machine) : Type 0 where
@@ -92,9 +92,13 @@ pub few_played : (table : TableForm) (all left : List Step) (place : ℕ) (x : M
 few_played table all left place x s m = omega (arith, m.count, ap length m.parts, length-append m.before (s ∷ left))
 
 -- nothing is left
+pub none_left : (left : List Step) → length left ≡ 0 → reverse left ≡ []
+none_left [] e = refl
+none_left (s ∷ left) e = absurd (omega (arith, e))
+
 pub all_played : (table : TableForm) (all : List Step) (place : ℕ) (x : Machine) → Midway table all [] place x → IsPlayed table (moves_of all) x
 all_played table all place x m =
-    (m.table_is, (m.world, (subst (λ (ms : List Step). Played table (moves_of ms) m.world) (sym (m.parts ∙ append-nil m.before)) m.played, m.is)))
+    (m.table_is, m.world, subst (λ (ms : List Step). Played table (moves_of ms) m.world) (sym (m.parts ∙ append-nil m.before)) m.played, m.is)
 
 -- what is known of every played world holds of this one
 pub leads_so : (table : TableForm) (moves : List Move) (x : Machine) → FitsSyntax table.id → length table.ops < 65536 → AllCallsAreRows → AllFatesAreTrue → IsPlayed table moves x → Leads table moves x

@@ -1,5 +1,5 @@
 -- A program's world, the world that it is, and whether a move can be played there.
-use Rattle.std.specs.Prelude.{◌≡◌, ℕ, Bool, true, false, Option, Some, None, List, [], ◌∷◌, length, map, slice_get}
+use Rattle.std.specs.Prelude.{◌≡◌, ℕ, ◌<◌, Bool, true, false, Option, Some, None, List, [], ◌∷◌, length, map, slice_get}
 use Rattle.ndr_table.specs.Shown.{shown}
 use Rattle.ndr_table.specs.Tables.{TableForm}
 use Rattle.world_laws.specs.Ends.{Line}
@@ -24,6 +24,13 @@ pub record AreLines (ts : List Wire) (ls : List Line) : Type 0 where
 abbrev pub AreApart : List Line → Type 0
 AreApart ls = (i j : ℕ) (l m : Line) → slice_get ls i ≡ Some l → slice_get ls j ≡ Some m → l.name ≡ m.name → i ≡ j
 
+-- each call that was started has its row among those of its connection
+abbrev pub HasRow : List Line → Started → Type 0
+HasRow ls s = (l : Line) × (slice_get ls s.line ≡ Some l) × (s.place < length l.caller.rows)
+
+abbrev pub HaveRows : List Line → List Started → Type 0
+HaveRows ls ss = (n : ℕ) (s : Started) → slice_get ss n ≡ Some s → HasRow ls s
+
 pub record IsWorld (x : Machine) (w : World) : Type 0 where
   pub lines : AreLines x.lines.items w.lines
   pub apart : AreApart w.lines
@@ -31,6 +38,7 @@ pub record IsWorld (x : Machine) (w : World) : Type 0 where
   pub is_whole : IsWhole (seen x.server)
   pub tables : (seen x.server).tables ≡ shown x.table ∷ []
   pub starts : map started_of x.starts.items ≡ w.starts
+  pub rows : HaveRows w.lines w.starts
 
 -- The server goes by its journal, and has the one interface.
 pub record IsReady (x : Machine) : Type 0 where

@@ -40,10 +40,10 @@ impl Line {
         requires { (seen server.now).tables ≡ shown table.now ∷ [] }
         ensures { IfOk result (IsOpened (shown table.now) name group) }
     {
-        let mut caller = Caller::new(alloc, table.copy(alloc)?);
-        let octets = caller.bind(group)?;
         let ids = server.served().ids(alloc)?;
         let serving = Serving::open(alloc, ids.as_slice())?;
+        let mut caller = Caller::new(alloc, table.copy(alloc)?);
+        let octets = caller.bind(group)?;
         Ok(Line {
             name,
             caller,

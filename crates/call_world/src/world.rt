@@ -1,5 +1,5 @@
 //! A world, and what each move does.
-ghost use Rattle.std.specs.Prelude.{◌≡◌, true, reverse, IfOk, IfSome, OnOk, Some, None, slice_get};
+ghost use Rattle.std.specs.Prelude.{◌≡◌, ◌≤◌, true, length, reverse, IfOk, OnOk, MatchOption, Some, None, slice_get};
 ghost use Rattle.handle_model.specs.declared.entry.Slot.TheVariants.{Shares};
 ghost use Rattle.ndr_table.specs.Shown.{shown};
 ghost use Rattle.ndr_value.specs.Values.{msg};
@@ -82,7 +82,7 @@ impl World {
     /// # Errors
     ///
     /// `NoMemory` where there is no memory for it.
-    pub fn begin(alloc: Global, table: &Table) -> Result<World, NoMemory>
+    pub(crate) fn begin(alloc: Global, table: &Table) -> Result<World, NoMemory>
         ensures table { IfOk result (λ world. shown world.table ≡ shown table.now) }
         ensures is { IfOk result (λ world. IsWorld world empty) }
     {
@@ -266,12 +266,8 @@ impl World {
         Ok(true)
     }
 
-    /// Plays a move. False where it can't be played now, and then the world is as before.
-    ///
-    /// # Errors
-    ///
-    /// `NoMemory` where there is no memory for what it does. The world isn't of use then.
-    pub fn play(&mut self, step: Move) -> Result<bool, NoMemory>
+    /// Plays a move. False where it can't be played now. The world isn't of use then, nor where there is no memory for it.
+    pub(crate) fn play(&mut self, step: Move) -> Result<bool, NoMemory>
         requires { IsReady self.old }
         ensures { IfOk result (λ done. Tries (move_of step) done self.old self.new) }
     {
@@ -292,13 +288,15 @@ impl World {
     }
 
     /// How many calls were started.
-    pub fn started(&self) -> usize {
+    pub fn started(&self) -> usize
+        ensures { (w : WorldSpec) → IsWorld self.now w → result ≡ length w.starts }
+    {
         self.starts.len()
     }
 
-    /// What is known of the call that was started at that place, from 0.
+    /// What is known of the call that was started at that place, from 0. None where fewer were started.
     pub fn fate(&self, at: usize) -> Option<FateRow<'_>>
-        ensures { (w : WorldSpec) → IsWorld self.now w → IfSome result (λ row. IsFate w at (fate_of row.fate.now) row.conn row.call) }
+        ensures { (w : WorldSpec) → IsWorld self.now w → MatchOption result (length w.starts ≤ at) (λ row. IsFate w at (fate_of row.fate.now) row.conn row.call) }
     {
         let started = self.starts.get(at)?;
         let line = self.lines.get(started.line)?;

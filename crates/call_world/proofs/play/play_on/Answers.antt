@@ -5,7 +5,7 @@ use Rattle.call_world.specs.declared.moves.Move.{Move as Step}
 use Rattle.call_world.specs.Moves.{move_of}
 use Rattle.call_world.specs.Worlds.{Tries}
 use Rattle.call_world.proofs.Playing.{world_ready}
-use Rattle.call_world.proofs.Runs.{Midway, begun, goes_on, stops, next_left, few_played, all_played}
+use Rattle.call_world.proofs.Runs.{Midway, begun, goes_on, stops, next_left, few_played, none_left, all_played}
 use Rattle.call_world.proofs.play.play_on.Goals as goal
 
 pub loop-step-init : goal.loop-step-init
@@ -35,8 +35,8 @@ loop-step-preserved c =
     goes_on table all rest c.loop-step.place c.loop-step.world c.play.new.self c.in-Some.step midway
     (subst (λ (b : Bool). Tries (move_of c.in-Some.step) b c.loop-step.world c.play.new.self) c.in-Ok-true.field-0-test c.in-Ok-true.ensures)
 
-pub returns-in-Ok-false : goal.returns-in-Ok-false
-returns-in-Ok-false c =
+pub returns-in-Ok-false-clause-stops : goal.returns-in-Ok-false-clause-stops
+returns-in-Ok-false-clause-stops c =
     let table = shown c.args.world.table in
     let rest = reverse c.pop.new.self.items in
     let all = c.args.moves.items in
@@ -44,6 +44,9 @@ returns-in-Ok-false c =
     stops table all rest c.loop-step.place c.loop-step.world c.play.new.self c.in-Some.step midway
     (subst (λ (b : Bool). Tries (move_of c.in-Some.step) b c.loop-step.world c.play.new.self) c.in-Ok-false.field-0-test c.in-Ok-false.ensures)
 
-pub returns : goal.returns
-returns c =
-    all_played (shown c.args.world.table) c.args.moves.items c.loop-step.place c.loop-step.world c.loop-step.invariant
+pub returns-clause-played : goal.returns-clause-played
+returns-clause-played c =
+    let table = shown c.args.world.table in
+    let all = c.args.moves.items in
+    let none = none_left c.loop-step.left.items (omega (arith, c.in_default.ensures.cases.0, c.loop-step.left.ok.0)) in
+    all_played table all c.loop-step.place c.loop-step.world (subst (λ (left : List Step). Midway table all left c.loop-step.place c.loop-step.world) none c.loop-step.invariant)

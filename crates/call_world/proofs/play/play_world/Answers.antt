@@ -1,3 +1,6 @@
+use Rattle.std.proofs.Common.{subst}
+use Rattle.rpc_base.specs.Fields.{FitsSyntax}
+use Rattle.rpc_base.specs.declared.identifiers.SyntaxId.{SyntaxId}
 use Rattle.ndr_table.specs.Shown.{shown}
 use Rattle.call_world.specs.Moves.{moves_of}
 use Rattle.call_world.proofs.Playing.{if_ok}
@@ -6,4 +9,5 @@ use Rattle.call_world.proofs.play.play_world.Goals as goal
 
 pub returns-clause-leads : goal.returns-clause-leads
 returns-clause-leads c =
-    if_ok c.play_all.result _ _ (λ x played. leads_so (shown c.args.table.now) (moves_of c.args.moves.items) x c.is_syntax.ensures c.is_whole.ensures.few c.calls_are_rows.ensures c.fates_are_true.ensures played) c.play_all.ensures.played
+    let fits = subst (λ (id : SyntaxId). FitsSyntax id) c.syntax.ensures c.is_syntax.ensures in
+    if_ok c.play_all.result _ _ (λ x played. leads_so (shown c.args.table.now) (moves_of c.args.moves.items) x fits c.is_whole.ensures.few c.calls_are_rows.ensures c.fates_are_true.ensures played) c.play_all.ensures.played

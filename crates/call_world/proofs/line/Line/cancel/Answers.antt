@@ -8,6 +8,6 @@ returns-then-not-is_calling c = λ table. not_out table c.args.self.now c.args.s
 pub cancel-requires : goal.cancel-requires
 cancel-requires c = sym c.is_calling.ensures ∙ c.if-not-is_calling.false
 
-pub returns-in_ok-extend_from_slice : goal.returns-in_ok-extend_from_slice
-returns-in_ok-extend_from_slice c =
+pub returns : goal.returns
+returns c =
     λ table. cancelled table c.args.self.now _ c.in_ok-octets.octets (sym c.is_calling.ensures ∙ c.if-not-is_calling.false) c.in_ok-octets.ensures.cancels c.in_ok-octets.ensures.same (c.in_ok-extend_from_slice.ensures.items ∙ ap (λ (o : List ℕ). c.args.self.now.up.items ++ o) c.as_slice.ensures) refl

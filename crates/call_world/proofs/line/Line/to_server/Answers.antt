@@ -5,16 +5,16 @@ use Rattle.call_world.proofs.Lines.{arrives_front, not_so_many, none_moves, too_
 use Rattle.call_world.proofs.line.Line.to_server.Goals as goal
 
 pub returns-then-count-eq0 : goal.returns-then-count-eq0
-returns-then-count-eq0 c = not_so_many _ _ _ c.args.self.now c.args.self.now c.args.count (λ front left m. none_moves c.args.count c.args.self.now.up.items front left c.if-count-eq0.true m)
+returns-then-count-eq0 c = not_so_many (seen c.args.server.now).tables (seen c.args.server.now) (seen c.args.server.now) c.args.self.now c.args.self.now c.args.count (λ front left m. none_moves c.args.count c.args.self.now.up.items front left c.if-count-eq0.true m)
 
 pub returns-then-count-len : goal.returns-then-count-len
 returns-then-count-len c =
     let n : c.len.result ≡ length c.args.self.now.up.items = search rules in
     let few : length c.args.self.now.up.items < c.args.count = omega (arith, n, c.if-count-len.true) in
-    not_so_many _ _ _ c.args.self.now c.args.self.now c.args.count (λ front left m. too_many c.args.count c.args.self.now.up.items front left m few)
+    not_so_many (seen c.args.server.now).tables (seen c.args.server.now) (seen c.args.server.now) c.args.self.now c.args.self.now c.args.count (λ front left m. too_many c.args.count c.args.self.now.up.items front left m few)
 
-pub returns-in_ok-go_on : goal.returns-in_ok-go_on
-returns-in_ok-go_on c =
+pub returns : goal.returns
+returns c =
     let s = c.args.self.now in
     let n : c.len.result ≡ length s.up.items = search rules in
     let enough : c.args.count ≤ length s.up.items = omega (arith, n, c.if-count-len.false) in

@@ -1,4 +1,4 @@
-use Rattle.std.proofs.Common.{refl}
+use Rattle.std.proofs.Common.{refl, arith}
 use Rattle.call_world.specs.Rows.{stands_as}
 use Rattle.call_world.proofs.Places.{found_within, read_standing, none_found}
 use Rattle.call_world.proofs.Moving.{none_calls_off}
@@ -10,7 +10,9 @@ returns-in-None c =
     none_calls_off c.args.self.now c.args.self.now c.args.name (none_found c.as_slice.result.now c.args.self.now.lines.items c.args.name c.as_slice.ensures.value c.in-None.ensures)
 
 pub index_mut-requires : goal.index_mut-requires
-index_mut-requires c = found_within (stands_as c.args.name) c.as_slice.result.now c.args.self.now.lines.items c.in-Some.at c.as_slice.ensures.value c.in-Some.ensures
+index_mut-requires c =
+    let few = found_within (stands_as c.args.name) c.as_slice.result.now c.args.self.now.lines.items c.in-Some.at c.as_slice.ensures.value c.in-Some.ensures in
+    omega (arith, few, c.args.self.now.lines.ok.0)
 
 pub returns-in-Some : goal.returns-in-Some
 returns-in-Some c =

@@ -8,10 +8,10 @@ pub finish-requires : goal.finish-requires
 finish-requires c = c.requires.is_whole
 
 pub returns-then-not-done : goal.returns-then-not-done
-returns-then-not-done c = ends_not_as c.args.self.now _ c.args.call c.args.kepts (msg c.args.out) (seen c.finish.new.self) c.in_ok-done.done c.if-not-done.true c.in_ok-done.ensures
+returns-then-not-done c = ends_not_as c.args.self.now c.args.self.now c.args.call c.args.kepts (msg c.args.out) (seen c.finish.new.self) c.in_ok-done.done c.if-not-done.true c.in_ok-done.ensures
 
 pub go_on_for-requires : goal.go_on_for-requires
 go_on_for-requires c = ready_after c.args.self.now _ _ c.requires c.in_ok-done.ensures refl
 
-pub returns-in_ok-go_on_for : goal.returns-in_ok-go_on_for
-returns-in_ok-go_on_for c = ends_as c.args.self.now c.go_on_for.new.self c.args.call c.args.kepts (msg c.args.out) _ c.in_ok-done.done c.if-not-done.false c.in_ok-done.ensures refl c.in_ok-go_on_for.ensures
+pub returns : goal.returns
+returns c = ends_as c.args.self.now c.go_on_for.new.self c.args.call c.args.kepts (msg c.args.out) _ c.in_ok-done.done c.if-not-done.false c.in_ok-done.ensures refl c.in_ok-go_on_for.ensures

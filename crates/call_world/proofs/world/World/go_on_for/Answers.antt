@@ -1,4 +1,4 @@
-use Rattle.std.proofs.Common.{refl}
+use Rattle.std.proofs.Common.{refl, arith}
 use Rattle.call_world.specs.Rows.{is_awaiting}
 use Rattle.call_world.proofs.Places.{found_within}
 use Rattle.call_world.proofs.Moving.{answered_goes}
@@ -9,7 +9,9 @@ pub returns-in-None : goal.returns-in-None
 returns-in-None c = goes_unheard c.args.self.now c.as_slice.result.now c.args.call c.as_slice.ensures.value c.in-None.ensures
 
 pub index_mut-requires : goal.index_mut-requires
-index_mut-requires c = found_within (is_awaiting c.args.call) c.as_slice.result.now c.args.self.now.lines.items c.in-Some.at c.as_slice.ensures.value c.in-Some.ensures
+index_mut-requires c =
+    let few = found_within (is_awaiting c.args.call) c.as_slice.result.now c.args.self.now.lines.items c.in-Some.at c.as_slice.ensures.value c.in-Some.ensures in
+    omega (arith, few, c.args.self.now.lines.ok.0)
 
 pub go_on-requires : goal.go_on-requires
 go_on-requires c = c.requires.is_whole

@@ -1,4 +1,4 @@
-use Rattle.std.proofs.Common.{ap}
+use Rattle.std.proofs.Common.{true, ap}
 use Rattle.call_world.specs.Moves.{move_of}
 use Rattle.call_world.proofs.Playing.{if_ok, as_step}
 use Rattle.call_world.proofs.world.World.play.Goals as goal
@@ -28,4 +28,4 @@ pub returns-in-Finish : goal.returns-in-Finish
 returns-in-Finish c = if_ok c.finish.result _ _ (λ done tried. as_step c.args.step _ c.args.self.now c.finish.new.self done (ap move_of c.in-Finish.is) tried) c.finish.ensures
 
 pub returns-in_ok-restart-in-Restart : goal.returns-in_ok-restart-in-Restart
-returns-in_ok-restart-in-Restart c = as_step c.args.step _ c.args.self.now c.restart.new.self _ (ap move_of c.in-Restart.is) c.in_ok-restart-in-Restart.ensures
+returns-in_ok-restart-in-Restart c = as_step c.args.step _ c.args.self.now c.restart.new.self true (ap move_of c.in-Restart.is) c.in_ok-restart-in-Restart.ensures

@@ -1,4 +1,4 @@
-use Rattle.std.proofs.Common.{refl, sym, ap, subst, ◌∙◌, Bool, length}
+use Rattle.std.proofs.Common.{refl, sym, ap, subst, ◌∙◌, Bool, length, arith}
 use Rattle.ndr_table.specs.Tables.{TableForm}
 use Rattle.ndr_value.specs.Values.{msg}
 use Rattle.call_world.specs.declared.line.Line.{Line as Wire}
@@ -9,21 +9,25 @@ use Rattle.call_world.proofs.Playing.{starts_so, starts_not_so}
 use Rattle.call_world.proofs.world.World.start_at.Goals as goal
 
 pub index-requires : goal.index-requires
-index-requires c = found_within (stands_as c.args.name) c.args.self.now.lines.items c.args.self.now.lines.items c.args.at refl c.requires.found
+index-requires c =
+    let few = found_within (stands_as c.args.name) c.args.self.now.lines.items c.args.self.now.lines.items c.args.at refl c.requires.found in
+    omega (arith, few, c.args.self.now.lines.ok.0)
 
 pub index_mut-requires : goal.index_mut-requires
-index_mut-requires c = found_within (stands_as c.args.name) c.args.self.now.lines.items c.args.self.now.lines.items c.args.at refl c.requires.found
+index_mut-requires c =
+    let few = found_within (stands_as c.args.name) c.args.self.now.lines.items c.args.self.now.lines.items c.args.at refl c.requires.found in
+    omega (arith, few, c.args.self.now.lines.ok.0)
 
 pub returns-then-not-done : goal.returns-then-not-done
 returns-then-not-done c =
     let x = c.args.self.now in
     let s = c.index_mut.result.now in
     let r = read_standing x x.lines.items c.args.name c.args.at s refl c.requires.found c.index_mut.ensures.value in
-    starts_not_so x _ c.args.name c.args.at s c.start.new.self r c.args.op (msg c.args.message.now)
+    starts_not_so x x c.args.name c.args.at s c.start.new.self r c.args.op (msg c.args.message.now)
     (λ table. subst (λ (b : Bool). Tries (StartsOn table c.args.op (msg c.args.message.now)) b s c.start.new.self) c.if-not-done.true (c.in_ok-done.ensures table))
 
-pub returns-in_ok-push : goal.returns-in_ok-push
-returns-in_ok-push c =
+pub returns : goal.returns
+returns c =
     let x = c.args.self.now in
     let s = c.index_mut.result.now in
     let r = read_standing x x.lines.items c.args.name c.args.at s refl c.requires.found c.index_mut.ensures.value in

@@ -22,7 +22,7 @@ pub returns-in_ok-go_on_for-in-Denied : goal.returns-in_ok-go_on_for-in-Denied
 returns-in_ok-go_on_for-in-Denied c = takes_denied_as c.args.self.now c.go_on_for.new.self c.args.call c.in_ok-taking.taking _ _ c.in-Denied.is c.in_ok-taking.ensures refl c.in_ok-go_on_for-in-Denied.ensures
 
 pub returns-in-Dropped : goal.returns-in-Dropped
-returns-in-Dropped c = takes_dropped c.args.self.now _ c.args.call c.in_ok-taking.taking (seen c.take.new.self) c.in-Dropped.is c.in_ok-taking.ensures
+returns-in-Dropped c = takes_dropped c.args.self.now c.args.self.now c.args.call c.in_ok-taking.taking (seen c.take.new.self) c.in-Dropped.is c.in_ok-taking.ensures
 
 pub returns-in-Wait : goal.returns-in-Wait
-returns-in-Wait c = takes_blocked c.args.self.now _ c.args.call c.in_ok-taking.taking (seen c.take.new.self) _ c.in-Wait.is c.in_ok-taking.ensures
+returns-in-Wait c = takes_blocked c.args.self.now c.args.self.now c.args.call c.in_ok-taking.taking (seen c.take.new.self) _ c.in-Wait.is c.in_ok-taking.ensures
