@@ -6,6 +6,9 @@ use Rattle.handle_model.specs.declared.entry.Entry.{Entry}
 use Rattle.handle_model.specs.Rules.{Legal}
 use Rattle.world_laws.specs.Journals.{journal}
 use Rattle.world_laws.specs.Clauses.{AllCallsAreRows, AllFatesAreTrue}
+use Rattle.world_laws.specs.Keeping.{IsWholeTable, AllHandlesAreKept}
+use Rattle.world_laws.specs.Starts.{AllStartsAreRows}
+use Rattle.world_laws.specs.Telling.{AllFatesAreTold}
 use Rattle.call_world.specs.Played.{IsPlayed, Leads}
 use Rattle.std.specs.Prelude.{slice_get}
 use Rattle.ndr_table.specs.Shown.{shown}
@@ -101,13 +104,24 @@ all_played table all place x m =
     (m.table_is, m.world, subst (λ (ms : List Step). Played table (moves_of ms) m.world) (sym (m.parts ∙ append-nil m.before)) m.played, m.is)
 
 -- what is known of every played world holds of this one
-pub leads_so : (table : TableForm) (moves : List Move) (x : Machine) → FitsSyntax table.id → length table.ops < 65536 → AllCallsAreRows → AllFatesAreTrue → IsPlayed table moves x → Leads table moves x
-leads_so table moves x fits few rows fates (same, w, played, is) =
-    let small : length table.ops ≤ 2 ^ 16 = omega (arith, few) in
+pub record Laws : Type 0 where
+  pub rows : AllCallsAreRows
+  pub fates : AllFatesAreTrue
+  pub told : AllFatesAreTold
+  pub starts : AllStartsAreRows
+  pub handles : AllHandlesAreKept
+
+pub leads_so : (table : TableForm) (moves : List Move) (x : Machine) → FitsSyntax table.id → IsWholeTable table → Laws → IsPlayed table moves x → Leads table moves x
+leads_so table moves x fits whole laws (same, w, played, is) =
+    let small : length table.ops ≤ 2 ^ 16 = omega (arith, whole.is.few) in
+    let legal : Legal (journal w.past) = subst (λ (p : List Entry). Legal (journal p)) is.past is.is_whole.sound.legal in
     record {
       world = w;
       played = played;
       is_world = is;
-      rows = rows table moves w fits small played;
-      fates = fates table moves w fits small played (subst (λ (p : List Entry). Legal (journal p)) is.past is.is_whole.sound.legal);
+      rows = laws.rows table moves w fits small played;
+      fates = laws.fates table moves w fits small played legal;
+      told = laws.told table moves w fits small played;
+      starts = laws.starts table moves w played;
+      handles = laws.handles table moves w fits whole played legal;
     }

@@ -1,10 +1,14 @@
 -- What a list of moves leaves.
-use Rattle.std.specs.Prelude.{◌≡◌, ℕ, List}
+use Rattle.std.specs.Prelude.{◌≡◌, ℕ, Some, List, slice_get}
 use Rattle.ndr_table.specs.Shown.{shown}
 use Rattle.ndr_table.specs.Tables.{TableForm}
 use Rattle.world_laws.specs.Moves.{Move}
 use Rattle.world_laws.specs.Worlds.{World, Played, StopsAt}
 use Rattle.world_laws.specs.Clauses.{CallsAreRows, FatesAreTrue}
+use Rattle.world_laws.specs.Ends.{Line}
+use Rattle.world_laws.specs.Starts.{StartsAreRows}
+use Rattle.world_laws.specs.Telling.{FatesAreTold}
+use Rattle.world_laws.specs.Keeping.{HandlesAreKept}
 use Rattle.call_world.specs.declared.play.WorldFault.{WorldFault}
 use Rattle.call_world.specs.declared.play.WorldFault.TheVariants.{NotNow, Memory}
 use Rattle.call_world.specs.declared.world.World.{World as Machine}
@@ -12,13 +16,17 @@ use Rattle.call_world.specs.Worlds.{IsWorld}
 use Rattle.std.specs.Prelude.{⊤}
 
 -- The moves lead there, one after the other. Whatever they are: no two of the calls that were started have one number, and
--- each call that the server accepted is one of these; and what the caller knows of each of them is true.
+-- each call that the server accepted is one of these; what the caller knows of each of them is true, and is what was told first
+-- behind its start; each call that a move started has its row, in order; and handles that came and that were kept are there.
 pub record Leads (table : TableForm) (moves : List Move) (x : Machine) : Type 0 where
   pub world : World
   pub played : Played table moves world
   pub is_world : IsWorld x world
   pub rows : CallsAreRows world
   pub fates : FatesAreTrue table world
+  pub told : (i : ℕ) (l : Line) → slice_get world.lines i ≡ Some l → FatesAreTold table l
+  pub starts : StartsAreRows world moves
+  pub handles : HandlesAreKept table world
 
 -- the same before anything is said of the calls
 abbrev pub IsPlayed : TableForm → List Move → Machine → Type 0

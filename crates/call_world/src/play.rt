@@ -12,7 +12,9 @@ use ndr_table::Table;
 use rpc_base::SyntaxId;
 use std::alloc::Global;
 use thiserror::Error;
-use world_laws::{calls_are_rows, fates_are_true};
+use world_laws::{
+    calls_are_rows, fates_are_told, fates_are_true, handles_are_kept, starts_are_rows,
+};
 
 /// Why a list of moves isn't played.
 #[derive(Clone, Copy, Debug, PartialEq, Eq, Error)]
@@ -71,8 +73,13 @@ pub fn play_world(alloc: Global, table: &Table, moves: Moves) -> Result<World, W
     ensures stops { IfErr result (Stops (shown table.now) (moves_of moves.items)) }
 {
     table.is_whole();
+    table.is_shallow();
+    table.is_sound();
     is_syntax(table.syntax());
     calls_are_rows();
     fates_are_true();
+    fates_are_told();
+    starts_are_rows();
+    handles_are_kept();
     play_all(alloc, table, moves)
 }
