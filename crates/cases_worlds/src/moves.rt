@@ -33,13 +33,7 @@ fn kepts_of(alloc: Global, words: &str) -> Option<Kepts> {
 }
 
 /// The message that has the text, and one of nothing where no such message of the operation has it.
-fn message_or_none(
-    alloc: Global,
-    table: &Table,
-    op: Option<u16>,
-    way: Way,
-    text: &str,
-) -> Message {
+fn message_or_none(alloc: Global, table: &Table, op: Option<u16>, way: Way, text: &str) -> Message {
     match op.and_then(|op| message_of(alloc, table, op, way, text)) {
         Some(message) => message,
         None => Message {
@@ -80,10 +74,19 @@ fn move_of(alloc: Global, table: &Table, line: Line<'_>) -> Option<Move> {
     let name = read_u32(first.as_bytes())?;
     let number = read_u32(rest.as_bytes());
     Some(match word {
-        "open" => Move::Open { conn: name, group: number? },
+        "open" => Move::Open {
+            conn: name,
+            group: number?,
+        },
         "start" => return start_of(alloc, table, name, rest),
-        "to-server" => Move::ToServer { conn: name, octets: number? },
-        "to-caller" => Move::ToCaller { conn: name, octets: number? },
+        "to-server" => Move::ToServer {
+            conn: name,
+            octets: number?,
+        },
+        "to-caller" => Move::ToCaller {
+            conn: name,
+            octets: number?,
+        },
         "cancel" => Move::Cancel { conn: name },
         "lose" => Move::Lose { conn: name },
         "take" => Move::Take { call: name },
