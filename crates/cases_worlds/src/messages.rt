@@ -19,7 +19,7 @@ struct Reader<'a> {
 }
 
 impl Reader<'_> {
-    // Whether the word comes next, which is then read.
+    /// Whether the word comes next, which is then read.
     fn takes(&mut self, word: &[u8]) -> bool {
         let found = match self.text.get(self.at..) {
             Some(rest) => rest.starts_with(word),
@@ -32,18 +32,13 @@ impl Reader<'_> {
     }
 
     fn value(&mut self, shape: &Shape) -> Option<Value> {
-        let (value, end) = read_value(
-            self.alloc,
-            self.table.types(),
-            shape,
-            self.text,
-            self.at,
-        ).ok()?;
+        let types = self.table.types();
+        let (value, end) = read_value(self.alloc, types, shape, self.text, self.at).ok()?;
         self.at = end;
         Some(value)
     }
 
-    // A value of the shape, behind a comma unless it is the first.
+    /// A value of the shape, behind a comma unless it is the first.
     fn add(&mut self, shape: &Shape, into: &mut Values) -> Option<()> {
         if !into.is_empty() && !self.takes(b", ") {
             return None;
@@ -74,7 +69,7 @@ impl Reader<'_> {
         if self.takes(b")") { Some(values) } else { None }
     }
 
-    // An item of the heap: a value of the first of the interface's structures and unions whose text it is.
+    /// An item of the heap: a value of the first of the interface's structures and unions whose text it is.
     fn item(&mut self) -> Option<Value> {
         let table = self.table;
         for shape in table.types().iter() {
@@ -86,72 +81,57 @@ impl Reader<'_> {
     }
 
     fn heap(&mut self) -> Option<Values> {
+        let text = self.text;
         let mut heap = Vec::new(self.alloc);
-        if !self.takes(b" heap [") {
-            return Some(heap);
-        }
-        for _ in 0..u64::MAX {
+        let mut word: &[u8] = b" heap [";
+        for _ in text {
+            if !self.takes(word) {
+                break;
+            }
             let item = self.item()?;
             heap.push(item).ok()?;
-            if self.takes(b"]") {
-                return Some(heap);
-            }
-            if !self.takes(b", ") {
-                return None;
-            }
+            word = b", ";
         }
-        None
-    }
-
-    // So many octets of the text.
-    fn part(&mut self, count: usize) -> Option<&[u8]> {
-        let end = self.at.checked_add(count)?;
-        let text = self.text;
-        let part = text.get(self.at..end)?;
-        self.at = end;
-        Some(part)
-    }
-
-    fn wire(&mut self) -> Option<WireHandle> {
-        let attributes = read_hex_u32(self.part(8)?)?;
-        if !self.takes(b":") {
-            return None;
+        if heap.is_empty() || self.takes(b"]") {
+            Some(heap)
+        } else {
+            None
         }
-        let id = read_hex_u128(self.part(32)?)?;
-        Some(WireHandle { attributes, id })
-    }
-
-    fn wires(&mut self) -> Option<Wires> {
-        let mut wires = Wires::new(self.alloc);
-        if !self.takes(b" wires [") {
-            return Some(wires);
-        }
-        for _ in 0..u64::MAX {
-            let wire = self.wire()?;
-            wires.push(wire).ok()?;
-            if self.takes(b"]") {
-                return Some(wires);
-            }
-            if !self.takes(b", ") {
-                return None;
-            }
-        }
-        None
     }
 }
 
+/// The handle that has the text.
+pub fn handle_of(text: &str) -> Option<WireHandle> {
+    let (attributes, id) = text.split_once(':')?;
+    Some(WireHandle {
+        attributes: read_hex_u32(attributes.as_bytes())?,
+        id: read_hex_u128(id.as_bytes())?,
+    })
+}
+
+fn wires_of(alloc: Global, words: &str) -> Option<Wires> {
+    let mut wires = Wires::new(alloc);
+    for word in words.strip_suffix("]")?.split(", ") {
+        wires.push(handle_of(word)?).ok()?;
+    }
+    Some(wires)
+}
+
 /// The message of the operation, of that way, that has the text.
-pub fn message_of(alloc: Global, table: &Table, op: u16, way: Way, text: &[u8]) -> Option<Message> {
+pub fn message_of(alloc: Global, table: &Table, op: u16, way: Way, text: &str) -> Option<Message> {
+    let (plain, wires) = match text.rsplit_once(" wires [") {
+        Some((plain, words)) => (plain, wires_of(alloc, words)?),
+        None => (text, Wires::new(alloc)),
+    };
     let mut reader = Reader {
         alloc,
         table,
-        text,
+        text: plain.as_bytes(),
         at: 0,
     };
     let values = reader.values(op, way)?;
     let heap = reader.heap()?;
-    let wires = reader.wires()?;
-    if reader.at != text.len() {
+    if reader.at != plain.len() {
         return None;
     }
     Some(Message {
@@ -159,13 +139,4 @@ pub fn message_of(alloc: Global, table: &Table, op: u16, way: Way, text: &[u8]) 
         heap,
         wires,
     })
-}
-
-/// A message of nothing.
-pub fn no_message(alloc: Global) -> Message {
-    Message {
-        values: Vec::new(alloc),
-        heap: Vec::new(alloc),
-        wires: Wires::new(alloc),
-    }
 }

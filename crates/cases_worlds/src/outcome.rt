@@ -1,7 +1,9 @@
 //! What a list of moves leaves, as lines.
 
-use base_words::{put, put_decimal, put_hex_u32, read_hex_u32, read_hex_u128};
-use call_world::{Moves, World, WorldFault, play_world};
+use crate::messages::handle_of;
+use base_words::{put, put_hex_u32};
+use call_world::{FateRow, Moves, World, WorldFault, play_world};
+use cases_base::first_word;
 use handle_model::{Base, Home};
 use journal_text::journal_text;
 use ndr_lines::put_message;
@@ -15,37 +17,35 @@ const HOME: Home = Home { boot: 1, group: 1 };
 
 fn put_fate(alloc: Global, fate: &Fate, into: &mut Vec<u8>) -> Result<(), NoMemory> {
     match fate {
-        Fate::Open => put(b"open", into),
-        Fate::Lost => put(b"lost", into),
+        Fate::Open => put(b"open\n", into),
+        Fate::Lost => put(b"lost\n", into),
         Fate::Done(message) => {
             put(b"done ", into)?;
-            put_message(message, alloc, into)
+            put_message(message, alloc, into)?;
+            put(b"\n", into)
         }
         Fate::Fault { status, not_run } => {
             put(b"fault ", into)?;
             put_hex_u32(alloc, status.0, into)?;
-            put(if *not_run { b" not-run" } else { b" run" }, into)
+            put(if *not_run { b" not-run\n" } else { b" run\n" }, into)
         }
     }
 }
 
-fn put_number(alloc: Global, call: Option<u32>, into: &mut Vec<u8>) -> Result<(), NoMemory> {
-    match call {
-        Some(call) => put_decimal(alloc, u64::from(call), into),
-        None => put(b"none", into),
-    }
+fn put_row(alloc: Global, row: FateRow<'_>, into: &mut Vec<u8>) -> Result<(), NoMemory> {
+    let conn = row.conn;
+    let head = match row.call {
+        Some(call) => format!(in alloc; "fate {conn} {call} ")?,
+        None => format!(in alloc; "fate {conn} none ")?,
+    };
+    put(head.as_bytes(), into)?;
+    put_fate(alloc, row.fate, into)
 }
 
 fn put_fates(alloc: Global, world: &World, into: &mut Vec<u8>) -> Result<(), NoMemory> {
     for at in 0..world.started() {
         if let Some(row) = world.fate(at) {
-            put(b"fate ", into)?;
-            put_decimal(alloc, u64::from(row.conn), into)?;
-            put(b" ", into)?;
-            put_number(alloc, row.call, into)?;
-            put(b" ", into)?;
-            put_fate(alloc, row.fate, into)?;
-            put(b"\n", into)?;
+            put_row(alloc, row, into)?;
         }
     }
     Ok(())
@@ -54,51 +54,33 @@ fn put_fates(alloc: Global, world: &World, into: &mut Vec<u8>) -> Result<(), NoM
 /// What became of a handle.
 fn handle_word(world: &World, handle: WireHandle) -> &'static str {
     if world.is_live(handle) {
-        return "live";
+        "live"
+    } else if world.in_shut(handle) {
+        "shut"
+    } else {
+        "neither"
     }
-    if world.in_shut(handle) {
-        return "shut";
-    }
-    "neither"
-}
-
-fn handle_of(text: &str) -> Option<WireHandle> {
-    let (attributes, id) = text.split_once(':')?;
-    Some(WireHandle {
-        attributes: read_hex_u32(attributes.as_bytes())?,
-        id: read_hex_u128(id.as_bytes())?,
-    })
 }
 
 /// What is said of the handles of which the lines that are wanted speak.
-fn put_handles(world: &World, wanted: &[String], into: &mut Vec<u8>) -> Result<(), NoMemory> {
-    for line in wanted {
-        let Some(words) = line.as_str().strip_prefix("handle ") else {
+fn put_handles(
+    alloc: Global,
+    world: &World,
+    wanted: &str,
+    into: &mut Vec<u8>,
+) -> Result<(), NoMemory> {
+    for line in wanted.lines() {
+        let Some(words) = line.strip_prefix("handle ") else {
             continue;
         };
-        let Some((text, _)) = words.split_once(' ') else {
-            continue;
-        };
+        let (text, _) = first_word(words);
         if let Some(handle) = handle_of(text) {
-            put(b"handle ", into)?;
-            put(text.as_bytes(), into)?;
-            put(b" ", into)?;
-            put(handle_word(world, handle).as_bytes(), into)?;
-            put(b"\n", into)?;
+            let word = handle_word(world, handle);
+            let line = format!(in alloc; "handle {text} {word}\n")?;
+            put(line.as_bytes(), into)?;
         }
     }
     Ok(())
-}
-
-fn put_world(
-    alloc: Global,
-    world: &World,
-    wanted: &[String],
-    into: &mut Vec<u8>,
-) -> Result<(), NoMemory> {
-    put_fates(alloc, world, into)?;
-    put_handles(world, wanted, into)?;
-    journal_text(alloc, HOME, &Base::empty(alloc), world.journal(), into)
 }
 
 /// Puts what these moves leave.
@@ -110,16 +92,18 @@ pub fn put_outcome(
     alloc: Global,
     table: &Table,
     moves: Moves,
-    wanted: &[String],
+    wanted: &str,
     into: &mut Vec<u8>,
 ) -> Result<(), NoMemory> {
-    match play_world(alloc, table, moves) {
-        Ok(world) => put_world(alloc, &world, wanted, into),
+    let world = match play_world(alloc, table, moves) {
+        Ok(world) => world,
+        Err(WorldFault::Memory) => return Err(NoMemory),
         Err(WorldFault::NotNow(place)) => {
-            put(b"not-now ", into)?;
-            put_decimal(alloc, place as u64, into)?;
-            put(b"\n", into)
+            let line = format!(in alloc; "not-now {place}\n")?;
+            return put(line.as_bytes(), into);
         }
-        Err(WorldFault::Memory) => Err(NoMemory),
-    }
+    };
+    put_fates(alloc, &world, into)?;
+    put_handles(alloc, &world, wanted, into)?;
+    journal_text(alloc, HOME, &Base::empty(alloc), world.journal(), into)
 }
