@@ -1,5 +1,5 @@
 -- What a list of moves leaves.
-use Rattle.std.specs.Prelude.{◌≡◌, ℕ, List}
+use Rattle.std.specs.Prelude.{◌≡◌, List}
 use Rattle.ndr_table.specs.Shown.{shown}
 use Rattle.ndr_table.specs.Tables.{TableForm}
 use Rattle.world_laws.specs.Moves.{Move}
