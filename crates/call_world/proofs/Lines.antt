@@ -1,27 +1,23 @@
 -- What happens on one connection of a program happens on that of the world.
-use Rattle.std.proofs.Common.{◌≡◌, ◌≢◌, ℕ, ◌+◌, ◌<◌, ◌≤◌, Bool, true, false, Option, Some, None, Ok, Err, List, [], ◌∷◌, ◌++◌, length, map, take, drop, refl, sym, ap, subst, ◌∙◌, arith}
-use Rattle.std.specs.Prelude.{slice_get}
+use Rattle.std.proofs.Common.{◌≡◌, ◌≢◌, ℕ, ◌<◌, ◌≤◌, Bool, true, false, Option, Ok, List, [], ◌∷◌, ◌++◌, length, map, take, drop, refl, sym, ap, subst, ◌∙◌, arith}
 use Rattle.std.proofs.lemmas.List.{length-append, take-append-drop, length-take-le}
-use Rattle.handle_model.specs.declared.entry.Entry.{Entry}
 use Rattle.ndr_value.specs.Values.{Msg}
-use Rattle.ndr_table.specs.Tables.{TableForm, OpForm}
-use Rattle.ndr_codec.specs.declared.written.EncodeFault.TheVariants.{TooLong}
+use Rattle.ndr_table.specs.Tables.{TableForm}
 use Rattle.conn_histories.specs.Histories.Event.{Came}
 use Rattle.client_core.specs.State.{state}
 use Rattle.client_core.specs.States.{ClientState, at_start, is_bound, is_calling}
-use Rattle.client_core.specs.Calls.{Binds, Calls, CallsOp, Cancels, IsMessage, asking}
+use Rattle.client_core.specs.Calls.{Binds, Calls, Cancels, IsMessage}
 use Rattle.world_laws.specs.Moves.{Fate}
 use Rattle.world_laws.specs.Moves.{Fate as fates}
 use Rattle.world_laws.specs.Ends.{Row, CallerEnd, Line, new_row, new_server}
-use Rattle.world_laws.specs.Serving.{ServerDoes, ServerGoesOn}
+use Rattle.world_laws.specs.Serving.{ServerDoes}
 use Rattle.world_laws.specs.Journals.{Leaves}
-use Rattle.world_laws.specs.Calling.{HearsOctets, IfBroken, LosesLine, lost_caller, lost_line}
+use Rattle.world_laws.specs.Calling.{HearsOctets, LosesLine, lost_caller, lost_line}
 use Rattle.world_laws.specs.Worlds.{Moves, opened, starting, cancelling}
-use Rattle.world_laws.proofs.Lists.{some_is}
 use Rattle.world_server.specs.Servers.{ServerView, IsWhole}
 use Rattle.world_ends.specs.Callers.{IsCaller, fate_of, fate_in}
 use Rattle.conn_core.specs.Fields.{IsAt}
-use Rattle.world_ends.specs.Servings.{IsServing, Lives, Comes, Rests, Left, waiting_of}
+use Rattle.world_ends.specs.Servings.{IsServing, Comes, Rests, Left, waiting_of}
 use Rattle.world_ends.specs.declared.serving.Serving.{Serving}
 use Rattle.call_world.specs.declared.line.Line.{Line as Wire}
 use Rattle.rpc_base.specs.declared.identifiers.SyntaxId.{SyntaxId}
@@ -74,16 +70,6 @@ module _ (table : TableForm) (op : ℕ) (m : Msg) (s : Wire) where
   pub untaken : (t : Wire) → (IsMessage (state s.caller.client).interface op m → ⊥) → Tries (StartsOn table op m) false s t
   untaken t other l is n d = other (subst (λ (z : ClientState). IsMessage z.interface op m) is.caller.state_is d.message)
 
-  -- a message has one length
-  length_is : (z : ClientState) (o p : OpForm) → slice_get z.interface.ops op ≡ Some o → slice_get z.interface.ops op ≡ Some p → length (asking z.interface o m) ≡ length (asking z.interface p m)
-  length_is z o p a b = ap (λ (q : OpForm). length (asking z.interface q m)) (some_is o p (sym a ∙ b))
-
-  pub too_long : (t : Wire) (n : ClientState) → Calls (state s.caller.client) op m (Err TooLong) n → Tries (StartsOn table op m) false s t
-  too_long t n calls l is k d =
-      let c : Calls (state s.caller.client) op m (Ok d.octets) d.state = subst (λ (z : ClientState). Calls z op m (Ok d.octets) d.state) is.caller.state_is d.calls in
-      let e = length_is (state s.caller.client) calls.0 c.0 calls.1 c.1 in
-      absurd (omega (arith, e, calls.2.0, c.2.0))
-
 -- ---- a cancel
 
 module _ (table : TableForm) (s : Wire) where
@@ -117,9 +103,6 @@ module _ (table : TableForm) (s : Wire) where
   not_out t free l is n d = let b = ap is_calling (sym is.caller.state_is) ∙ d.out in let f = sym b ∙ free in absurd cc
 
 -- ---- octets move
-
-cut_is : (count : ℕ) (way front left : List ℕ) → way ≡ front ++ left → length front ≡ count → (1 ≤ count) → Moves count way front left
-cut_is count way front left whole size least = (whole, size, least)
 
 pub too_many : (count : ℕ) (way front left : List ℕ) → Moves count way front left → length way < count → ⊥
 too_many count way front left m few = absurd (omega (arith, few, m.1, ap length m.0, length-append front left))

@@ -1,7 +1,6 @@
 -- Moves of a program's world are moves of the world that it is.
-use Rattle.std.proofs.Common.{◌≡◌, ◌≢◌, ℕ, zero, suc, ◌+◌, ◌<◌, ◌≤◌, ◌==◌, Bool, true, false, Option, Some, None, Ok, List, [], ◌∷◌, ◌++◌, length, map, refl, sym, ap, subst, ◌∙◌, arith}
+use Rattle.std.proofs.Common.{◌≡◌, ◌≢◌, ℕ, zero, suc, ◌+◌, ◌<◌, ◌≤◌, Bool, true, false, Option, Some, None, List, [], ◌∷◌, ◌++◌, length, map, refl, sym, ap, subst, ◌∙◌, arith}
 use Rattle.std.specs.Prelude.{slice_get, slice_set}
-use Rattle.handle_model.specs.declared.entry.Asked.{Asked}
 use Rattle.handle_model.specs.declared.entry.Entry.{Entry}
 use Rattle.handle_model.specs.declared.entry.Entry.TheVariants.{End}
 use Rattle.handle_model.specs.Journal as journals
@@ -21,7 +20,7 @@ use Rattle.std.proofs.lemmas.List.{length-map}
 use Rattle.group_core.specs.declared.answer.Taking.{Taking}
 use Rattle.group_core.specs.declared.answer.Taking.TheVariants as taking
 use Rattle.group_core.specs.Calls as calls
-use Rattle.conn_histories.specs.Requests.{IsAsked, op_in, op_of}
+use Rattle.conn_histories.specs.Requests.{op_of}
 use Rattle.handle_model.specs.declared.entry.Outcome.{Outcome}
 use Rattle.pdu_stream.specs.Fragments.{most_stub}
 use Rattle.ndr_model.specs.declared.way.Way.TheVariants.{Response}
@@ -32,25 +31,23 @@ use Rattle.world_laws.specs.Ends.{Row, CallerEnd, Line, new_row}
 use Rattle.world_laws.specs.Ends.Waiting.{Call}
 use Rattle.world_laws.specs.Moves.{Fate}
 use Rattle.world_laws.specs.Moves.{Move as moves}
-use Rattle.world_laws.specs.Calling.{IfBroken, LosesLine, lost_line}
+use Rattle.world_laws.specs.Calling.{IfBroken, LosesLine}
 use Rattle.world_laws.specs.Serving.{ServerGoesOn}
-use Rattle.world_laws.specs.Worlds.{World, Started, empty, OfLine, with_line, entered, IsNew, group_wanted, opened, starting, cancelling, Opens, Starts, Arrives, Comes, CallsOff, LosesAt, LosesAll, IsLeast, NoneStands, GoesOnFor, Ends, Plays}
-use Rattle.world_laws.specs.Worlds.{Tries as TriesMove}
+use Rattle.world_laws.specs.Worlds.{World, Started, with_line, entered, IsNew, group_wanted, opened, starting, cancelling, Starts, Arrives, Comes, CallsOff, GoesOnFor, Ends}
 use Rattle.world_laws.specs.Worlds.GoesOnFor.{answered, unheard}
 use Rattle.world_laws.specs.Worlds.Tries.{taken, denied}
 use Rattle.world_laws.proofs.Callers as callers
 use Rattle.world_laws.proofs.Lists.{some_is, within, set_same, length_more}
-use Rattle.world_server.specs.Servers.{ServerView, seen, IsWhole, Goes, Whole, whole}
-use Rattle.world_server.specs.Finishes.{MayEnd, EndsSo, Finishes, octets_out}
-use Rattle.world_ends.specs.Servings.{IsServing, Rests, waiting_of}
-use Rattle.world_ends.specs.declared.serving.Waiting.TheVariants as waits
+use Rattle.world_server.specs.Servers.{ServerView, seen, IsWhole, Whole, whole}
+use Rattle.world_server.specs.Finishes.{MayEnd, Finishes, octets_out}
+use Rattle.world_ends.specs.Servings.{Rests, waiting_of}
 use Rattle.call_world.specs.declared.line.Line.{Line as Wire}
 use Rattle.call_world.specs.declared.world.World.{World as Machine}
 use Rattle.call_world.specs.Lines.{IsLine, IsOpened, StartsOn, CallsOffOn, ArrivesOn, ComesOn, Tries, TriesWith}
 use Rattle.call_world.specs.Worlds.{AreLines, AreApart, HaveRows, IsWorld, started_of}
 use Rattle.call_world.specs.Worlds as worlds
 use Rattle.call_world.specs.Rows.{wanted}
-use Rattle.call_world.proofs.Lining.{line_at, wire_at, lines_set, lines_more, apart_set, apart_more, Stays, rows_more, rows_start, world_set, OnLine, on_line, off_line, NoneStandsAs, none_stands, goes_else}
+use Rattle.call_world.proofs.Lining.{line_at, wire_at, lines_more, apart_more, Stays, rows_more, rows_start, world_set, on_line, off_line, NoneStandsAs, none_stands, goes_else}
 
 -- ---- what needs no server
 
@@ -278,9 +275,6 @@ pub named_already : (x y : Machine) (c group i : ℕ) (t : Wire) → slice_get x
 named_already x y c group i t at named w is v o =
     let f = line_at x.lines.items w.lines i t is.lines at in
     o.fresh i f.0 f.1 (sym f.2.name ∙ named)
-
-pub not_wanted : (x y : Machine) (c group : ℕ) → group ≢ wanted x.lines.items → worlds.Tries (moves.Open c group) false x y
-not_wanted x y c group other w is v o = other (o.wanted ∙ sym (wanted_is x.lines.items w.lines is.lines.count))
 
 -- ---- the server's journal goes on
 

@@ -1,7 +1,7 @@
 -- Connections are found among others.
 use Rattle.std.proofs.Common.{◌≡◌, ◌≢◌, ℕ, ◌+◌, ◌<◌, ◌≤◌, ◌⊎◌, inl, inr, Bool, true, false, eqb, Option, Some, None, List, length, get_or, refl, sym, ap, subst, ◌∙◌, arith}
-use Rattle.std.specs.Prelude.{slice_get, ◌&&◌, nat_lt}
-use Rattle.std.proofs.lemmas.Bool.{and_parts, and_cases, and_from, both_ways, true_from_ne_false, ltb-true, ltb-false, eqb-true, eq-eqb, cases_Bool}
+use Rattle.std.specs.Prelude.{slice_get, nat_lt}
+use Rattle.std.proofs.lemmas.Bool.{and_parts, and_cases, and_from, both_ways, ltb-true, ltb-false, eqb-true, eq-eqb}
 use Rattle.std.proofs.lemmas.Option.{get_or_from_slice_get}
 use Rattle.world_laws.proofs.Lists.{some_is, within, there}
 use Rattle.call_world.specs.declared.line.Line.{Line as Wire}

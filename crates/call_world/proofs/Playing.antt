@@ -1,6 +1,6 @@
 -- Moves on the connection that was found, whether they can be played or not.
-use Rattle.std.proofs.Common.{◌≡◌, ◌≢◌, ℕ, ◌+◌, ◌≤◌, Bool, true, false, Option, Some, None, Result, Ok, Err, IfOk, OnOk, List, [], ◌∷◌, ◌++◌, length, map, get_or, refl, sym, ap, subst, ◌∙◌}
-use Rattle.std.specs.Prelude.{slice_get, slice_set, ◌&&◌}
+use Rattle.std.proofs.Common.{◌≡◌, ℕ, ◌≤◌, Bool, true, false, Option, Some, None, Result, Ok, Err, IfOk, OnOk, List, [], ◌∷◌, ◌++◌, length, get_or, refl, sym, ap, subst, ◌∙◌}
+use Rattle.std.specs.Prelude.{slice_get, slice_set}
 use Rattle.std.proofs.lemmas.Bool.{and_parts, and_from, both_ways, eqb-true, eq-eqb}
 use Rattle.std.proofs.lemmas.Option.{get_or_from_slice_get}
 use Rattle.handle_model.specs.Journal as journals
@@ -23,17 +23,17 @@ use Rattle.world_laws.specs.Moves.{Move as moves}
 use Rattle.call_world.specs.declared.moves.Move.{Move as Step}
 use Rattle.call_world.specs.Moves.{move_of}
 use Rattle.world_laws.specs.Calling.{LosesLine}
-use Rattle.world_laws.specs.Worlds.{World, empty, OfLine, with_line, LosesAt, LosesAll, IsLeast, NoneStands, Plays}
+use Rattle.world_laws.specs.Worlds.{World, LosesAll, IsLeast, NoneStands}
 use Rattle.world_server.specs.Servers.{ServerView, seen, IsWhole, Goes, Whole, whole}
 use Rattle.world_server.specs.declared.server.Server.{Server}
 use Rattle.call_world.specs.declared.line.Line.{Line as Wire}
 use Rattle.call_world.specs.declared.world.World.{World as Machine}
 use Rattle.call_world.specs.declared.world.Started.{Started as Place}
-use Rattle.call_world.specs.Lines.{IsLine, StartsOn, CallsOffOn, ArrivesOn, ComesOn, Tries, TriesWith}
-use Rattle.call_world.specs.Worlds.{IsWorld, IsReady, started_of}
+use Rattle.call_world.specs.Lines.{StartsOn, CallsOffOn, ArrivesOn, ComesOn, Tries, TriesWith}
+use Rattle.call_world.specs.Worlds.{IsWorld, IsReady}
 use Rattle.call_world.specs.Worlds as worlds
 use Rattle.call_world.specs.Rows.{FindsBy, FindsLeast, awaits, is_awaiting}
-use Rattle.call_world.proofs.Lining.{line_at, wire_at, on_line}
+use Rattle.call_world.proofs.Lining.{wire_at, on_line}
 use Rattle.call_world.proofs.Places.{Read}
 use Rattle.call_world.proofs.Moving.{Alone, alone, not_alone, arrives, arrives_not, comes, comes_not, calls_off, calls_off_not, starts, starts_not, lose_stays, takes_run, takes_denied, takes_not, ends_not, ends_so, unheard_goes}
 
@@ -199,23 +199,6 @@ goes_unheard x ts k same none = unheard_goes x k (λ i t at stands waits. both_w
 pub on_ok : {A E : Type 0} (r : Result A E) (P Q : Type 0) → (P → Q) → OnOk r P → OnOk r Q
 on_ok (Ok a) P Q f h = f h
 on_ok (Err e) P Q f h = tt
-
--- ---- the empty world
-
-none_at : {A : Type 0} (i : ℕ) (l : A) → (let ls : List A = [] in slice_get ls i) ≡ Some l → ⊥
-none_at i l e = absurd (cc (e))
-
-pub begun_is : (x : Machine) → x.lines.items ≡ [] → x.starts.items ≡ [] → (seen x.server).past ≡ [] → IsWhole (seen x.server) → (seen x.server).tables ≡ shown x.table ∷ [] → IsWorld x empty
-begun_is x lines starts past is_whole tables =
-    record {
-      lines = record { count = ap length lines; each = λ i t l at_t at_l. absurd (none_at i l at_l) };
-      apart = λ i j l m at_l at_m named. absurd (none_at i l at_l);
-      past = past;
-      is_whole = is_whole;
-      tables = tables;
-      starts = ap (map started_of) starts;
-      rows = λ n s found. absurd (none_at n s found);
-    }
 
 pub world_ready : (x : Machine) (w : World) → IsWorld x w → IsReady x
 world_ready x w is = record { is_whole = is.is_whole; tables = is.tables }

@@ -1,5 +1,5 @@
 -- What a list of moves leaves.
-use Rattle.std.specs.Prelude.{◌≡◌, ℕ, Some, List, slice_get}
+use Rattle.std.specs.Prelude.{◌≡◌, ℕ, ⊤, Some, List, slice_get}
 use Rattle.ndr_table.specs.Shown.{shown}
 use Rattle.ndr_table.specs.Tables.{TableForm}
 use Rattle.world_laws.specs.Moves.{Move}
@@ -13,7 +13,6 @@ use Rattle.call_world.specs.declared.play.WorldFault.{WorldFault}
 use Rattle.call_world.specs.declared.play.WorldFault.TheVariants.{NotNow, Memory}
 use Rattle.call_world.specs.declared.world.World.{World as Machine}
 use Rattle.call_world.specs.Worlds.{IsWorld}
-use Rattle.std.specs.Prelude.{⊤}
 
 -- The moves lead there, one after the other. Whatever they are: no two of the calls that were started have one number, and
 -- each call that the server accepted is one of these; what the caller knows of each of them is true, and is what was told first

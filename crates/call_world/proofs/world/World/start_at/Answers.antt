@@ -1,5 +1,4 @@
-use Rattle.std.proofs.Common.{refl, sym, ap, subst, ◌∙◌, Bool, length, arith}
-use Rattle.ndr_table.specs.Tables.{TableForm}
+use Rattle.std.proofs.Common.{refl, ap, subst, ◌∙◌, Bool, length, arith}
 use Rattle.ndr_value.specs.Values.{msg}
 use Rattle.call_world.specs.declared.line.Line.{Line as Wire}
 use Rattle.call_world.specs.Lines.{Tries, StartsOn}
