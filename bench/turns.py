@@ -15,6 +15,7 @@ a cursor meanwhile. Each journal has to be legal, each group to be shut.
   client; the last runs once the first is over.
 """
 import os
+import socket
 import struct
 import sys
 import tempfile
@@ -178,6 +179,10 @@ def done_first(self):
 
 def close(self, *others):
     for it in (self.first, self.second, *others):
+        # (an answer that came although its call was orphaned is read, since the system resets a connection that has octets)
+        it.link.shutdown(socket.SHUT_WR)
+        while it.link.recv(1 << 16):
+            pass
         it.link.close()
 
 
