@@ -68,11 +68,16 @@ impl<S: Service, K: Link> Serving<S, CountLink<K>> {
         ensures keeps { Keeps self.old self.new }
         ensures goes { Goes (D.shows door.old) (links_of self.old) result (D.shows door.new) (links_of self.new) }
     {
-        let (Ok(over), Ok(sums)) = (self.make_room(alloc), Arc::try_clone(tally)) else {
+        let (Ok(over), Ok(sums)) = (
+            self.await_room(&rt, alloc, &**service, &**hub),
+            Arc::try_clone(tally),
+        ) else {
             return Some(Stop::Memory);
         };
         match door.next() {
             Ok(Some(link)) => {
+                // Those that were over before it came give their stacks back first.
+                self.settle_over(&rt, &**service, &**hub);
                 self.start(rt, service, hub, over, CountLink::new(link, sums));
                 None
             }

@@ -17,9 +17,10 @@ use std::alloc::Global;
 use std::collections::VecDeque;
 use std::mem;
 use std::snapshot::Snapshot;
-use std::sync::atomic::AtomicBool;
+use std::sync::atomic::{AtomicBool, AtomicU64};
 use std::sync::{Arc, Wait};
 use std::thread::Threads;
+use std::time::Duration;
 
 /// Behind how many connections the threads of those that are over are joined. A thread that isn't joined keeps its stack.
 const SWEEP: u32 = 64;
@@ -27,6 +28,12 @@ const SWEEP: u32 = 64;
 /// For each so many that are looked at, they are joined once less often, so that a connection costs no more looks the more there
 /// are.
 const MANY: usize = 1_024;
+
+/// How often room is looked for where there is none, and how long each look rests before the next, in milliseconds: a minute in all,
+/// in which connections that end give their memory back.
+const MOST_LOOKS: u32 = 600;
+
+const REST: u64 = 100;
 
 /// The connections of a round so far: those that are over, and behind them those that are being served.
 #[derive(Drop)]
@@ -84,6 +91,35 @@ impl<S: Service, K: Link> Serving<S, K> {
         Ok(Arc::new(alloc, AtomicBool::new(false))?)
     }
 
+    /// Makes room for one connection more, as `make_room` does. Where there is no memory for it, it waits up to a minute for those that
+    /// are being served to give theirs back.
+    #[tactic(auto, using(crate::proofs::Desks::had_same))]
+    pub(crate) fn await_room<R: Wait + Threads>(
+        &mut self,
+        rt: &R,
+        alloc: Global,
+        service: &S,
+        hub: &Hub,
+    ) -> Result<Arc<AtomicBool, Global>, NoMemory>
+        requires service { self.old.service.value ≡ service.now }
+        requires serving { IsServing K.shows S.may S.tables hub.now self.old }
+        requires had { ServingHad S.tables S.is_pass S.enters S.runs_down S.splits S.joins hub.now self.old }
+        ensures serving { IsServing K.shows S.may S.tables hub.now self.new }
+        ensures had { ServingHad S.tables S.is_pass S.enters S.runs_down S.splits S.joins hub.now self.new }
+        ensures keeps { Keeps self.old self.new }
+        ensures links { links_of self.new ≡ links_of self.old }
+        ensures room { OnOk result (HasRoom self.new) }
+    {
+        for _ in 0..MOST_LOOKS {
+            if let Ok(over) = self.make_room(alloc) {
+                return Ok(over);
+            }
+            AtomicU64::new(0).park_timeout(rt, 0, Duration::from_millis(REST));
+            self.settle_over(rt, service, hub);
+        }
+        Err(NoMemory)
+    }
+
     /// Serves one connection more, with a pass that is split off.
     pub(crate) fn start<R: Wait + Threads + Send + Sync + Copy + 'static>(
         &mut self,
@@ -124,6 +160,7 @@ impl<S: Service, K: Link> Serving<S, K> {
         ensures keeps { Keeps self.old self.new }
         ensures links { links_of self.new ≡ links_of self.old }
         ensures fewer { deque_len self.new.running + 1 ≡ deque_len self.old.running }
+        ensures room { HasRoom self.old → HasRoom self.new }
     {
         let Some(running) = self.running.pop_front() else {
             unreachable!()
@@ -153,6 +190,7 @@ impl<S: Service, K: Link> Serving<S, K> {
         ensures had { ServingHad S.tables S.is_pass S.enters S.runs_down S.splits S.joins hub.now self.new }
         ensures keeps { Keeps self.old self.new }
         ensures links { links_of self.new ≡ links_of self.old }
+        ensures room { HasRoom self.old → HasRoom self.new }
     {
         while self.is_first_over() {
             self.settle_first(rt, service, hub);

@@ -12,4 +12,5 @@ loop-self-preserved g c =
       record { service = e.keeps.service ∙ was.1.service; first = e.keeps.first ∙ was.1.first; first_desks = e.keeps.first_desks ∙ was.1.first_desks },
       e.links ∙ was.2,
       e.had,
+      λ r. e.room (was.4 r),
     )
