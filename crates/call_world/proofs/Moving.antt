@@ -39,7 +39,6 @@ use Rattle.world_laws.proofs.Lists.{some_is, within, set_same, length_more}
 use Rattle.world_server.specs.Servers.{ServerView, seen, IsWhole, Whole, whole}
 use Rattle.world_server.specs.Finishes.{MayEnd, Finishes, octets_out}
 use Rattle.world_ends.specs.Servings.{Rests, waiting_of}
-use Rattle.world_ends.specs.declared.serving.Waiting.TheVariants as waits
 use Rattle.call_world.specs.declared.line.Line.{Line as Wire}
 use Rattle.call_world.specs.declared.world.World.{World as Machine}
 use Rattle.call_world.specs.Lines.{IsLine, IsOpened, StartsOn, CallsOffOn, ArrivesOn, ComesOn, MayStartOn, MayCallOffOn, MayArriveOn, MayComeOn, Happens, HappensWith, Fails}

@@ -1,5 +1,5 @@
 -- A program's move, and the move of the world that it is.
-use Rattle.std.specs.Prelude.{ℕ, List, map}
+use Rattle.std.specs.Prelude.{List, map}
 use Rattle.ndr_value.specs.Values.{msg}
 use Rattle.world_laws.specs.Moves.{Move}
 use Rattle.world_laws.specs.Moves.{Move as moves}

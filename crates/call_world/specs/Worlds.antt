@@ -1,7 +1,6 @@
 -- A program's world, the world that it is, and whether a move's condition holds there.
-use Rattle.std.specs.Prelude.{◌≡◌, ℕ, ◌<◌, Bool, true, false, Option, Some, None, List, [], ◌∷◌, length, map, slice_get}
+use Rattle.std.specs.Prelude.{◌≡◌, ℕ, ◌<◌, Bool, true, false, Some, List, [], ◌∷◌, length, map, slice_get}
 use Rattle.ndr_table.specs.Shown.{shown}
-use Rattle.ndr_table.specs.Tables.{TableForm}
 use Rattle.world_laws.specs.Ends.{Line}
 use Rattle.world_laws.specs.Moves.{Move}
 use Rattle.world_laws.specs.Leading.{MayCome}

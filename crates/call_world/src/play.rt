@@ -13,7 +13,8 @@ use rpc_base::SyntaxId;
 use std::alloc::Global;
 use thiserror::Error;
 use world_laws::{
-    calls_are_rows, fates_are_told, fates_are_true, handles_are_kept, only_where_it_may, starts_are_rows,
+    calls_are_rows, fates_are_told, fates_are_true, handles_are_kept, only_where_it_may,
+    starts_are_rows,
 };
 
 /// Why a list of moves isn't played.

@@ -1,5 +1,4 @@
 use Rattle.std.proofs.Common.{Bool, ◌&&◌, not, reverse, sym, ap, ◌∙◌}
-use Rattle.std.specs.List.{list_any}
 use Rattle.handle_model.specs.Journal as spec
 use Rattle.world_server.specs.Servers.{whole}
 use Rattle.world_server.proofs.Scanning.{any_whole}

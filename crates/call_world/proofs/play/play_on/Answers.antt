@@ -1,4 +1,4 @@
-use Rattle.std.proofs.Common.{◌∙◌, ◌<◌, ◌∷◌, List, Bool, length, reverse, refl, sym, ap, subst, arith}
+use Rattle.std.proofs.Common.{◌∙◌, ◌<◌, List, Bool, length, reverse, refl, sym, ap, subst, arith}
 use Rattle.std.proofs.lemmas.List.{reverse-reverse}
 use Rattle.ndr_table.specs.Shown.{shown}
 use Rattle.call_world.specs.declared.moves.Move.{Move as Step}

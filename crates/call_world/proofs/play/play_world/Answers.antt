@@ -12,7 +12,7 @@ returns-clause-leads c =
     let fits = subst (λ (id : SyntaxId). FitsSyntax id) c.syntax.ensures c.is_syntax.ensures in
     if_ok c.play_all.result _ _
     (λ x played. leads_so (shown c.args.table.now) (moves_of c.args.moves.items) x fits (record { is = c.is_whole.ensures; shallow = c.is_shallow.ensures; sound = c.is_sound.ensures })
-        (record { rows = c.calls_are_rows.ensures; fates = c.fates_are_true.ensures; told = c.fates_are_told.ensures; starts = c.starts_are_rows.ensures; handles = c.handles_are_kept.ensures }) played)
+    (record { rows = c.calls_are_rows.ensures; fates = c.fates_are_true.ensures; told = c.fates_are_told.ensures; starts = c.starts_are_rows.ensures; handles = c.handles_are_kept.ensures }) played)
     c.play_all.ensures.played
 
 pub returns-clause-leads_nowhere : goal.returns-clause-leads_nowhere

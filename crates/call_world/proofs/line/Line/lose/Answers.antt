@@ -1,4 +1,4 @@
-use Rattle.std.proofs.Common.{refl, ap}
+use Rattle.std.proofs.Common.{refl}
 use Rattle.world_server.specs.Servers.{seen}
 use Rattle.call_world.proofs.Lines.{lost}
 use Rattle.call_world.proofs.line.Line.lose.Goals as goal

@@ -1,6 +1,6 @@
 use Rattle.std.proofs.Common.{ℕ, List, ◌++◌, refl, sym, ap, ◌∙◌}
 use Rattle.ndr_value.specs.Values.{msg}
-use Rattle.call_world.proofs.Lines.{started, unbound, busy, untaken, too_long}
+use Rattle.call_world.proofs.Lines.{started, unbound, busy, untaken}
 use Rattle.call_world.proofs.line.Line.start.Goals as goal
 
 pub returns-then-not-is_bound : goal.returns-then-not-is_bound

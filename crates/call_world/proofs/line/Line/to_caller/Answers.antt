@@ -1,4 +1,4 @@
-use Rattle.std.proofs.Common.{◌≡◌, ◌≤◌, ◌<◌, ◌≢◌, ℕ, Bool, true, false, List, length, refl, subst, rules, arith}
+use Rattle.std.proofs.Common.{◌≡◌, ◌≤◌, ◌<◌, ℕ, Bool, true, false, List, length, refl, subst, rules, arith}
 use Rattle.world_laws.specs.Ends.{CallerEnd}
 use Rattle.world_laws.specs.Calling.{HearsOctets}
 use Rattle.world_server.specs.Servers.{seen}

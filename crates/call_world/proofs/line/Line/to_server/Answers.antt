@@ -1,4 +1,4 @@
-use Rattle.std.proofs.Common.{◌≡◌, ◌≤◌, ◌<◌, ◌≢◌, ℕ, List, length, refl, subst, rules, arith}
+use Rattle.std.proofs.Common.{◌≡◌, ◌≤◌, ◌<◌, ℕ, List, length, refl, subst, rules, arith}
 use Rattle.world_server.specs.Servers.{seen}
 use Rattle.world_ends.specs.Servings.{Comes}
 use Rattle.call_world.proofs.Lines.{arrives_front, not_so_many, none_move, too_few}

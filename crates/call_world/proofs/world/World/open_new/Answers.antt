@@ -1,6 +1,6 @@
 use Rattle.std.proofs.Common.{refl, sym, ◌∙◌}
 use Rattle.call_world.proofs.Places.{none_named}
-use Rattle.call_world.proofs.Moving.{opens, not_wanted}
+use Rattle.call_world.proofs.Moving.{opens}
 use Rattle.call_world.proofs.world.World.open_new.Goals as goal
 
 pub open-requires : goal.open-requires
