@@ -1,15 +1,12 @@
 -- What happens on one connection of a program happens on that of the world.
-use Rattle.std.proofs.Common.{◌≡◌, ◌≢◌, ℕ, ◌<◌, ◌≤◌, Bool, true, false, Option, Some, Ok, Err, List, [], ◌∷◌, ◌++◌, length, map, take, drop, refl, sym, ap, subst, ◌∙◌, arith}
-use Rattle.std.specs.Prelude.{slice_get}
+use Rattle.std.proofs.Common.{◌≡◌, ◌≢◌, ℕ, ◌<◌, ◌≤◌, Bool, true, false, Option, Ok, List, [], ◌∷◌, ◌++◌, length, map, take, drop, refl, sym, ap, subst, ◌∙◌, arith}
 use Rattle.std.proofs.lemmas.List.{take-append-drop, length-take-le}
 use Rattle.ndr_value.specs.Values.{Msg}
-use Rattle.ndr_table.specs.Tables.{TableForm, OpForm}
-use Rattle.ndr_codec.specs.declared.written.EncodeFault.TheVariants.{TooLong}
-use Rattle.pdu_stream.specs.Fragments.{most_stub}
+use Rattle.ndr_table.specs.Tables.{TableForm}
 use Rattle.conn_histories.specs.Histories.Event.{Came}
 use Rattle.client_core.specs.State.{state}
 use Rattle.client_core.specs.States.{ClientState, at_start, is_bound, is_calling}
-use Rattle.client_core.specs.Calls.{Binds, Calls, Cancels, IsMessage, asking}
+use Rattle.client_core.specs.Calls.{Binds, Calls, Cancels, IsMessage}
 use Rattle.world_laws.specs.Moves.{Fate}
 use Rattle.world_laws.specs.Moves.{Fate as fates}
 use Rattle.world_laws.specs.Ends.{Row, CallerEnd, Line, new_row, new_server}
@@ -18,7 +15,6 @@ use Rattle.world_laws.specs.Journals.{Leaves}
 use Rattle.world_laws.specs.Calling.{HearsOctets, LosesLine, lost_caller, lost_line}
 use Rattle.world_laws.specs.Worlds.{opened, starting, cancelling}
 use Rattle.world_laws.specs.Leading.{AreOnWay}
-use Rattle.world_laws.proofs.Lists.{some_is}
 use Rattle.world_server.specs.Servers.{ServerView, IsWhole}
 use Rattle.world_ends.specs.Callers.{IsCaller, fate_of, fate_in}
 use Rattle.conn_core.specs.Fields.{IsAt}
@@ -75,17 +71,6 @@ module _ (op : ℕ) (m : Msg) (s : Wire) where
 
   pub untaken : (IsMessage (state s.caller.client).interface op m → ⊥) → Fails (MayStartOn op m) s
   untaken other l is may = other (subst (λ (z : ClientState). IsMessage z.interface op m) is.caller.state_is (may.operation, may.found, may.of_op))
-
-  -- a message has one length
-  length_is : (z : ClientState) (o p : OpForm) → slice_get z.interface.ops op ≡ Some o → slice_get z.interface.ops op ≡ Some p → length (asking z.interface o m) ≡ length (asking z.interface p m)
-  length_is z o p a b = ap (λ (q : OpForm). length (asking z.interface q m)) (some_is o p (sym a ∙ b))
-
-  pub too_long : (n : ClientState) → Calls (state s.caller.client) op m (Err TooLong) n → Fails (MayStartOn op m) s
-  too_long n calls l is may =
-      let found : slice_get (state s.caller.client).interface.ops op ≡ Some may.operation = subst (λ (z : ClientState). slice_get z.interface.ops op ≡ Some may.operation) is.caller.state_is may.found in
-      let short : length (asking (state s.caller.client).interface may.operation m) ≤ most_stub = subst (λ (z : ClientState). length (asking z.interface may.operation m) ≤ most_stub) is.caller.state_is may.short in
-      let e = length_is (state s.caller.client) calls.0 may.operation calls.1 found in
-      absurd (omega (arith, e, calls.2.0, short))
 
 -- ---- a cancel
 

@@ -250,9 +250,6 @@ named_already x y c group i t at named w is may =
     let f = line_at x.lines.items w.lines i t is.lines at in
     may.0 i f.0 f.1 (sym f.2.name ∙ named)
 
-pub not_wanted : (x y : Machine) (c group : ℕ) → group ≢ wanted x.lines.items → worlds.Tries (moves.Open c group) false x y
-not_wanted x y c group other w is may = other (may.1 ∙ sym (wanted_is x.lines.items w.lines is.lines.count))
-
 -- ---- the server's journal goes on
 
 entered_is : (x y : Machine) (w : World) (Says : List Entry → List Entry → Type 0) → IsWorld x w → worlds.Enters Says x y → IsWorld y (entered w (seen y.server).past)
