@@ -1,6 +1,6 @@
 -- What happens on one connection of a program happens on that of the world.
 use Rattle.std.proofs.Common.{◌≡◌, ◌≢◌, ℕ, ◌<◌, ◌≤◌, Bool, true, false, Option, Ok, List, [], ◌∷◌, ◌++◌, length, map, take, drop, refl, sym, ap, subst, ◌∙◌, arith}
-use Rattle.std.proofs.lemmas.List.{length-append, take-append-drop, length-take-le}
+use Rattle.std.proofs.lemmas.List.{take-append-drop, length-take-le}
 use Rattle.ndr_value.specs.Values.{Msg}
 use Rattle.ndr_table.specs.Tables.{TableForm}
 use Rattle.conn_histories.specs.Histories.Event.{Came}
@@ -13,7 +13,8 @@ use Rattle.world_laws.specs.Ends.{Row, CallerEnd, Line, new_row, new_server}
 use Rattle.world_laws.specs.Serving.{ServerDoes}
 use Rattle.world_laws.specs.Journals.{Leaves}
 use Rattle.world_laws.specs.Calling.{HearsOctets, LosesLine, lost_caller, lost_line}
-use Rattle.world_laws.specs.Worlds.{Moves, opened, starting, cancelling}
+use Rattle.world_laws.specs.Worlds.{opened, starting, cancelling}
+use Rattle.world_laws.specs.Leading.{AreOnWay}
 use Rattle.world_server.specs.Servers.{ServerView, IsWhole}
 use Rattle.world_ends.specs.Callers.{IsCaller, fate_of, fate_in}
 use Rattle.conn_core.specs.Fields.{IsAt}
@@ -22,7 +23,7 @@ use Rattle.world_ends.specs.declared.serving.Serving.{Serving}
 use Rattle.call_world.specs.declared.line.Line.{Line as Wire}
 use Rattle.rpc_base.specs.declared.identifiers.SyntaxId.{SyntaxId}
 use Rattle.world_ends.specs.declared.caller.Caller.{Caller}
-use Rattle.call_world.specs.Lines.{IsLine, IsOpened, StartsOn, CallsOffOn, ArrivesOn, ComesOn, Tries, TriesWith}
+use Rattle.call_world.specs.Lines.{IsLine, IsOpened, StartsOn, CallsOffOn, ArrivesOn, ComesOn, MayStartOn, MayCallOffOn, MayArriveOn, MayComeOn, Happens, HappensWith, Fails}
 use Rattle.call_world.proofs.Lining.{SameElse, came_else}
 
 -- ---- a call is started
@@ -34,7 +35,7 @@ rows_more (s ∷ rows) r = ap (λ (fs : List Fate). fate_in s ∷ fs) (rows_more
 module _ (table : TableForm) (op : ℕ) (m : Msg) (s : Wire) where
   pub started : (t : Wire) (octets : List ℕ) → is_bound (state s.caller.client) ≡ true → is_calling (state s.caller.client) ≡ false → IsMessage (state s.caller.client).interface op m
       → Calls (state s.caller.client) op m (Ok octets) (state t.caller.client) → t.caller.rest ≡ s.caller.rest → map fate_of t.caller.fates.items ≡ map fate_of s.caller.fates.items ++ fates.Open ∷ []
-      → t.up.items ≡ s.up.items ++ octets → t ≡ record s { caller = t.caller; up = t.up } → Tries (StartsOn table op m) true s t
+      → t.up.items ≡ s.up.items ++ octets → t ≡ record s { caller = t.caller; up = t.up } → Happens (StartsOn table op m) s t
   started t octets bound free message calls rest known up same l is =
       let at : state s.caller.client ≡ l.caller.state = sym is.caller.state_is in
       let n : Line = starting table l op m octets (state t.caller.client) in (
@@ -61,20 +62,21 @@ module _ (table : TableForm) (op : ℕ) (m : Msg) (s : Wire) where
         },
       )
 
-  pub unbound : (t : Wire) → is_bound (state s.caller.client) ≡ false → Tries (StartsOn table op m) false s t
-  unbound t free l is n d = let b = ap is_bound (sym is.caller.state_is) ∙ d.bound in let f = sym b ∙ free in absurd cc
+module _ (op : ℕ) (m : Msg) (s : Wire) where
+  pub unbound : is_bound (state s.caller.client) ≡ false → Fails (MayStartOn op m) s
+  unbound free l is may = let b = ap is_bound (sym is.caller.state_is) ∙ may.bound in let f = sym b ∙ free in absurd cc
 
-  pub busy : (t : Wire) → is_calling (state s.caller.client) ≡ true → Tries (StartsOn table op m) false s t
-  busy t out l is n d = let b = ap is_calling (sym is.caller.state_is) ∙ d.free in let f = sym b ∙ out in absurd cc
+  pub busy : is_calling (state s.caller.client) ≡ true → Fails (MayStartOn op m) s
+  busy out l is may = let b = ap is_calling (sym is.caller.state_is) ∙ may.free in let f = sym b ∙ out in absurd cc
 
-  pub untaken : (t : Wire) → (IsMessage (state s.caller.client).interface op m → ⊥) → Tries (StartsOn table op m) false s t
-  untaken t other l is n d = other (subst (λ (z : ClientState). IsMessage z.interface op m) is.caller.state_is d.message)
+  pub untaken : (IsMessage (state s.caller.client).interface op m → ⊥) → Fails (MayStartOn op m) s
+  untaken other l is may = other (subst (λ (z : ClientState). IsMessage z.interface op m) is.caller.state_is (may.operation, may.found, may.of_op))
 
 -- ---- a cancel
 
 module _ (table : TableForm) (s : Wire) where
   pub cancelled : (t : Wire) (octets : List ℕ) → is_calling (state s.caller.client) ≡ true → Cancels (state s.caller.client) (Ok octets) (state t.caller.client) → t.caller ≡ record s.caller { client = t.caller.client }
-      → t.up.items ≡ s.up.items ++ octets → t ≡ record s { caller = t.caller; up = t.up } → Tries (CallsOffOn table) true s t
+      → t.up.items ≡ s.up.items ++ octets → t ≡ record s { caller = t.caller; up = t.up } → Happens (CallsOffOn table) s t
   cancelled t octets out cancels kept up same l is =
       let at : state s.caller.client ≡ l.caller.state = sym is.caller.state_is in
       let n : Line = cancelling table l octets (state t.caller.client) in (
@@ -99,21 +101,21 @@ module _ (table : TableForm) (s : Wire) where
         },
       )
 
-  pub not_out : (t : Wire) → is_calling (state s.caller.client) ≡ false → Tries (CallsOffOn table) false s t
-  not_out t free l is n d = let b = ap is_calling (sym is.caller.state_is) ∙ d.out in let f = sym b ∙ free in absurd cc
+pub not_out : (s : Wire) → is_calling (state s.caller.client) ≡ false → Fails MayCallOffOn s
+not_out s free l is out = let b = ap is_calling (sym is.caller.state_is) ∙ out in let f = sym b ∙ free in absurd cc
 
 -- ---- octets move
 
-pub too_many : (count : ℕ) (way front left : List ℕ) → Moves count way front left → length way < count → ⊥
-too_many count way front left m few = absurd (omega (arith, few, m.1, ap length m.0, length-append front left))
+pub too_few : (count : ℕ) (way : List ℕ) → length way < count → AreOnWay count way → ⊥
+too_few count way few are = absurd (omega (arith, few, are.1))
 
-pub none_moves : (count : ℕ) (way front left : List ℕ) → count ≡ 0 → Moves count way front left → ⊥
-none_moves count way front left none m = absurd (omega (arith, none, m.2))
+pub none_move : (count : ℕ) (way : List ℕ) → count ≡ 0 → AreOnWay count way → ⊥
+none_move count way none are = absurd (omega (arith, none, are.0))
 
 -- ---- octets come to the server
 
 pub arrives : (x y : ServerView) (s t : Wire) (u : Serving) (count : ℕ) (front left : List ℕ) → s.up.items ≡ front ++ left → length front ≡ count → 1 ≤ count → Comes front s.serving u → Rests x u y t.serving
-    → t.up.items ≡ left → t ≡ record s { up = t.up; serving = t.serving } → TriesWith (ArrivesOn x.tables count) true x s y t
+    → t.up.items ≡ left → t ≡ record s { up = t.up; serving = t.serving } → HappensWith (ArrivesOn x.tables count) x s y t
 arrives x y s t u count front left way size least comes rests up same = (
   rests.0,
   rests.1,
@@ -140,17 +142,17 @@ arrives x y s t u count front left way size least comes rests up same = (
 
 -- the front that comes is as long as was asked for
 pub arrives_front : (x y : ServerView) (s t : Wire) (u : Serving) (count : ℕ) → count ≢ 0 → count ≤ length s.up.items → Comes (take count s.up.items) s.serving u → Rests x u y t.serving → t.up.items ≡ drop count s.up.items
-    → t ≡ record s { up = t.up; serving = t.serving } → TriesWith (ArrivesOn x.tables count) true x s y t
+    → t ≡ record s { up = t.up; serving = t.serving } → HappensWith (ArrivesOn x.tables count) x s y t
 arrives_front x y s t u count some enough comes rests up same =
     arrives x y s t u count (take count s.up.items) (drop count s.up.items) (sym (take-append-drop count s.up.items)) (length-take-le count s.up.items enough) (omega (arith, some)) comes rests up same
 
-pub not_so_many : (tables : List TableForm) (x y : ServerView) (s t : Wire) (count : ℕ) → ((front left : List ℕ) → Moves count s.up.items front left → ⊥) → TriesWith (ArrivesOn tables count) false x s y t
-not_so_many tables x y s t count none l is n new d = none d.front d.left (is.up ∙ d.way.0, d.way.1, d.way.2)
+pub not_so_many : (s : Wire) (count : ℕ) → (AreOnWay count s.up.items → ⊥) → Fails (MayArriveOn count) s
+not_so_many s count none l is are = none (subst (AreOnWay count) (sym is.up) are)
 
 -- ---- octets come to the caller
 
 pub lost : (x y : ServerView) (s t : Wire) → Left s.serving.member x y → t.serving ≡ record s.serving { down = t.serving.down } → t.serving.down.items ≡ [] → ((c : CallerEnd) → IsCaller s.caller c → IsCaller t.caller (lost_caller c))
-    → t.up.items ≡ [] → t.standing ≡ false → t.name ≡ s.name → TriesWith LosesLine true x s y t
+    → t.up.items ≡ [] → t.standing ≡ false → t.name ≡ s.name → HappensWith LosesLine x s y t
 lost x y s t left serving gone caller up stands name = (
   left.is_whole,
   left.tables,
@@ -204,7 +206,7 @@ module _ (x y : ServerView) (s t : Wire) (count : ℕ) (front left : List ℕ) (
         },
       )
 
-  pub hears : IsWhole x → Heard false t → t.serving ≡ record s.serving { down = t.serving.down } → t.serving.down.items ≡ left → t ≡ record s { caller = t.caller; serving = t.serving } → TriesWith (ComesOn count) true x s x t
+  pub hears : IsWhole x → Heard false t → t.serving ≡ record s.serving { down = t.serving.down } → t.serving.down.items ≡ left → t ≡ record s { caller = t.caller; serving = t.serving } → HappensWith (ComesOn count) x s x t
   hears w told serving down same = (
     w,
     refl,
@@ -214,8 +216,8 @@ module _ (x y : ServerView) (s t : Wire) (count : ℕ) (front left : List ℕ) (
         (n, record { front = front; left = left; way = (sym is.serves.down_is ∙ way, size, least); caller = h.0; broken = false; hears = h.1; is_line = (refl, refl) }, h.2),
   )
 
-  pub breaks : (u : Wire) → Heard true u → u.serving ≡ record s.serving { down = u.serving.down } → u.serving.down.items ≡ left → u ≡ record s { caller = u.caller; serving = u.serving } → TriesWith LosesLine true x u y t
-      → TriesWith (ComesOn count) true x s y t
+  pub breaks : (u : Wire) → Heard true u → u.serving ≡ record s.serving { down = u.serving.down } → u.serving.down.items ≡ left → u ≡ record s { caller = u.caller; serving = u.serving } → HappensWith LosesLine x u y t
+      → HappensWith (ComesOn count) x s y t
   breaks u told serving down same loses = (
     loses.0,
     loses.1,
@@ -230,17 +232,17 @@ module _ (x y : ServerView) (s t : Wire) (count : ℕ) (some : count ≢ 0) (eno
   Hears broken u = (c : CallerEnd) → IsCaller s.caller c → (d : CallerEnd) × HearsOctets c (take count s.serving.down.items) d broken × IsCaller u.caller d
 
   pub hears_front : IsWhole x → Hears false t → t.serving ≡ record s.serving { down = t.serving.down } → t.serving.down.items ≡ drop count s.serving.down.items → t ≡ record s { caller = t.caller; serving = t.serving }
-      → TriesWith (ComesOn count) true x s x t
+      → HappensWith (ComesOn count) x s x t
   hears_front w told serving down same =
       hears x y s t count (take count s.serving.down.items) (drop count s.serving.down.items) (sym (take-append-drop count s.serving.down.items)) (length-take-le count s.serving.down.items enough) (omega (arith, some)) w told serving down same
 
   pub breaks_front : (u : Wire) → Hears true u → u.serving ≡ record s.serving { down = u.serving.down } → u.serving.down.items ≡ drop count s.serving.down.items → u ≡ record s { caller = u.caller; serving = u.serving }
-      → TriesWith LosesLine true x u y t → TriesWith (ComesOn count) true x s y t
+      → HappensWith LosesLine x u y t → HappensWith (ComesOn count) x s y t
   breaks_front u told serving down same loses =
       breaks x y s t count (take count s.serving.down.items) (drop count s.serving.down.items) (sym (take-append-drop count s.serving.down.items)) (length-take-le count s.serving.down.items enough) (omega (arith, some)) u told serving down same loses
 
-pub not_so_many_down : (x y : ServerView) (s t : Wire) (count : ℕ) → ((front left : List ℕ) → Moves count s.serving.down.items front left → ⊥) → TriesWith (ComesOn count) false x s y t
-not_so_many_down x y s t count none l is n new d = none d.front d.left (is.serves.down_is ∙ d.way.0, d.way.1, d.way.2)
+pub not_so_many_down : (s : Wire) (count : ℕ) → (AreOnWay count s.serving.down.items → ⊥) → Fails (MayComeOn count) s
+not_so_many_down s count none l is are = none (subst (AreOnWay count) (sym is.serves.down_is) are)
 
 -- ---- a new connection
 

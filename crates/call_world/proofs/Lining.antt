@@ -13,10 +13,10 @@ use Rattle.world_laws.specs.Serving.{ServerDoes, ServerGoesOn, ServerGoesBy}
 use Rattle.world_laws.specs.Worlds.{World, Started, OfLine, with_line, IsNew}
 use Rattle.world_laws.proofs.Lists.{some_is, set_same, set_other, within, there, OfMore, of_more, more_before, length_more}
 use Rattle.world_laws.proofs.Lists.OfMore.{before, last}
-use Rattle.world_server.specs.Servers.{ServerView, seen, IsWhole}
+use Rattle.world_server.specs.Servers.{seen, IsWhole}
 use Rattle.call_world.specs.declared.line.Line.{Line as Wire}
 use Rattle.call_world.specs.declared.world.World.{World as Machine}
-use Rattle.call_world.specs.Lines.{IsLine, TriesWith}
+use Rattle.call_world.specs.Lines.{IsLine, HappensWith, Fails}
 use Rattle.call_world.specs.Worlds.{AreLines, AreApart, HasRow, HaveRows, IsWorld, started_of}
 
 -- ---- a list with another item at a place
@@ -141,7 +141,7 @@ abbrev pub OnLine : (Line → List Entry → Line → List Entry → Type 0) →
 OnLine Does w c v = OfLine w c (λ i l. (n : Line) × (new : List Entry) × Does l w.past n new × (v ≡ with_line w i n new))
 
 module _ (Does : Line → List Entry → Line → List Entry → Type 0) (x y : Machine) (w : World) (c i : ℕ) (s t : Wire) (is : IsWorld x w) (at : slice_get x.lines.items i ≡ Some s) (named : s.name ≡ c) (stands : s.standing ≡ true) where
-  pub on_line : ((l n : Line) (past new : List Entry) → Does l past n new → Stays l n) → TriesWith Does true (seen x.server) s (seen y.server) t → y.lines.items ≡ slice_set x.lines.items i t
+  pub on_line : ((l n : Line) (past new : List Entry) → Does l past n new → Stays l n) → HappensWith Does (seen x.server) s (seen y.server) t → y.lines.items ≡ slice_set x.lines.items i t
       → shown y.table ≡ shown x.table → y.starts ≡ x.starts → (v : World) × OnLine Does w c v × IsWorld y v
   on_line stays tried lines table starts =
       let f = line_at x.lines.items w.lines i s is.lines at in
@@ -156,12 +156,13 @@ module _ (Does : Line → List Entry → Line → List Entry → Type 0) (x y : 
         world_set x y w i t l n new is f.1 (stays l n w.past new does) d.2 lines refl tried.0 tried.1 table starts,
       )
 
-  pub off_line : (z : ServerView) → TriesWith Does false (seen x.server) s z t → (v : World) → OnLine Does w c v → ⊥
-  off_line z tried v (j, m, at_m, name, stand, (n, new, does, after)) =
-      let f = line_at x.lines.items w.lines i s is.lines at in
-      let same : i ≡ j = is.apart i j f.0 m f.1 at_m (sym f.2.name ∙ named ∙ sym name) in
-      let alike : f.0 ≡ m = some_is f.0 m (sym f.1 ∙ ap (slice_get w.lines) same ∙ at_m) in
-      tried f.0 f.2 n new (subst (λ (p : List Entry). Does f.0 p n new) (sym is.past) (subst (λ (k : Line). Does k w.past n new) (sym alike) does))
+-- the condition fails on the connection of that name
+pub off_line : (May : Line → Type 0) (x : Machine) (w : World) (c i : ℕ) (s : Wire) → IsWorld x w → slice_get x.lines.items i ≡ Some s → s.name ≡ c → Fails May s → OfLine w c (λ j l. May l) → ⊥
+off_line May x w c i s is at named fails (j, m, at_m, name, stand, may) =
+    let f = line_at x.lines.items w.lines i s is.lines at in
+    let same : i ≡ j = is.apart i j f.0 m f.1 at_m (sym f.2.name ∙ named ∙ sym name) in
+    let alike : f.0 ≡ m = some_is f.0 m (sym f.1 ∙ ap (slice_get w.lines) same ∙ at_m) in
+    fails f.0 f.2 (subst May (sym alike) may)
 
 -- none of that name stands
 abbrev pub NoneStandsAs : List Wire → ℕ → Type 0

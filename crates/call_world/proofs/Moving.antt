@@ -1,12 +1,13 @@
 -- Moves of a program's world are moves of the world that it is.
 use Rattle.std.proofs.Common.{◌≡◌, ◌≢◌, ℕ, zero, suc, ◌+◌, ◌<◌, ◌≤◌, Bool, true, false, Option, Some, None, List, [], ◌∷◌, ◌++◌, length, map, refl, sym, ap, subst, ◌∙◌, arith}
-use Rattle.std.specs.Prelude.{slice_get, slice_set}
+use Rattle.std.specs.Prelude.{slice_get, slice_set, ⊤}
 use Rattle.handle_model.specs.declared.entry.Entry.{Entry}
 use Rattle.handle_model.specs.declared.entry.Entry.TheVariants.{End}
 use Rattle.handle_model.specs.Journal as journals
 use Rattle.ndr_table.specs.Shown.{shown}
 use Rattle.ndr_table.specs.Tables.{TableForm, OpForm}
 use Rattle.ndr_value.specs.Values.{Msg}
+use Rattle.client_core.specs.States.{is_calling}
 use Rattle.handle_model.specs.declared.entry.Said.TheVariants.{Out}
 use Rattle.manager_api.specs.declared.answer.Kept.{Kept}
 use Rattle.manager_api.specs.Answers.{AOut}
@@ -21,19 +22,16 @@ use Rattle.group_core.specs.declared.answer.Taking.{Taking}
 use Rattle.group_core.specs.declared.answer.Taking.TheVariants as taking
 use Rattle.group_core.specs.Calls as calls
 use Rattle.conn_histories.specs.Requests.{op_of}
-use Rattle.handle_model.specs.declared.entry.Outcome.{Outcome}
 use Rattle.pdu_stream.specs.Fragments.{most_stub}
-use Rattle.ndr_model.specs.declared.way.Way.TheVariants.{Response}
-use Rattle.ndr_model.specs.Written.{stub}
-use Rattle.conn_histories.specs.Ends.{outcomes_of, with_wires, wires_at}
-use Rattle.world_laws.specs.Journals.{home}
+use Rattle.conn_histories.specs.Ends.{outcomes_of}
 use Rattle.world_laws.specs.Ends.{Row, CallerEnd, Line, new_row}
 use Rattle.world_laws.specs.Ends.Waiting.{Call}
 use Rattle.world_laws.specs.Moves.{Fate}
 use Rattle.world_laws.specs.Moves.{Move as moves}
 use Rattle.world_laws.specs.Calling.{IfBroken, LosesLine}
 use Rattle.world_laws.specs.Serving.{ServerGoesOn}
-use Rattle.world_laws.specs.Worlds.{World, Started, with_line, entered, IsNew, group_wanted, opened, starting, cancelling, Starts, Arrives, Comes, CallsOff, GoesOnFor, Ends}
+use Rattle.world_laws.specs.Worlds.{World, Started, with_line, entered, IsNew, group_wanted, opened, starting, cancelling, GoesOnFor, Ends}
+use Rattle.world_laws.specs.Leading.{MayStart, AreOnWay}
 use Rattle.world_laws.specs.Worlds.GoesOnFor.{answered, unheard}
 use Rattle.world_laws.specs.Worlds.Tries.{taken, denied}
 use Rattle.world_laws.proofs.Callers as callers
@@ -43,7 +41,7 @@ use Rattle.world_server.specs.Finishes.{MayEnd, Finishes, octets_out}
 use Rattle.world_ends.specs.Servings.{Rests, waiting_of}
 use Rattle.call_world.specs.declared.line.Line.{Line as Wire}
 use Rattle.call_world.specs.declared.world.World.{World as Machine}
-use Rattle.call_world.specs.Lines.{IsLine, IsOpened, StartsOn, CallsOffOn, ArrivesOn, ComesOn, Tries, TriesWith}
+use Rattle.call_world.specs.Lines.{IsLine, IsOpened, StartsOn, CallsOffOn, ArrivesOn, ComesOn, MayStartOn, MayCallOffOn, MayArriveOn, MayComeOn, Happens, HappensWith, Fails}
 use Rattle.call_world.specs.Worlds.{AreLines, AreApart, HaveRows, IsWorld, started_of}
 use Rattle.call_world.specs.Worlds as worlds
 use Rattle.call_world.specs.Rows.{wanted}
@@ -54,11 +52,8 @@ use Rattle.call_world.proofs.Lining.{line_at, wire_at, lines_more, apart_more, S
 abbrev pub Alone : (Line → Line → Type 0) → Line → List Entry → Line → List Entry → Type 0
 Alone Does l past n new = Does l n × (new ≡ past)
 
-pub alone : (Does : Line → Line → Type 0) (x : ServerView) (s t : Wire) → IsWhole x → Tries Does true s t → TriesWith (Alone Does) true x s x t
+pub alone : (Does : Line → Line → Type 0) (x : ServerView) (s t : Wire) → IsWhole x → Happens Does s t → HappensWith (Alone Does) x s x t
 alone Does x s t w tried = (w, refl, λ l is. let d = tried l is in (d.0, (d.1, refl), d.2))
-
-pub not_alone : (Does : Line → Line → Type 0) (x : ServerView) (s t : Wire) → Tries Does false s t → TriesWith (Alone Does) false x s x t
-not_alone Does x s t tried l is n new d = tried l is n d.0
 
 -- ---- a move on a connection that stands
 
@@ -111,7 +106,7 @@ one_more ps qs ss p s more are line place =
     ap (λ (zs : List Place). map started_of zs) more ∙ starts_more ps p ∙ ap (λ (zs : List Started). zs ++ started_of p ∷ []) are ∙ ap (λ (z : Started). ss ++ z ∷ []) (start_is p s line place)
 
 module _ (x y : Machine) (c i : ℕ) (s t : Wire) (at : slice_get x.lines.items i ≡ Some s) (named : s.name ≡ c) (stands : s.standing ≡ true) where
-  pub loses : TriesWith LosesLine true (seen x.server) s (seen y.server) t → y.lines.items ≡ slice_set x.lines.items i t → shown y.table ≡ shown x.table → y.starts ≡ x.starts → worlds.Tries (moves.Lose c) true x y
+  pub loses : HappensWith LosesLine (seen x.server) s (seen y.server) t → y.lines.items ≡ slice_set x.lines.items i t → shown y.table ≡ shown x.table → y.starts ≡ x.starts → worlds.Tries (moves.Lose c) true x y
   loses tried lines table starts = (
     table,
     λ w is.
@@ -119,7 +114,7 @@ module _ (x y : Machine) (c i : ℕ) (s t : Wire) (at : slice_get x.lines.items 
         (r.0, r.1, r.2),
   )
 
-  pub arrives : (count : ℕ) → TriesWith (ArrivesOn (seen x.server).tables count) true (seen x.server) s (seen y.server) t → y.lines.items ≡ slice_set x.lines.items i t → shown y.table ≡ shown x.table → y.starts ≡ x.starts
+  pub arrives : (count : ℕ) → HappensWith (ArrivesOn (seen x.server).tables count) (seen x.server) s (seen y.server) t → y.lines.items ≡ slice_set x.lines.items i t → shown y.table ≡ shown x.table → y.starts ≡ x.starts
       → worlds.Tries (moves.ToServer c count) true x y
   arrives count tried lines table starts = (
     table,
@@ -130,23 +125,10 @@ module _ (x y : Machine) (c i : ℕ) (s t : Wire) (at : slice_get x.lines.items 
         (r.0, (j, l, there, name, stand, record { front = d.front; left = d.left; way = d.way; came = d.came; then_ = d.then_; comes = d.comes; line = n; past = new; goes_on = d.goes_on; after = after }), r.2),
   )
 
-  pub arrives_not : (z : ServerView) (count : ℕ) → TriesWith (ArrivesOn (seen x.server).tables count) false (seen x.server) s z t → worlds.Tries (moves.ToServer c count) false x y
-  arrives_not z count tried w is v (j, l, there, name, stand, a) =
-      off_line (ArrivesOn (seen x.server).tables count) x y w c i s t is at named stands z tried v (
-        j,
-        l,
-        there,
-        name,
-        stand,
-        (
-          a.line,
-          a.past,
-          subst (λ (ts : List TableForm). ArrivesOn ts count l w.past a.line a.past) (sym is.tables) (record { front = a.front; left = a.left; way = a.way; came = a.came; then_ = a.then_; comes = a.comes; goes_on = a.goes_on }),
-          a.after,
-        ),
-      )
+  pub arrives_not : (count : ℕ) → Fails (MayArriveOn count) s → worlds.Tries (moves.ToServer c count) false x y
+  arrives_not count fails w is may = off_line (MayArriveOn count) x w c i s is at named fails may
 
-  pub comes : (count : ℕ) → TriesWith (ComesOn count) true (seen x.server) s (seen y.server) t → y.lines.items ≡ slice_set x.lines.items i t → shown y.table ≡ shown x.table → y.starts ≡ x.starts
+  pub comes : (count : ℕ) → HappensWith (ComesOn count) (seen x.server) s (seen y.server) t → y.lines.items ≡ slice_set x.lines.items i t → shown y.table ≡ shown x.table → y.starts ≡ x.starts
       → worlds.Tries (moves.ToCaller c count) true x y
   comes count tried lines table starts = (
     table,
@@ -156,12 +138,10 @@ module _ (x y : Machine) (c i : ℕ) (s t : Wire) (at : slice_get x.lines.items 
         (r.0, (j, l, there, name, stand, record { front = d.front; left = d.left; way = d.way; caller = d.caller; broken = d.broken; hears = d.hears; line = n; past = new; is_line = d.is_line; after = after }), r.2),
   )
 
-  pub comes_not : (z : ServerView) (count : ℕ) → TriesWith (ComesOn count) false (seen x.server) s z t → worlds.Tries (moves.ToCaller c count) false x y
-  comes_not z count tried w is v (j, l, there, name, stand, a) =
-      off_line (ComesOn count) x y w c i s t is at named stands z tried v
-      (j, l, there, name, stand, (a.line, a.past, record { front = a.front; left = a.left; way = a.way; caller = a.caller; broken = a.broken; hears = a.hears; is_line = a.is_line }, a.after))
+  pub comes_not : (count : ℕ) → Fails (MayComeOn count) s → worlds.Tries (moves.ToCaller c count) false x y
+  comes_not count fails w is may = off_line (MayComeOn count) x w c i s is at named fails may
 
-  pub calls_off : TriesWith (Alone (CallsOffOn (shown x.table))) true (seen x.server) s (seen y.server) t → y.lines.items ≡ slice_set x.lines.items i t → shown y.table ≡ shown x.table → y.starts ≡ x.starts
+  pub calls_off : HappensWith (Alone (CallsOffOn (shown x.table))) (seen x.server) s (seen y.server) t → y.lines.items ≡ slice_set x.lines.items i t → shown y.table ≡ shown x.table → y.starts ≡ x.starts
       → worlds.Tries (moves.Cancel c) true x y
   calls_off tried lines table starts = (
     table,
@@ -172,21 +152,15 @@ module _ (x y : Machine) (c i : ℕ) (s t : Wire) (at : slice_get x.lines.items 
         (r.0, (j, l, there, name, stand, record { out = d.out; octets = d.octets; state = d.state; cancels = d.cancels; after = is_after }), r.2),
   )
 
-  pub calls_off_not : TriesWith (Alone (CallsOffOn (shown x.table))) false (seen x.server) s (seen x.server) t → worlds.Tries (moves.Cancel c) false x y
-  calls_off_not tried w is v (j, l, there, name, stand, a) =
-      let n : Line = cancelling (shown x.table) l a.octets a.state in
-      off_line (Alone (CallsOffOn (shown x.table))) x y w c i s t is at named stands (seen x.server) tried v
-      (j, l, there, name, stand, (n, w.past, (record { out = a.out; octets = a.octets; state = a.state; cancels = a.cancels; after = refl }, refl), a.after))
+  pub calls_off_not : Fails MayCallOffOn s → worlds.Tries (moves.Cancel c) false x y
+  calls_off_not fails w is may = off_line MayCallOffOn x w c i s is at named fails may
 
   -- a call is started, and is the last one
   module _ (op : ℕ) (m : Msg) where
-    pub starts_not : TriesWith (Alone (StartsOn (shown x.table) op m)) false (seen x.server) s (seen x.server) t → worlds.Tries (moves.Start c op m) false x y
-    starts_not tried w is v (j, l, there, name, stand, a) =
-        let n : Line = starting (shown x.table) l op m a.octets a.state in
-        off_line (Alone (StartsOn (shown x.table) op m)) x y w c i s t is at named stands (seen x.server) tried (with_line w j n w.past)
-        (j, l, there, name, stand, (n, w.past, (record { bound = a.bound; free = a.free; message = a.message; octets = a.octets; state = a.state; calls = a.calls; after = refl }, refl), refl))
+    pub starts_not : Fails (MayStartOn op m) s → worlds.Tries (moves.Start c op m) false x y
+    starts_not fails w is may = off_line (MayStartOn op m) x w c i s is at named fails may
 
-    pub starts : (p : Place) → TriesWith (Alone (StartsOn (shown x.table) op m)) true (seen x.server) s (seen y.server) t → y.lines.items ≡ slice_set x.lines.items i t → shown y.table ≡ shown x.table
+    pub starts : (p : Place) → HappensWith (Alone (StartsOn (shown x.table) op m)) (seen x.server) s (seen y.server) t → y.lines.items ≡ slice_set x.lines.items i t → shown y.table ≡ shown x.table
         → y.starts.items ≡ x.starts.items ++ p ∷ [] → p.line ≡ i → p.place ≡ length s.caller.fates.items → worlds.Tries (moves.Start c op m) true x y
     starts p tried lines table more line place = (
       table,
@@ -219,19 +193,19 @@ module _ (x y : Machine) (c i : ℕ) (s t : Wire) (at : slice_get x.lines.items 
 
 -- no connection of that name stands
 pub none_arrives : (x y : Machine) (c count : ℕ) → NoneStandsAs x.lines.items c → worlds.Tries (moves.ToServer c count) false x y
-none_arrives x y c count none w is v p = none_stands x w c (λ i l. Arrives (shown x.table) w count i l v) is none p
+none_arrives x y c count none w is may = none_stands x w c (λ i l. AreOnWay count l.up) is none may
 
 pub none_comes : (x y : Machine) (c count : ℕ) → NoneStandsAs x.lines.items c → worlds.Tries (moves.ToCaller c count) false x y
-none_comes x y c count none w is v p = none_stands x w c (λ i l. Comes (shown x.table) w count i l v) is none p
+none_comes x y c count none w is may = none_stands x w c (λ i l. AreOnWay count l.down) is none may
 
 pub none_calls_off : (x y : Machine) (c : ℕ) → NoneStandsAs x.lines.items c → worlds.Tries (moves.Cancel c) false x y
-none_calls_off x y c none w is v p = none_stands x w c (λ i l. CallsOff (shown x.table) w i l v) is none p
+none_calls_off x y c none w is may = none_stands x w c (λ i l. is_calling l.caller.state ≡ true) is none may
 
 pub none_starts : (x y : Machine) (c op : ℕ) (m : Msg) → NoneStandsAs x.lines.items c → worlds.Tries (moves.Start c op m) false x y
-none_starts x y c op m none w is v p = none_stands x w c (λ i l. Starts (shown x.table) w op m i l v) is none p
+none_starts x y c op m none w is may = none_stands x w c (λ i l. MayStart l op m) is none may
 
 pub none_loses : (x y : Machine) (c : ℕ) → NoneStandsAs x.lines.items c → worlds.Tries (moves.Lose c) false x y
-none_loses x y c none w is v p = none_stands x w c (λ i l. (m : Line) × (past : List Entry) × LosesLine l w.past m past × (v ≡ with_line w i m past)) is none p
+none_loses x y c none w is may = none_stands x w c (λ i l. ⊤) is none may
 
 -- ---- a connection is opened
 
@@ -272,9 +246,9 @@ opens x y c group t none wants o lines same = (
 )
 
 pub named_already : (x y : Machine) (c group i : ℕ) (t : Wire) → slice_get x.lines.items i ≡ Some t → t.name ≡ c → worlds.Tries (moves.Open c group) false x y
-named_already x y c group i t at named w is v o =
+named_already x y c group i t at named w is may =
     let f = line_at x.lines.items w.lines i t is.lines at in
-    o.fresh i f.0 f.1 (sym f.2.name ∙ named)
+    may.0 i f.0 f.1 (sym f.2.name ∙ named)
 
 -- ---- the server's journal goes on
 
@@ -316,8 +290,7 @@ module _ (x y : Machine) (k : ℕ) where
 
   -- where it can't be taken now
   pub takes_not : ((w : World) → IsWorld x w → (journals.waits (whole w.past) k ≡ true) → (journals.blocker (whole w.past) k ≡ None) → ⊥) → worlds.Tries (moves.Take k) false x y
-  takes_not cannot w is v (taken row serial past t after) = cannot w is t.0 t.1
-  takes_not cannot w is v (denied slot past t goes) = cannot w is t.0 t.1
+  takes_not cannot w is may = cannot w is may.0 may.1
 
 -- ---- the end of a call
 
@@ -331,7 +304,7 @@ found_first t (suc i) op o e = absurd (cc (e))
 
 module _ (x y : Machine) (k : ℕ) (kepts : List Kept) (m : Msg) where
   pub ends_not : (z : List Entry) → Finishes (seen x.server).tables (seen x.server).past k kepts m false z → worlds.Tries (moves.Finish k kepts m) false x y
-  ends_not z cannot w is v (past, e, goes) =
+  ends_not z cannot w is e =
       let table = shown x.table in
       let may : MayEnd (table ∷ []) w.past k kepts m = record {
         runs = e.runs;
@@ -345,9 +318,7 @@ module _ (x y : Machine) (k : ℕ) (kepts : List Kept) (m : Msg) where
           operation = e.is.operation;
           found = e.is.found;
           owes = e.owes;
-          short =
-              subst (λ (o : List ℕ). length o ≤ most_stub)
-              (e.octets_are ∙ ap (λ (rs : List Outcome). stub table.types e.is.operation Response e.asked.order (Some e.message) (with_wires m (wires_at home e.asked.slots rs))) e.results_are) e.short;
+          short = e.short;
         };
       } in
       cannot.0 (subst (λ (ts : List TableForm). MayEnd ts (seen x.server).past k kepts m) (sym is.tables) (subst (λ (p : List Entry). MayEnd (table ∷ []) p k kepts m) (sym is.past) may))

@@ -1,12 +1,15 @@
 -- Connections are found among others.
-use Rattle.std.proofs.Common.{◌≡◌, ◌≢◌, ℕ, ◌+◌, ◌<◌, ◌≤◌, ◌⊎◌, inl, inr, Bool, true, false, eqb, Option, Some, None, List, length, get_or, refl, sym, ap, subst, ◌∙◌, arith}
-use Rattle.std.specs.Prelude.{slice_get, nat_lt}
+use Rattle.std.proofs.Common.{◌≡◌, ◌≢◌, ℕ, ◌+◌, ◌<◌, ◌≤◌, ◌⊎◌, inl, inr, Bool, true, false, eqb, Option, Some, None, List, [], ◌∷◌, length, get_or, refl, sym, ap, subst, ◌∙◌, arith}
+use Rattle.std.specs.Prelude.{slice_get, nat_lt, position, if◌then◌else◌}
+use Rattle.std.specs.List.{position_or_len}
 use Rattle.std.proofs.lemmas.Bool.{and_parts, and_cases, and_from, both_ways, ltb-true, ltb-false, eqb-true, eq-eqb}
+use Rattle.std.proofs.lemmas.List.Quantifiers.{position-Some}
+use Rattle.std.proofs.lemmas.List.Sums.{fails_before_first}
 use Rattle.std.proofs.lemmas.Option.{get_or_from_slice_get}
 use Rattle.world_laws.proofs.Lists.{some_is, within, there}
 use Rattle.call_world.specs.declared.line.Line.{Line as Wire}
 use Rattle.call_world.specs.declared.world.World.{World as Machine}
-use Rattle.call_world.specs.Rows.{FindsBy, FindsLeast, is_named, stands_as, is_lesser}
+use Rattle.call_world.specs.Rows.{FindsLeast, is_named, stands_as, is_lesser}
 use Rattle.call_world.proofs.Lining.{decided}
 
 -- the connection that was read stands at its place
@@ -17,21 +20,23 @@ read_is ts i t lt read =
 
 -- ---- the first of which something holds
 
-abbrev pub NoneBefore : (Wire → Bool) → List Wire → ℕ → Type 0
-NoneBefore p ts n = (j : ℕ) (s : Wire) → slice_get ts j ≡ Some s → j < n → p s ≡ false
+no_less : (b : Bool) (n : ℕ) → None ≡ (if b then Some n else None) → b ≡ false
+no_less false n e = refl
+no_less true n e = absurd (cc (e))
 
-pub found : (p : Wire → Bool) (ts : List Wire) (i : ℕ) (t : Wire) → i < length ts → t ≡ get_or ts i t → p t ≡ true → FindsBy p ts (Some i)
-found p ts i t lt read is = (t, read_is ts i t lt read, is)
+-- it holds of the connection at the place that was found
+pub found_at : (p : Wire → Bool) (ts : List Wire) (i : ℕ) → Some i ≡ position p ts → (t : Wire) × (slice_get ts i ≡ Some t) × (p t ≡ true)
+found_at p [] i e = absurd (cc (e))
+found_at p (s ∷ ts) i e =
+    let q = position-Some p (s ∷ ts) i s (sym e) in
+    let f = there (s ∷ ts) i q.0 in
+    (f.0, f.1, ap p (sym (get_or_from_slice_get (s ∷ ts) i f.0 s f.1)) ∙ q.1)
 
-pub none_more : (p : Wire → Bool) (ts : List Wire) (i : ℕ) (t : Wire) → NoneBefore p ts i → i < length ts → t ≡ get_or ts i t → p t ≡ false → NoneBefore p ts (i + 1)
-none_more p ts i t none lt read fails j s at less = at_place (decided i j (eqb j i) refl)
-  where
-    at_place : (j ≡ i) ⊎ (j ≢ i) → p s ≡ false
-    at_place (inl same) = ap p (some_is s t (sym at ∙ ap (slice_get ts) same ∙ read_is ts i t lt read)) ∙ fails
-    at_place (inr other) = none j s at (omega (arith, less, other))
-
-pub none_in : (p : Wire → Bool) (ts : List Wire) (n : ℕ) → NoneBefore p ts n → length ts ≤ n → FindsBy p ts None
-none_in p ts n none all i t at = none i t at (omega (arith, within ts i t at, all))
+-- where there is no such place it holds of none
+pub missed_at : (p : Wire → Bool) (ts : List Wire) → None ≡ position p ts → (i : ℕ) (t : Wire) → slice_get ts i ≡ Some t → p t ≡ false
+missed_at p ts e i t at =
+    let all : length ts ≤ position_or_len p ts = ltb-false (position_or_len p ts) (length ts) (no_less (nat_lt (position_or_len p ts) (length ts)) (position_or_len p ts) e) in
+    ap p (sym (get_or_from_slice_get ts i t t at)) ∙ fails_before_first p ts i t (omega (arith, within ts i t at, all))
 
 -- ---- the one of the least name that stands
 
@@ -91,11 +96,12 @@ pub record Read (x : Machine) (c i : ℕ) (s : Wire) : Type 0 where
   pub named : s.name ≡ c
   pub stands : s.standing ≡ true
 
-pub found_within : (p : Wire → Bool) (ts us : List Wire) (i : ℕ) → ts ≡ us → FindsBy p ts (Some i) → i < length us
-found_within p ts us i same (t, at, is) = subst (λ (vs : List Wire). i < length vs) same (within ts i t at)
+pub found_within : (p : Wire → Bool) (ts us : List Wire) (i : ℕ) → ts ≡ us → Some i ≡ position p ts → i < length us
+found_within p ts us i same e = let f = found_at p ts i e in subst (λ (vs : List Wire). i < length vs) same (within ts i f.0 f.1)
 
-pub read_standing : (x : Machine) (ts : List Wire) (c i : ℕ) (s : Wire) → ts ≡ x.lines.items → FindsBy (stands_as c) ts (Some i) → s ≡ get_or x.lines.items i s → Read x c i s
-read_standing x ts c i s same (t, at, is) read =
+pub read_standing : (x : Machine) (ts : List Wire) (c i : ℕ) (s : Wire) → ts ≡ x.lines.items → Some i ≡ position (stands_as c) ts → s ≡ get_or x.lines.items i s → Read x c i s
+read_standing x ts c i s same e read =
+    let (t, at, is) = found_at (stands_as c) ts i e in
     let at_x : slice_get x.lines.items i ≡ Some t = subst (λ (vs : List Wire). slice_get vs i ≡ Some t) same at in
     let alike : s ≡ t = read ∙ get_or_from_slice_get x.lines.items i t s at_x in
     let parts = and_parts (eqb t.name c) t.standing is in
@@ -106,13 +112,13 @@ read_standing x ts c i s same (t, at, is) read =
     }
 
 -- none of that name stands
-pub none_found : (ts us : List Wire) (c : ℕ) → ts ≡ us → FindsBy (stands_as c) ts None → (i : ℕ) (t : Wire) → slice_get us i ≡ Some t → t.name ≡ c → t.standing ≡ true → ⊥
-none_found ts us c same none i t at named stands =
-    both_ways (stands_as c t) (none i t (subst (λ (vs : List Wire). slice_get vs i ≡ Some t) (sym same) at)) (and_from (eqb t.name c) t.standing (eq-eqb t.name c named) stands)
+pub none_found : (ts us : List Wire) (c : ℕ) → ts ≡ us → None ≡ position (stands_as c) ts → (i : ℕ) (t : Wire) → slice_get us i ≡ Some t → t.name ≡ c → t.standing ≡ true → ⊥
+none_found ts us c same e i t at named stands =
+    both_ways (stands_as c t) (missed_at (stands_as c) ts e i t (subst (λ (vs : List Wire). slice_get vs i ≡ Some t) (sym same) at)) (and_from (eqb t.name c) t.standing (eq-eqb t.name c named) stands)
 
 -- none has that name
-pub none_named : (ts us : List Wire) (c : ℕ) → ts ≡ us → FindsBy (is_named c) ts None → (i : ℕ) (t : Wire) → slice_get us i ≡ Some t → t.name ≡ c → ⊥
-none_named ts us c same none i t at named = both_ways (is_named c t) (none i t (subst (λ (vs : List Wire). slice_get vs i ≡ Some t) (sym same) at)) (eq-eqb t.name c named)
+pub none_named : (ts us : List Wire) (c : ℕ) → ts ≡ us → None ≡ position (is_named c) ts → (i : ℕ) (t : Wire) → slice_get us i ≡ Some t → t.name ≡ c → ⊥
+none_named ts us c same e i t at named = both_ways (is_named c t) (missed_at (is_named c) ts e i t (subst (λ (vs : List Wire). slice_get vs i ≡ Some t) (sym same) at)) (eq-eqb t.name c named)
 
 -- the one of the least name
 pub least_within : (ts us : List Wire) (i : ℕ) → ts ≡ us → FindsLeast ts (Some i) → i < length us
@@ -127,5 +133,5 @@ read_least ts i s (t, at, stands, least) read =
 pub read_same : (ts : List Wire) (i : ℕ) (s t : Wire) → i < length ts → s ≡ get_or ts i s → t ≡ get_or ts i t → s ≡ t
 read_same ts i s t lt a b = some_is s t (sym (read_is ts i s lt a) ∙ read_is ts i t lt b)
 
-pub some_named : (ts us : List Wire) (c i : ℕ) → ts ≡ us → FindsBy (is_named c) ts (Some i) → (t : Wire) × (slice_get us i ≡ Some t) × (t.name ≡ c)
-some_named ts us c i same (t, at, is) = (t, subst (λ (vs : List Wire). slice_get vs i ≡ Some t) same at, eqb-true t.name c is)
+pub some_named : (ts us : List Wire) (c i : ℕ) → ts ≡ us → Some i ≡ position (is_named c) ts → (t : Wire) × (slice_get us i ≡ Some t) × (t.name ≡ c)
+some_named ts us c i same e = let (t, at, is) = found_at (is_named c) ts i e in (t, subst (λ (vs : List Wire). slice_get vs i ≡ Some t) same at, eqb-true t.name c is)

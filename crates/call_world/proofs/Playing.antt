@@ -1,6 +1,6 @@
 -- Moves on the connection that was found, whether they can be played or not.
-use Rattle.std.proofs.Common.{◌≡◌, ℕ, ◌≤◌, Bool, true, false, Option, Some, None, Result, Ok, Err, IfOk, OnOk, List, [], ◌∷◌, ◌++◌, length, get_or, refl, sym, ap, subst, ◌∙◌}
-use Rattle.std.specs.Prelude.{slice_get, slice_set}
+use Rattle.std.proofs.Common.{◌≡◌, ℕ, ◌≤◌, Bool, true, false, Option, Some, None, Result, Ok, Err, IfOk, IfErr, OnOk, List, [], ◌∷◌, ◌++◌, length, map, get_or, refl, sym, ap, subst, ◌∙◌}
+use Rattle.std.specs.Prelude.{slice_get, slice_set, position}
 use Rattle.std.proofs.lemmas.Bool.{and_parts, and_from, both_ways, eqb-true, eq-eqb}
 use Rattle.std.proofs.lemmas.Option.{get_or_from_slice_get}
 use Rattle.handle_model.specs.Journal as journals
@@ -23,54 +23,58 @@ use Rattle.world_laws.specs.Moves.{Move as moves}
 use Rattle.call_world.specs.declared.moves.Move.{Move as Step}
 use Rattle.call_world.specs.Moves.{move_of}
 use Rattle.world_laws.specs.Calling.{LosesLine}
-use Rattle.world_laws.specs.Worlds.{World, LosesAll, IsLeast, NoneStands}
+use Rattle.world_laws.specs.Worlds.{World, empty, LosesAll, IsLeast, NoneStands}
 use Rattle.world_server.specs.Servers.{ServerView, seen, IsWhole, Goes, Whole, whole}
 use Rattle.world_server.specs.declared.server.Server.{Server}
 use Rattle.call_world.specs.declared.line.Line.{Line as Wire}
 use Rattle.call_world.specs.declared.world.World.{World as Machine}
 use Rattle.call_world.specs.declared.world.Started.{Started as Place}
-use Rattle.call_world.specs.Lines.{StartsOn, CallsOffOn, ArrivesOn, ComesOn, Tries, TriesWith}
-use Rattle.call_world.specs.Worlds.{IsWorld, IsReady}
+use Rattle.call_world.specs.Lines.{StartsOn, CallsOffOn, ArrivesOn, ComesOn, MayStartOn, MayCallOffOn, MayArriveOn, MayComeOn, Happens, HappensWith, Fails, Tries, TriesWith}
+use Rattle.call_world.specs.Worlds.{IsWorld, IsReady, started_of}
 use Rattle.call_world.specs.Worlds as worlds
-use Rattle.call_world.specs.Rows.{FindsBy, FindsLeast, awaits, is_awaiting}
+use Rattle.call_world.specs.Rows.{FindsLeast, awaits, is_awaiting}
 use Rattle.call_world.proofs.Lining.{wire_at, on_line}
-use Rattle.call_world.proofs.Places.{Read}
-use Rattle.call_world.proofs.Moving.{Alone, alone, not_alone, arrives, arrives_not, comes, comes_not, calls_off, calls_off_not, starts, starts_not, lose_stays, takes_run, takes_denied, takes_not, ends_not, ends_so, unheard_goes}
+use Rattle.call_world.proofs.Places.{Read, found_at, missed_at}
+use Rattle.call_world.proofs.Moving.{Alone, alone, arrives, arrives_not, comes, comes_not, calls_off, calls_off_not, starts, starts_not, lose_stays, takes_run, takes_denied, takes_not, ends_not, ends_so, unheard_goes}
 
 -- what holds of an answer that came gives what else holds of it
 pub if_ok : {A E : Type 0} (r : Result A E) (P Q : A → Type 0) → ((a : A) → P a → Q a) → IfOk r P → IfOk r Q
 if_ok (Ok a) P Q f h = f a h
 if_ok (Err e) P Q f h = tt
 
+pub if_err : {A E : Type 0} (r : Result A E) (P Q : E → Type 0) → ((e : E) → P e → Q e) → IfErr r P → IfErr r Q
+if_err (Ok a) P Q f h = tt
+if_err (Err e) P Q f h = f e h
+
 module _ (x y : Machine) (c i : ℕ) (s t : Wire) (r : Read x c i s) where
-  pub arrives_so : (count : ℕ) (done : Bool) → TriesWith (ArrivesOn (seen x.server).tables count) done (seen x.server) s (seen y.server) t → y.lines.items ≡ slice_set x.lines.items i t → shown y.table ≡ shown x.table → y.starts ≡ x.starts
+  pub arrives_so : (count : ℕ) (done : Bool) → TriesWith (MayArriveOn count) (ArrivesOn (seen x.server).tables count) done (seen x.server) s (seen y.server) t → y.lines.items ≡ slice_set x.lines.items i t → shown y.table ≡ shown x.table → y.starts ≡ x.starts
       → worlds.Tries (moves.ToServer c count) done x y
   arrives_so count true tried lines table starts = arrives x y c i s t r.at r.named r.stands count tried lines table starts
-  arrives_so count false tried lines table starts = arrives_not x y c i s t r.at r.named r.stands (seen y.server) count tried
+  arrives_so count false tried lines table starts = arrives_not x y c i s t r.at r.named r.stands count tried
 
-  pub comes_so : (count : ℕ) (done : Bool) → TriesWith (ComesOn count) done (seen x.server) s (seen y.server) t → y.lines.items ≡ slice_set x.lines.items i t → shown y.table ≡ shown x.table → y.starts ≡ x.starts
+  pub comes_so : (count : ℕ) (done : Bool) → TriesWith (MayComeOn count) (ComesOn count) done (seen x.server) s (seen y.server) t → y.lines.items ≡ slice_set x.lines.items i t → shown y.table ≡ shown x.table → y.starts ≡ x.starts
       → worlds.Tries (moves.ToCaller c count) done x y
   comes_so count true tried lines table starts = comes x y c i s t r.at r.named r.stands count tried lines table starts
-  comes_so count false tried lines table starts = comes_not x y c i s t r.at r.named r.stands (seen y.server) count tried
+  comes_so count false tried lines table starts = comes_not x y c i s t r.at r.named r.stands count tried
 
   -- what needs no server
-  alone_on : (Does : Line → Line → Type 0) → IsWhole (seen x.server) → Tries Does true s t → y.server ≡ x.server → TriesWith (Alone Does) true (seen x.server) s (seen y.server) t
-  alone_on Does whole tried server = subst (λ (v : Server). TriesWith (Alone Does) true (seen x.server) s (seen v) t) (sym server) (alone Does (seen x.server) s t whole tried)
+  alone_on : (Does : Line → Line → Type 0) → IsWhole (seen x.server) → Happens Does s t → y.server ≡ x.server → HappensWith (Alone Does) (seen x.server) s (seen y.server) t
+  alone_on Does whole tried server = subst (λ (v : Server). HappensWith (Alone Does) (seen x.server) s (seen v) t) (sym server) (alone Does (seen x.server) s t whole tried)
 
-  pub calls_off_so : (done : Bool) → IsWhole (seen x.server) → ((table : TableForm) → Tries (CallsOffOn table) done s t) → y.lines.items ≡ slice_set x.lines.items i t → y.server ≡ x.server → shown y.table ≡ shown x.table → y.starts ≡ x.starts
+  pub calls_off_so : (done : Bool) → IsWhole (seen x.server) → ((table : TableForm) → Tries MayCallOffOn (CallsOffOn table) done s t) → y.lines.items ≡ slice_set x.lines.items i t → y.server ≡ x.server → shown y.table ≡ shown x.table → y.starts ≡ x.starts
       → worlds.Tries (moves.Cancel c) done x y
   calls_off_so true whole tried lines server table starts =
       calls_off x y c i s t r.at r.named r.stands (alone_on (CallsOffOn (shown x.table)) whole (tried (shown x.table)) server) lines table starts
   calls_off_so false whole tried lines server table starts =
-      calls_off_not x y c i s t r.at r.named r.stands (not_alone (CallsOffOn (shown x.table)) (seen x.server) s t (tried (shown x.table)))
+      calls_off_not x y c i s t r.at r.named r.stands (tried (shown x.table))
 
-  pub starts_so : (op : ℕ) (m : Msg) (p : Place) → IsWhole (seen x.server) → ((table : TableForm) → Tries (StartsOn table op m) true s t) → y.lines.items ≡ slice_set x.lines.items i t → y.server ≡ x.server → shown y.table ≡ shown x.table
+  pub starts_so : (op : ℕ) (m : Msg) (p : Place) → IsWhole (seen x.server) → ((table : TableForm) → Happens (StartsOn table op m) s t) → y.lines.items ≡ slice_set x.lines.items i t → y.server ≡ x.server → shown y.table ≡ shown x.table
       → y.starts.items ≡ x.starts.items ++ p ∷ [] → p.line ≡ i → p.place ≡ length s.caller.fates.items → worlds.Tries (moves.Start c op m) true x y
   starts_so op m p whole tried lines server table more line place =
       starts x y c i s t r.at r.named r.stands op m p (alone_on (StartsOn (shown x.table) op m) whole (tried (shown x.table)) server) lines table more line place
 
-  pub starts_not_so : (op : ℕ) (m : Msg) → ((table : TableForm) → Tries (StartsOn table op m) false s t) → worlds.Tries (moves.Start c op m) false x y
-  starts_not_so op m tried = starts_not x y c i s t r.at r.named r.stands op m (not_alone (StartsOn (shown x.table) op m) (seen x.server) s t (tried (shown x.table)))
+  pub starts_not_so : (op : ℕ) (m : Msg) → Fails (MayStartOn op m) s → worlds.Tries (moves.Start c op m) false x y
+  starts_not_so op m fails = starts_not x y c i s t r.at r.named r.stands op m fails
 
 -- ---- a restart
 
@@ -89,7 +93,7 @@ least_is x u i is (t, at, stands, least) s s_at j l l_at l_stands =
     let alike : t.name ≡ s.name = cc in
     subst (λ (n : ℕ). n ≤ l.name) alike (subst (λ (n : ℕ). t.name ≤ n) f.2.name (least j f.0 f.1 (f.2.standing ∙ l_stands)))
 
-pub loses_more : (x y z : Machine) (i : ℕ) (s t : Wire) → Losing x y → FindsLeast y.lines.items (Some i) → slice_get y.lines.items i ≡ Some s → s.standing ≡ true → TriesWith LosesLine true (seen y.server) s (seen z.server) t
+pub loses_more : (x y z : Machine) (i : ℕ) (s t : Wire) → Losing x y → FindsLeast y.lines.items (Some i) → slice_get y.lines.items i ≡ Some s → s.standing ≡ true → HappensWith LosesLine (seen y.server) s (seen z.server) t
     → z.lines.items ≡ slice_set y.lines.items i t → shown z.table ≡ shown y.table → z.starts ≡ y.starts → Losing x z
 loses_more x y z i s t before least at stands tried lines table starts = (
   tried.0,
@@ -182,8 +186,9 @@ pub record Awaiting (x : Machine) (k i : ℕ) (s : Wire) : Type 0 where
   pub stands : s.standing ≡ true
   pub waits_for : waiting_of s.serving.waiting ≡ Call k
 
-pub read_awaiting : (x : Machine) (ts : List Wire) (k i : ℕ) (s : Wire) → ts ≡ x.lines.items → FindsBy (is_awaiting k) ts (Some i) → s ≡ get_or x.lines.items i s → Awaiting x k i s
-read_awaiting x ts k i s same (t, at, is) read =
+pub read_awaiting : (x : Machine) (ts : List Wire) (k i : ℕ) (s : Wire) → ts ≡ x.lines.items → Some i ≡ position (is_awaiting k) ts → s ≡ get_or x.lines.items i s → Awaiting x k i s
+read_awaiting x ts k i s same e read =
+    let (t, at, is) = found_at (is_awaiting k) ts i e in
     let at_x : slice_get x.lines.items i ≡ Some t = subst (λ (vs : List Wire). slice_get vs i ≡ Some t) same at in
     let alike : s ≡ t = read ∙ get_or_from_slice_get x.lines.items i t s at_x in
     let parts = and_parts t.standing (awaits k t.serving.waiting) is in
@@ -193,12 +198,29 @@ read_awaiting x ts k i s same (t, at, is) read =
       waits_for = ap (λ (z : Wire). waiting_of z.serving.waiting) alike ∙ awaits_call k t.serving.waiting parts.1;
     }
 
-pub goes_unheard : (x : Machine) (ts : List Wire) (k : ℕ) → ts ≡ x.lines.items → FindsBy (is_awaiting k) ts None → worlds.GoesFor k x x
-goes_unheard x ts k same none = unheard_goes x k (λ i t at stands waits. both_ways (is_awaiting k t) (none i t (subst (λ (vs : List Wire). slice_get vs i ≡ Some t) (sym same) at)) (and_from t.standing (awaits k t.serving.waiting) stands (call_awaits k t.serving.waiting waits)))
+pub goes_unheard : (x : Machine) (ts : List Wire) (k : ℕ) → ts ≡ x.lines.items → None ≡ position (is_awaiting k) ts → worlds.GoesFor k x x
+goes_unheard x ts k same e = unheard_goes x k (λ i t at stands waits. both_ways (is_awaiting k t) (missed_at (is_awaiting k) ts e i t (subst (λ (vs : List Wire). slice_get vs i ≡ Some t) (sym same) at)) (and_from t.standing (awaits k t.serving.waiting) stands (call_awaits k t.serving.waiting waits)))
 
 pub on_ok : {A E : Type 0} (r : Result A E) (P Q : Type 0) → (P → Q) → OnOk r P → OnOk r Q
 on_ok (Ok a) P Q f h = f h
 on_ok (Err e) P Q f h = tt
+
+-- ---- the empty world
+
+none_at : {A : Type 0} (i : ℕ) (l : A) → (let ls : List A = [] in slice_get ls i) ≡ Some l → ⊥
+none_at i l e = absurd (cc (e))
+
+pub begun_is : (x : Machine) → x.lines.items ≡ [] → x.starts.items ≡ [] → (seen x.server).past ≡ [] → IsWhole (seen x.server) → (seen x.server).tables ≡ shown x.table ∷ [] → IsWorld x empty
+begun_is x lines starts past is_whole tables =
+    record {
+      lines = record { count = ap length lines; each = λ i t l at_t at_l. absurd (none_at i l at_l) };
+      apart = λ i j l m at_l at_m named. absurd (none_at i l at_l);
+      past = past;
+      is_whole = is_whole;
+      tables = tables;
+      starts = ap (map started_of) starts;
+      rows = λ n s found. absurd (none_at n s found);
+    }
 
 pub world_ready : (x : Machine) (w : World) → IsWorld x w → IsReady x
 world_ready x w is = record { is_whole = is.is_whole; tables = is.tables }

@@ -9,12 +9,15 @@ use Rattle.world_laws.specs.Clauses.{AllCallsAreRows, AllFatesAreTrue}
 use Rattle.world_laws.specs.Keeping.{IsWholeTable, AllHandlesAreKept}
 use Rattle.world_laws.specs.Starts.{AllStartsAreRows}
 use Rattle.world_laws.specs.Telling.{AllFatesAreTold}
-use Rattle.call_world.specs.Played.{IsPlayed, Leads}
+use Rattle.world_laws.specs.Leading.{MayCome, OnlyWhereItMay}
+use Rattle.call_world.specs.declared.play.WorldFault.{WorldFault}
+use Rattle.call_world.specs.declared.play.WorldFault.TheVariants.{NotNow, Memory}
+use Rattle.call_world.specs.Played.{IsPlayed, Leads, StopsHere, Stops, LeadsNowhere}
 use Rattle.std.specs.Prelude.{slice_get}
 use Rattle.ndr_table.specs.Shown.{shown}
 use Rattle.ndr_table.specs.Tables.{TableForm}
 use Rattle.world_laws.specs.Moves.{Move}
-use Rattle.world_laws.specs.Worlds.{World, empty, Plays, PlaysAll, Played, StopsAt}
+use Rattle.world_laws.specs.Worlds.{World, empty, Plays, PlaysAll, Played}
 use Rattle.call_world.specs.declared.moves.Move.{Move as Step}
 use Rattle.call_world.specs.declared.world.World.{World as Machine}
 use Rattle.call_world.specs.Moves.{move_of, moves_of}
@@ -72,7 +75,7 @@ goes_on table all left place x y s m tried =
       is = r.2;
     }
 
-pub stops : (table : TableForm) (all left : List Step) (place : ℕ) (x y : Machine) (s : Step) → Midway table all (s ∷ left) place x → Tries (move_of s) false x y → StopsAt table (moves_of all) place
+pub stops : (table : TableForm) (all left : List Step) (place : ℕ) (x y : Machine) (s : Step) → Midway table all (s ∷ left) place x → Tries (move_of s) false x y → StopsHere table (moves_of all) place
 stops table all left place x y s m tried =
     let parts : moves_of all ≡ moves_of m.before ++ move_of s ∷ moves_of left = ap moves_of m.parts ∙ moves_append m.before (s ∷ left) in
     let count : place ≡ length (moves_of m.before) = m.count ∙ sym (moves_length m.before) in
@@ -83,8 +86,13 @@ stops table all left place x y s m tried =
           (sym (ap (take place) parts ∙ ap (λ (n : ℕ). take n (moves_of m.before ++ move_of s ∷ moves_of left)) count ∙ take_front (moves_of m.before) (move_of s ∷ moves_of left))) m.played;
       move = move_of s;
       there = ap (λ (ms : List Move). slice_get ms place) parts ∙ ap (slice_get (moves_of m.before ++ move_of s ∷ moves_of left)) count ∙ get_behind (moves_of m.before) (move_of s) (moves_of left);
-      not_now = λ v p. tried m.world m.is v (subst (λ (t : TableForm). Plays t m.world (move_of s) v) (sym m.table_is) p);
+      cannot = λ may. tried m.world m.is (subst (λ (t : TableForm). MayCome t m.world (move_of s)) (sym m.table_is) may);
     }
+
+-- where its condition doesn't hold a move leads to no world
+pub leads_nowhere : (table : TableForm) (moves : List Move) (e : WorldFault) → OnlyWhereItMay → Stops table moves e → LeadsNowhere table moves e
+leads_nowhere table moves (NotNow i) only s = record { before = s.before; plays = s.plays; move = s.move; there = s.there; not_now = λ v p. s.cannot (only table s.move s.before v p) }
+leads_nowhere table moves Memory only s = tt
 
 -- the next move is the last of those that are left, which come the last one first
 pub next_left : (left rest : List Step) (s : Step) → left ≡ rest ++ s ∷ [] → reverse left ≡ s ∷ reverse rest

@@ -9,6 +9,7 @@ use Rattle.client_core.specs.Calls.{Binds, Calls, Cancels, IsMessage}
 use Rattle.world_laws.specs.Ends.{CallerEnd, Line}
 use Rattle.world_laws.specs.Serving.{ServerDoes, ServerGoesOn}
 use Rattle.world_laws.specs.Calling.{HearsOctets, IfBroken, LosesLine}
+use Rattle.world_laws.specs.Leading.{MayStart, AreOnWay}
 use Rattle.world_laws.specs.Worlds.{Moves, opened, starting, cancelling}
 use Rattle.world_server.specs.Servers.{ServerView, IsWhole}
 use Rattle.world_ends.specs.Callers.{IsCaller}
@@ -65,14 +66,37 @@ pub record ComesOn (count : ℕ) (l : Line) (past : List Entry) (n : Line) (new 
   pub hears : HearsOctets l.caller front caller broken
   pub is_line : IfBroken broken (LosesLine (record l { caller = caller; down = left }) past n new) ((n ≡ record l { caller = caller; down = left }) × (new ≡ past))
 
--- ---- whether it can happen: it happened, or it can't
+-- ---- its condition
 
-abbrev pub Tries : (Line → Line → Type 0) → Bool → Wire → Wire → Type 0
-Tries Does true s t = (l : Line) → IsLine s l → (n : Line) × Does l n × IsLine t n
-Tries Does false s t = (l : Line) → IsLine s l → (n : Line) → Does l n → ⊥
+abbrev pub MayStartOn : ℕ → Msg → Line → Type 0
+MayStartOn op m l = MayStart l op m
+
+abbrev pub MayCallOffOn : Line → Type 0
+MayCallOffOn l = is_calling l.caller.state ≡ true
+
+abbrev pub MayArriveOn : ℕ → Line → Type 0
+MayArriveOn count l = AreOnWay count l.up
+
+abbrev pub MayComeOn : ℕ → Line → Type 0
+MayComeOn count l = AreOnWay count l.down
+
+-- ---- whether it can happen: it happened, or its condition doesn't hold
+
+abbrev pub Happens : (Line → Line → Type 0) → Wire → Wire → Type 0
+Happens Does s t = (l : Line) → IsLine s l → (n : Line) × Does l n × IsLine t n
+
+abbrev pub Fails : (Line → Type 0) → Wire → Type 0
+Fails May s = (l : Line) → IsLine s l → May l → ⊥
+
+abbrev pub Tries : (Line → Type 0) → (Line → Line → Type 0) → Bool → Wire → Wire → Type 0
+Tries May Does true s t = Happens Does s t
+Tries May Does false s t = Fails May s
 
 -- the same where the journal goes on
-abbrev pub TriesWith : (Line → List Entry → Line → List Entry → Type 0) → Bool → ServerView → Wire → ServerView → Wire → Type 0
-TriesWith Does true x s y t =
+abbrev pub HappensWith : (Line → List Entry → Line → List Entry → Type 0) → ServerView → Wire → ServerView → Wire → Type 0
+HappensWith Does x s y t =
     IsWhole y × (y.tables ≡ x.tables) × ((l : Line) → IsLine s l → (n : Line) × Does l x.past n y.past × IsLine t n)
-TriesWith Does false x s y t = (l : Line) → IsLine s l → (n : Line) (new : List Entry) → Does l x.past n new → ⊥
+
+abbrev pub TriesWith : (Line → Type 0) → (Line → List Entry → Line → List Entry → Type 0) → Bool → ServerView → Wire → ServerView → Wire → Type 0
+TriesWith May Does true x s y t = HappensWith Does x s y t
+TriesWith May Does false x s y t = Fails May s

@@ -1,5 +1,5 @@
 -- What a list of moves leaves.
-use Rattle.std.specs.Prelude.{◌≡◌, ℕ, ⊤, Some, List, slice_get}
+use Rattle.std.specs.Prelude.{◌≡◌, ℕ, Some, List, slice_get, take, ⊤}
 use Rattle.ndr_table.specs.Shown.{shown}
 use Rattle.ndr_table.specs.Tables.{TableForm}
 use Rattle.world_laws.specs.Moves.{Move}
@@ -8,6 +8,7 @@ use Rattle.world_laws.specs.Clauses.{CallsAreRows, FatesAreTrue}
 use Rattle.world_laws.specs.Ends.{Line}
 use Rattle.world_laws.specs.Starts.{StartsAreRows}
 use Rattle.world_laws.specs.Telling.{FatesAreTold}
+use Rattle.world_laws.specs.Leading.{MayCome}
 use Rattle.world_laws.specs.Keeping.{HandlesAreKept}
 use Rattle.call_world.specs.declared.play.WorldFault.{WorldFault}
 use Rattle.call_world.specs.declared.play.WorldFault.TheVariants.{NotNow, Memory}
@@ -31,7 +32,21 @@ pub record Leads (table : TableForm) (moves : List Move) (x : Machine) : Type 0 
 abbrev pub IsPlayed : TableForm → List Move → Machine → Type 0
 IsPlayed table moves x = (shown x.table ≡ table) × (w : World) × Played table moves w × IsWorld x w
 
--- the first move that can't be played then
+-- All moves before are played, and the condition of that one doesn't hold then. Each of those before met its own, as it led to a
+-- world (`OnlyWhereItMay`): it is the first move whose condition fails.
+pub record StopsHere (table : TableForm) (moves : List Move) (i : ℕ) : Type 0 where
+  pub before : World
+  pub plays : Played table (take i moves) before
+  pub move : Move
+  pub there : slice_get moves i ≡ Some move
+  pub cannot : MayCome table before move → ⊥
+
+-- the first move whose condition doesn't hold then
 abbrev pub Stops : TableForm → List Move → WorldFault → Type 0
-Stops table moves (NotNow i) = StopsAt table moves i
+Stops table moves (NotNow i) = StopsHere table moves i
 Stops table moves Memory = ⊤
+
+-- there it leads to no world
+abbrev pub LeadsNowhere : TableForm → List Move → WorldFault → Type 0
+LeadsNowhere table moves (NotNow i) = StopsAt table moves i
+LeadsNowhere table moves Memory = ⊤

@@ -7,11 +7,6 @@ use Rattle.world_ends.specs.declared.serving.Waiting.{Waiting}
 use Rattle.world_ends.specs.declared.serving.Waiting.TheVariants as waits
 use Rattle.call_world.specs.declared.line.Line.{Line as Wire}
 
--- the place of a connection of which that holds, or that there is none
-abbrev pub FindsBy : (Wire → Bool) → List Wire → Option ℕ → Type 0
-FindsBy p ts (Some i) = (t : Wire) × (slice_get ts i ≡ Some t) × (p t ≡ true)
-FindsBy p ts None = (i : ℕ) (t : Wire) → slice_get ts i ≡ Some t → p t ≡ false
-
 abbrev pub is_named : ℕ → Wire → Bool
 is_named c t = t.name == c
 

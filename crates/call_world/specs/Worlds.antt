@@ -1,8 +1,9 @@
--- A program's world, the world that it is, and whether a move can be played there.
+-- A program's world, the world that it is, and whether a move's condition holds there.
 use Rattle.std.specs.Prelude.{◌≡◌, ℕ, ◌<◌, Bool, true, false, Some, List, [], ◌∷◌, length, map, slice_get}
 use Rattle.ndr_table.specs.Shown.{shown}
 use Rattle.world_laws.specs.Ends.{Line}
 use Rattle.world_laws.specs.Moves.{Move}
+use Rattle.world_laws.specs.Leading.{MayCome}
 use Rattle.handle_model.specs.declared.entry.Entry.{Entry}
 use Rattle.world_laws.specs.Worlds.{World, Started, Plays, GoesOnFor}
 use Rattle.world_server.specs.Servers.{seen, IsWhole, Goes}
@@ -44,11 +45,11 @@ pub record IsReady (x : Machine) : Type 0 where
   pub is_whole : IsWhole (seen x.server)
   pub tables : (seen x.server).tables ≡ shown x.table ∷ []
 
--- The move is played, or it can't be.
+-- The move is played, or its condition doesn't hold.
 abbrev pub Tries : Move → Bool → Machine → Machine → Type 0
 Tries m true x y =
     (shown y.table ≡ shown x.table) × ((w : World) → IsWorld x w → (v : World) × Plays (shown x.table) w m v × IsWorld y v)
-Tries m false x y = (w : World) → IsWorld x w → (v : World) → Plays (shown x.table) w m v → ⊥
+Tries m false x y = (w : World) → IsWorld x w → MayCome (shown x.table) w m → ⊥
 
 -- the connection on which the call waits for its answer goes on, where it stands
 abbrev pub GoesFor : ℕ → Machine → Machine → Type 0

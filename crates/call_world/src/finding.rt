@@ -1,6 +1,6 @@
 //! Connections among others.
-ghost use Rattle.std.specs.Prelude.{◌≡◌};
-ghost use Rattle.call_world.specs.Rows.{FindsBy, FindsLeast, is_named, stands_as, awaits, is_awaiting, is_lesser};
+ghost use Rattle.std.specs.Prelude.{◌≡◌, position};
+ghost use Rattle.call_world.specs.Rows.{FindsLeast, is_named, stands_as, awaits, is_awaiting, is_lesser};
 
 use crate::line::Line;
 use world_ends::Waiting;
@@ -11,16 +11,11 @@ fn is_named(line: &Line, name: u32) -> bool
     line.name == name
 }
 
-/// The place of a connection of that name.
+/// The place of the first connection of that name.
 pub fn named(lines: &[Line], name: u32) -> Option<usize>
-    ensures { FindsBy (is_named name) lines.now result }
+    ensures { result ≡ position (is_named name) lines.now }
 {
-    for at in 0..lines.len() {
-        if is_named(&lines[at], name) {
-            return Some(at);
-        }
-    }
-    None
+    lines.iter().position(|line| is_named(line, name))
 }
 
 fn stands_as(line: &Line, name: u32) -> bool
@@ -29,16 +24,11 @@ fn stands_as(line: &Line, name: u32) -> bool
     line.name == name && line.standing
 }
 
-/// The place of a connection of that name that stands.
+/// The place of the first connection of that name that stands.
 pub fn standing(lines: &[Line], name: u32) -> Option<usize>
-    ensures { FindsBy (stands_as name) lines.now result }
+    ensures { result ≡ position (stands_as name) lines.now }
 {
-    for at in 0..lines.len() {
-        if stands_as(&lines[at], name) {
-            return Some(at);
-        }
-    }
-    None
+    lines.iter().position(|line| stands_as(line, name))
 }
 
 fn awaits(waiting: Waiting, call: u32) -> bool
@@ -56,16 +46,11 @@ fn is_awaiting(line: &Line, call: u32) -> bool
     line.standing && awaits(line.serving.waiting, call)
 }
 
-/// The place of a connection that stands, and on which that call waits for its answer.
+/// The place of the first connection that stands, and on which that call waits for its answer.
 pub fn awaiting(lines: &[Line], call: u32) -> Option<usize>
-    ensures { FindsBy (is_awaiting call) lines.now result }
+    ensures { result ≡ position (is_awaiting call) lines.now }
 {
-    for at in 0..lines.len() {
-        if is_awaiting(&lines[at], call) {
-            return Some(at);
-        }
-    }
-    None
+    lines.iter().position(|line| is_awaiting(line, call))
 }
 
 /// Whether the connection stands, and has a lesser name.

@@ -27,7 +27,7 @@ pub struct Line {
 }
 
 impl Line {
-    ghost use Rattle.call_world.specs.Lines.{Tries, TriesWith, StartsOn, CallsOffOn, ArrivesOn, ComesOn, IsOpened};
+    ghost use Rattle.call_world.specs.Lines.{Tries, TriesWith, HappensWith, StartsOn, CallsOffOn, ArrivesOn, ComesOn, MayStartOn, MayCallOffOn, MayArriveOn, MayComeOn, IsOpened};
 
     /// A new connection, whose bind is on the way: it asks for the group of that id, 0 for a new one.
     pub fn open(
@@ -62,7 +62,7 @@ impl Line {
 
     /// A call is started, and its request is on the way. False where it can't be now.
     pub fn start(&mut self, op: u16, message: &Message) -> Result<bool, NoMemory>
-        ensures { IfOk result (λ done. (table : TableForm) → Tries (StartsOn table op (msg message.now)) done self.old self.new) }
+        ensures { IfOk result (λ done. (table : TableForm) → Tries (MayStartOn op (msg message.now)) (StartsOn table op (msg message.now)) done self.old self.new) }
     {
         if !self.caller.client.is_bound() {
             return Ok(false);
@@ -86,7 +86,7 @@ impl Line {
     /// So many octets come to the server. False where there aren't so many.
     pub fn to_server(&mut self, server: &mut Server, count: usize) -> Result<bool, NoMemory>
         requires { IsWhole (seen server.old) }
-        ensures { IfOk result (λ done. TriesWith (ArrivesOn (seen server.old).tables count) done (seen server.old) self.old (seen server.new) self.new) }
+        ensures { IfOk result (λ done. TriesWith (MayArriveOn count) (ArrivesOn (seen server.old).tables count) done (seen server.old) self.old (seen server.new) self.new) }
     {
         if count == 0 {
             return Ok(false);
@@ -103,7 +103,7 @@ impl Line {
     /// So many octets come to the caller. False where there aren't so many.
     pub fn to_caller(&mut self, server: &mut Server, count: usize) -> Result<bool, NoMemory>
         requires { IsWhole (seen server.old) }
-        ensures { IfOk result (λ done. TriesWith (ComesOn count) done (seen server.old) self.old (seen server.new) self.new) }
+        ensures { IfOk result (λ done. TriesWith (MayComeOn count) (ComesOn count) done (seen server.old) self.old (seen server.new) self.new) }
     {
         if count == 0 {
             return Ok(false);
@@ -122,7 +122,7 @@ impl Line {
 
     /// The caller asks for the cancelling of the call that is out. False where none is.
     pub fn cancel(&mut self) -> Result<bool, NoMemory>
-        ensures { IfOk result (λ done. (table : TableForm) → Tries (CallsOffOn table) done self.old self.new) }
+        ensures { IfOk result (λ done. (table : TableForm) → Tries MayCallOffOn (CallsOffOn table) done self.old self.new) }
     {
         if !self.caller.client.is_calling() {
             return Ok(false);
@@ -135,7 +135,7 @@ impl Line {
     /// The connection is lost.
     pub fn lose(&mut self, server: &mut Server) -> Result<(), NoMemory>
         requires { IsWhole (seen server.old) }
-        ensures { OnOk result (TriesWith LosesLine true (seen server.old) self.old (seen server.new) self.new) }
+        ensures { OnOk result (HappensWith LosesLine (seen server.old) self.old (seen server.new) self.new) }
     {
         self.caller.lose();
         self.up.clear();

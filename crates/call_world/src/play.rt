@@ -3,7 +3,7 @@ ghost use Rattle.std.specs.Prelude.{IfOk, IfErr};
 ghost use Rattle.rpc_base.specs.Fields.{FitsSyntax};
 ghost use Rattle.ndr_table.specs.Shown.{shown};
 ghost use Rattle.call_world.specs.Moves.{moves_of};
-ghost use Rattle.call_world.specs.Played.{Leads, Stops, IsPlayed};
+ghost use Rattle.call_world.specs.Played.{Leads, Stops, LeadsNowhere, IsPlayed};
 ghost use Rattle.call_world.specs.Worlds.{IsWorld};
 ghost use Rattle.world_laws.specs.Worlds.{empty};
 
@@ -13,13 +13,14 @@ use rpc_base::SyntaxId;
 use std::alloc::Global;
 use thiserror::Error;
 use world_laws::{
-    calls_are_rows, fates_are_told, fates_are_true, handles_are_kept, starts_are_rows,
+    calls_are_rows, fates_are_told, fates_are_true, handles_are_kept, only_where_it_may,
+    starts_are_rows,
 };
 
 /// Why a list of moves isn't played.
 #[derive(Clone, Copy, Debug, PartialEq, Eq, Error)]
 pub enum WorldFault {
-    /// The move at that place, from 0, can't be played then.
+    /// The move at that place, from 0, is the first whose condition doesn't hold then: it can't be played.
     #[error("the move at place {0} can't be played then")]
     NotNow(usize),
     #[error("out of memory")]
@@ -67,10 +68,11 @@ fn play_all(alloc: Global, table: &Table, moves: Moves) -> Result<World, WorldFa
 ///
 /// # Errors
 ///
-/// `NotNow` at the first move that can't be played then; or want of memory.
+/// `NotNow` at the first move whose condition doesn't hold then; or want of memory.
 pub fn play_world(alloc: Global, table: &Table, moves: Moves) -> Result<World, WorldFault>
     ensures leads { IfOk result (Leads (shown table.now) (moves_of moves.items)) }
     ensures stops { IfErr result (Stops (shown table.now) (moves_of moves.items)) }
+    ensures leads_nowhere { IfErr result (LeadsNowhere (shown table.now) (moves_of moves.items)) }
 {
     table.is_whole();
     table.is_shallow();
@@ -81,5 +83,6 @@ pub fn play_world(alloc: Global, table: &Table, moves: Moves) -> Result<World, W
     fates_are_told();
     starts_are_rows();
     handles_are_kept();
+    only_where_it_may();
     play_all(alloc, table, moves)
 }

@@ -1,5 +1,5 @@
 //! A world, and what each move does.
-ghost use Rattle.std.specs.Prelude.{◌≡◌, ◌≤◌, true, length, reverse, IfOk, OnOk, MatchOption, Some, None, slice_get};
+ghost use Rattle.std.specs.Prelude.{◌≡◌, ◌≤◌, true, length, reverse, IfOk, OnOk, MatchOption, Some, None, slice_get, position};
 ghost use Rattle.handle_model.specs.declared.entry.Slot.TheVariants.{Shares};
 ghost use Rattle.ndr_table.specs.Shown.{shown};
 ghost use Rattle.ndr_value.specs.Values.{msg};
@@ -72,7 +72,7 @@ fn slot_of(handle: WireHandle) -> Slot
 impl World {
     ghost use Rattle.call_world.specs.Moves.{move_of};
     ghost use Rattle.call_world.specs.Worlds.{IsWorld, IsReady, Tries, GoesFor};
-    ghost use Rattle.call_world.specs.Rows.{wanted, FindsBy, IsFate, is_named, stands_as};
+    ghost use Rattle.call_world.specs.Rows.{wanted, IsFate, is_named, stands_as};
     ghost use Rattle.call_world.specs.Handles.{is_live, is_in_shut};
     ghost use Rattle.handle_model.specs.Journal.{waits};
     ghost use Rattle.world_server.specs.Servers.{seen, whole};
@@ -116,7 +116,7 @@ impl World {
 
     fn open_new(&mut self, name: u32, group: u32) -> Result<bool, NoMemory>
         requires ready { IsReady self.old }
-        requires fresh { FindsBy (is_named name) self.old.lines.items None }
+        requires fresh { position (is_named name) self.old.lines.items ≡ None }
         ensures { IfOk result (λ done. Tries (moves.Open name group) done self.old self.new) }
     {
         if group != self.group_wanted() {
@@ -145,7 +145,7 @@ impl World {
         message: &Message,
     ) -> Result<bool, NoMemory>
         requires ready { IsReady self.old }
-        requires found { FindsBy (stands_as name) self.old.lines.items (Some at) }
+        requires found { position (stands_as name) self.old.lines.items ≡ Some at }
         ensures { IfOk result (λ done. Tries (moves.Start name op (msg message.now)) done self.old self.new) }
     {
         let place = self.lines[at].count();
@@ -266,7 +266,7 @@ impl World {
         Ok(true)
     }
 
-    /// Plays a move. False where it can't be played now. The world isn't of use then, nor where there is no memory for it.
+    /// Plays a move. False where its condition doesn't hold now. The world isn't of use then, nor where there is no memory for it.
     pub(crate) fn play(&mut self, step: Move) -> Result<bool, NoMemory>
         requires { IsReady self.old }
         ensures { IfOk result (λ done. Tries (move_of step) done self.old self.new) }

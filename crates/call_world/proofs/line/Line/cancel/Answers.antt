@@ -3,7 +3,7 @@ use Rattle.call_world.proofs.Lines.{cancelled, not_out}
 use Rattle.call_world.proofs.line.Line.cancel.Goals as goal
 
 pub returns-then-not-is_calling : goal.returns-then-not-is_calling
-returns-then-not-is_calling c = λ table. not_out table c.args.self.now c.args.self.now (sym c.is_calling.ensures ∙ c.if-not-is_calling.true)
+returns-then-not-is_calling c = λ table. not_out c.args.self.now (sym c.is_calling.ensures ∙ c.if-not-is_calling.true)
 
 pub cancel-requires : goal.cancel-requires
 cancel-requires c = sym c.is_calling.ensures ∙ c.if-not-is_calling.false

@@ -4,14 +4,14 @@ use Rattle.call_world.proofs.Lines.{started, unbound, busy, untaken}
 use Rattle.call_world.proofs.line.Line.start.Goals as goal
 
 pub returns-then-not-is_bound : goal.returns-then-not-is_bound
-returns-then-not-is_bound c = λ table. unbound table c.args.op (msg c.args.message.now) c.args.self.now c.args.self.now (sym c.is_bound.ensures ∙ c.if-not-is_bound.true)
+returns-then-not-is_bound c = λ table. unbound c.args.op (msg c.args.message.now) c.args.self.now (sym c.is_bound.ensures ∙ c.if-not-is_bound.true)
 
 pub returns-then-is_calling : goal.returns-then-is_calling
-returns-then-is_calling c = λ table. busy table c.args.op (msg c.args.message.now) c.args.self.now c.args.self.now (sym c.is_calling.ensures ∙ c.if-is_calling.true)
+returns-then-is_calling c = λ table. busy c.args.op (msg c.args.message.now) c.args.self.now (sym c.is_calling.ensures ∙ c.if-is_calling.true)
 
 pub returns-then-not-branch : goal.returns-then-not-branch
 returns-then-not-branch c =
-    λ table. untaken table c.args.op (msg c.args.message.now) c.args.self.now c.args.self.now (λ m. (let f = sym (c.in_ok-takes.ensures.1 m) ∙ c.if-not-branch.true in absurd cc))
+    λ table. untaken c.args.op (msg c.args.message.now) c.args.self.now (λ m. (let f = sym (c.in_ok-takes.ensures.1 m) ∙ c.if-not-branch.true in absurd cc))
 
 pub start-requires-clause-bound : goal.start-requires-clause-bound
 start-requires-clause-bound c = sym c.is_bound.ensures ∙ c.if-not-is_bound.false

@@ -3,17 +3,17 @@ use Rattle.world_laws.specs.Ends.{CallerEnd}
 use Rattle.world_laws.specs.Calling.{HearsOctets}
 use Rattle.world_server.specs.Servers.{seen}
 use Rattle.world_ends.specs.Callers.{IsCaller}
-use Rattle.call_world.proofs.Lines.{hears_front, breaks_front, not_so_many_down, none_moves, too_many}
+use Rattle.call_world.proofs.Lines.{hears_front, breaks_front, not_so_many_down, none_move, too_few}
 use Rattle.call_world.proofs.line.Line.to_caller.Goals as goal
 
 pub returns-then-count-eq0 : goal.returns-then-count-eq0
-returns-then-count-eq0 c = not_so_many_down (seen c.args.server.now) (seen c.args.server.now) c.args.self.now c.args.self.now c.args.count (λ front left m. none_moves c.args.count c.args.self.now.serving.down.items front left c.if-count-eq0.true m)
+returns-then-count-eq0 c = not_so_many_down c.args.self.now c.args.count (none_move c.args.count c.args.self.now.serving.down.items c.if-count-eq0.true)
 
 pub returns-then-count-len : goal.returns-then-count-len
 returns-then-count-len c =
     let n : c.len.result ≡ length c.args.self.now.serving.down.items = search rules in
     let few : length c.args.self.now.serving.down.items < c.args.count = omega (arith, n, c.if-count-len.true) in
-    not_so_many_down (seen c.args.server.now) (seen c.args.server.now) c.args.self.now c.args.self.now c.args.count (λ front left m. too_many c.args.count c.args.self.now.serving.down.items front left m few)
+    not_so_many_down c.args.self.now c.args.count (too_few c.args.count c.args.self.now.serving.down.items few)
 
 pub returns-then-not-broken : goal.returns-then-not-broken
 returns-then-not-broken c =

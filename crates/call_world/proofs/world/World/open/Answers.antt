@@ -1,6 +1,7 @@
-use Rattle.std.proofs.Common.{subst, List, None}
+use Rattle.std.proofs.Common.{List, sym, ap, ◌∙◌}
+use Rattle.std.specs.Prelude.{position}
 use Rattle.call_world.specs.declared.line.Line.{Line as Wire}
-use Rattle.call_world.specs.Rows.{FindsBy, is_named}
+use Rattle.call_world.specs.Rows.{is_named}
 use Rattle.call_world.proofs.Places.{some_named}
 use Rattle.call_world.proofs.Moving.{named_already}
 use Rattle.call_world.proofs.world.World.open.Goals as goal
@@ -11,4 +12,4 @@ returns-in-Some c =
     named_already c.args.self.now c.args.self.now c.args.name c.args.group c.in-Some.field-0 r.0 r.1 r.2
 
 pub open_new-requires-clause-fresh : goal.open_new-requires-clause-fresh
-open_new-requires-clause-fresh c = subst (λ (ts : List Wire). FindsBy (is_named c.args.name) ts None) c.as_slice.ensures.value c.in-None.ensures
+open_new-requires-clause-fresh c = sym (c.in-None.ensures ∙ ap (λ (ts : List Wire). position (is_named c.args.name) ts) c.as_slice.ensures.value)
