@@ -1,3 +1,5 @@
+pub mod Meeting
 pub mod Octets
+pub mod Bare
 pub mod Values
 pub mod Rows

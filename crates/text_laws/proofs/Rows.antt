@@ -25,6 +25,8 @@ use Rattle.client_texts.proofs.Slots.{Below}
 use Rattle.text_laws.specs.Requests.{HaveNames}
 use Rattle.text_laws.proofs.Octets.{Placed, no_place, own_place, without, row_placed}
 use Rattle.text_laws.proofs.Values.{all_at, Fine, fine}
+use Rattle.text_laws.proofs.Meeting.{Facts, met}
+use Rattle.text_laws.proofs.Bare.{aims_same, same_typed}
 
 -- ---- one parameter
 

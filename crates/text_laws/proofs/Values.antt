@@ -27,7 +27,7 @@ data IsSize : ℕ → Type 0 where
   is_4 : IsSize 4
   is_8 : IsSize 8
 
-same_number : (m n : ℕ) → (m == n) ≡ true → m ≡ n
+pub same_number : (m n : ℕ) → (m == n) ≡ true → m ≡ n
 same_number m n h = grind (arith, nat_tests)
 
 size_by : (n : ℕ) (a b c d : Bool) → (n == 1) ≡ a → (n == 2) ≡ b → (n == 4) ≡ c → (n == 8) ≡ d → (a || (b || (c || d))) ≡ true → IsSize n
@@ -72,7 +72,7 @@ all_at f [] n x h e = absurd cc
 all_at f (y ∷ ys) zero x h e = let p = and_parts (f y) (list_all f ys) h in let q : y ≡ x = cc in ap f (sym q) ∙ p.0
 all_at f (y ∷ ys) (suc n) x h e = all_at f ys n x (and_parts (f y) (list_all f ys) h).1 e
 
-type_below : (number far : ℕ) (types : List Form) (c : ℕ) (s : Form) → ordered_from number far types ≡ true → slice_get types c ≡ Some s → (near : ℕ) × (is_below near far s ≡ true)
+pub type_below : (number far : ℕ) (types : List Form) (c : ℕ) (s : Form) → ordered_from number far types ≡ true → slice_get types c ≡ Some s → (near : ℕ) × (is_below near far s ≡ true)
 type_below number far [] c s h e = absurd cc
 type_below number far (x ∷ xs) zero s h e =
     let p = and_parts (is_body x) (is_below number far x && ordered_from (number + 1) far xs) h in
@@ -84,26 +84,26 @@ type_below number far (x ∷ xs) (suc c) s h e =
     let q = and_parts (is_below number far x) (ordered_from (number + 1) far xs) p.1 in
     type_below (number + 1) far xs c s q.1 e
 
-abbrev Sound : Form → Type 0
+abbrev pub Sound : Form → Type 0
 Sound s = is_sound s ≡ true
 
 body_has : (b : Body) → body_sound b ≡ true → HasBody Sound b
 body_has empty h = tt
 body_has (holds s) h = h
 
-arms_have : (arms : ArmForms) → arms_sound arms ≡ true → EachArm Sound arms
+pub arms_have : (arms : ArmForms) → arms_sound arms ≡ true → EachArm Sound arms
 arms_have no_arm h = tt
 arms_have (then_arm cases default b rest) h = let p = and_parts (body_sound b) (arms_sound rest) h in (body_has b p.0, arms_have rest p.1)
 
 module _ (near far : ℕ) where
-  abbrev Ahead : Form → Type 0
+  abbrev pub Ahead : Form → Type 0
   Ahead s = is_below near far s ≡ true
 
   body_ahead : (b : Body) → body_below near far b ≡ true → HasBody Ahead b
   body_ahead empty h = tt
   body_ahead (holds s) h = h
 
-  arms_ahead : (arms : ArmForms) → arms_below near far arms ≡ true → EachArm Ahead arms
+  pub arms_ahead : (arms : ArmForms) → arms_below near far arms ≡ true → EachArm Ahead arms
   arms_ahead no_arm h = tt
   arms_ahead (then_arm cases default b rest) h = let p = and_parts (body_below near far b) (arms_below near far rest) h in (body_ahead b p.0, arms_ahead rest p.1)
 
