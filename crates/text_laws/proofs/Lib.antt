@@ -1,5 +1,6 @@
+pub mod Bare
+pub mod Heaps
 pub mod Meeting
 pub mod Octets
-pub mod Bare
-pub mod Values
 pub mod Rows
+pub mod Values

@@ -145,7 +145,7 @@ aims_ref types v s = aims_named types v (OfRef s) s (ref_plain types (length typ
 
 -- ---- shapes that are seen
 
-abbrev Grow : Seen → Seen → Seen → Seen → Type 0
+abbrev pub Grow : Seen → Seen → Seen → Seen → Type 0
 Grow p p' q q' = Front p.shapes p'.shapes × Front q.shapes q'.shapes
 
 still : (p q : Seen) → Grow p p q q
@@ -188,7 +188,7 @@ module _ (types : List Form) (call : Call) where
   pub shapes_grow : {room : ℕ} {body : Vals} {link : Option Count} {s : Form} {v : Val} {p p' q q' : Seen} → Suits types call room body link s v p p' q q' → Grow p p' q q'
   shapes_grow t = grows t
 
-abbrev far : Seen → ℕ
+abbrev pub far : Seen → ℕ
 far p = length p.shapes
 
 -- ---- where items are met
@@ -213,7 +213,7 @@ module _ (types : List Form) (shapes : List Form) (heap : Vals) (values : Aims) 
     pub item : Item j
     pub met : b ≤ j → Source j j
 
-  abbrev Between : ℕ → Seen → Seen → Type 0
+  abbrev pub Between : ℕ → Seen → Seen → Type 0
   Between b p p' = (j : ℕ) → far p ≤ j → j < far p' → Good b j
 
   pub record New (b : ℕ) (p p' q q' : Seen) : Type 0 where
@@ -224,7 +224,7 @@ module _ (types : List Form) (shapes : List Form) (heap : Vals) (values : Aims) 
     pub all : AllIs shapes a
     pub new : ((j : ℕ) → b ≤ j → Has a j → Source j j) → New b p p' q q'
 
-  moved : (b : ℕ) (a c : Aims) (p p' q q' : Seen) → a ≡ c → Facts b a p p' q q' → Facts b c p p' q q'
+  pub moved : (b : ℕ) (a c : Aims) (p p' q q' : Seen) → a ≡ c → Facts b a p p' q q' → Facts b c p p' q q'
   moved b a c p p' q q' e f = subst (λ (x : Aims). Facts b x p p' q q') e f
 
   between_none : (b : ℕ) (p : Seen) → Between b p p
@@ -236,10 +236,10 @@ module _ (types : List Form) (shapes : List Form) (heap : Vals) (values : Aims) 
     | inr more ↦ y j more lt
   ]
 
-  none : (b : ℕ) (p q : Seen) → Facts b [] p p q q
+  pub none : (b : ℕ) (p q : Seen) → Facts b [] p p q q
   none b p q = record { all = tt; new = λ hyp. record { flat = between_none b p; behind = between_none b q } }
 
-  both : (b : ℕ) (a c : Aims) (p h p' q g q' : Seen) → Facts b a p h q g → Facts b c h p' g q' → Facts b (a ++ c) p p' q q'
+  pub both : (b : ℕ) (a c : Aims) (p h p' q g q' : Seen) → Facts b a p h q g → Facts b c h p' g q' → Facts b (a ++ c) p p' q q'
   both b a c p h p' q g q' x y = record {
     all = all_both shapes a c x.all y.all;
     new = λ hyp.
@@ -248,7 +248,7 @@ module _ (types : List Form) (shapes : List Form) (heap : Vals) (values : Aims) 
         record { flat = between_on b p h p' m.flat n.flat; behind = between_on b q g q' m.behind n.behind };
   }
 
-  referent : (b : ℕ) (a : Aims) (p q h q' : Seen) → Facts b a q h h q' → Facts b a p p q q'
+  pub referent : (b : ℕ) (a : Aims) (p q h q' : Seen) → Facts b a q h h q' → Facts b a p p q q'
   referent b a p q h q' x = record {
     all = x.all;
     new = λ hyp. let m = x.new hyp in record { flat = between_none b p; behind = between_on b q h q' m.flat m.behind };

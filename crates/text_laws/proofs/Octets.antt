@@ -14,6 +14,7 @@ use Rattle.value_text.specs.Marks.{heads_digit}
 use Rattle.value_text.specs.Texts.{value_text, list_text, more_text, bool_text, char_text, is_plain}
 use Rattle.value_text.proofs.Steps.{passes-at}
 use Rattle.client_texts.specs.Handles.{name, has_name}
+use Rattle.client_texts.specs.Heaps.{heap_text}
 use Rattle.client_texts.specs.Texts.{NamedFrom, row_text}
 use Rattle.client_texts.specs.Texts.NamedFrom.{the_end, handle, quoted, other}
 use Rattle.client_texts.proofs.Slots.{Below, AllBelow}
@@ -145,7 +146,7 @@ module _ (known : List WireHandle) (k : ℕ) (ws : List WireHandle) where
     value_reads (VFull (Some m)) rest b n = front (codes "@") (decimal m) rest refl (others (decimal m) rest (decimal_calm m) n)
     value_reads (VHandle j) rest b n = absurd (omega (arith, b))
 
-    list_reads : (vs : Vals) (rest : List ℕ) → AllBelow 0 vs → Has rest → Has (list_text vs ++ rest)
+    pub list_reads : (vs : Vals) (rest : List ℕ) → AllBelow 0 vs → Has rest → Has (list_text vs ++ rest)
     list_reads no_val rest b n = n
     list_reads (then_val v vs) rest b n = back (value_text v) (more_text vs) rest (value_reads v (more_text vs ++ rest) b.0 (more_reads vs rest b.1 n))
 
@@ -188,8 +189,16 @@ list_placed known k ws vs rest (own_place {w = w} {ws = us} {vs = xs} p) has sto
 list_placed known k ws vs rest (without {v = v} {vs = xs} b p) has stops n =
     back known k ws (value_text v) (more_text xs) rest (value_reads known k ws v (more_text xs ++ rest) b (more_placed known k ws xs rest p has stops n))
 
-pub row_placed : (known ws : List WireHandle) (vs : Vals) → Placed 0 ws vs → HaveNames known ws → Reads known 0 ws (row_text vs ++ [])
+pub row_placed : (known ws : List WireHandle) (vs : Vals) (rest : List ℕ) → Placed 0 ws vs → HaveNames known ws → ((j : ℕ) → Reads known j [] rest) → Reads known 0 ws (row_text vs ++ rest)
 unfolding row_text
-row_placed known ws vs p has =
-    front known 0 ws (codes "(") (list_text vs ++ codes ")") [] refl
-    (back known 0 ws (list_text vs) (codes ")") [] (list_placed known 0 ws vs (codes ")") p has refl (λ j. others known j [] (codes ")") [] refl ([], the_end j))))
+row_placed known ws vs rest p has n =
+    front known 0 ws (codes "(") (list_text vs ++ codes ")") rest refl
+    (back known 0 ws (list_text vs) (codes ")") rest (list_placed known 0 ws vs (codes ")" ++ rest) p has refl (λ j. others known j [] (codes ")") rest refl (n j))))
+
+-- a heap whose items have no handles
+pub heap_reads : (known : List WireHandle) (vs : Vals) → AllBelow 0 vs → (j : ℕ) → Reads known j [] (heap_text vs)
+unfolding heap_text
+heap_reads known no_val b j = ([], the_end j)
+heap_reads known (then_val v vs) b j =
+    others known j [] (codes " heap [") (list_text (then_val v vs) ++ codes "]") refl
+    (list_reads known j [] (then_val v vs) (codes "]") b (others known j [] (codes "]") [] refl ([], the_end j)))

@@ -23,10 +23,10 @@ use Rattle.client_texts.specs.Heaps.{heap_text, IsHeap, each_aims}
 use Rattle.client_texts.specs.Texts.{inwards, row_text, NamedFrom, IsRequestText}
 use Rattle.client_texts.proofs.Slots.{Below}
 use Rattle.text_laws.specs.Requests.{HaveNames}
-use Rattle.text_laws.proofs.Octets.{Placed, no_place, own_place, without, row_placed}
+use Rattle.text_laws.proofs.Octets.{Placed, no_place, own_place, without, row_placed, heap_reads}
 use Rattle.text_laws.proofs.Values.{all_at, Fine, fine}
-use Rattle.text_laws.proofs.Meeting.{Facts, met}
-use Rattle.text_laws.proofs.Bare.{aims_same, same_typed}
+use Rattle.text_laws.proofs.Meeting.{front_same}
+use Rattle.text_laws.proofs.Heaps.{kind_or_sound, sound_behind, below_behind, sized_at, params_met, heap_items}
 
 -- ---- one parameter
 
@@ -38,11 +38,6 @@ data Puts (q g : Seen) : Val → Type 0 where
 record One (types : List Form) (s : Form) (v : Val) (q g : Seen) : Type 0 where
   pub typed : Typed types (2 ^ 32) 0 s v
   pub puts : Puts q g v
-
-kind_or_sound : (o : Option ℕ) (b c : Bool) → ((is_some o || b) && c) ≡ true → o ≡ None → b ≡ true
-kind_or_sound None true c h e = refl
-kind_or_sound None false c h e = absurd cc
-kind_or_sound (Some k) b c h e = absurd cc
 
 module _ {types : List Form} {call : Call} where
   handle_met : {room kind : ℕ} {body : Vals} {link : Option Count} {v : Val} {q h g : Seen} → Suits types call room body link (OfHandle kind) v q h h g → One types (OfHandle kind) v q g
@@ -56,15 +51,6 @@ module _ {types : List Form} {call : Call} where
   kind_met (OfRef s) e x = let o = own_met s e x in record { typed = a_ref o.typed; puts = o.puts }
   kind_met (OfHandle k) e x = handle_met x
   kind_met _ e x = absurd cc
-
--- behind a parameter's own Ref
-sound_behind : (s : Form) → is_sound s ≡ true → is_sound (of_param s) ≡ true
-sound_behind (OfRef s) e = e
-sound_behind _ e = e
-
-below_behind : (far : ℕ) (s : Form) → is_below far far s ≡ true → is_below far far (of_param s) ≡ true
-below_behind far (OfRef s) e = e
-below_behind far _ e = e
 
 typed_behind : (types : List Form) (s : Form) (v : Val) → Typed types (2 ^ 32) 0 (of_param s) v → Typed types (2 ^ 32) 0 s v
 typed_behind types (OfRef s) v t = a_ref t
@@ -127,27 +113,24 @@ module _ (types : List Form) (call : Call) (sound : list_all is_sound types ≡ 
 
 -- ---- the text of a request
 
-no_item : (heap : Vals) → heap ≡ no_val → (n : ℕ) (v : Val) → nth heap n ≡ Some v → Sized v
-no_item heap none n v e = let f : nth no_val n ≡ Some v = ap (λ (x : Vals). nth x n) (sym none) ∙ e in absurd cc
-
-no_heap : (types : List Form) (before : _) (heap : Vals) → heap ≡ no_val → IsHeap types before heap []
-unfolding heap_text Sized
-no_heap types before heap none = subst (λ (x : Vals). IsHeap types before x []) (sym none) (record { items = tt; sized = tt; whole = refl })
-
 pub each_has_a_text : (types : List Form) (ops : List OpForm) (uses : List (List HandleUse)) (number : ℕ) (op : OpForm) (asked : Option Msg) (m : Msg) (known : List WireHandle)
-    → IsTable types ops uses → IsSound types ops uses → slice_get ops number ≡ Some op → IsOfOp types op Request asked m → AllSized m.values → m.heap ≡ no_val → HaveNames known m.wires
+    → IsTable types ops uses → IsSound types ops uses → slice_get ops number ≡ Some op → IsOfOp types op Request asked m → AllSized m.values → AllSized m.heap → HaveNames known m.wires
     → (text : List ℕ) × IsRequestText types (inwards op.params) known m text
-each_has_a_text types ops uses number op asked m known table sound at is sized none has =
+each_has_a_text types ops uses number op asked m known table sound at is sized heap_sized has =
     let s = and_parts (list_all param_sound op.params) (result_sound op.result) (all_at op_sound ops number op sound.ops_are at) in
     let b = and_parts (list_all (param_below (length types)) op.params) (result_below (length types) op.result) (all_at (op_below (length types)) ops number op table.ops_are at) in
-    let made = params_made types (call_of op Request asked m) sound.types_are table.types_are (no_item m.heap none) op.result op.params s.0 b.0 m.values nothing_seen is.end sized is.suits in
+    let call = call_of op Request asked m in
+    let made = params_made types call sound.types_are table.types_are (sized_at m.heap heap_sized) op.result op.params s.0 b.0 m.values nothing_seen is.end sized is.suits in
+    let before = each_aims types (inwards op.params) m.values in
+    let facts = params_met types is.end.shapes m.heap before call refl sound.types_are table.types_are (sized_at m.heap heap_sized) op.result op.params s.0 b.0 m.values nothing_seen is.end sized (front_same is.end.shapes) is.suits in
+    let heap = heap_items types is.end.shapes m.heap before facts is.heap refl in
     let wires : m.wires ≡ made.more = is.wires ∙ made.wires in
     let placed = subst (λ (ws : List WireHandle). Placed 0 ws m.values) (sym wires) made.placed in
-    let text = row_placed known m.wires m.values placed has in
+    let text = row_placed known m.wires m.values (heap_text m.heap) placed has (heap_reads known m.heap heap.1) in
     (text.0, record {
-      places = row_text m.values ++ [];
-      behind = [];
+      places = row_text m.values ++ heap_text m.heap;
+      behind = heap_text m.heap;
       row = record { typed = made.typed; sized = sized; whole = refl };
-      heap = no_heap types (each_aims types (inwards op.params) m.values) m.heap none;
+      heap = record { items = heap.0; sized = heap_sized; whole = refl };
       named = text.1;
     })

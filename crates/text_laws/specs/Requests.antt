@@ -2,7 +2,7 @@
 use Rattle.std.specs.Prelude.{◌≡◌, ℕ, true, List, [], ◌∷◌, Option, Some, slice_get}
 use Rattle.rpc_base.specs.declared.identifiers.WireHandle.{WireHandle}
 use Rattle.ndr_value.specs.Forms.{Form}
-use Rattle.ndr_value.specs.Values.{Msg, no_val}
+use Rattle.ndr_value.specs.Values.{Msg}
 use Rattle.ndr_table.specs.declared.operation.HandleUse.{HandleUse}
 use Rattle.ndr_table.specs.Tables.{OpForm, IsTable}
 use Rattle.ndr_table.specs.Sound.{IsSound}
@@ -17,9 +17,9 @@ abbrev pub HaveNames : List WireHandle → List WireHandle → Type 0
 HaveNames known [] = Unit {0}
 HaveNames known (w ∷ ws) = (has_name known w ≡ true) × HaveNames known ws
 
--- Of a table as each of the library is: a message of an operation, as a request, whose heap is empty, whose handles are null or came, and
--- whose numbers and octets are those that its types hold, has a text.
+-- Of a table as each of the library is: a message of an operation, as a request, whose handles are null or came, and whose numbers and
+-- octets are those that its types hold, has a text.
 abbrev pub EachRequestHasAText : Type 0
 EachRequestHasAText = (types : List Form) (ops : List OpForm) (uses : List (List HandleUse)) (number : ℕ) (op : OpForm) (asked : Option Msg) (m : Msg) (known : List WireHandle)
-    → IsTable types ops uses → IsSound types ops uses → slice_get ops number ≡ Some op → IsOfOp types op Request asked m → AllSized m.values → m.heap ≡ no_val → HaveNames known m.wires
+    → IsTable types ops uses → IsSound types ops uses → slice_get ops number ≡ Some op → IsOfOp types op Request asked m → AllSized m.values → AllSized m.heap → HaveNames known m.wires
     → (text : List ℕ) × IsRequestText types (inwards op.params) known m text

@@ -3,8 +3,8 @@
 
 ghost use Rattle.text_laws.specs.Requests.{EachRequestHasAText};
 
-/// Each message of an operation, as a request, has a text in a call script, where its heap is empty, its handles are null or came,
-/// and its numbers and octets are those that its types hold.
+/// Each message of an operation, as a request, has a text in a call script, where its handles are null or came, and its numbers and
+/// octets are those that its types hold.
 pub fn each_request_has_a_text()
     ensures { EachRequestHasAText }
 {}
