@@ -1,5 +1,5 @@
 -- The heap of a request: each of its items is of the shape that the first full pointer to it points to.
-use Rattle.std.proofs.Common.{◌≡◌, ℕ, zero, suc, ◌+◌, ◌<◌, ◌≤◌, ◌^◌, ◌==◌, Bool, true, false, List, [], ◌∷◌, ◌++◌, length, Option, Some, None, refl, sym, ap, subst, ◌∙◌, arith, inl, inr}
+use Rattle.std.proofs.Common.{◌≡◌, ℕ, zero, suc, ◌+◌, ◌<◌, ◌^◌, ◌==◌, Bool, true, false, List, [], ◌∷◌, ◌++◌, length, Option, Some, None, refl, sym, ap, subst, ◌∙◌, arith, inl, inr}
 use Rattle.std.specs.Prelude.{◌&&◌, ◌||◌, slice_get, is_some, if◌then◌else◌}
 use Rattle.std.specs.List.{list_all}
 use Rattle.std.proofs.lemmas.Bool.{and_parts, cases_lt}
@@ -13,14 +13,14 @@ use Rattle.ndr_table.specs.Sound.{is_sound, own_kind, handle_kind, range_sound, 
 use Rattle.ndr_model.specs.declared.way.Way.TheVariants.{Request}
 use Rattle.ndr_model.specs.Stub.{Entry, of_param, param_entry, entries_of}
 use Rattle.ndr_model.specs.Named.{Call, nth}
-use Rattle.ndr_model.specs.Fits.{Seen, with_wire, Suits, suits_handle, SuitEntries, no_entry, then_entry, nothing_seen}
+use Rattle.ndr_model.specs.Fits.{Seen, Suits, suits_handle, SuitEntries, no_entry, then_entry, nothing_seen}
 use Rattle.value_text.specs.Texts.{Sized, AllSized}
 use Rattle.client_texts.specs.Heaps.{Aims, aims, each_aims, first_aim, AreItems}
 use Rattle.client_texts.specs.Texts.{inwards}
 use Rattle.client_texts.proofs.Slots.{Below, AllBelow}
 use Rattle.text_laws.proofs.Values.{same_number}
 use Rattle.text_laws.proofs.Bare.{bare_aims, aims_same, same_typed}
-use Rattle.text_laws.proofs.Meeting.{Front, front_same, front_on, shapes_grow, far, Has, has_left, has_right, Is, AllIs, all_both, aims_ref, Source, in_values, in_item, Item, Good, Between, New, Facts, moved, none, both, referent, met}
+use Rattle.text_laws.proofs.Meeting.{Front, front_same, front_on, shapes_grow, far, Has, has_left, has_right, Is, AllIs, all_both, aims_ref, Source, in_values, in_item, Good, Facts, moved, none, both, referent, met}
 
 pub kind_or_sound : (o : Option ℕ) (b c : Bool) → ((is_some o || b) && c) ≡ true → o ≡ None → b ≡ true
 kind_or_sound None true c h e = refl
@@ -35,7 +35,6 @@ sound_behind _ e = e
 pub below_behind : (far : ℕ) (s : Form) → is_below far far s ≡ true → is_below far far (of_param s) ≡ true
 below_behind far (OfRef s) e = e
 below_behind far _ e = e
-
 
 aims_behind : (types : List Form) (v : Val) (s : Form) → aims types (of_param s) v ≡ aims types s v
 aims_behind types v (OfRef s) = sym (aims_ref types v s)
@@ -185,13 +184,13 @@ module _ (types shapes : List Form) (heap : Vals) (values : Aims) (good : (j : �
       let has = covers n (g.met (omega arith)) in
       let is = all_first shapes before n has.0 all has.1 in
       let flat : n + 0 ≡ n = omega arith in
-      let here : Some v ≡ nth heap n = ◌∙◌ {a = Some v} (at 0) (ap (nth heap) flat) in
-      let value_is : item.value ≡ v = some_val item.value v (sym item.is_value ∙ sym here) in
-      let shape_is : is.0 ≡ item.shape = some_form is.0 item.shape (sym is.1 ∙ item.is_shape) in
+      let here : Some v ≡ nth heap n = at 0 ∙ ap (nth heap) flat in
+      let value_is : item.value ≡ v = some_val item.value v (◌∙◌ {a = Some item.value} {b = nth heap n} {c = Some v} (sym item.is_value) (sym here)) in
+      let shape_is : is.0 ≡ item.shape = some_form is.0 item.shape (◌∙◌ {a = Some is.0} (sym is.1) item.is_shape) in
       let e : bare item.shape ≡ bare has.0 = sym (ap bare shape_is) ∙ is.2 in
       let typed = same_typed types (2 ^ 32) item.shape has.0 0 v e (subst (λ (x : Val). Typed types (2 ^ 32) 0 item.shape x) value_is item.typed) in
       let aim = all_same shapes (aims types item.shape v) (aims types has.0 v) (aims_same types v item.shape has.0 e) (subst (λ (x : Val). AllIs shapes (aims types item.shape x)) value_is item.aim) in
-      let rest = items_on vs (suc n) (before ++ aims types has.0 v) (λ j. ◌∙◌ {a = nth vs j} (at (suc j)) (ap (nth heap) (let k : n + suc j ≡ suc n + j = omega arith in k))) (omega (arith, count, more)) (all_both shapes before (aims types has.0 v) all aim)
+      let rest = items_on vs (suc n) (before ++ aims types has.0 v) (λ j. at (suc j) ∙ ap (nth heap) (let k : n + suc j ≡ suc n + j = omega arith in k)) (omega (arith, count, more)) (all_both shapes before (aims types has.0 v) all aim)
       (covers_more n before item.shape has.0 v covers item.is_shape (sym here) e) in
       ((has.0, has.1, typed, rest.0), (subst (λ (x : Val). Below 0 x) value_is item.free, rest.1))
 

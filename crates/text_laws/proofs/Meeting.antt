@@ -1,12 +1,12 @@
 -- Items of the heap are met: from the values, or from items of lesser numbers, by full pointers to the same shapes.
-use Rattle.std.proofs.Common.{◌≡◌, ℕ, zero, suc, ◌+◌, ◌<◌, ◌≤◌, ◌^◌, ◌==◌, Bool, true, false, List, [], ◌∷◌, ◌++◌, length, Option, Some, None, ℤ, refl, sym, ap, subst, ◌∙◌, append_assoc, arith, length-append, inl, inr}
+use Rattle.std.proofs.Common.{◌≡◌, ℕ, zero, suc, ◌+◌, ◌<◌, ◌≤◌, ◌^◌, ◌==◌, Bool, true, false, List, [], ◌∷◌, ◌++◌, length, Option, Some, None, refl, sym, ap, subst, ◌∙◌, append_assoc, arith, length-append, inl, inr}
 use Rattle.std.specs.Prelude.{◌&&◌, slice_get, if◌then◌else◌}
 use Rattle.std.specs.List.{list_all}
 use Rattle.std.proofs.lemmas.Bool.{and_parts, cases_lt}
 use Rattle.std.proofs.lemmas.Bool.Decides.{nat_tests}
 use Rattle.std.proofs.lemmas.List.{append-nil}
 use Rattle.ndr_value.specs.declared.shape.Count.{Count}
-use Rattle.ndr_value.specs.Forms.{Form, OfNamed, OfStruct, OfUnion, OfArray, OfRef, OfUnique, OfFull, Forms, Body, ArmForms, bare}
+use Rattle.ndr_value.specs.Forms.{Form, OfNamed, OfStruct, OfUnion, OfArray, OfRef, OfUnique, OfFull, Forms, Body, bare}
 use Rattle.ndr_value.specs.Values.{Val, VStruct, VUnion, VArray, VPtr, VFull, Vals}
 use Rattle.ndr_value.specs.Fits.{arm_of}
 use Rattle.ndr_value.specs.Judged.{is_done, or_else, plain, members, inner, is_held, held}
@@ -19,7 +19,7 @@ use Rattle.ndr_model.specs.Fits.{Seen, with_item, Suits, suits_bool, suits_byte,
 use Rattle.value_text.specs.Texts.{Sized, AllSized}
 use Rattle.client_texts.specs.Heaps.{Aims, named, aims, each_aims, all_aims, first_aim}
 use Rattle.client_texts.proofs.Slots.{Below}
-use Rattle.text_laws.proofs.Values.{all_at, type_below, Sound, arms_have, Ahead, arms_ahead, same_number, Fine, fine}
+use Rattle.text_laws.proofs.Values.{all_at, type_below, Sound, arms_have, Ahead, arms_ahead, fine}
 
 -- ---- lists that others begin with
 

@@ -1,17 +1,16 @@
 -- The text of a value without handles stands as it is, and what follows it has the names that it has.
-use Rattle.std.proofs.Common.{◌≡◌, ◌≢◌, ℕ, zero, suc, ◌+◌, ◌/◌, ◌%◌, ◌<◌, ◌==◌, Bool, true, false, List, [], ◌∷◌, ◌++◌, length, get_or, Some, None, refl, ap, sym, ◌∙◌, subst, append_assoc, arith, codes, decimal}
+use Rattle.std.proofs.Common.{◌≡◌, ◌≢◌, ℕ, zero, suc, ◌/◌, ◌%◌, ◌==◌, Bool, true, false, List, [], ◌∷◌, ◌++◌, get_or, Some, None, refl, ap, sym, ◌∙◌, subst, append_assoc, arith, codes, decimal}
 use Rattle.std.specs.Prelude.{not, ◌&&◌, if◌then◌else◌, ℤ, pos, negsuc}
 use Rattle.std.specs.List.{list_all, flat_map}
 use Rattle.std.specs.Fmt.{signed_decimal, digits, digits_onto, digit_glyph}
 use Rattle.std.proofs.lemmas.Bool.{and_parts}
-use Rattle.std.proofs.lemmas.Bool.Decides.{nat_tests}
 use Rattle.std.proofs.lemmas.List.Elements.{All-cons, All-head, All-tail}
 use Rattle.hex.specs.Hex.{encode_lower, encode_with, lower_digits}
 use Rattle.rpc_base.specs.declared.identifiers.WireHandle.{WireHandle}
 use Rattle.base_words.specs.Reads.{HasNo}
 use Rattle.ndr_value.specs.Values.{Val, VBool, VByte, VChar, VInt, VUint, VEnum, VStruct, VEmpty, VUnion, VArray, VText, VNull, VPtr, VFull, VHandle, Vals, no_val, then_val}
 use Rattle.value_text.specs.Marks.{heads_digit}
-use Rattle.value_text.specs.Texts.{value_text, list_text, more_text, bool_text, char_text, is_plain}
+use Rattle.value_text.specs.Texts.{value_text, list_text, more_text, char_text, is_plain}
 use Rattle.value_text.proofs.Steps.{passes-at}
 use Rattle.client_texts.specs.Handles.{name, has_name}
 use Rattle.client_texts.specs.Heaps.{heap_text}

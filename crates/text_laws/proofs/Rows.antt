@@ -1,6 +1,6 @@
 -- The row of a message's values, parameter by parameter.
-use Rattle.std.proofs.Common.{◌≡◌, ℕ, zero, suc, ◌+◌, ◌≤◌, ◌^◌, Bool, true, false, List, [], ◌∷◌, ◌++◌, length, Option, Some, None, refl, sym, ap, subst, ◌∙◌, append_assoc, arith, length-append}
-use Rattle.std.specs.Prelude.{◌&&◌, ◌||◌, slice_get, is_some, if◌then◌else◌}
+use Rattle.std.proofs.Common.{◌≡◌, ℕ, suc, ◌^◌, Bool, true, false, List, [], ◌∷◌, ◌++◌, length, Option, Some, None, refl, sym, ap, subst, ◌∙◌, append_assoc, arith}
+use Rattle.std.specs.Prelude.{slice_get, if◌then◌else◌}
 use Rattle.std.specs.List.{list_all}
 use Rattle.std.proofs.lemmas.Bool.{and_parts}
 use Rattle.std.proofs.lemmas.List.{append-nil}
@@ -11,20 +11,20 @@ use Rattle.ndr_value.specs.Values.{Val, VHandle, Vals, no_val, then_val, Msg}
 use Rattle.ndr_value.specs.Typed.{Typed, EachTyped, a_ref, a_handle, no_more, one_more}
 use Rattle.ndr_table.specs.declared.operation.HandleUse.{HandleUse}
 use Rattle.ndr_table.specs.Tables.{ParamForm, OpForm, param_below, result_below, op_below, IsTable}
-use Rattle.ndr_table.specs.Ordered.{is_below, ordered}
+use Rattle.ndr_table.specs.Ordered.{ordered}
 use Rattle.ndr_table.specs.Sound.{is_sound, own_kind, handle_kind, range_sound, param_sound, result_sound, op_sound, IsSound}
 use Rattle.ndr_model.specs.declared.way.Way.TheVariants.{Request}
-use Rattle.ndr_model.specs.Stub.{Entry, of_param, param_entry, entries_of, entries}
+use Rattle.ndr_model.specs.Stub.{Entry, of_param, param_entry, entries_of}
 use Rattle.ndr_model.specs.Named.{Call, nth}
-use Rattle.ndr_model.specs.Fits.{Seen, with_wire, Suits, suits_handle, SuitEntries, no_entry, then_entry, nothing_seen, IsOfOp}
+use Rattle.ndr_model.specs.Fits.{Seen, Suits, suits_handle, SuitEntries, no_entry, then_entry, nothing_seen, IsOfOp}
 use Rattle.ndr_model.specs.Written.{call_of}
 use Rattle.value_text.specs.Texts.{Sized, AllSized}
-use Rattle.client_texts.specs.Heaps.{heap_text, IsHeap, each_aims}
-use Rattle.client_texts.specs.Texts.{inwards, row_text, NamedFrom, IsRequestText}
+use Rattle.client_texts.specs.Heaps.{heap_text, each_aims}
+use Rattle.client_texts.specs.Texts.{inwards, row_text, IsRequestText}
 use Rattle.client_texts.proofs.Slots.{Below}
 use Rattle.text_laws.specs.Requests.{HaveNames}
 use Rattle.text_laws.proofs.Octets.{Placed, no_place, own_place, without, row_placed, heap_reads}
-use Rattle.text_laws.proofs.Values.{all_at, Fine, fine}
+use Rattle.text_laws.proofs.Values.{all_at, fine}
 use Rattle.text_laws.proofs.Meeting.{front_same}
 use Rattle.text_laws.proofs.Heaps.{kind_or_sound, sound_behind, below_behind, sized_at, params_met, heap_items}
 
@@ -126,11 +126,13 @@ each_has_a_text types ops uses number op asked m known table sound at is sized h
     let heap = heap_items types is.end.shapes m.heap before facts is.heap refl in
     let wires : m.wires ≡ made.more = is.wires ∙ made.wires in
     let placed = subst (λ (ws : List WireHandle). Placed 0 ws m.values) (sym wires) made.placed in
-    let text = row_placed known m.wires m.values (heap_text m.heap) placed has (heap_reads known m.heap heap.1) in
-    (text.0, record {
-      places = row_text m.values ++ heap_text m.heap;
-      behind = heap_text m.heap;
-      row = record { typed = made.typed; sized = sized; whole = refl };
-      heap = record { items = heap.0; sized = heap_sized; whole = refl };
-      named = text.1;
-    })
+    let text = row_placed known m.wires m.values (heap_text m.heap) placed has (heap_reads known m.heap heap.1) in (
+      text.0,
+      record {
+        places = row_text m.values ++ heap_text m.heap;
+        behind = heap_text m.heap;
+        row = record { typed = made.typed; sized = sized; whole = refl };
+        heap = record { items = heap.0; sized = heap_sized; whole = refl };
+        named = text.1;
+      },
+    )

@@ -2,15 +2,14 @@
 use Rattle.std.proofs.Common.{◌≡◌, ℕ, zero, suc, ◌+◌, ◌<◌, ◌≤◌, ◌^◌, Bool, true, false, List, [], ◌∷◌, length, Option, Some, None, ℤ, refl, sym, ap, subst, ◌∙◌, arith}
 use Rattle.std.specs.Prelude.{◌&&◌, ◌||◌, ◌==◌, slice_get}
 use Rattle.std.specs.List.{list_all}
-use Rattle.std.proofs.lemmas.Bool.{and_parts, lt-ltb, le-leb, eq-eqb}
+use Rattle.std.proofs.lemmas.Bool.{and_parts, lt-ltb, le-leb}
 use Rattle.std.proofs.lemmas.Bool.Decides.{nat_tests}
 use Rattle.ndr_value.specs.declared.shape.Count.{Count}
 use Rattle.ndr_value.specs.declared.shape.ArrayKind.{ArrayKind}
-use Rattle.ndr_value.specs.declared.shape.ArrayKind.TheVariants.{Fixed, Varying, Conformant, ConformantVarying}
-use Rattle.ndr_value.specs.Forms.{Form, OfInt, OfUint, OfUnion, Forms, Body, ArmForms, no_arm, then_arm, empty, holds}
-use Rattle.ndr_value.specs.Values.{Val, Vals, no_val, then_val, count_of}
-use Rattle.ndr_value.specs.Fits.{limit, fits_int, fits_count, fits_text, arm_of}
-use Rattle.ndr_value.specs.Typed.{Typed, EachTyped, AllTyped, a_bool, a_byte, a_char, an_int, a_uint, an_enum, a_name, a_struct, an_empty_arm, an_arm, an_array, a_text, a_ref, a_null, a_pointer, a_null_full, a_full, a_handle, no_more, one_more, none_left, one_of}
+use Rattle.ndr_value.specs.Forms.{Form, Forms, Body, ArmForms, no_arm, then_arm, empty, holds}
+use Rattle.ndr_value.specs.Values.{Val, Vals}
+use Rattle.ndr_value.specs.Fits.{limit, fits_int, fits_count, fits_text}
+use Rattle.ndr_value.specs.Typed.{Typed, EachTyped, AllTyped, a_bool, a_byte, a_char, an_int, a_uint, an_enum, a_name, a_struct, an_empty_arm, an_arm, an_array, a_text, a_ref, a_null, a_pointer, a_null_full, a_full, no_more, one_more, none_left, one_of}
 use Rattle.ndr_table.specs.Ordered.{is_size, is_below, each_below, arms_below, body_below, is_body, ordered_from, ordered}
 use Rattle.ndr_table.specs.Sound.{has_member, has_element, is_tag, is_sound, each_sound, arms_sound, body_sound}
 use Rattle.ndr_laws.proofs.Grounded.{HasBody, EachArm, arm_has}
