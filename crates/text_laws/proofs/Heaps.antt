@@ -150,11 +150,11 @@ all_first : (shapes : List Form) (a : Aims) (n : ℕ) (u : Form) → AllIs shape
 all_first shapes [] n u h e = absurd cc
 all_first shapes (x ∷ a) n u h e = first_by shapes (x.0 == n) n x.0 x.1 u (first_aim a n) refl h.0 (λ f. all_first shapes a n u h.1 f) e
 
-some_form : (s t : Form) → Some s ≡ Some t → s ≡ t
-some_form s t e = cc
+same_form : (o : Option Form) (s t : Form) → o ≡ Some s → o ≡ Some t → s ≡ t
+same_form o s t e f = cc
 
-some_val : (v w : Val) → Some v ≡ Some w → v ≡ w
-some_val v w e = cc
+same_val : (o : Option Val) (v w : Val) → o ≡ Some v → o ≡ Some w → v ≡ w
+same_val o v w e f = cc
 
 -- ---- the items, one after the other
 
@@ -168,8 +168,8 @@ module _ (types shapes : List Form) (heap : Vals) (values : Aims) (good : (j : �
     | inl less ↦ has_left before (aims types u v) j (covers j (in_item i t w less there item h))
     | inr more ↦
         let same : i ≡ n = omega (arith, lt, more) in
-        let t_is : t ≡ s = some_form t s (sym there ∙ (ap (slice_get shapes) same ∙ at)) in
-        let w_is : w ≡ v = some_val w v (sym item ∙ (ap (nth heap) same ∙ is)) in
+        let t_is : t ≡ s = same_form (slice_get shapes i) t s there (ap (slice_get shapes) same ∙ at) in
+        let w_is : w ≡ v = same_val (nth heap i) w v item (ap (nth heap) same ∙ is) in
         let one = subst (λ (x : Form). Has (aims types x w) j) t_is h in
         let two = subst (λ (x : Val). Has (aims types s x) j) w_is one in
         has_right before (aims types u v) j (has_same (aims types s v) (aims types u v) j (aims_same types v s u e) two)
@@ -185,8 +185,8 @@ module _ (types shapes : List Form) (heap : Vals) (values : Aims) (good : (j : �
       let is = all_first shapes before n has.0 all has.1 in
       let flat : n + 0 ≡ n = omega arith in
       let here : Some v ≡ nth heap n = at 0 ∙ ap (nth heap) flat in
-      let value_is : item.value ≡ v = some_val item.value v (◌∙◌ {a = Some item.value} {b = nth heap n} {c = Some v} (sym item.is_value) (sym here)) in
-      let shape_is : is.0 ≡ item.shape = some_form is.0 item.shape (◌∙◌ {a = Some is.0} (sym is.1) item.is_shape) in
+      let value_is : item.value ≡ v = same_val (nth heap n) item.value v item.is_value (sym here) in
+      let shape_is : is.0 ≡ item.shape = same_form (slice_get shapes n) is.0 item.shape is.1 item.is_shape in
       let e : bare item.shape ≡ bare has.0 = sym (ap bare shape_is) ∙ is.2 in
       let typed = same_typed types (2 ^ 32) item.shape has.0 0 v e (subst (λ (x : Val). Typed types (2 ^ 32) 0 item.shape x) value_is item.typed) in
       let aim = all_same shapes (aims types item.shape v) (aims types has.0 v) (aims_same types v item.shape has.0 e) (subst (λ (x : Val). AllIs shapes (aims types item.shape x)) value_is item.aim) in
