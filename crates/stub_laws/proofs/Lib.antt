@@ -1,0 +1,4 @@
+pub mod Again
+pub mod Alone
+pub mod Apart
+pub mod Asked
