@@ -1,5 +1,5 @@
 -- How many departures of a stub have a cause.
-use Rattle.std.specs.Prelude.{◌≡◌, ℕ, ◌+◌, ◌≤◌, ◌==◌, List, [], ◌∷◌, Option, if◌then◌else◌}
+use Rattle.std.specs.Prelude.{◌≡◌, ℕ, ◌+◌, ◌≤◌, ◌==◌, List, [], ◌∷◌, Option, Err, if◌then◌else◌}
 use Rattle.rpc_base.specs.declared.identifiers.Order.{Order}
 use Rattle.ndr_value.specs.Forms.{Form}
 use Rattle.ndr_value.specs.Values.{Msg}
@@ -9,12 +9,13 @@ use Rattle.ndr_model.specs.declared.fault.NdrFault.{NdrFault}
 use Rattle.ndr_model.specs.declared.way.Way.{Way}
 use Rattle.ndr_model.specs.declared.mark.Mark.{Mark}
 use Rattle.ndr_model.specs.Places.{Last}
-use Rattle.ndr_model.specs.Stub.{entries, IsRead}
+use Rattle.ndr_model.specs.Stub.{entries, start, IsRead}
 use Rattle.ndr_model.specs.Compare.{place_of}
 use Rattle.ndr_model.specs.Faults.{IsFault}
 use Rattle.ndr_model.specs.Message.{IsStub, read_stub}
+use Rattle.ndr_faults.specs.Amiss.{OneAmiss}
 use Rattle.ndr_faults.specs.Asked.{Demand, departure_of, AskTogether}
-use Rattle.ndr_faults.specs.First.{IsOpOf}
+use Rattle.ndr_faults.specs.First.{IsOpOf, reads}
 use Rattle.ndr_faults.specs.Off.{Departs, HasCause}
 
 unfoldable pub one_at : ℕ → ℕ → ℕ
@@ -30,6 +31,12 @@ abbrev pub OneNumber : Type 0
 OneNumber = (types : List Form) (op : OpForm) (way : Way) (order : Order) (asked : Option Msg) (octets : List ℕ) (m : Msg) (end : Last) (left : List Mark) (demands : List Demand)
     → IsOpOf types op → IsRead types order octets (entries way op) m end
     → AskTogether types (record { op = op; way = way; asked = asked; said = m }) (entries way op) m.values end.marks left demands → (i : ℕ) → asked_at i demands ≤ 1
+
+-- what departs of the values, by what stands in the octets alone, is what reading tells of them: so one departs at most, and none where
+-- all stand
+abbrev pub AmissIsRead : Type 0
+AmissIsRead = (types : List Form) (op : OpForm) (way : Way) (order : Order) (octets : List ℕ) (d : Departure)
+    → IsOpOf types op → OneAmiss types order octets (entries way op) start d → reads types order (entries way op) octets ≡ Err d
 
 -- a stub has one departure with a cause at most
 abbrev pub OneCause : Type 0
