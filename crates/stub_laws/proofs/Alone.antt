@@ -14,7 +14,7 @@ use Rattle.ndr_model.specs.declared.fault.NdrFault.TheVariants.{Short, Bound, Ta
 use Rattle.ndr_model.specs.declared.way.Way.{Way}
 use Rattle.ndr_model.specs.declared.mark.Mark.{Mark}
 use Rattle.ndr_model.specs.Places.{Last}
-use Rattle.ndr_model.specs.Stub.{entries, IsRead}
+use Rattle.ndr_model.specs.Stub.{entries, start, IsRead}
 use Rattle.ndr_model.specs.Named.{Call}
 use Rattle.ndr_model.specs.Agree.{AgreeTogether}
 use Rattle.ndr_model.specs.Compare.{place_of}
@@ -22,6 +22,7 @@ use Rattle.ndr_model.specs.Build.{read_values}
 use Rattle.ndr_model.specs.Faults.{IsFault}
 use Rattle.ndr_model.specs.Message.{IsStub, enough, message_of, read_stub}
 use Rattle.ndr_laws.proofs.Stubs.{read_stands}
+use Rattle.ndr_faults.specs.Amiss.{OneAmiss}
 use Rattle.ndr_faults.specs.Asked.{Demand, IsMet, departure_of, MetBefore, IsLeast, AskTogether}
 use Rattle.ndr_faults.specs.First.{IsOpOf}
 use Rattle.ndr_faults.specs.Off.{Disagrees, Departs, is_read, is_compared, HasCause}
@@ -30,6 +31,7 @@ use Rattle.ndr_faults.proofs.Departing.{departs}
 use Rattle.stub_laws.specs.One.{one_at, asked_at}
 use Rattle.stub_laws.proofs.Apart.{stand_apart, op_ranged}
 use Rattle.stub_laws.proofs.Asked.{together_spend, together_one}
+use Rattle.stub_laws.proofs.Entries.{amiss_is_read}
 use Rattle.stub_laws.proofs.Again.{message_again, read_again}
 
 -- ---- one number at an index
@@ -118,6 +120,9 @@ module _ (types : List Form) (op : OpForm) (way : Way) (order : Order) (asked : 
 
   not_read : (d : Departure) (m : Msg) (p : Last) → read_values types order octets enough (entries way op) ≡ Err d → IsRead types order octets (entries way op) m p → ⊥
   not_read d m p e r = never (m.values, p) d (sym (read_again types order octets op way m p o.is r) ∙ e)
+
+  pub none_amiss : (m : Msg) (end : Last) (d : Departure) → IsRead types order octets (entries way op) m end → OneAmiss types order octets (entries way op) start d → ⊥
+  none_amiss m end d r a = not_read d m end (amiss_is_read types op way order octets d o a) r
 
   one_disagrees : (d e : Departure) → Disagrees types op way order asked octets d → Disagrees types op way order asked octets e → d ≡ e
   one_disagrees d e x y =

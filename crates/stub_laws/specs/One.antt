@@ -32,11 +32,15 @@ OneNumber = (types : List Form) (op : OpForm) (way : Way) (order : Order) (asked
     → IsOpOf types op → IsRead types order octets (entries way op) m end
     → AskTogether types (record { op = op; way = way; asked = asked; said = m }) (entries way op) m.values end.marks left demands → (i : ℕ) → asked_at i demands ≤ 1
 
--- what departs of the values, by what stands in the octets alone, is what reading tells of them: so one departs at most, and none where
--- all stand
+-- what departs of the values, by what stands in the octets alone, is what reading tells of them: so one departs at most
 abbrev pub AmissIsRead : Type 0
 AmissIsRead = (types : List Form) (op : OpForm) (way : Way) (order : Order) (octets : List ℕ) (d : Departure)
     → IsOpOf types op → OneAmiss types order octets (entries way op) start d → reads types order (entries way op) octets ≡ Err d
+
+-- none departs so where all stand
+abbrev pub NoneAmiss : Type 0
+NoneAmiss = (types : List Form) (op : OpForm) (way : Way) (order : Order) (octets : List ℕ) (m : Msg) (end : Last) (d : Departure)
+    → IsOpOf types op → IsRead types order octets (entries way op) m end → OneAmiss types order octets (entries way op) start d → ⊥
 
 -- a stub has one departure with a cause at most
 abbrev pub OneCause : Type 0

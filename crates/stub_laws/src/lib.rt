@@ -1,7 +1,7 @@
 //! A stub has one departure with a cause at most, and none where it is a message's, as laws (C706, chapter "Transfer Syntax NDR").
 #![tactic(auto)]
 
-ghost use Rattle.stub_laws.specs.One.{AmissIsRead, CauseIsTold, NoCause, OneCause, OneNumber};
+ghost use Rattle.stub_laws.specs.One.{AmissIsRead, CauseIsTold, NoCause, NoneAmiss, OneCause, OneNumber};
 
 /// Of the numbers that have to be something in a message that stands in octets, one stands at an index at most. So of two that disagree
 /// one comes first.
@@ -12,6 +12,11 @@ pub fn one_number()
 /// A part that is come to and departs, by what stands in the octets alone, departs as reading tells it. So no other does.
 pub fn amiss_is_read()
     ensures { AmissIsRead }
+{}
+
+/// Where the values of a message stand, none does.
+pub fn none_amiss()
+    ensures { NoneAmiss }
 {}
 
 /// Two departures of one stub that both have their cause are the same.
