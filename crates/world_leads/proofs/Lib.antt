@@ -1,0 +1,4 @@
+pub mod Cuts
+pub mod Unheard
+pub mod Hearing
+pub mod Callers
