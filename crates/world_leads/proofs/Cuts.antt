@@ -18,7 +18,7 @@ partial_cut : (octets : List ℕ) → IsPartial octets → Cutting octets
 partial_cut octets part = (record { pdus = []; rest = octets; fault = None }, record { front = []; whole = refl; pdus = refl; remains = part })
 
 -- octets at a PDU's front that aren't all of it
-part_of : (p : Pdu) (first others came behind : List ℕ) → IsPdu p first → came ++ behind ≡ first ++ others → length came < length first → IsPartial came
+pub part_of : (p : Pdu) (first others came behind : List ℕ) → IsPdu p first → came ++ behind ≡ first ++ others → length came < length first → IsPartial came
 part_of p first others came behind is whole less = elim (cases_lt (length came) header_size) [
   | inl short ↦ inl short
   | inr long ↦

@@ -1,4 +1,6 @@
-pub mod Cuts
-pub mod Unheard
-pub mod Hearing
+pub mod Acting
 pub mod Callers
+pub mod Cuts
+pub mod Hearing
+pub mod Meaning
+pub mod Unheard
