@@ -132,7 +132,7 @@ taking m p others waits = record m { past = p ∷ m.past; rest = others; waits =
 takes : (m : ConnState) (p : Pdu) (others : List ℕ) (waits : Waits) → MayCome m.waits p.body → IsNext m.rest p others → TakesPdu m p (taking m p others waits)
 takes m p others waits may next = record { may = may; next = next; past = refl; ids = refl; agreement = refl }
 
-lifted : (m n : ConnState) (p : Pdu) (up : List ℕ) → TakesPdu m p n → TakesPdu (with_octets m up) p (with_octets n up)
+pub lifted : (m n : ConnState) (p : Pdu) (up : List ℕ) → TakesPdu m p n → TakesPdu (with_octets m up) p (with_octets n up)
 lifted m n p up t = record { may = t.may; next = (t.next.0, t.next.1, ap (λ (x : List ℕ). x ++ up) t.next.2 ∙ append_assoc t.next.0 n.rest up); past = t.past; ids = t.ids; agreement = t.agreement }
 
 behind : (ask : Option Ask) (n : ConnState) (up : List ℕ) (left : List Ask) → AsksFirst ask (Left (with_octets n up)) left → NoneBroken left → Onward n up

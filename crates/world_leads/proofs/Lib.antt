@@ -3,4 +3,5 @@ pub mod Callers
 pub mod Cuts
 pub mod Hearing
 pub mod Meaning
+pub mod Stages
 pub mod Unheard
