@@ -1,7 +1,10 @@
 pub mod Acting
 pub mod Callers
 pub mod Cuts
+pub mod Fits
+pub mod Going
 pub mod Hearing
 pub mod Meaning
 pub mod Stages
 pub mod Unheard
+pub mod Walking
