@@ -33,6 +33,21 @@ use Rattle.world_laws.specs.Journals.{home, journal, bind_refusal, next_conn, jo
 use Rattle.world_laws.specs.Ends.{Waiting, ServerEnd, Line}
 use Rattle.world_laws.specs.Ends.{Waiting as waiting}
 use Rattle.world_laws.specs.Serving.{is_word_due, awaiting, numbered, Decides, ActMeans, OfMember, OfCall, Requests, Means, ServerDoes, ServerGoesBy, ServerGoesOn}
+use Rattle.rpc_base.specs.declared.identifiers.SyntaxId.{SyntaxId}
+use Rattle.pdu_stream.specs.declared.joined.Joined.{Joined}
+use Rattle.presentation.specs.declared.verdict.Accepted.{Accepted}
+use Rattle.presentation.specs.Offers.{interface_of}
+use Rattle.conn_asks.specs.declared.events.Agreement.{Agreement}
+use Rattle.conn_asks.specs.declared.events.Ask.{Ask}
+use Rattle.conn_asks.specs.declared.events.Ask.TheVariants as asks
+use Rattle.conn_asks.specs.declared.events.ConnFault.{ConnFault}
+use Rattle.conn_asks.specs.States.{accepted, ActsOnCall, DoesWith, IsCalling}
+use Rattle.conn_histories.specs.Histories.{act_octets}
+use Rattle.conn_histories.proofs.Passing.{IsLasting, Done, done_by}
+use Rattle.conn_histories.proofs.Passing.Done.{calls_off, lasts}
+use Rattle.conn_histories.proofs.Walks.{over_takes}
+use Rattle.conn_histories.proofs.Decided.{skips_keep}
+use Rattle.world_laws.specs.Journals.{IsCancelled, IsOrphaned}
 use Rattle.world_laws.specs.Counts.{does_in}
 use Rattle.world_laws.proofs.Holds.{LineHolds}
 use Rattle.world_laws.proofs.Serving.{brings, count_of, line_on, silent}
@@ -42,7 +57,7 @@ use Rattle.world_leads.proofs.Meaning.{some_cancel, some_orphan, some_request}
 use Rattle.world_leads.proofs.Stages.{AsksOf, Stands, Stage, to_group, stands, goes, onward}
 use Rattle.world_leads.proofs.Stages.Stage.{unbound, asking, bound, over}
 use Rattle.world_leads.proofs.Fits.{Linked, Fit, fit_on}
-use Rattle.world_leads.proofs.Fits.{Linked as links}
+use Rattle.world_leads.proofs.Fits.Linked.{free as at_free, grouping as at_grouping, refusing as at_refusing, calling as at_calling, over as at_over}
 
 -- ---- what is answered
 
@@ -99,3 +114,74 @@ acts_less m n act g = by_end g.3
     by_end : Acts g.1 act n → (length n.rest < length m.rest) ⊎ (n.waits ≡ Over)
     by_end (inl a) = inl (omega (arith, takes_less g.1 n a.0 a.1.takes, skips_less m g.0 g.1 g.2))
     by_end (inr s) = inr (ap (λ (x : ConnState). x.waits) s.1.after)
+
+act_live : (x n : ConnState) (act : Act) → Acts x act n → x.waits ≡ Over → ⊥
+act_live x n act (inl (p, a)) o = over_takes x n p o a.takes
+act_live x n act (inr (fault, s)) o = absurd (cc (s.free, o))
+
+calls_by : (number : Option ℕ) (j i : Joined) (k : ℕ) (w : Waits) → ActsOnCall number j (acts.Call i k) w → IsCalling w
+calls_by (Some n) j i k w d = (_, _, d.1)
+calls_by None j i k w d = absurd (cc (d.0))
+
+call_waits : (ids : List SyntaxId) (a : List Accepted) (agreement : Agreement) (old : Waits) (ask : Ask) (j : Joined) (k : ℕ) (w : Waits) → DoesWith ids a agreement old ask (acts.Call j k) w → IsCalling w
+call_waits ids a agreement old (asks.Bind c flags b) j k w d = absurd (cc (d.0))
+call_waits ids a agreement old (asks.Alter c b) j k w d = absurd (cc (d.0))
+call_waits ids a agreement old (asks.Call i) j k w d = calls_by (interface_of a i.context) i j k w d
+call_waits ids a agreement old (asks.Cancel id) j k w d = absurd (cc (d.1))
+call_waits ids a agreement old (asks.Orphan id) j k w d = absurd (cc (d.1))
+call_waits ids a agreement old (asks.Broken c f) j k w d = absurd (cc (d.0))
+
+call_calls : (x n : ConnState) (j : Joined) (k : ℕ) → Acts x (acts.Call j k) n → IsCalling n.waits
+call_calls x n j k (inl (p, a)) = call_waits x.ids (accepted x) x.agreement x.waits a.ask j k n.waits a.does
+call_calls x n j k (inr (fault, s)) = absurd (cc (s.act_is))
+
+off_calls : (x n : ConnState) (act : Act) → (IsLasting act → ⊥) → act_octets act ≡ [] → ((octets : List ℕ) (why : ConnFault) → act ≡ acts.Close octets why → ⊥) → Acts x act n → IsCalling x.waits
+off_calls x n act off none no_close (inr (fault, s)) = absurd (no_close _ _ s.act_is)
+off_calls x n act off none no_close (inl (p, a)) = by (done_by x.ids (accepted x) x.agreement x.waits a.ask act n.waits a.does)
+  where
+    by : Done x.waits a.ask act n.waits → IsCalling x.waits
+    by (calls_off o same l calling) = calling
+    by (lasts l o) = absurd (off l)
+
+grouped_at : (n : ConnState) (g : Bool) (left : List Ask) → IsCalling n.waits → Stage n g left → g ≡ true
+grouped_at n g left (c, maybe, w) (unbound c2 flags b others w2 is long plain) = absurd (cc (w, w2))
+grouped_at n g left (c, maybe, w) (asking c2 ack w2 long plain) = absurd (cc (w, w2))
+grouped_at n g left (c, maybe, w) (bound e long plain fine none) = e
+grouped_at n g left (c, maybe, w) (over w2) = absurd (cc (w, w2))
+
+long_at : (n : ConnState) (g : Bool) (left : List Ask) → IsCalling n.waits → Stage n g left → 1432 ≤ n.agreement.max_xmit
+long_at n g left (c, maybe, w) (unbound c2 flags b others w2 is long plain) = absurd (cc (w, w2))
+long_at n g left (c, maybe, w) (asking c2 ack w2 long plain) = absurd (cc (w, w2))
+long_at n g left (c, maybe, w) (bound e long plain fine none) = long
+long_at n g left (c, maybe, w) (over w2) = absurd (cc (w, w2))
+
+some_of : (o : Option ℕ) → is_some o ≡ true → (c : ℕ) × (o ≡ Some c)
+some_of None e = absurd (cc (e))
+some_of (Some c) e = (c, refl)
+
+call_out : (past : List Entry) (v : Waits) (w : Waiting) → IsCalling v → is_word_due past w ≡ false → Linked v w → (k : ℕ) × (w ≡ waiting.Call k)
+call_out past v w (c, maybe, e) due (at_free a b) = absurd (cc (e, a))
+call_out past v w (c, maybe, e) due (at_grouping c2 ack asked a b) = absurd (cc (e, a))
+call_out past v w (c, maybe, e) due (at_refusing c2 m2 status a b) = absurd (cc (due, ap (is_word_due past) b))
+call_out past v w (c, maybe, e) due (at_calling c2 m2 k a b) = (k, b)
+call_out past v w (c, maybe, e) due (at_over a b) = absurd (cc (e, a))
+
+some_act : (table : TableForm) (l : Line) (past : List Entry) (n : ConnState) (act : Act) → ReadIsStub → Goes l.server.state (Ok (Some act)) n → is_word_due past l.server.waiting ≡ false → Fit l.server → Stands n l.up (list_any to_group l.server.events)
+    → (t : ServerEnd) × (new : List Entry) × ActMeans (table ∷ []) past l.server act t new
+some_act table l past n (acts.Answer octets) law g due f s = (numbered l.server None l.server.waiting, past, (refl, refl))
+some_act table l past n (acts.Group asked) law g due f s = (awaiting l.server (waiting.Bind asked), past, (refl, refl))
+some_act table l past n (acts.Call j k) law g due f s =
+    let live : l.server.state.waits ≡ Over → ⊥ = λ o. act_live g.1 n (acts.Call j k) g.3 ((skips_keep l.server.state g.0 g.1 g.2).0 ∙ o) in
+    let (c, is) = some_of l.server.member (f.member (grouped_at n _ s.left (call_calls g.1 n j k g.3) s.stage) live) in
+    let (t, new, r) = some_request table past l.server j k c law in
+    (t, new, subst (λ (o : Option ℕ). OfMember o (λ d. Requests (table ∷ []) past l.server j k d t new)) (sym is) r)
+some_act table l past n (acts.Cancel id) law g due f s =
+    let (k, is) = call_out past l.server.state.waits l.server.waiting (subst IsCalling (skips_keep l.server.state g.0 g.1 g.2).0 (off_calls g.1 n (acts.Cancel id) (λ x. x) refl (λ octets why e. absurd (cc (e))) g.3)) due f.linked in
+    let (new, c) = some_cancel past k in
+    (l.server, new, (refl, subst (λ (w : Waiting). OfCall w (λ i. IsCancelled past i new)) (sym is) c))
+some_act table l past n (acts.Orphan id) law g due f s =
+    let (k, is) = call_out past l.server.state.waits l.server.waiting (subst IsCalling (skips_keep l.server.state g.0 g.1 g.2).0 (off_calls g.1 n (acts.Orphan id) (λ x. x) refl (λ octets why e. absurd (cc (e))) g.3)) due f.linked in
+    let (new, c) = some_orphan past k in
+    (l.server, new, (refl, subst (λ (w : Waiting). OfCall w (λ i. IsOrphaned past i new)) (sym is) c))
+some_act table l past n (acts.Close octets why) law g due f s =
+    let (new, leaves) = some_leave past l.server.member in (record l.server { waiting = waiting.Nothing; member = None }, new, (refl, leaves))
