@@ -1,10 +1,9 @@
 -- What the server's end of a connection does next, where what its caller asks breaks nothing.
-use Rattle.std.proofs.Common.{◌≡◌, ℕ, zero, suc, ◌<◌, ◌≤◌, ◌⊎◌, inl, inr, Bool, true, false, List, [], ◌∷◌, ◌++◌, length, take, drop, Option, Some, None, Ok, refl, sym, ap, subst, ◌∙◌, append_assoc, arith}
+use Rattle.std.proofs.Common.{◌≡◌, ℕ, zero, suc, ◌<◌, ◌≤◌, inl, inr, Bool, true, false, List, [], ◌∷◌, ◌++◌, length, take, drop, Option, Some, None, Ok, refl, sym, ap, subst, ◌∙◌, append_assoc, arith}
 use Rattle.std.proofs.lemmas.Bool.{cases_lt}
 use Rattle.std.proofs.lemmas.List.{length-append, length-take-le, take-append-drop}
 use Rattle.rpc_base.specs.declared.identifiers.SyntaxId.{SyntaxId}
 use Rattle.pdu_codec.specs.Constants.{header_size}
-use Rattle.pdu_codec.specs.Faults.{frag_length}
 use Rattle.pdu_codec.specs.declared.pdu.Pdu.{Pdu}
 use Rattle.pdu_codec.specs.declared.fault.PduFault.{PduFault}
 use Rattle.pdu_codec.specs.Pdus.{IsPdu, AreSpelled}
@@ -25,7 +24,7 @@ use Rattle.conn_asks.specs.declared.events.Waits.{Waits}
 use Rattle.conn_asks.specs.declared.events.Waits.TheVariants.{Nothing, Group, Call, Over, Failed}
 use Rattle.conn_asks.specs.Asks.{Asks, AsksFirst, AreAsks, broken_end}
 use Rattle.conn_asks.specs.Answers.{refusal}
-use Rattle.conn_asks.specs.States.{ConnState, with_octets, accepted, caller_of, ActsOnCall, DoesWith, is_calling_off, MayCome, TakesPdu, IsIdle, Skips, SkipsAll, ActsAt, Acts, IsStuck, Goes}
+use Rattle.conn_asks.specs.States.{ConnState, with_octets, accepted, caller_of, ActsOnCall, DoesWith, is_calling_off, MayCome, TakesPdu, IsIdle, Skips, ActsAt, IsStuck, Goes}
 use Rattle.conn_histories.proofs.Left.{Left, left_takes}
 use Rattle.conn_histories.proofs.Passing.{IsOff, off_asked}
 use Rattle.world_leads.proofs.Cuts.{part_of}

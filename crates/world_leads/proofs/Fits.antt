@@ -1,11 +1,9 @@
 -- What waits for the server's word is what the connection waits for.
-use Rattle.std.proofs.Common.{◌≡◌, ℕ, inl, inr, Bool, true, false, ◌||◌, List, [], ◌∷◌, ◌++◌, Option, Some, None, Ok, refl, sym, ap, subst, ◌∙◌}
+use Rattle.std.proofs.Common.{◌≡◌, ℕ, inl, inr, Bool, true, false, ◌||◌, List, [], ◌∷◌, ◌++◌, Option, Some, None, refl, sym, ap, subst, ◌∙◌}
 use Rattle.std.specs.Prelude.{is_some}
 use Rattle.std.specs.List.{list_any}
 use Rattle.rpc_base.specs.declared.identifiers.Status.{Status}
 use Rattle.handle_model.specs.declared.entry.Entry.{Entry}
-use Rattle.handle_model.specs.declared.entry.Said.{Said}
-use Rattle.pdu_codec.specs.declared.pdu.Pdu.{Pdu}
 use Rattle.pdu_codec.specs.declared.pdu.BindAckBody.{BindAckBody}
 use Rattle.pdu_stream.specs.declared.joined.Joined.{Joined}
 use Rattle.presentation.specs.Offers.{interface_of}
@@ -14,10 +12,9 @@ use Rattle.conn_asks.specs.declared.events.Caller.{Caller}
 use Rattle.conn_asks.specs.declared.events.Ask.{Ask}
 use Rattle.conn_asks.specs.declared.events.Ask.TheVariants as asks
 use Rattle.conn_asks.specs.declared.events.Act.{Act}
-use Rattle.conn_asks.specs.declared.events.Act.TheVariants as acts
 use Rattle.conn_asks.specs.declared.events.Waits.{Waits}
-use Rattle.conn_asks.specs.declared.events.Waits.TheVariants.{Nothing, Group, Call, Over, Failed}
-use Rattle.conn_asks.specs.States.{ConnState, accepted, ActsOnCall, DoesWith, MayCome, TakesPdu, Acts, Goes, RepliedAt}
+use Rattle.conn_asks.specs.declared.events.Waits.TheVariants.{Nothing, Group, Call, Over}
+use Rattle.conn_asks.specs.States.{ConnState, accepted, ActsOnCall, DoesWith, MayCome, Acts, RepliedAt}
 use Rattle.conn_histories.specs.Histories.{Decision, Event, Happens, AnswersDecision}
 use Rattle.conn_histories.specs.Histories.Event.{Came, Paused, Did, Decided}
 use Rattle.conn_histories.specs.Histories.Decision.{ToGroup, RefuseGroup, Reply}

@@ -1,5 +1,5 @@
 -- The server's end of a connection comes to rest.
-use Rattle.std.proofs.Common.{◌≡◌, ℕ, zero, suc, ◌+◌, ◌<◌, ◌≤◌, ◌^◌, ◌⊎◌, inl, inr, Bool, true, false, List, [], ◌∷◌, ◌++◌, length, Option, Some, None, Ok, refl, sym, ap, subst, ◌∙◌, arith}
+use Rattle.std.proofs.Common.{◌≡◌, ℕ, zero, suc, ◌<◌, ◌≤◌, ◌^◌, ◌⊎◌, inl, inr, Bool, true, false, List, [], ◌∷◌, ◌++◌, length, Option, Some, None, Ok, refl, sym, ap, subst, ◌∙◌, arith}
 use Rattle.std.proofs.lemmas.List.{length-append}
 use Rattle.std.specs.Prelude.{is_some}
 use Rattle.std.specs.List.{list_any}
@@ -26,13 +26,13 @@ use Rattle.conn_asks.specs.declared.events.Waits.TheVariants.{Nothing, Group, Ca
 use Rattle.conn_asks.specs.Answers.{Replies, response_octets}
 use Rattle.conn_asks.specs.States.{ConnState, TakesPdu, SkipsAll, Acts, IsStuck, Goes, BoundAt, RefusedAt, RepliedAt}
 use Rattle.conn_histories.specs.Histories.{Decision, Event, Happens, AnswersDecision, put, stream}
-use Rattle.conn_histories.specs.Histories.Event.{Came, Paused, Did, Decided}
+use Rattle.conn_histories.specs.Histories.Event.{Paused, Did, Decided}
 use Rattle.conn_histories.specs.Histories.Decision.{ToGroup, RefuseGroup, Reply}
 use Rattle.conn_histories.specs.Events.{word_of, has_run}
 use Rattle.world_laws.specs.Journals.{home, journal, bind_refusal, next_conn, joined}
 use Rattle.world_laws.specs.Ends.{Waiting, ServerEnd, Line}
 use Rattle.world_laws.specs.Ends.{Waiting as waiting}
-use Rattle.world_laws.specs.Serving.{is_word_due, awaiting, numbered, Decides, ActMeans, OfMember, OfCall, Requests, Means, ServerDoes, ServerGoesBy, ServerGoesOn}
+use Rattle.world_laws.specs.Serving.{is_word_due, awaiting, numbered, Decides, ActMeans, OfMember, OfCall, Requests, Means, ServerDoes, ServerGoesOn}
 use Rattle.rpc_base.specs.declared.identifiers.SyntaxId.{SyntaxId}
 use Rattle.pdu_stream.specs.declared.joined.Joined.{Joined}
 use Rattle.presentation.specs.declared.verdict.Accepted.{Accepted}
@@ -52,7 +52,11 @@ use Rattle.world_laws.specs.Counts.{does_in}
 use Rattle.world_laws.proofs.Holds.{LineHolds}
 use Rattle.world_laws.proofs.Serving.{brings, count_of, line_on, silent}
 use Rattle.world_laws.proofs.Leading.{some_leave}
-use Rattle.world_leads.proofs.Acting.{Next, next_of}
+use Rattle.pdu_codec.specs.Pdus.{pdu_octets}
+use Rattle.pdu_codec.specs.Constants.{only_frag}
+use Rattle.conn_asks.specs.Answers.{agreement_with, bind_ack, bind_nak}
+use Rattle.conn_asks.specs.declared.events.Waits.TheVariants.{Failed}
+use Rattle.world_leads.proofs.Acting.{Onward, next_of}
 use Rattle.world_leads.proofs.Meaning.{some_cancel, some_orphan, some_request}
 use Rattle.world_leads.proofs.Stages.{AsksOf, Stands, Stage, to_group, stands, goes, onward}
 use Rattle.world_leads.proofs.Stages.Stage.{unbound, asking, bound, over}
@@ -185,3 +189,117 @@ some_act table l past n (acts.Orphan id) law g due f s =
     (l.server, new, (refl, subst (λ (w : Waiting). OfCall w (λ i. IsOrphaned past i new)) (sym is) c))
 some_act table l past n (acts.Close octets why) law g due f s =
     let (new, leaves) = some_leave past l.server.member in (record l.server { waiting = waiting.Nothing; member = None }, new, (refl, leaves))
+
+-- ---- the server's word
+
+record Word (table : TableForm) (l : Line) (past : List Entry) : Type 0 where
+  decision : Decision
+  octets : List ℕ
+  state : ConnState
+  after : ServerEnd
+  new : List Entry
+  happens : AnswersDecision l.server.state decision octets state
+  decides : Decides (table ∷ []) past l.server l.server.waiting decision after new
+  rest : state.rest ≡ l.server.state.rest
+  none : after.waiting ≡ waiting.Nothing
+
+say : (table : TableForm) (l : Line) (past : List Entry) (c : Caller) (maybe : Bool) (reply : Replied) → l.server.state.waits ≡ Call c maybe → 1432 ≤ l.server.state.agreement.max_xmit
+    → Decides (table ∷ []) past l.server l.server.waiting (Reply (word_of reply) (has_run reply)) (awaiting l.server waiting.Nothing) past → Word table l past
+say table l past c maybe reply w long d =
+    let m = l.server.state in
+    let (octets, r) = some_reply c m.agreement.max_xmit maybe (has_run reply) (word_of reply) long in
+    record {
+      decision = Reply (word_of reply) (has_run reply);
+      octets = octets;
+      state = record m { waits = Nothing };
+      after = awaiting l.server waiting.Nothing;
+      new = past;
+      happens = subst (λ (v : Waits). RepliedAt v m (word_of reply) (has_run reply) octets (record m { waits = Nothing })) (sym w) (r, refl);
+      decides = d;
+      rest = refl;
+      none = refl;
+    }
+
+bind_word : (table : TableForm) (l : Line) (past : List Entry) (c : Caller) (ack : BindAckBody) (asked : ℕ) → l.server.state.waits ≡ Group c ack → l.server.waiting ≡ waiting.Bind asked → (why : Option ℕ) → bind_refusal past asked ≡ why → Word table l past
+bind_word table l past c ack asked w is None e =
+    let m = l.server.state in
+    let n : ConnState = record m { waits = Nothing; agreement = agreement_with ack home.group } in
+    let t : ServerEnd = record l.server { waiting = waiting.Nothing; member = Some (next_conn past) } in
+    let octets = pdu_octets (bind_ack c only_frag (agreement_with ack home.group) ack.results) in
+    record { decision = ToGroup home.group; octets = octets; state = n; after = t; new = joined past; happens = subst (λ (v : Waits). BoundAt v m home.group octets n) (sym w) (refl, refl); decides = subst (λ (x : Waiting). Decides (table ∷ []) past l.server x (ToGroup home.group) t (joined past)) (sym is) (e, refl, refl, refl); rest = refl; none = refl }
+bind_word table l past c ack asked w is (Some reason) e =
+    let m = l.server.state in
+    let n : ConnState = record m { waits = Over } in
+    let t = awaiting l.server waiting.Nothing in
+    let octets = pdu_octets (bind_nak c reason) in
+    record { decision = RefuseGroup reason; octets = octets; state = n; after = t; new = past; happens = subst (λ (v : Waits). RefusedAt v m reason octets n) (sym w) (refl, refl); decides = subst (λ (x : Waiting). Decides (table ∷ []) past l.server x (RefuseGroup reason) t past) (sym is) (e, refl, refl); rest = refl; none = refl }
+
+word : (table : TableForm) (l : Line) (past : List Entry) → is_word_due past l.server.waiting ≡ true → Stands l.server.state l.up (list_any to_group l.server.events) → Linked l.server.state.waits l.server.waiting → Word table l past
+word table l past due s (at_free a b) = absurd (cc (due, ap (is_word_due past) b))
+word table l past due s (at_over a b) = absurd (cc (due, ap (is_word_due past) b))
+word table l past due s (at_grouping c ack asked a b) = bind_word table l past c ack asked a b (bind_refusal past asked) refl
+word table l past due s (at_refusing c maybe status a b) =
+    say table l past c maybe (Never status) a (long_at l.server.state _ s.left (c, maybe, a) s.stage) (subst (λ (x : Waiting). Decides (table ∷ []) past l.server x (Reply (word_of (Never status)) (has_run (Never status))) (awaiting l.server waiting.Nothing) past) (sym b) ((refl, refl), refl))
+word table l past due s (at_calling c maybe k a b) =
+    let r = replies (journal past) k in
+    say table l past c maybe r a (long_at l.server.state _ s.left (c, maybe, a) s.stage) (subst (λ (x : Waiting). Decides (table ∷ []) past l.server x (Reply (word_of r) (has_run r)) (awaiting l.server waiting.Nothing) past) (sym b) ((refl, refl), refl))
+
+over_due : (past : List Entry) (v : Waits) (w : Waiting) → v ≡ Over → Linked v w → is_word_due past w ≡ false
+over_due past v w o (at_free a b) = absurd (cc (o, a))
+over_due past v w o (at_over a b) = ap (is_word_due past) b
+over_due past v w o (at_grouping c ack asked a b) = absurd (cc (o, a))
+over_due past v w o (at_refusing c maybe status a b) = absurd (cc (o, a))
+over_due past v w o (at_calling c maybe k a b) = absurd (cc (o, a))
+
+rests_over : (table : TableForm) (l : Line) (past : List Entry) → Fit l.server → l.server.state.waits ≡ Over → GoesOn table l past
+rests_over table l past f o = pauses table l past l.server.state (over_due past l.server.state.waits l.server.waiting o f.linked) ([], refl, subst (λ (v : Waits). IsStuck v l.server.state.rest) (sym o) tt)
+
+module _ (table : TableForm) (fits : FitsSyntax table.id) (few : length table.ops ≤ 2 ^ 16) (law : ReadIsStub) where
+  abbrev Later : ℕ → Type 0
+  Later n = (l : Line) (past : List Entry) → length l.server.state.rest < n → Ready table l → GoesOn table l past
+
+  stands_at : (l : Line) → Ready table l → Stands l.server.state l.up (list_any to_group l.server.events)
+  stands_at l r = stands table l fits few r.holds r.standing r.asked
+
+  act_on : (n : ℕ) (l : Line) (past : List Entry) (after : ConnState) (act : Act) → length l.server.state.rest < suc n → is_word_due past l.server.waiting ≡ false → Ready table l → Goes l.server.state (Ok (Some act)) after → Later n → GoesOn table l past
+  act_on n l past after act lt due r g later =
+      let (t, new, means) = some_act table l past after act law g due r.fit (goes l.server.state after (Some act) l.up _ g (stands_at l r)) in
+      let on = ready_on table l past new (Did act) after t fits few refl g (due, means) r in
+      let next = behind l (Did act) after t in
+      let (m, last, (events, more)) = step next new on (acts_less l.server.state after act g) in
+      (m, last, (Did act ∷ events, (next, new, does table l past new (Did act) after t g (due, means), more)))
+    where
+      step : (next : Line) (new : List Entry) → Ready table next → (length next.server.state.rest < length l.server.state.rest) ⊎ (next.server.state.waits ≡ Over) → GoesOn table next new
+      step next new on (inl less) = later next new (omega (arith, less, lt)) on
+      step next new on (inr o) = rests_over table next new on.fit o
+
+  acting : (n : ℕ) (l : Line) (past : List Entry) → length l.server.state.rest < suc n → is_word_due past l.server.waiting ≡ false → Ready table l → Later n → GoesOn table l past
+  acting n l past lt due r later = by (onward l.server.state l.up _ (stands_at l r))
+    where
+      by_next : (act : Option Act) (after : ConnState) → Goes l.server.state (Ok act) after → GoesOn table l past
+      by_next None after g = pauses table l past after due g
+      by_next (Some act) after g = act_on n l past after act lt due r g later
+
+      by : (l.server.state.waits ≡ Over) ⊎ ((l.server.state.waits ≡ Failed → ⊥) × Onward l.server.state l.up) → GoesOn table l past
+      by (inl o) = rests_over table l past r.fit o
+      by (inr (fine, on)) = let x = next_of l.server.state l.up fine on in by_next x.act x.after x.goes
+
+  saying : (n : ℕ) (l : Line) (past : List Entry) → length l.server.state.rest < suc n → is_word_due past l.server.waiting ≡ true → Ready table l → Later n → GoesOn table l past
+  saying n l past lt due r later =
+      let w = word table l past due (stands_at l r) r.fit.linked in
+      let event = Decided w.decision w.octets in
+      let on = ready_on table l past w.new event w.state w.after fits few refl w.happens (due, w.decides) r in
+      let next = behind l event w.state w.after in
+      let (m, last, (events, more)) = acting n next w.new (omega (arith, lt, ap length w.rest)) (ap (is_word_due w.new) w.none) on later in
+      (m, last, (event ∷ events, (next, w.new, does table l past w.new event w.state w.after w.happens (due, w.decides), more)))
+
+  by_due : (n : ℕ) (l : Line) (past : List Entry) → length l.server.state.rest < suc n → (due : Bool) → is_word_due past l.server.waiting ≡ due → Ready table l → Later n → GoesOn table l past
+  by_due n l past lt true e r later = saying n l past lt e r later
+  by_due n l past lt false e r later = acting n l past lt e r later
+
+  within_ : (n : ℕ) → Later n
+  within_ zero l past lt r = absurd (omega (arith, lt))
+  within_ (suc n) l past lt r = by_due n l past lt (is_word_due past l.server.waiting) refl r (within_ n)
+
+  pub goes_on : (l : Line) (past : List Entry) → Ready table l → GoesOn table l past
+  goes_on l past r = within_ (suc (length l.server.state.rest)) l past (omega arith) r

@@ -8,3 +8,4 @@ pub mod Meaning
 pub mod Stages
 pub mod Unheard
 pub mod Walking
+pub mod Servers

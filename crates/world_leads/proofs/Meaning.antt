@@ -1,5 +1,5 @@
 -- What the server's end does has a meaning to the group.
-use Rattle.std.proofs.Common.{◌≡◌, ◌≢◌, ℕ, ◌+◌, ◌≤◌, ◌<◌, ◌⊎◌, inl, inr, Bool, true, false, List, [], ◌∷◌, ◌++◌, length, map, Option, Some, None, Result, Ok, Err, refl, sym, ap, subst, ◌∙◌, arith}
+use Rattle.std.proofs.Common.{◌≡◌, ◌≢◌, ℕ, ◌+◌, inl, inr, Bool, true, false, List, [], ◌∷◌, map, Option, Some, None, Result, Ok, Err, refl, ap, arith}
 use Rattle.rpc_base.specs.declared.identifiers.Status.{Status}
 use Rattle.rpc_base.specs.declared.identifiers.WireHandle.{WireHandle}
 use Rattle.handle_model.specs.declared.entry.Entry.{Entry}
@@ -23,14 +23,14 @@ use Rattle.group_core.specs.declared.answer.Orphaned.TheVariants as orphaned
 use Rattle.group_core.specs.Calls.{is_cancellable, is_orphanable, numbered}
 use Rattle.std.specs.Prelude.{if◌then◌else◌}
 use Rattle.handle_model.specs.declared.entry.Slot.TheVariants.{Shares, Holds, Changes}
-use Rattle.conn_histories.specs.Requests.{kind_in, IsAsked, HasSlots, IsRefused, op_of, types_of, uses_of, slots_for, slot_for, opening, op_range, too_busy, no_memory}
+use Rattle.conn_histories.specs.Requests.{kind_in, IsAsked, HasSlots, op_of, types_of, uses_of, slots_for, slot_for, opening, op_range, too_busy, no_memory}
 use Rattle.conn_histories.specs.Requests.IsRefused.{no_operation, no_stub, full}
 use Rattle.conn_histories.specs.Entries.{asked_as}
-use Rattle.world_laws.specs.Journals.{journal, IsAccepted, IsCancelled, IsOrphaned}
+use Rattle.world_laws.specs.Journals.{journal, IsCancelled, IsOrphaned}
 use Rattle.world_laws.specs.Ends.{ServerEnd}
 use Rattle.world_laws.specs.Ends.Waiting.{Refused, Call}
 use Rattle.world_laws.specs.Serving.{numbered as with_number}
-use Rattle.world_laws.specs.Serving.{request, CancelsMarked, RefusesRequest, AcceptsRequest, Requests}
+use Rattle.world_laws.specs.Serving.{request, CancelsMarked, RefusesRequest, Requests}
 
 pub some_cancel : (past : List Entry) (k : ℕ) → (new : List Entry) × IsCancelled past k new
 some_cancel past k = by (waits (journal past) k) (is_cancellable (journal past) k) refl refl
@@ -85,7 +85,6 @@ refuse table past s j iface c status r = (with_number s None (Refused status), p
 some_mark : (b : Bool) (past : List Entry) (k : ℕ) → (new : List Entry) × CancelsMarked b past k new
 some_mark true past k = some_cancel past k
 some_mark false past k = (past, refl)
-
 
 not_memory : (d : Departure) → status_of (fault_of d) ≢ no_memory
 not_memory (departures.Short n) e = absurd (omega (arith, ap (λ (s : Status). s.0) e))

@@ -1,10 +1,8 @@
 -- How far the server's end of a connection is with what its caller asks: one bind, and then calls and cancels.
-use Rattle.std.proofs.Common.{◌≡◌, ℕ, ◌+◌, ◌<◌, ◌≤◌, ◌^◌, ◌⊎◌, inl, inr, Bool, true, false, ◌||◌, List, [], ◌∷◌, ◌++◌, length, Option, Some, None, Ok, refl, sym, ap, subst, ◌∙◌, append_assoc, append-nil, arith}
+use Rattle.std.proofs.Common.{◌≡◌, ℕ, ◌≤◌, ◌^◌, ◌⊎◌, inl, inr, Bool, true, false, ◌||◌, List, [], ◌∷◌, ◌++◌, length, Option, Some, None, Ok, refl, sym, ap, subst, ◌∙◌, append_assoc, arith}
 use Rattle.std.specs.List.{list_any}
 use Rattle.rpc_base.specs.Fields.{FitsSyntax}
-use Rattle.rpc_base.specs.declared.identifiers.SyntaxId.{SyntaxId}
 use Rattle.pdu_codec.specs.declared.pdu.Pdu.{Pdu}
-use Rattle.pdu_codec.specs.declared.pdu.Body.{Body}
 use Rattle.pdu_codec.specs.declared.pdu.BindBody.{BindBody}
 use Rattle.pdu_codec.specs.declared.pdu.BindAckBody.{BindAckBody}
 use Rattle.pdu_stream.specs.declared.joined.Joined.{Joined}
@@ -19,8 +17,8 @@ use Rattle.conn_asks.specs.declared.events.Waits.TheVariants.{Nothing, Group, Ca
 use Rattle.pdu_stream.specs.Cuts.{IsCut}
 use Rattle.conn_asks.specs.declared.events.Agreement.{Agreement}
 use Rattle.conn_asks.specs.Asks.{Asks, AsksFirst, AreAsks, AreAsksOf, broken_end}
-use Rattle.conn_asks.specs.States.{ConnState, at_start, with_octets, accepted, ActsOnCall, DoesWith, MayCome, TakesPdu, IsIdle, Skips, SkipsAll, ActsAt, Acts, Goes}
-use Rattle.conn_histories.specs.Histories.{Decision, Event, AnswersDecision, Lives, stream}
+use Rattle.conn_asks.specs.States.{ConnState, at_start, with_octets, accepted, ActsOnCall, DoesWith, MayCome, TakesPdu, SkipsAll, Acts, Goes}
+use Rattle.conn_histories.specs.Histories.{Decision, Event, Lives, stream}
 use Rattle.conn_histories.specs.Histories.Event.{Came, Paused, Did, Decided}
 use Rattle.conn_histories.specs.Histories.Decision.{ToGroup, RefuseGroup, Reply}
 use Rattle.conn_histories.proofs.Left.{Left, left_takes}
@@ -29,8 +27,7 @@ use Rattle.conn_histories.proofs.Walks.{over_takes}
 use Rattle.conn_histories.proofs.OneAsk.{one_ask}
 use Rattle.conn_histories.proofs.Decided.{AnswersAt, at_waits}
 use Rattle.client_core.specs.States as callers
-use Rattle.client_core.specs.Histories.{sent}
-use Rattle.client_laws.specs.Sending.{bind_asked, EventsAsk}
+use Rattle.client_laws.specs.Sending.{EventsAsk}
 use Rattle.client_laws.proofs.Sending.{asks_are_sent}
 use Rattle.world_laws.specs.Ends.{Line}
 use Rattle.world_laws.proofs.Holds.{LineHolds, binds_once}
@@ -187,7 +184,6 @@ decided m n (RefuseGroup reason) octets up grouped Failed w a h = absurd a
 decided m n (Reply said executed) octets up grouped Failed w a h = absurd a
 
 -- ---- one event after the other
-
 
 or_assoc : (a b c : Bool) → ((a || b) || c) ≡ (a || (b || c))
 or_assoc true b c = refl

@@ -1,12 +1,12 @@
 -- In every world what waits for the server's word is what its connection waits for.
-use Rattle.std.proofs.Common.{◌≡◌, ℕ, List, [], ◌∷◌, ◌++◌, Some, refl, sym, subst, ap}
+use Rattle.std.proofs.Common.{◌≡◌, ℕ, List, [], ◌∷◌, Some, refl, sym, subst}
 use Rattle.std.specs.Prelude.{slice_get}
 use Rattle.ndr_value.specs.Values.{Msg}
 use Rattle.ndr_table.specs.Tables.{TableForm}
 use Rattle.conn_histories.specs.Histories.Event.{Came}
 use Rattle.world_laws.specs.Moves.{Move}
 use Rattle.world_laws.specs.Moves.{Move as moves}
-use Rattle.world_laws.specs.Ends.{ServerEnd, Line, new_server}
+use Rattle.world_laws.specs.Ends.{Line, new_server}
 use Rattle.world_laws.specs.Worlds.{World, empty, opened, starting, Opens, Starts, Plays, PlaysAll, Played}
 use Rattle.world_laws.proofs.Lists.{within, OfMore, of_more}
 use Rattle.world_laws.proofs.Lists.OfMore.{before, last}

@@ -20,6 +20,13 @@ CallersLead =
     (table : TableForm) (played : List Move) (w : World) (c n : ℕ) → FitsSyntax table.id → length table.ops ≤ 2 ^ 16 → Played table played w → MayCome table w (moves.ToCaller c n)
     → Leads table w (moves.ToCaller c n)
 
+-- ---- octets arrive at the server
+
+abbrev pub ServersLead : Type 0
+ServersLead =
+    (table : TableForm) (played : List Move) (w : World) (c n : ℕ) → FitsSyntax table.id → length table.ops ≤ 2 ^ 16 → Played table played w → MayCome table w (moves.ToServer c n)
+    → Leads table w (moves.ToServer c n)
+
 -- ---- the server's moves
 
 -- the journal goes on with the End of a call that may end so
