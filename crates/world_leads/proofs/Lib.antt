@@ -1,0 +1,11 @@
+pub mod Acting
+pub mod Callers
+pub mod Cuts
+pub mod Fits
+pub mod Going
+pub mod Hearing
+pub mod Meaning
+pub mod Stages
+pub mod Unheard
+pub mod Walking
+pub mod Servers

@@ -1,0 +1,5 @@
+use Rattle.world_leads.proofs.Unheard.{ends_enter}
+use Rattle.world_leads.proofs.ends_enter.Goals as goal
+
+pub returns : goal.returns
+returns c = ends_enter

@@ -1,0 +1,35 @@
+//! A move of a world leads on wherever its condition holds, as laws.
+#![tactic(auto)]
+
+ghost use Rattle.world_leads.specs.Leads.{CallersLead, EndsEnter, ServersLead, UnheardFinishesLead, UnheardTakesLead};
+
+use ndr_laws::read_is_stub;
+
+/// In every world octets that are on the way to a caller may come there, as many as are on it or fewer.
+pub fn callers_lead()
+    ensures { CallersLead }
+{
+    read_is_stub();
+}
+
+/// So may octets that are on the way to the server: it does what they ask, and comes to rest.
+pub fn servers_lead()
+    ensures { ServersLead }
+{
+    read_is_stub();
+}
+
+/// A call that may end so has an End that says it, in the journal.
+pub fn ends_enter()
+    ensures { EndsEnter }
+{}
+
+/// It may end so wherever no connection that stands waits for its answer.
+pub fn unheard_finishes_lead()
+    ensures { UnheardFinishesLead }
+{}
+
+/// So may a call that waits be taken or denied, where no other is in its way.
+pub fn unheard_takes_lead()
+    ensures { UnheardTakesLead }
+{}
