@@ -46,12 +46,6 @@ last_row rows x k n len e r =
         let one : suc n ≡ n + 1 = omega arith in
         cut_at rows n x lt ∙ (ap (λ ys. take n rows ++ get_or rows n x ∷ ys) (ap (λ m. drop m rows) one ∙ rest) ∙ ap (λ y. take n rows ++ y ∷ []) (sym e))
 
--- the waiting calls of a connection go, the last first
-pub left_step : (c i : ℕ) (rows : List Row) (x : Row) → i < length rows → x ≡ get_or (take (suc i) rows ++ left c (drop (suc i) rows)) i x → stays c x ≡ false → remove (take (suc i) rows ++ left c (drop (suc i) rows)) i ≡ take i rows ++ left c (drop i rows)
-left_step c i [] x lt e s = absurd (omega arith)
-left_step c zero (y ∷ rows) x lt e s = let off : stays c y ≡ false = ap (stays c) (sym e) ∙ s in rw off refl
-left_step c (suc i) (y ∷ rows) x lt e s = ap (λ ys. y ∷ ys) (left_step c i rows x (omega arith) e s)
-
 -- no more wait than there are
 pub waits_few : (rows : List Row) → length (filter is_waiting rows) ≤ length rows
 waits_few [] = omega arith

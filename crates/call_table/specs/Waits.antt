@@ -1,5 +1,7 @@
 -- The waiting calls by connection.
-use Rattle.std.specs.Prelude.{◌≡◌, ℕ, ◌+◌, ◌*◌, ◌^◌, ◌<◌, ◌≤◌, ◌==◌, if◌then◌else◌, Option, Some, None, List, length, slice_index_or, Vec, vec_len, vec_capacity}
+use Rattle.std.specs.Prelude.{◌≡◌, ℕ, ◌+◌, ◌*◌, ◌^◌, ◌<◌, ◌≤◌, ◌==◌, if◌then◌else◌, Option, Some, None, List, length, slice_index_or}
+use Rattle.std.specs.VecDeque.{deque_len, deque_capacity}
+use Rattle.std.specs.declared.collections.VecDeque.{VecDeque}
 use Rattle.std.specs.List.{sum_by}
 use Rattle.std.specs.List.Sorted.{IsNonDecreasing}
 use Rattle.std.specs.declared.alloc.Global.{Global}
@@ -32,9 +34,9 @@ abbrev pub HasWaiting : List Row → List ℕ → Type 0
 HasWaiting rows keys = (n : ℕ) → held n keys ≡ total_of (waits_under n) rows
 
 -- they rise, and what may still come has a place
-pub record IsSorted (keys : Vec ℕ Global) (room : ℕ) : Type 0 where
+pub record IsSorted (keys : VecDeque ℕ Global) (room : ℕ) : Type 0 where
   pub rise : IsNonDecreasing keys.items
-  pub places : vec_len keys + room ≤ vec_capacity keys
+  pub places : deque_len keys + room ≤ deque_capacity keys
 
 -- they are those of the rows, and there is room for as many more
 pub record IsListed (rows : List Row) (waiting : WaitingKeys) (room : ℕ) : Type 0 where

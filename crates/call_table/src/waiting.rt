@@ -6,6 +6,7 @@ ghost use Rattle.call_table.specs.Waits as spec;
 use crate::row::Row;
 use rpc_base::NoMemory;
 use std::alloc::Global;
+use std::collections::VecDeque;
 use std::marker::Model;
 
 /// How many numbers there are for the calls of a connection.
@@ -14,7 +15,7 @@ const NUMBERS: u64 = 1 << 32;
 /// The waiting calls, each behind the number of its connection, in order.
 #[derive(Drop)]
 pub struct WaitingCalls {
-    keys: Vec<u64>,
+    keys: VecDeque<u64>,
     room: usize,
 }
 
@@ -34,7 +35,7 @@ impl WaitingCalls {
         ensures { result ≡ record { keys = []; room = 0 } }
     {
         WaitingCalls {
-            keys: Vec::new(alloc),
+            keys: VecDeque::new(alloc),
             room: 0,
         }
     }
@@ -68,7 +69,7 @@ impl WaitingCalls {
             return;
         }
         let key = key_of(row.conn, row.call);
-        let at = below(self.keys.as_slice(), key);
+        let at = below(&self.keys, key);
         self.keys.insert(at, key).unwrap();
     }
 
@@ -81,8 +82,8 @@ impl WaitingCalls {
         if row.runs {
             return;
         }
-        let at = below(self.keys.as_slice(), key_of(row.conn, row.call));
-        self.keys.remove(at);
+        let at = below(&self.keys, key_of(row.conn, row.call));
+        self.keys.remove(at).unwrap();
     }
 
     /// The first waiting call of a connection.
@@ -90,7 +91,7 @@ impl WaitingCalls {
         ensures { spec.IsFirstOf self.now.keys conn result }
     {
         let low = key_of(conn, 0);
-        let at = below(self.keys.as_slice(), low);
+        let at = below(&self.keys, low);
         if at == self.keys.len() {
             return None;
         }
@@ -111,9 +112,9 @@ fn key_of(conn: u32, call: u32) -> u64
 }
 
 /// How many keys are below this one.
-fn below(keys: &[u64], key: u64) -> usize
-    requires { IsNonDecreasing keys.now }
-    ensures { spec.IsKeyIndex keys.now key result }
+fn below(keys: &VecDeque<u64>, key: u64) -> usize
+    requires { IsNonDecreasing keys.now.items }
+    ensures { spec.IsKeyIndex keys.now.items key result }
 {
     keys.partition_point(|other| *other < key)
 }
