@@ -1,9 +1,9 @@
 -- Rows by rising number: the last one has the greatest.
-use Rattle.std.proofs.Common.{◌≡◌, ℕ, zero, suc, ◌+◌, ◌<◌, ◌≤◌, Bool, true, false, ◌||◌, not, nat_lt, List, [], ◌∷◌, ◌++◌, length, get_or, take, drop, refl, sym, ◌∙◌, ap, arith, inl, inr}
-use Rattle.std.specs.List.{list_any, filter, remove}
+use Rattle.std.proofs.Common.{◌≡◌, ℕ, suc, ◌+◌, ◌<◌, ◌≤◌, Bool, true, false, ◌||◌, not, nat_lt, List, [], ◌∷◌, ◌++◌, length, get_or, take, drop, refl, sym, ◌∙◌, ap, arith, inl, inr}
+use Rattle.std.specs.List.{list_any, filter}
 use Rattle.std.proofs.lemmas.Bool.{cases_Bool, ltb-true, lt-ltb}
 use Rattle.call_table.specs.declared.row.Row.{Row}
-use Rattle.call_table.specs.Rows.{is_below, is_waiting, over, stays, left}
+use Rattle.call_table.specs.Rows.{is_below, is_waiting, over}
 use Rattle.call_table.specs.Kept.{Rises}
 use Rattle.handle_model.proofs.Rest.{rest_none}
 use Rattle.call_table.proofs.Walks.{cut_at}
