@@ -6,6 +6,6 @@ pub mod Going
 pub mod Hearing
 pub mod Meaning
 pub mod Stages
-pub mod Unheard
+pub mod Ending
 pub mod Walking
 pub mod Servers

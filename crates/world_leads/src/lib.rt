@@ -1,7 +1,7 @@
 //! A move of a world leads on wherever its condition holds, as laws.
 #![tactic(auto)]
 
-ghost use Rattle.world_leads.specs.Leads.{CallersLead, EndsEnter, ServersLead, UnheardFinishesLead, UnheardTakesLead};
+ghost use Rattle.world_leads.specs.Leads.{CallersLead, EndsEnter, FinishesLead, ServersLead, TakesAllLead};
 
 use ndr_laws::read_is_stub;
 
@@ -24,12 +24,16 @@ pub fn ends_enter()
     ensures { EndsEnter }
 {}
 
-/// It may end so wherever no connection that stands waits for its answer.
-pub fn unheard_finishes_lead()
-    ensures { UnheardFinishesLead }
-{}
+/// In every world it may end so. A connection that stands and waits for its answer is given it, and goes on.
+pub fn finishes_lead()
+    ensures { FinishesLead }
+{
+    read_is_stub();
+}
 
 /// So may a call that waits be taken or denied, where no other is in its way.
-pub fn unheard_takes_lead()
-    ensures { UnheardTakesLead }
-{}
+pub fn takes_all_lead()
+    ensures { TakesAllLead }
+{
+    read_is_stub();
+}

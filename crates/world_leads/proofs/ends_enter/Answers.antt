@@ -1,4 +1,4 @@
-use Rattle.world_leads.proofs.Unheard.{ends_enter}
+use Rattle.world_leads.proofs.Ending.{ends_enter}
 use Rattle.world_leads.proofs.ends_enter.Goals as goal
 
 pub returns : goal.returns
