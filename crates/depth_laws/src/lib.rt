@@ -1,0 +1,21 @@
+//! No text of a value of a table's shapes is answered by lack of memory for its depth, where no reference leads to a type, as
+//! laws.
+#![tactic(auto)]
+
+ghost use Rattle.depth_laws.specs.Laws.{ShapesAreRead, ParamsAreRead, ResultsAreRead};
+
+/// Of no shape of a table is a text answered by lack of memory for its depth, where no reference of the types leads to a type, and
+/// none of the shape's but the outermost.
+pub fn shapes_are_read()
+    ensures { ShapesAreRead }
+{}
+
+/// So it is of each parameter.
+pub fn params_are_read()
+    ensures { ParamsAreRead }
+{}
+
+/// So it is of each result.
+pub fn results_are_read()
+    ensures { ResultsAreRead }
+{}
