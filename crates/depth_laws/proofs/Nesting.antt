@@ -16,7 +16,7 @@ use Rattle.depth_laws.specs.Laws.{is_own, each_own, arms_own, body_own, refs_end
 
 -- ---- deeper is weaker
 
-one_up : (types : List Form) (d : ℕ) (s : Form) → nests_at types (Nests types d) s → Nests types (suc d) s
+pub one_up : (types : List Form) (d : ℕ) (s : Form) → nests_at types (Nests types d) s → Nests types (suc d) s
 unfolding Nests
 one_up types d s h = h
 
@@ -74,7 +74,7 @@ weaker types d e s le h =
     let same : plus d (e - d) ≡ e = omega (arith, plus_is d (e - d), le) in
     subst (λ (x : ℕ). Nests types x s) same (much_deeper types d (e - d) s h)
 
-both : (a b : Bool) → (a && b) ≡ true → (a ≡ true) × (b ≡ true)
+pub both : (a b : Bool) → (a && b) ≡ true → (a ≡ true) × (b ≡ true)
 both true b e = (refl, e)
 both false b e = absurd cc
 

@@ -1,8 +1,9 @@
-//! No text of a value of a table's shapes is answered by lack of memory for its depth, where no reference leads to a type, as
-//! laws.
+//! No text of a value of a table's shapes is answered by lack of memory for its depth, where no reference leads to a type, or what
+//! references lead to nests few levels, as laws.
 #![tactic(auto)]
 
 ghost use Rattle.depth_laws.specs.Laws.{ShapesAreRead, ParamsAreRead, ResultsAreRead};
+ghost use Rattle.depth_laws.specs.Through.{NearShapesAreRead};
 
 /// Of no shape of a table is a text answered by lack of memory for its depth, where no reference of the types leads to a type, and
 /// none of the shape's but the outermost.
@@ -18,4 +19,10 @@ pub fn params_are_read()
 /// So it is of each result.
 pub fn results_are_read()
     ensures { ResultsAreRead }
+{}
+
+/// References may lead to types too, where they are counted: where structures, unions, arrays and references nest 23 levels at most
+/// up to other pointers.
+pub fn near_shapes_are_read()
+    ensures { NearShapesAreRead }
 {}
