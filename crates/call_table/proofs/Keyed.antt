@@ -1,6 +1,7 @@
 -- Rows at the keys of an index: one comes, goes or changes.
 use Rattle.std.proofs.Common.{◌≡◌, ◌≢◌, ℕ, zero, suc, ◌+◌, ◌<◌, ◌≤◌, Bool, true, false, Option, Some, None, MatchOption, List, [], ◌∷◌, ◌++◌, length, map, get_or, set, rules, is_some, cond, count_by, refl, sym, ◌∙◌, ap, subst, arith, inl, inr}
-use Rattle.std.specs.Prelude.{nat_lt, Vec}
+use Rattle.std.specs.Prelude.{nat_lt}
+use Rattle.std.specs.declared.collections.VecDeque.{VecDeque}
 use Rattle.std.specs.declared.alloc.Global.{Global}
 use Rattle.std.specs.List.{AllByRecursion, remove}
 use Rattle.std.specs.List.Sorted.{IsPartitionedBy, IsPartitionPoint}
@@ -238,7 +239,7 @@ count_set slots n x y lt g =
     let sum = sum_by-set one slots n (Some y) None lt in
     let was = ap one g in omega arith
 
-pub stored_set : (f : Row → Row) (s : Slab Row) (index : Vec RowKey Global) (room i : ℕ) (k : RowKey) (x : Row) → ((r : Row) → (f r).call ≡ r.call) → IsStored s index room → i < length index.items → k ≡ get_or index.items i k → get s k.key ≡ Some x → IsStored (with_value s k.key (f x)) index room
+pub stored_set : (f : Row → Row) (s : Slab Row) (index : VecDeque RowKey Global) (room i : ℕ) (k : RowKey) (x : Row) → ((r : Row) → (f r).call ≡ r.call) → IsStored s index room → i < length index.items → k ≡ get_or index.items i k → get s k.key ≡ Some x → IsStored (with_value s k.key (f x)) index room
 stored_set f s index room i k x m st lt e g =
     let there = row_there s k (key_stands s index.items i k st.stand lt e) in
     let one : Some there.0 ≡ Some x = sym there.1 ∙ g in

@@ -15,4 +15,5 @@ pub mod Started
 pub mod Steps
 pub mod Stored
 pub mod Tallied
+pub mod Waits
 pub mod Walks

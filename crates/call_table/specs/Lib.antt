@@ -8,3 +8,4 @@ pub mod Rows
 pub mod Shown
 pub mod Sought
 pub mod Tally
+pub mod Waits

@@ -17,6 +17,7 @@ mod rows;
 mod seek;
 mod table;
 mod tally;
+mod waiting;
 
 pub use held::OpenRows;
 pub use laws::{

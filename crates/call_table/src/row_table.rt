@@ -11,6 +11,7 @@ use crate::row::Row;
 use rpc_base::NoMemory;
 use slab::Slab;
 use std::alloc::Global;
+use std::collections::VecDeque;
 use std::marker::Model;
 
 /// The number of a call, and where its row stands.
@@ -24,7 +25,7 @@ pub struct RowKey {
 #[derive(Drop)]
 pub struct RowTable {
     rows: Slab<Row>,
-    index: Vec<RowKey>,
+    index: VecDeque<RowKey>,
     room: usize,
 }
 
@@ -45,7 +46,7 @@ impl RowTable {
     {
         RowTable {
             rows: Slab::new(alloc),
-            index: Vec::new(alloc),
+            index: VecDeque::new(alloc),
             room: 0,
         }
     }
@@ -92,7 +93,7 @@ impl RowTable {
         requires { Rises 0 self.now.items }
         ensures { IsPlace self.now.items call result }
     {
-        below(self.index.as_slice(), call)
+        below(&self.index, call)
     }
 
     /// A row comes, the last of all.
@@ -104,7 +105,7 @@ impl RowTable {
         let call = row.call;
         let key = self.rows.insert_reserved(row);
         self.room -= 1;
-        self.index.push(RowKey { call, key }).unwrap();
+        self.index.push_back(RowKey { call, key }).unwrap();
     }
 
     /// The row at a place goes.
@@ -114,7 +115,7 @@ impl RowTable {
         ensures value { result ≡ slice_index_or self.old.items at result }
         ensures room { self.new.room ≡ self.old.room }
     {
-        let key = self.index.remove(at).key;
+        let key = self.index.remove(at).unwrap().key;
         self.rows.remove(key)
     }
 
@@ -156,9 +157,9 @@ impl RowTable {
 }
 
 /// How many numbers of an index are below this one.
-fn below(index: &[RowKey], call: u32) -> usize
-    requires { spec.KeysRise 0 index.now }
-    ensures { spec.IsKeyPlace index.now call result }
+fn below(index: &VecDeque<RowKey>, call: u32) -> usize
+    requires { spec.KeysRise 0 index.now.items }
+    ensures { spec.IsKeyPlace index.now.items call result }
 {
     index.partition_point(|key| key.call < call)
 }

@@ -17,9 +17,10 @@ use crate::lists::{cut, fill};
 use crate::queues::CallQueues;
 use crate::row::{CallSlots, Row};
 use crate::row_table::RowTable;
-use crate::rows::{all_below, owed_of, queued_rows, rows_of};
+use crate::rows::{all_below, owed_of, queued_rows, rows_of, waiting_rows};
 use crate::seek::{place, row_of};
 use crate::tally::Tally;
+use crate::waiting::WaitingCalls;
 use handle_model::{Asked, Base, BaseCalls, Cookies, Entry, Slot, Slots};
 use rpc_base::{Items, NoMemory};
 use std::alloc::Global;
@@ -33,6 +34,7 @@ pub struct CallTable {
     lists: Vec<Cookies>,
     room: usize,
     pub(crate) tally: Tally,
+    pub(crate) waiting: WaitingCalls,
     alloc: Global,
 }
 
@@ -41,12 +43,13 @@ impl Model for CallTable {
     ghost use Rattle.call_table.specs.Kept.{IsKept};
     ghost use Rattle.call_table.specs.Tally.{IsTally};
     ghost use Rattle.call_table.specs.Queues.{IsQueued};
+    ghost use Rattle.call_table.specs.Waits.{IsListed};
 
     ghost Value = { OpenCalls };
 
     ghost view = { λ t. record { rows = t.rows.items; room = t.room } };
 
-    ghost invariant = { λ t. IsKept t.rows t.lists t.room × IsTally t.rows.items t.tally × IsQueued t.rows.items t.queues t.room };
+    ghost invariant = { λ t. IsKept t.rows t.lists t.room × IsTally t.rows.items t.tally × IsQueued t.rows.items t.queues t.room × IsListed t.rows.items t.waiting t.room };
 }
 
 impl OpenRows for CallTable {
@@ -82,6 +85,7 @@ impl CallTable {
             lists: Vec::new(alloc),
             room: 0,
             tally: Tally::new(),
+            waiting: WaitingCalls::new(alloc),
             alloc,
         }
     }
@@ -101,6 +105,7 @@ impl CallTable {
         let mut lists = Vec::new(alloc);
         fill(alloc, &mut lists, rows.len())?;
         let queues = queued_rows(alloc, &rows)?;
+        let waiting = waiting_rows(alloc, &rows)?;
         let tally = Tally::of(&rows);
         Ok(CallTable {
             rows,
@@ -108,6 +113,7 @@ impl CallTable {
             lists,
             room: 0,
             tally,
+            waiting,
             alloc,
         })
     }
@@ -127,6 +133,7 @@ impl CallTable {
         }
         self.rows.reserve(n)?;
         self.queues.reserve(n)?;
+        self.waiting.reserve(n)?;
         let Some(wanted) = self.rows.len().checked_add(n) else {
             return Err(NoMemory);
         };
@@ -258,6 +265,7 @@ impl CallTable {
             orphaned: false,
         };
         self.tally.enter(&row);
+        self.waiting.enter(&row);
         self.queues.join(call, slots.as_slice());
         self.rows.push(row);
     }
@@ -270,7 +278,9 @@ impl CallTable {
         ensures room { self.new.room ≡ self.old.room }
     {
         let at = place(&self.rows, call);
-        let count = self.rows.row(at).slots.as_slice().len();
+        let row = self.rows.row(at);
+        let count = row.slots.as_slice().len();
+        self.waiting.leave(row);
         self.rows.start(at);
         self.tally.running += 1;
         cut(self.lists.pop().unwrap(), count)

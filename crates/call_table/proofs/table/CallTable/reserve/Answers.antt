@@ -14,4 +14,5 @@ invariant_of-self-2 c =
       },
       search rules,
       (let same = c.reserve-2.ensures.same in let all = c.self.invariant.2.calls_are in record { calls_are = search rules; enough = search rules }),
+      (let same = c.reserve-3.ensures.same in let all = c.self.invariant.3.has_waiting in record { has_waiting = search rules; enough = search rules }),
     )
