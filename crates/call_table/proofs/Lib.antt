@@ -8,7 +8,9 @@ pub mod Later
 pub mod Marks
 pub mod Nearest
 pub mod Order
+pub mod Ordered
 pub mod Owed
+pub mod Places
 pub mod Search
 pub mod Sharing
 pub mod Started

@@ -1,143 +1,45 @@
--- The waiting calls by connection: a key comes, goes and is looked for, and what a connection leaves.
-use Rattle.std.proofs.Common.{◌≡◌, ℕ, suc, ◌+◌, ◌^◌, ◌<◌, ◌≤◌, Bool, true, false, ◌==◌, nat_lt, Option, Some, None, List, [], ◌∷◌, ◌++◌, length, map, get_or, refl, sym, ◌∙◌, ap, subst, arith, inl, inr}
-use Rattle.std.specs.List.{remove}
-use Rattle.std.specs.List.Sorted.{IsNonDecreasing, IsPartitionPoint}
-use Rattle.std.proofs.lemmas.Bool.{cases_Bool, cases_lt, eqb-true, eq-eqb, ltb-true, ltb-false}
-use Rattle.std.proofs.lemmas.List.Sums.{sum_by-remove}
-use Rattle.std.proofs.lemmas.List.Edits.{length-remove, get_or-remove_below, get_or-remove_above}
+-- The waiting calls by connection: a key is made, and what a connection leaves.
+use Rattle.std.proofs.Common.{◌≡◌, ℕ, ◌+◌, ◌-◌, ◌^◌, ◌<◌, ◌≤◌, Bool, true, false, ◌==◌, Option, Some, None, List, [], ◌∷◌, length, map, refl, sym, ◌∙◌, ap, subst, arith, inl, inr}
+use Rattle.std.proofs.lemmas.Bool.{cases_Bool, eqb-true, eq-eqb}
 use Rattle.call_table.specs.declared.row.Row.{Row}
 use Rattle.call_table.specs.Rows.{is_call, is_left, row_at, at_call, taken, with_start, without, left, owed_by, owed_of}
 use Rattle.call_table.specs.Kept.{Rises}
 use Rattle.call_table.specs.Tally.{total_of}
-use Rattle.call_table.specs.Waits.{WaitingKeys, key_of, one, held, waits_under, HasWaiting, IsListed, IsKeyIndex, IsFirstOf}
+use Rattle.call_table.specs.Sorted.{OrderedKeys, one, held, IsLeastFrom}
+use Rattle.call_table.specs.Waits.{key_of, waits_under, HasWaiting, IsListed, IsFirstOf}
 use Rattle.call_table.proofs.Marks.{others_kept}
-use Rattle.call_table.proofs.Tallied.{total_push, total_without, total_marked, total_same}
+use Rattle.call_table.proofs.Ordered.{one_same, keys_marked, keys_same}
 use Rattle.call_table.proofs.Owed.{owed_without}
 
 -- KEYS
 
-one_same : (n k : ℕ) → k ≡ n → one n k ≡ 1
-one_same n k e = let t = eq-eqb k n e in rw t refl
+pub first_none : (ks : List ℕ) (c : ℕ) → IsLeastFrom ks (key_of c 0) None → IsFirstOf ks c None
+first_none ks c f k small = f (key_of c k) (omega arith)
 
-held_cons : (n k : ℕ) (ks : List ℕ) → held n (k ∷ ks) ≡ held n ks + one n k
-held_cons n k ks = sym (sum_by-remove (one n) (k ∷ ks) 0 0 (omega arith))
+pub first_far : (ks : List ℕ) (c k : ℕ) → IsLeastFrom ks (key_of c 0) (Some k) → 2 ^ 32 ≤ k - key_of c 0 → IsFirstOf ks c None
+first_far ks c k f far m small = f.2 (key_of c m) (omega arith) (omega arith)
 
-record KeyAt (n : ℕ) (ks : List ℕ) : Type 0 where
-  pub at : ℕ
-  pub within : at < length ks
-  pub here : (d : ℕ) → get_or ks at d ≡ n
-
-held_at : (n : ℕ) (ks : List ℕ) → 0 < held n ks → KeyAt n ks
-held_at n [] h = absurd (omega arith)
-held_at n (k ∷ ks) h =
-    let more = held_cons n k ks in
-    elim (cases_Bool (k == n)) [
-      | inl t ↦ record { at = 0; within = omega arith; here = λ d. eqb-true k n t }
-      | inr f ↦
-          let none : one n k ≡ 0 = rw f refl in
-          let s = held_at n ks (omega arith) in
-          let lt = s.within in record { at = suc s.at; within = omega arith; here = s.here }
-    ]
-
-abbrev pub is_low : ℕ → ℕ → Bool
-is_low n k = nat_lt k n
-
-pub key_index : (ks : List ℕ) (n i : ℕ) → i ≤ length ks → IsPartitionPoint (λ y. is_low n y ≡ true) (λ y. is_low n y ≡ false) ks i → IsKeyIndex ks n i
-key_index ks n i le p =
-    record {
-      within = le;
-      low = λ j d lt. ltb-true _ _ (p.0 j d (omega arith) lt);
-      high = λ j d le' lt. ltb-false _ _ (p.1 j d le' lt);
-    }
-
--- a key that is among them is found
-pub record IsFound (ks : List ℕ) (n i : ℕ) : Type 0 where
-  pub within : i < length ks
-  pub here : (d : ℕ) → get_or ks i d ≡ n
-
-pub found : (ks : List ℕ) (n i : ℕ) → IsNonDecreasing ks → IsKeyIndex ks n i → 0 < held n ks → IsFound ks n i
-found ks n i up p h =
-    let s = held_at n ks h in
-    let lt = s.within in
-    let from : i ≤ s.at = elim (cases_lt s.at i) [ inl b ↦ absurd (let low = p.low s.at 0 b in let e = s.here 0 in omega arith) | inr le ↦ le ] in
-    record {
-      within = omega arith;
-      here = λ d.
-          let high = p.high i d (omega arith) (omega arith) in
-          let rise = up i s.at d from lt in
-          let e = s.here d in omega arith;
-    }
-
-pub sorted_remove : (ks : List ℕ) (i : ℕ) → i < length ks → IsNonDecreasing ks → IsNonDecreasing (remove ks i)
-sorted_remove ks i lt up a b d le within =
-    let len = length-remove ks i lt in
-    elim (cases_lt b i) [
-      | inl lb ↦
-          let x = get_or-remove_below ks i d a (omega arith) lt in
-          let y = get_or-remove_below ks i d b lb lt in
-          let z = up a b d le (omega arith) in omega arith
-      | inr gb ↦
-          let y = get_or-remove_above ks i d b gb lt in
-          elim (cases_lt a i) [
-            | inl la ↦
-                let x = get_or-remove_below ks i d a la lt in
-                let z = up a (b + 1) d (omega arith) (omega arith) in omega arith
-            | inr ga ↦
-                let x = get_or-remove_above ks i d a ga lt in
-                let z = up (a + 1) (b + 1) d (omega arith) (omega arith) in omega arith
-          ]
-    ]
-
-pub held_remove : (n k i : ℕ) (ks : List ℕ) → IsFound ks k i → held n (remove ks i) + one n k ≡ held n ks
-held_remove n k i ks f =
-    let sum = sum_by-remove (one n) ks i 0 f.within in
-    subst (λ m. held n (remove ks i) + one n m ≡ held n ks) (f.here 0) sum
-
-pub waits_once : (r : Row) → r.runs ≡ false → waits_under (key_of r.conn r.call) r ≡ 1
-waits_once r w = let same = one_same (key_of r.conn r.call) (key_of r.conn r.call) refl in rw w same
-
-pub under_waiting : (n : ℕ) (r : Row) → r.runs ≡ false → waits_under n r ≡ one n (key_of r.conn r.call)
-under_waiting n r w = rw w refl
-
-pub first_none : (ks : List ℕ) (c i : ℕ) → IsNonDecreasing ks → IsKeyIndex ks (key_of c 0) i → (i < length ks → (d : ℕ) × (key_of c 0 + 2 ^ 32 ≤ get_or ks i d)) → IsFirstOf ks c None
-first_none ks c i up p off k small =
-    elim (cases_lt 0 (held (key_of c k) ks)) [
-      | inl h ↦ absurd (
-          let s = held_at (key_of c k) ks h in
-          let lt = s.within in
-          let e = s.here 0 in
-          let from : i ≤ s.at = elim (cases_lt s.at i) [ inl b ↦ absurd (let low = p.low s.at 0 b in omega arith) | inr le ↦ le ] in
-          let high = off (omega arith) in
-          let rise = up i s.at high.0 from lt in
-          let same = s.here high.0 in
-          let far = high.1 in omega arith)
-      | inr z ↦ omega arith
-    ]
+pub first_some : (ks : List ℕ) (c k : ℕ) → IsLeastFrom ks (key_of c 0) (Some k) → k - key_of c 0 < 2 ^ 32 → IsFirstOf ks c (Some (k - key_of c 0))
+first_some ks c k f near =
+    let from = f.0 in
+    let same : key_of c (k - key_of c 0) ≡ k = omega arith in (near, subst (λ n. 0 < held n ks) (sym same) f.1)
 
 -- ROWS
 
-pub listed_push : (rows : List Row) (ks ks' : List ℕ) (r : Row) → HasWaiting rows ks → ((n : ℕ) → held n ks' ≡ held n ks + waits_under n r) → HasWaiting (rows ++ r ∷ []) ks'
-listed_push rows ks ks' r h m n = let total = total_push (waits_under n) rows r in let is = h n in let more = m n in omega arith
-
-pub listed_holds : (rows : List Row) (ks : List ℕ) (k : ℕ) (r : Row) → Rises 0 rows → row_at rows k ≡ Some r → HasWaiting rows ks → (n : ℕ) → waits_under n r ≤ held n ks
-listed_holds rows ks k r s e h n = let total = total_without (waits_under n) 0 rows k r s e in let is = h n in omega arith
-
-pub listed_without : (rows : List Row) (ks ks' : List ℕ) (k : ℕ) (r : Row) → Rises 0 rows → row_at rows k ≡ Some r → HasWaiting rows ks → ((n : ℕ) → held n ks' + waits_under n r ≡ held n ks) → HasWaiting (without k rows) ks'
-listed_without rows ks ks' k r s e h m n = let total = total_without (waits_under n) 0 rows k r s e in let is = h n in let less = m n in omega arith
+pub waits_held : (r : Row) (ks : List ℕ) → r.runs ≡ false → ((n : ℕ) → waits_under n r ≤ held n ks) → 0 < held (key_of r.conn r.call) ks
+waits_held r ks w h =
+    let same = one_same (key_of r.conn r.call) (key_of r.conn r.call) refl in
+    let once : waits_under (key_of r.conn r.call) r ≡ 1 = rw w same in
+    let all = h (key_of r.conn r.call) in omega arith
 
 pub listed_started : (rows : List Row) (ks ks' : List ℕ) (k : ℕ) (r : Row) → Rises 0 rows → row_at rows k ≡ Some r → HasWaiting rows ks → ((n : ℕ) → held n ks' + waits_under n r ≡ held n ks) → HasWaiting (with_start k rows) ks'
-listed_started rows ks ks' k r s e h m n =
-    let total = total_marked (waits_under n) taken 0 rows k r s e in
-    let off : waits_under n (taken r) ≡ 0 = refl in
-    let is = h n in
-    let less = m n in omega arith
+listed_started rows ks ks' k r s e h m =
+    keys_marked waits_under taken rows ks ks' k r s e h (λ n.
+        let off : waits_under n (taken r) ≡ 0 = refl in
+        let less = m n in omega arith)
 
-pub listed_marked : (g : Row → Row) (rows : List Row) (w : WaitingKeys) (room k : ℕ) → ((n : ℕ) (r : Row) → waits_under n (g r) ≡ waits_under n r) → IsListed rows w room → IsListed (map (at_call k g) rows) w room
-listed_marked g rows w room k m i =
-    record {
-      has_waiting = λ n. i.has_waiting n ∙ sym (total_same (waits_under n) g rows k (m n));
-      enough = i.enough;
-    }
+pub listed_marked : (g : Row → Row) (rows : List Row) (w : OrderedKeys) (room k : ℕ) → ((n : ℕ) (r : Row) → waits_under n (g r) ≡ waits_under n r) → IsListed rows w room → IsListed (map (at_call k g) rows) w room
+listed_marked g rows w room k m i = record { has_waiting = keys_same waits_under g rows w.keys k m i.has_waiting; enough = i.enough }
 
 -- WHAT A CONNECTION LEAVES
 

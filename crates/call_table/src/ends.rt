@@ -76,6 +76,7 @@ impl CallTable {
         self.queues.remove(at, steps);
         let row = self.rows.remove(at);
         self.waiting.leave(&row);
+        self.running.leave(&row);
         self.tally.leave(&row);
     }
 }

@@ -1,7 +1,7 @@
 use Rattle.std.proofs.Common.{arith, rules}
 use Rattle.std.proofs.lemmas.List.Sorted.{IsPartitionPoint-from_clause, IsPartitionedBy-ltb}
-use Rattle.call_table.proofs.Waits.{is_low, key_index}
-use Rattle.call_table.proofs.waiting.below.Goals as goal
+use Rattle.call_table.proofs.Ordered.{is_low, key_index}
+use Rattle.call_table.proofs.sorted.below.Goals as goal
 
 pub returns : goal.returns
 returns c =
