@@ -21,13 +21,8 @@ stage_counts (x ∷ rows) = let more = stage_counts rows in elim (cases_Bool x.r
 pub waiting_few : (rows : List Row) → total_of waits_of rows ≤ length rows
 waiting_few rows = let both = stage_counts rows in omega arith
 
-pub runs_held : (r : Row) (ks : List ℕ) → r.runs ≡ true → ((n : ℕ) → runs_at_place n r ≤ held n ks) → 0 < held r.place ks
-runs_held r ks w h =
-    let once : runs_at_place r.place r ≡ 1 = rw w (one_same r.place r.place refl) in
-    let all = h r.place in omega arith
-
-pub placed_push : (rows : List Row) (p : OrderedKeys) (room : ℕ) (r : Row) → r.runs ≡ false → 0 < room → IsPlaced rows p room → (room' : ℕ) → room' + 1 ≡ room → IsPlaced (rows ++ r ∷ []) p room'
-placed_push rows p room r w some i room' less =
+pub placed_push : (rows : List Row) (p : OrderedKeys) (room room' : ℕ) (r : Row) → r.runs ≡ false → room' + 1 ≡ room → IsPlaced rows p room → IsPlaced (rows ++ r ∷ []) p room'
+placed_push rows p room room' r w less i =
     let none : (n : ℕ) → runs_at_place n r ≡ 0 = λ n. rw w refl in
     let total = total_push waits_of rows r in
     let one_more : waits_of r ≡ 1 = rw w refl in

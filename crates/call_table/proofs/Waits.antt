@@ -1,4 +1,4 @@
--- The waiting calls by connection: a key is made, and what a connection leaves.
+-- The waiting calls by connection: a call starts or is marked, and what a connection leaves.
 use Rattle.std.proofs.Common.{◌≡◌, ℕ, ◌+◌, ◌-◌, ◌^◌, ◌<◌, ◌≤◌, Bool, true, false, ◌==◌, Option, Some, None, List, [], ◌∷◌, length, map, refl, sym, ◌∙◌, ap, subst, arith, inl, inr}
 use Rattle.std.proofs.lemmas.Bool.{cases_Bool, eqb-true, eq-eqb}
 use Rattle.call_table.specs.declared.row.Row.{Row}
@@ -11,26 +11,7 @@ use Rattle.call_table.proofs.Marks.{others_kept}
 use Rattle.call_table.proofs.Ordered.{one_same, keys_marked, keys_same}
 use Rattle.call_table.proofs.Owed.{owed_without}
 
--- KEYS
-
-pub first_none : (ks : List ℕ) (c : ℕ) → IsLeastFrom ks (key_of c 0) None → IsFirstOf ks c None
-first_none ks c f k small = f (key_of c k) (omega arith)
-
-pub first_far : (ks : List ℕ) (c k : ℕ) → IsLeastFrom ks (key_of c 0) (Some k) → 2 ^ 32 ≤ k - key_of c 0 → IsFirstOf ks c None
-first_far ks c k f far m small = f.2 (key_of c m) (omega arith) (omega arith)
-
-pub first_some : (ks : List ℕ) (c k : ℕ) → IsLeastFrom ks (key_of c 0) (Some k) → k - key_of c 0 < 2 ^ 32 → IsFirstOf ks c (Some (k - key_of c 0))
-first_some ks c k f near =
-    let from = f.0 in
-    let same : key_of c (k - key_of c 0) ≡ k = omega arith in (near, subst (λ n. 0 < held n ks) (sym same) f.1)
-
 -- ROWS
-
-pub waits_held : (r : Row) (ks : List ℕ) → r.runs ≡ false → ((n : ℕ) → waits_under n r ≤ held n ks) → 0 < held (key_of r.conn r.call) ks
-waits_held r ks w h =
-    let same = one_same (key_of r.conn r.call) (key_of r.conn r.call) refl in
-    let once : waits_under (key_of r.conn r.call) r ≡ 1 = rw w same in
-    let all = h (key_of r.conn r.call) in omega arith
 
 pub listed_started : (rows : List Row) (ks ks' : List ℕ) (k : ℕ) (r : Row) → Rises 0 rows → row_at rows k ≡ Some r → HasWaiting rows ks → ((n : ℕ) → held n ks' + waits_under n r ≡ held n ks) → HasWaiting (with_start k rows) ks'
 listed_started rows ks ks' k r s e h m =

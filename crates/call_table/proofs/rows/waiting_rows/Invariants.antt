@@ -1,6 +1,7 @@
 use Rattle.std.proofs.Common.{◌≡◌, ℕ, ◌+◌, ◌≤◌, drop, length}
 use Rattle.call_table.specs.Tally.{total_of}
-use Rattle.call_table.specs.Waits.{held, waits_under}
+use Rattle.call_table.specs.Sorted.{held}
+use Rattle.call_table.specs.Waits.{waits_under}
 use Rattle.call_table.proofs.rows.waiting_rows.Given as goal
 
 -- what is listed, and what is left
