@@ -1,5 +1,5 @@
 -- Numbers in order: a key comes, goes and is looked for, and those that rows have.
-use Rattle.std.proofs.Common.{◌≡◌, ℕ, suc, ◌+◌, ◌<◌, ◌≤◌, Bool, true, false, ◌==◌, nat_lt, Option, Some, None, List, [], ◌∷◌, ◌++◌, length, map, get_or, refl, sym, ◌∙◌, ap, subst, arith, inl, inr}
+use Rattle.std.proofs.Common.{◌≡◌, ℕ, suc, ◌+◌, ◌<◌, ◌≤◌, Bool, true, false, ◌==◌, nat_lt, Some, None, List, [], ◌∷◌, ◌++◌, length, map, get_or, refl, sym, ◌∙◌, subst, arith, inl, inr}
 use Rattle.std.specs.List.{remove}
 use Rattle.std.specs.List.Sorted.{IsNonDecreasing, IsPartitionPoint}
 use Rattle.std.proofs.lemmas.Bool.{cases_Bool, cases_lt, eqb-true, eq-eqb, ltb-true, ltb-false}
@@ -8,7 +8,6 @@ use Rattle.std.proofs.lemmas.List.Edits.{length-remove, get_or-remove_below, get
 use Rattle.call_table.specs.declared.row.Row.{Row}
 use Rattle.call_table.specs.Rows.{row_at, at_call, without}
 use Rattle.call_table.specs.Kept.{Rises}
-use Rattle.call_table.specs.Tally.{total_of}
 use Rattle.call_table.specs.Sorted.{one, held, IsKeyIndex, IsLeastFrom, HasKeys}
 use Rattle.call_table.proofs.Tallied.{total_push, total_without, total_marked, total_same}
 
@@ -16,9 +15,6 @@ use Rattle.call_table.proofs.Tallied.{total_push, total_without, total_marked, t
 
 pub one_same : (n k : ℕ) → k ≡ n → one n k ≡ 1
 one_same n k e = let t = eq-eqb k n e in rw t refl
-
-pub one_other : (n k : ℕ) → (k ≡ n → ⊥) → one n k ≡ 0
-one_other n k ne = elim (cases_Bool (k == n)) [ inl t ↦ absurd (ne (eqb-true k n t)) | inr f ↦ rw f refl ]
 
 held_cons : (n k : ℕ) (ks : List ℕ) → held n (k ∷ ks) ≡ held n ks + one n k
 held_cons n k ks = sym (sum_by-remove (one n) (k ∷ ks) 0 0 (omega arith))

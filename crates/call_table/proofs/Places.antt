@@ -1,5 +1,5 @@
 -- The places of the running calls: one comes, one goes, and the least.
-use Rattle.std.proofs.Common.{◌≡◌, ℕ, ◌+◌, ◌<◌, ◌≤◌, true, false, ◌==◌, min, Option, Some, None, List, [], ◌∷◌, ◌++◌, length, map, refl, sym, ◌∙◌, ap, subst, arith, inl, inr}
+use Rattle.std.proofs.Common.{◌≡◌, ℕ, ◌+◌, ◌<◌, ◌≤◌, true, false, ◌==◌, min, Option, Some, None, List, [], ◌∷◌, ◌++◌, length, map, refl, sym, ◌∙◌, ap, arith, inl, inr}
 use Rattle.std.proofs.lemmas.Bool.{cases_Bool, cases_lt, eqb-true}
 use Rattle.handle_model.specs.Journal.{least, lesser}
 use Rattle.call_table.specs.declared.row.Row.{Row}
@@ -8,7 +8,7 @@ use Rattle.call_table.specs.Kept.{Rises}
 use Rattle.call_table.specs.Tally.{total_of, runs_of}
 use Rattle.call_table.specs.Sorted.{OrderedKeys, one, held, IsLeastFrom}
 use Rattle.call_table.specs.Places.{runs_at_place, HasRunning, waits_of, IsPlaced}
-use Rattle.call_table.proofs.Ordered.{one_same, one_other, keys_push, keys_without, keys_marked, keys_same}
+use Rattle.call_table.proofs.Ordered.{one_same, keys_push, keys_without, keys_marked, keys_same}
 use Rattle.call_table.proofs.Tallied.{total_push, total_without, total_marked, total_same}
 
 -- ROWS

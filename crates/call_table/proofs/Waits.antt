@@ -1,11 +1,11 @@
 -- The waiting calls by connection: a call starts or is marked, and what a connection leaves.
-use Rattle.std.proofs.Common.{◌≡◌, ℕ, ◌+◌, ◌-◌, ◌^◌, ◌<◌, ◌≤◌, Bool, true, false, ◌==◌, Option, Some, None, List, [], ◌∷◌, length, map, refl, sym, ◌∙◌, ap, subst, arith, inl, inr}
+use Rattle.std.proofs.Common.{◌≡◌, ℕ, ◌+◌, ◌^◌, ◌<◌, Bool, true, false, ◌==◌, Option, Some, None, List, [], ◌∷◌, length, map, refl, sym, ◌∙◌, ap, arith, inl, inr}
 use Rattle.std.proofs.lemmas.Bool.{cases_Bool, eqb-true, eq-eqb}
 use Rattle.call_table.specs.declared.row.Row.{Row}
 use Rattle.call_table.specs.Rows.{is_call, is_left, row_at, at_call, taken, with_start, without, left, owed_by, owed_of}
 use Rattle.call_table.specs.Kept.{Rises}
 use Rattle.call_table.specs.Tally.{total_of}
-use Rattle.call_table.specs.Sorted.{OrderedKeys, one, held, IsLeastFrom}
+use Rattle.call_table.specs.Sorted.{OrderedKeys, held}
 use Rattle.call_table.specs.Waits.{key_of, waits_under, HasWaiting, IsListed, IsFirstOf}
 use Rattle.call_table.proofs.Marks.{others_kept}
 use Rattle.call_table.proofs.Ordered.{one_same, keys_marked, keys_same}
@@ -16,8 +16,8 @@ use Rattle.call_table.proofs.Owed.{owed_without}
 pub listed_started : (rows : List Row) (ks ks' : List ℕ) (k : ℕ) (r : Row) → Rises 0 rows → row_at rows k ≡ Some r → HasWaiting rows ks → ((n : ℕ) → held n ks' + waits_under n r ≡ held n ks) → HasWaiting (with_start k rows) ks'
 listed_started rows ks ks' k r s e h m =
     keys_marked waits_under taken rows ks ks' k r s e h (λ n.
-        let off : waits_under n (taken r) ≡ 0 = refl in
-        let less = m n in omega arith)
+    let off : waits_under n (taken r) ≡ 0 = refl in
+    let less = m n in omega arith)
 
 pub listed_marked : (g : Row → Row) (rows : List Row) (w : OrderedKeys) (room k : ℕ) → ((n : ℕ) (r : Row) → waits_under n (g r) ≡ waits_under n r) → IsListed rows w room → IsListed (map (at_call k g) rows) w room
 listed_marked g rows w room k m i = record { has_waiting = keys_same waits_under g rows w.keys k m i.has_waiting; enough = i.enough }

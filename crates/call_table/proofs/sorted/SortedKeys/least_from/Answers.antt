@@ -1,4 +1,4 @@
-use Rattle.std.proofs.Common.{◌<◌, Some, None, length, ◌∙◌, sym, subst, arith}
+use Rattle.std.proofs.Common.{◌<◌, Some, None, length, subst, arith}
 use Rattle.call_table.specs.Sorted.{IsKeyIndex, IsLeastFrom}
 use Rattle.call_table.proofs.Ordered.{least_none, least_some}
 use Rattle.call_table.proofs.sorted.SortedKeys.least_from.Goals as goal
