@@ -1,6 +1,6 @@
 //! Where the rows of calls stand: each in a slab until its call is over, with an index by call number, so that
 //! only keys move.
-ghost use Rattle.std.specs.Prelude.{◌≡◌, ◌+◌, ◌<◌, ◌≤◌, ◌++◌, ◌∷◌, [], length, slice_index_or, OnOk, OnErr};
+ghost use Rattle.std.specs.Prelude.{◌≡◌, ◌+◌, ◌<◌, ◌≤◌, ◌++◌, ◌∷◌, [], length, slice_index_or, IsTrue, OnOk, OnErr};
 ghost use Rattle.std.specs.List.{remove};
 ghost use Rattle.call_table.specs.Kept.{Rises};
 ghost use Rattle.call_table.specs.Sought.{IsPlace};
@@ -156,10 +156,43 @@ impl RowTable {
     }
 }
 
-/// How many numbers of an index are below this one.
+/// How many numbers of an index are below this one. The newest calls mostly have all numbers up to the last, so it
+/// looks first where the number stands if those behind it have.
 fn below(index: &VecDeque<RowKey>, call: u32) -> usize
     requires { spec.KeysRise 0 index.now.items }
     ensures { spec.IsKeyPlace index.now.items call result }
 {
+    let at = dense_place(index, call);
+    if splits(index, at, call) {
+        return at;
+    }
     index.partition_point(|key| key.call < call)
+}
+
+/// Where the number stands if every one from it to the last is there.
+fn dense_place(index: &VecDeque<RowKey>, call: u32) -> usize
+    ensures { result ≤ length index.now.items }
+{
+    match index.back() {
+        Some(last) => {
+            let behind = (last.call as usize + 1).saturating_sub(call as usize);
+            index.len().saturating_sub(behind)
+        }
+        None => 0,
+    }
+}
+
+/// Whether the numbers before this place are below the number, and the others aren't, by the two beside it.
+fn splits(index: &VecDeque<RowKey>, at: usize, call: u32) -> bool
+    requires rise { spec.KeysRise 0 index.now.items }
+    requires within { at ≤ length index.now.items }
+    ensures { IsTrue result → spec.IsKeyPlace index.now.items call at }
+{
+    if at > 0 && index[at - 1].call >= call {
+        return false;
+    }
+    if at < index.len() && index[at].call < call {
+        return false;
+    }
+    true
 }

@@ -1,5 +1,5 @@
 //! Numbers in order, in a ring: of those that come or go the shorter side moves.
-ghost use Rattle.std.specs.Prelude.{◌≡◌, ℕ, ◌+◌, ◌<◌, ◌≤◌, [], OnOk, OnErr};
+ghost use Rattle.std.specs.Prelude.{◌≡◌, ℕ, ◌+◌, ◌<◌, ◌≤◌, [], length, IsTrue, OnOk, OnErr};
 ghost use Rattle.std.specs.List.Sorted.{IsNonDecreasing};
 ghost use Rattle.call_table.specs.Sorted as spec;
 
@@ -87,10 +87,43 @@ impl SortedKeys {
     }
 }
 
-/// How many keys are below this one.
+/// How many keys are below this one. The newest keys mostly have all numbers up to the last, so it looks first where
+/// the key stands if those behind it have.
 fn below(keys: &VecDeque<u128>, key: u128) -> usize
     requires { IsNonDecreasing keys.now.items }
     ensures { spec.IsKeyIndex keys.now.items key result }
 {
+    let at = dense_index(keys, key);
+    if splits(keys, at, key) {
+        return at;
+    }
     keys.partition_point(|other| *other < key)
+}
+
+/// Where the key stands if every number from it to the last is there.
+fn dense_index(keys: &VecDeque<u128>, key: u128) -> usize
+    ensures { result ≤ length keys.now.items }
+{
+    match keys.back() {
+        Some(last) if key <= *last => {
+            let before = (keys.len() as u128 - 1).saturating_sub(*last - key);
+            before as usize
+        }
+        _ => keys.len(),
+    }
+}
+
+/// Whether the keys before this place are below the key, and the others aren't, by the two beside it.
+fn splits(keys: &VecDeque<u128>, at: usize, key: u128) -> bool
+    requires rise { IsNonDecreasing keys.now.items }
+    requires within { at ≤ length keys.now.items }
+    ensures { IsTrue result → spec.IsKeyIndex keys.now.items key at }
+{
+    if at > 0 && keys[at - 1] >= key {
+        return false;
+    }
+    if at < keys.len() && keys[at] < key {
+        return false;
+    }
+    true
 }
