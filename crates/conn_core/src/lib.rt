@@ -12,3 +12,4 @@ mod uncut;
 pub use conn::Conn;
 pub use conn_asks::{Act, ConnFault};
 pub use laws::{closed_for_good, failed_for_good};
+pub use uncut::uncut;

@@ -9,7 +9,7 @@ use pdu_stream::Feed;
 use rpc_base::NoMemory;
 
 /// How many octets stand behind the whole PDUs.
-pub(crate) fn uncut(feed: Feed) -> Result<usize, NoMemory>
+pub fn uncut(feed: Feed) -> Result<usize, NoMemory>
     requires { HasCause feed.fault feed.rest }
     ensures { IfOk result (LeavesUncut feed.rest) }
 {
