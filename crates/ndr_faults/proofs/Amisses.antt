@@ -424,8 +424,8 @@ module _ (types : List Form) (order : Order) (octets : List ℕ) where
 
 module _ (types : List Form) (op : OpForm) (way : Way) (order : Order) where
   -- between a pointer and the next stand less than 1024 constructs and names
-  most_is : plus (suc (tight 16)) 15 ≤ 1023
-  most_is = omega (arith, plus_is (suc (tight 16)) 15, tight_is 16)
+  most_is : plus (suc (tight 256)) 255 ≤ 1023
+  most_is = omega (arith, plus_is (suc (tight 256)) 255, tight_is 256)
 
   pub is_amiss : (octets : List ℕ) (d : Departure) → IsOpOf types op → reads types order (entries way op) octets ≡ Err d → OneAmiss types order octets (entries way op) start d
   is_amiss octets d o e =

@@ -129,8 +129,8 @@ not_both (Err x) m d e f = absurd cc
 
 module _ (types : List Form) (op : OpForm) (way : Way) (order : Order) (asked : Option Msg) (octets : List ℕ) where
   -- between a pointer and the next stand less than 1024 constructs and names
-  most_is : plus (suc (tight 16)) 15 ≤ 1023
-  most_is = omega (arith, plus_is (suc (tight 16)) 15, tight_is 16)
+  most_is : plus (suc (tight 256)) 255 ≤ 1023
+  most_is = omega (arith, plus_is (suc (tight 256)) 255, tight_is 256)
 
   abbrev call : Msg → Call
   call m = record { op = op; way = way; asked = asked; said = m }

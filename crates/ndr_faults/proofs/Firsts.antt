@@ -161,8 +161,8 @@ module _ (types : List Form) (order : Order) (es : List Entry) where
 
 module _ (types : List Form) (op : OpForm) (way : Way) (order : Order) where
   -- between a pointer and the next stand less than 1024 constructs and names
-  most_is : plus (suc (tight 16)) 15 ≤ 1023
-  most_is = omega (arith, plus_is (suc (tight 16)) 15, tight_is 16)
+  most_is : plus (suc (tight 256)) 255 ≤ 1023
+  most_is = omega (arith, plus_is (suc (tight 256)) 255, tight_is 256)
 
   pub op_cuts : IsOpOf types op → Cuts types order (entries way op)
   op_cuts o front more =

@@ -64,8 +64,8 @@ module _ (types : List Form) (op : OpForm) (way : Way) (order : Order) (asked : 
         subst (λ (x : ℕ). read_with x types op way order asked octets ≡ read_with enough types op way order asked octets) is (some_more enough (n - enough) wide)
 
   -- between a pointer and the next stand less than 1024 constructs and names
-  most_is : plus (suc (tight 16)) 15 ≤ 1023
-  most_is = omega (arith, plus_is (suc (tight 16)) 15, tight_is 16)
+  most_is : plus (suc (tight 256)) 255 ≤ 1023
+  most_is = omega (arith, plus_is (suc (tight 256)) 255, tight_is 256)
 
   read_is : read_with enough types op way order asked octets ≡ read_stub types op way order asked octets
   unfolding read_stub

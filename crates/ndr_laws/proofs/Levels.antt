@@ -140,10 +140,10 @@ look_last : (ds : List ℕ) (x : ℕ) → unwrap_or (slice_get (ds ++ x ∷ []) 
 look_last [] x = refl
 look_last (d ∷ ds) x = look_last ds x
 
-look_few : (ds : List ℕ) (k : ℕ) → list_all is_few ds ≡ true → unwrap_or (slice_get ds k) 0 ≤ 16
+look_few : (ds : List ℕ) (k : ℕ) → list_all (is_few 256) ds ≡ true → unwrap_or (slice_get ds k) 0 ≤ 256
 look_few [] k e = omega arith
-look_few (d ∷ ds) zero e = leb-true _ _ (both (is_few d) (list_all is_few ds) e).0
-look_few (d ∷ ds) (suc k) e = look_few ds k (both (is_few d) (list_all is_few ds) e).1
+look_few (d ∷ ds) zero e = leb-true _ _ (both (is_few 256 d) (list_all (is_few 256) ds) e).0
+look_few (d ∷ ds) (suc k) e = look_few ds k (both (is_few 256 d) (list_all (is_few 256) ds) e).1
 
 module _ (types : List Form) (far : ℕ) where
   -- a type of that many levels
@@ -198,19 +198,19 @@ module _ (types : List Form) (far : ℕ) where
 
 -- ---- what pointers point to
 
-module _ (types : List Form) (far a deep : ℕ) (all : (c : ℕ) (u : Form) → slice_get types c ≡ Some u → Shallow types a u) (most : plus (suc a) 15 ≤ deep) where
-  pointed : (s : Form) → is_below far far s ≡ true → levels [] s ≤ 15 → Shallow types deep s
+module _ (types : List Form) (far a deep : ℕ) (all : (c : ℕ) (u : Form) → slice_get types c ≡ Some u → Shallow types a u) (most : plus (suc a) 255 ≤ deep) where
+  pointed : (s : Form) → is_below far far s ≡ true → levels [] s ≤ 255 → Shallow types deep s
   pointed s b le =
-      weaker types (plus (suc a) 15) deep s most
+      weaker types (plus (suc a) 255) deep s most
       (shape types far far [] (plus (suc a)) (λ c n switch lt few. much_deeper types (suc a) n (OfNamed c switch) (has_type types far c a (slice_get types c) (λ u is. all c u is)))
-      (λ m s h. h) (λ n. (plus a n, suc_plus a n)) s 15 b le)
+      (λ m s h. h) (λ n. (plus a n, suc_plus a n)) s 255 b le)
     where
       suc_plus : (a n : ℕ) → plus (suc a) n ≡ suc (plus a n)
       suc_plus a zero = refl
       suc_plus a (suc n) = ap suc (suc_plus a n)
 
   mutual
-    pub target : (near : ℕ) (ds : List ℕ) (s : Form) → is_below near far s ≡ true → levels ds s ≤ 16 → Targets types deep s
+    pub target : (near : ℕ) (ds : List ℕ) (s : Form) → is_below near far s ≡ true → levels ds s ≤ 256 → Targets types deep s
     target near ds (OfStruct ss) b le = member_targets near ds ss b (omega (arith, le))
     target near ds (OfUnion t arms) b le = arm_targets near ds arms (both (is_below near far t) (arms_below near far arms) b).1 (omega (arith, le))
     target near ds (OfArray kind s) b le = target near ds s b (omega (arith, le))
@@ -219,17 +219,17 @@ module _ (types : List Form) (far a deep : ℕ) (all : (c : ℕ) (u : Form) → 
     target near ds (OfFull s) b le = (pointed s b (omega (arith, le)), target far [] s b (omega (arith, le)))
     target near ds _ b le = tt
 
-    member_targets : (near : ℕ) (ds : List ℕ) (ss : Forms) → each_below near far ss ≡ true → members_levels ds ss ≤ 16 → EachTarget types deep ss
+    member_targets : (near : ℕ) (ds : List ℕ) (ss : Forms) → each_below near far ss ≡ true → members_levels ds ss ≤ 256 → EachTarget types deep ss
     member_targets near ds no_form b le = tt
     member_targets near ds (then_form s ss) b le =
         let h = both (is_below near far s) (each_below near far ss) b in (target near ds s h.0 (omega (arith, le)), member_targets near ds ss h.1 (omega (arith, le)))
 
-    arm_targets : (near : ℕ) (ds : List ℕ) (arms : ArmForms) → arms_below near far arms ≡ true → arms_levels ds arms ≤ 16 → ArmTargets types deep arms
+    arm_targets : (near : ℕ) (ds : List ℕ) (arms : ArmForms) → arms_below near far arms ≡ true → arms_levels ds arms ≤ 256 → ArmTargets types deep arms
     arm_targets near ds no_arm b le = tt
     arm_targets near ds (then_arm cases default x rest) b le =
         let h = both (body_below near far x) (arms_below near far rest) b in (body_target near ds x h.0 (omega (arith, le)), arm_targets near ds rest h.1 (omega (arith, le)))
 
-    body_target : (near : ℕ) (ds : List ℕ) (x : Body) → body_below near far x ≡ true → body_levels ds x ≤ 16 → BodyTarget types deep x
+    body_target : (near : ℕ) (ds : List ℕ) (x : Body) → body_below near far x ≡ true → body_levels ds x ≤ 256 → BodyTarget types deep x
     body_target near ds empty b le = tt
     body_target near ds (holds s) b le = target near ds s b le
 
@@ -240,51 +240,51 @@ all_get p [] k x e is = absurd cc
 all_get p (y ∷ xs) zero x e is = let same : y ≡ x = cc in subst (λ z. p z ≡ true) same (both (p y) (list_all p xs) e).0
 all_get p (y ∷ xs) (suc k) x e is = all_get p xs k x (both (p y) (list_all p xs) e).1 is
 
-module _ (types : List Form) (ops : List OpForm) (far : ℕ) (is_far : far ≡ length types) (ord : ordered_from 0 far types ≡ true) (few : list_all is_few (depths_of types) ≡ true) where
+module _ (types : List Form) (ops : List OpForm) (far : ℕ) (is_far : far ≡ length types) (ord : ordered_from 0 far types ≡ true) (few : list_all (is_few 256) (depths_of types) ≡ true) where
   fact : (c : ℕ) (u : Form) → slice_get types c ≡ Some u → Fact types far (unwrap_or (slice_get (depths_of types) c) 0) u
   fact c u is =
       types_known types far types 0 [] refl (λ j. ap (slice_get types) (let z : 0 + j ≡ j = omega arith in z)) ord (λ k u lt is. absurd (omega (arith, lt))) c u (let w = slice_get_within types c u is in omega (arith, w)) is
 
-  type_shallow : (c : ℕ) (u : Form) → slice_get types c ≡ Some u → Shallow types (tight 16) u
-  type_shallow c u is = (fact c u is).shallow 16 (look_few (depths_of types) c few)
+  type_shallow : (c : ℕ) (u : Form) → slice_get types c ≡ Some u → Shallow types (tight 256) u
+  type_shallow c u is = (fact c u is).shallow 256 (look_few (depths_of types) c few)
 
-  module _ (deep : ℕ) (most : plus (suc (tight 16)) 15 ≤ deep) where
+  module _ (deep : ℕ) (most : plus (suc (tight 256)) 255 ≤ deep) where
     pub types_grounded : Grounded types deep
     types_grounded c u is =
         let f = fact c u is in
-        target types far (tight 16) deep type_shallow most f.near f.ds u f.below (let l = look_few (depths_of types) c few in omega (arith, f.level, l))
+        target types far (tight 256) deep type_shallow most f.near f.ds u f.below (let l = look_few (depths_of types) c few in omega (arith, f.level, l))
 
-    shape_is : (s : Form) → is_below far far s ≡ true → levels (depths_of types) s ≤ 16 → Shallow types deep s × Targets types deep s
+    shape_is : (s : Form) → is_below far far s ≡ true → levels (depths_of types) s ≤ 256 → Shallow types deep s × Targets types deep s
     shape_is s b le =
         let kn : Known types far far (depths_of types) = λ k u lt is. fact k u is in (
-          weaker types (suc (tight 16)) deep s (omega (arith, most, plus_is (suc (tight 16)) 15))
-              (shape types far far (depths_of types) (named_cost types far) (names_cost types far far (depths_of types) kn) (λ m s h. deeper types (suc (named_cost types far m)) s h) (λ n. (tight n, refl)) s 16 b le),
-          target types far (tight 16) deep type_shallow most far (depths_of types) s b le,
+          weaker types (suc (tight 256)) deep s (omega (arith, most, plus_is (suc (tight 256)) 255))
+              (shape types far far (depths_of types) (named_cost types far) (names_cost types far far (depths_of types) kn) (λ m s h. deeper types (suc (named_cost types far m)) s h) (λ n. (tight n, refl)) s 256 b le),
+          target types far (tight 256) deep type_shallow most far (depths_of types) s b le,
         )
 
-    param_is : (s : Form) → is_below far far s ≡ true → levels (depths_of types) s ≤ 16 → Shallow types deep (of_param s) × Targets types deep (of_param s)
-    param_is (OfRef s) b le = (pointed types far (tight 16) deep type_shallow most s b (omega (arith, le)), target types far (tight 16) deep type_shallow most far [] s b (omega (arith, le)))
+    param_is : (s : Form) → is_below far far s ≡ true → levels (depths_of types) s ≤ 256 → Shallow types deep (of_param s) × Targets types deep (of_param s)
+    param_is (OfRef s) b le = (pointed types far (tight 256) deep type_shallow most s b (omega (arith, le)), target types far (tight 256) deep type_shallow most far [] s b (omega (arith, le)))
     param_is s b le = shape_is s b le
 
-    result_entry : (way : Way) (o : Option Form) → result_below far o ≡ true → result_few (depths_of types) o ≡ true → EachEntry types deep (last_entry way o)
+    result_entry : (way : Way) (o : Option Form) → result_below far o ≡ true → result_few 256 (depths_of types) o ≡ true → EachEntry types deep (last_entry way o)
     result_entry Request o b f = tt
     result_entry Response None b f = tt
-    result_entry Response (Some s) b f = (shape_is s b (leb-true _ _ (both (is_few (levels (depths_of types) s)) (reaches_few (depths_of types) s) f).0), tt)
+    result_entry Response (Some s) b f = (shape_is s b (leb-true _ _ (both (is_few 256 (levels (depths_of types) s)) (reaches_few 256 (depths_of types) s) f).0), tt)
 
     if_goes : (b : Bool) (e : Entry) (es : List Entry) → Shallow types deep e.shape × Targets types deep e.shape → EachEntry types deep es → EachEntry types deep (if b then e ∷ es else es)
     if_goes true e es h hs = (h, hs)
     if_goes false e es h hs = hs
 
-    params_entries : (way : Way) (ps : List ParamForm) (o : Option Form) → list_all (param_below far) ps ≡ true → list_all (param_few (depths_of types)) ps ≡ true
-        → result_below far o ≡ true → result_few (depths_of types) o ≡ true → EachEntry types deep (entries_of way ps o)
+    params_entries : (way : Way) (ps : List ParamForm) (o : Option Form) → list_all (param_below far) ps ≡ true → list_all (param_few 256 (depths_of types)) ps ≡ true
+        → result_below far o ≡ true → result_few 256 (depths_of types) o ≡ true → EachEntry types deep (entries_of way ps o)
     params_entries way [] o b f ob of_ = result_entry way o ob of_
     params_entries way (p ∷ ps) o b f ob of_ =
         let x = both (param_below far p) (list_all (param_below far) ps) b in
-        let y = both (param_few (depths_of types) p) (list_all (param_few (depths_of types)) ps) f in
-        if_goes (goes way p) (param_entry p) (entries_of way ps o) (param_is p.shape x.0 (leb-true _ _ (both (is_few (levels (depths_of types) p.shape)) (reaches_few (depths_of types) p.shape) y.0).0)) (params_entries way ps o x.1 y.1 ob of_)
+        let y = both (param_few 256 (depths_of types) p) (list_all (param_few 256 (depths_of types)) ps) f in
+        if_goes (goes way p) (param_entry p) (entries_of way ps o) (param_is p.shape x.0 (leb-true _ _ (both (is_few 256 (levels (depths_of types) p.shape)) (reaches_few 256 (depths_of types) p.shape) y.0).0)) (params_entries way ps o x.1 y.1 ob of_)
 
-    pub op_entries : (way : Way) (number : ℕ) (op : OpForm) → list_all (op_below far) ops ≡ true → list_all (op_few (depths_of types)) ops ≡ true → slice_get ops number ≡ Some op → EachEntry types deep (entries way op)
+    pub op_entries : (way : Way) (number : ℕ) (op : OpForm) → list_all (op_below far) ops ≡ true → list_all (op_few 256 (depths_of types)) ops ≡ true → slice_get ops number ≡ Some op → EachEntry types deep (entries way op)
     op_entries way number op b f is =
         let x = both (list_all (param_below far) op.params) (result_below far op.result) (all_get (op_below far) ops number op b is) in
-        let y = both (list_all (param_few (depths_of types)) op.params) (result_few (depths_of types) op.result) (all_get (op_few (depths_of types)) ops number op f is) in
+        let y = both (list_all (param_few 256 (depths_of types)) op.params) (result_few 256 (depths_of types) op.result) (all_get (op_few 256 (depths_of types)) ops number op f is) in
         params_entries way op.params op.result x.0 y.0 x.1 y.1

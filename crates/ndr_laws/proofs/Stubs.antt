@@ -109,8 +109,8 @@ module _ (types : List Form) (op : OpForm) (way : Way) (order : Order) (asked : 
         ∙ ap (λ (c : Check). unless_off m c.off) (entries_clean types (call m) deep grounded enough s.agree sh wide)
 
   -- between a pointer and the next stand less than 1024 constructs and names
-  most_is : plus (suc (tight 16)) 15 ≤ 1023
-  most_is = omega (arith, plus_is (suc (tight 16)) 15, tight_is 16)
+  most_is : plus (suc (tight 256)) 255 ≤ 1023
+  most_is = omega (arith, plus_is (suc (tight 256)) 255, tight_is 256)
 
   pub stub_found : (m : Msg) → IsOp types op → IsStub types op way order asked m octets → read_stub types op way order asked octets ≡ Ok m
   stub_found m o s =

@@ -256,8 +256,8 @@ stub_stands types op way order asked m dp grounded dp_le sh s short =
       agree = subst (λ (ns : List Mark). AgreeTogether types call (entries way op) m.values ns []) (append-nil t.own) (t.agree []);
     }
 
-most_is : plus (suc (tight 16)) 15 ≤ 1023
-most_is = omega (arith, plus_is (suc (tight 16)) 15, tight_is 16)
+most_is : plus (suc (tight 256)) 255 ≤ 1023
+most_is = omega (arith, plus_is (suc (tight 256)) 255, tight_is 256)
 
 module _ (types : List Form) (op : OpForm) (way : Way) (order : Order) (asked : Option Msg) (m : Msg) where
   pub written_stub : IsOp types op → IsOfOp types op way asked m → HasIds (stub types op way order asked m) → IsStub types op way order asked m (stub types op way order asked m)

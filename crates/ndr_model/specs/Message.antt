@@ -24,7 +24,7 @@ pub record IsStub (types : List Form) (op : OpForm) (way : Way) (order : Order) 
 
 -- ---- how it is read, and the first departure
 
--- types, parameters and results nest by value 16 levels at most, so between a pointer and the next there are less than 1024
+-- types, parameters and results nest by value 256 levels at most, so between a pointer and the next there are less than 1024
 -- constructs and names, and there are 256 levels of pointers
 abbrev pub enough : ℕ
 enough = 257 * 1024

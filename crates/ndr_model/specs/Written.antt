@@ -23,7 +23,7 @@ use Rattle.ndr_model.specs.Fronts.{array_counts, front_last, front}
 abbrev pub Writing : Type 0
 Writing = Vals → Bool → Form → Val → ℕ → Given → Piece
 
--- types, parameters and results nest by value 16 levels at most, so there are fewer constructs and names between two pointers
+-- types, parameters and results nest by value 256 levels at most, so there are fewer constructs and names between two pointers
 abbrev pub deep : ℕ
 deep = 1024
 

@@ -25,7 +25,7 @@ pub enum NdrFault {
     TooDeep(usize),
     /// More than seven octets behind the last value; how many.
     Trailing(usize),
-    /// There is no memory for the message.
+    /// There is no memory for the message, or none on the machine's stack for how deep its values nest.
     Memory,
 }
 

@@ -1,5 +1,5 @@
 //! A value whose flat part stands at one place, and whose referents stand at another.
-ghost use Rattle.std.specs.Prelude.{◌≡◌, ◌∷◌, [], ◌++◌, ◌+◌, ◌-◌, ◌≤◌, ◌<◌, ◌==◌, ℕ, Option, None, Some, Ok, OnOk, true, not, length, slice_get};
+ghost use Rattle.std.specs.Prelude.{◌≡◌, ◌∷◌, [], ◌++◌, ◌+◌, ◌-◌, ◌≤◌, ◌<◌, ◌==◌, ℕ, Option, None, Some, Ok, IfOk, OnOk, true, not, length, slice_get};
 ghost use Rattle.ndr_value.specs.Forms.{form, forms, arms_of, body, OfByte, OfStruct, OfUnion, OfArray, OfRef, OfUnique, OfFull};
 ghost use Rattle.ndr_value.specs.Values.{val, vals, bytes, VStruct, VArray, VUnion, VEmpty, VPtr, VNull, VFull};
 ghost use Rattle.ndr_scalars.specs.Scalars.{up};
@@ -21,10 +21,33 @@ use ndr_pointers::{ReadError, Reader, arm_for, if_last, scan_flat, tag_octets};
 use ndr_value::{Arm, ArrayKind, Shape, Value};
 use rpc_base::{NoMemory, Octets};
 
+// Whether values of the shape are a level: each structure, union, array and pointer is one.
+fn is_level(shape: &Shape) -> bool {
+    match shape {
+        Shape::Struct(_) | Shape::Union { .. } | Shape::Array(_, _) => true,
+        Shape::Ref(_) | Shape::Unique(_) | Shape::Full(_) => true,
+        _ => false,
+    }
+}
+
+// The levels that are left below a value of the shape.
+fn below(levels: u16, shape: &Shape) -> Result<u16, NoMemory>
+    ensures { IfOk result (λ left. left ≤ levels) }
+{
+    if !is_level(shape) {
+        return Ok(levels);
+    }
+    if levels == 0 {
+        return Err(NoMemory);
+    }
+    Ok(levels - 1)
+}
+
 #[tactic(auto, unfolding(ndr_model::specs::Build::build))]
 #[cycle(build)]
 pub(crate) fn build_value<'a>(
     fuel: u32,
+    levels: u16,
     reader: &Reader<'a>,
     room: u16,
     moved: Option<u32>,
@@ -37,12 +60,14 @@ pub(crate) fn build_value<'a>(
     if fuel == 0 {
         return Err(ReadError::Departs(Departure::TooDeep(flat.at)));
     }
-    build_one(fuel - 1, reader, room, moved, shape, flat, tail)
+    let levels = below(levels, shape)?;
+    build_one(fuel - 1, levels, reader, room, moved, shape, flat, tail)
 }
 
 #[cycle(build)]
 fn build_one<'a>(
     fuel: u32,
+    levels: u16,
     reader: &Reader<'a>,
     room: u16,
     moved: Option<u32>,
@@ -63,20 +88,22 @@ fn build_one<'a>(
         Shape::Text(size) => build_text(reader, *size, moved, flat),
         Shape::Named(number, _) => match reader.named(*number) {
             None => Err(ReadError::Departs(Departure::TooDeep(flat.at))),
-            Some(other) => build_value(fuel, reader, room, moved, other, flat, tail),
+            Some(other) => build_value(fuel, levels, reader, room, moved, other, flat, tail),
         },
         Shape::Struct(members) => {
-            build_struct(fuel, reader, room, moved, shape, members, flat, tail)
+            build_struct(
+                fuel, levels, reader, room, moved, shape, members, flat, tail,
+            )
         }
         Shape::Union { tag, arms } => {
-            build_union(fuel, reader, room, shape, tag, arms, flat, tail)
+            build_union(fuel, levels, reader, room, shape, tag, arms, flat, tail)
         }
         Shape::Array(kind, inner) => {
-            build_array(fuel, reader, room, moved, kind, inner, flat, tail)
+            build_array(fuel, levels, reader, room, moved, kind, inner, flat, tail)
         }
-        Shape::Ref(inner) => build_ref(fuel, reader, room, inner, flat, tail),
-        Shape::Unique(inner) => build_unique(fuel, reader, room, inner, flat, tail),
-        Shape::Full(inner) => build_full(fuel, reader, room, inner, flat, tail),
+        Shape::Ref(inner) => build_ref(fuel, levels, reader, room, inner, flat, tail),
+        Shape::Unique(inner) => build_unique(fuel, levels, reader, room, inner, flat, tail),
+        Shape::Full(inner) => build_full(fuel, levels, reader, room, inner, flat, tail),
     }
 }
 
@@ -105,6 +132,7 @@ fn add(value: Value, values: &mut Vec<Value>) -> Result<(), NoMemory>
 #[inline(never)]
 fn build_struct<'a>(
     fuel: u32,
+    levels: u16,
     reader: &Reader<'a>,
     room: u16,
     moved: Option<u32>,
@@ -119,12 +147,13 @@ fn build_struct<'a>(
     let (own, begin) = reader.begin(shape, moved, flat.at)?;
     note_front(reader, moved, own, flat.at, tail)?;
     flat.at = begin;
-    build_members(fuel, reader, room, own, members, flat, tail)
+    build_members(fuel, levels, reader, room, own, members, flat, tail)
 }
 
 #[cycle(build)]
 fn build_members<'a>(
     fuel: u32,
+    levels: u16,
     reader: &Reader<'a>,
     room: u16,
     own: Option<u32>,
@@ -134,13 +163,14 @@ fn build_members<'a>(
 ) -> Result<Value, ReadError>
     ensures { Builds result flat.new tail.new (in_struct (built_each (build_of reader.now fuel room) own (forms shapes.now) (cursor_of flat.old) (last_of tail.old))) }
 {
-    let values = build_each(fuel, reader, room, own, shapes, flat, tail)?;
+    let values = build_each(fuel, levels, reader, room, own, shapes, flat, tail)?;
     Ok(made_struct(values))
 }
 
 #[cycle(build)]
 fn build_each<'a>(
     fuel: u32,
+    levels: u16,
     reader: &Reader<'a>,
     room: u16,
     own: Option<u32>,
@@ -155,7 +185,7 @@ fn build_each<'a>(
     for shape in shapes {
         left -= 1;
         let moved = if_last(left, own);
-        let value = build_value(fuel, reader, room, moved, shape, flat, tail)?;
+        let value = build_value(fuel, levels, reader, room, moved, shape, flat, tail)?;
         add(value, &mut values)?;
     }
     Ok(values)
@@ -165,6 +195,7 @@ fn build_each<'a>(
 #[inline(never)]
 fn build_union<'a>(
     fuel: u32,
+    levels: u16,
     reader: &Reader<'a>,
     room: u16,
     shape: &'a Shape,
@@ -183,7 +214,7 @@ fn build_union<'a>(
         Some(arm) => {
             note(Mark::Number(place, tag), tail)?;
             flat.at = after;
-            build_arm(fuel, reader, room, arm, tag, flat, tail)
+            build_arm(fuel, levels, reader, room, arm, tag, flat, tail)
         }
     }
 }
@@ -191,6 +222,7 @@ fn build_union<'a>(
 #[cycle(build)]
 fn build_arm<'a>(
     fuel: u32,
+    levels: u16,
     reader: &Reader<'a>,
     room: u16,
     arm: &'a Arm,
@@ -203,7 +235,7 @@ fn build_arm<'a>(
     match &arm.shape {
         None => Ok(Value::Union { tag, arm: None }),
         Some(shape) => {
-            let value = build_value(fuel, reader, room, None, shape, flat, tail)?;
+            let value = build_value(fuel, levels, reader, room, None, shape, flat, tail)?;
             let arm = Some(Box::new(reader.alloc, value)?);
             Ok(Value::Union { tag, arm })
         }
@@ -214,6 +246,7 @@ fn build_arm<'a>(
 #[inline(never)]
 fn build_array<'a>(
     fuel: u32,
+    levels: u16,
     reader: &Reader<'a>,
     room: u16,
     moved: Option<u32>,
@@ -227,12 +260,13 @@ fn build_array<'a>(
     let (counts, after) = reader.counts(kind, moved, flat.at)?;
     note_counts(reader, kind, moved, counts, flat.at, after, tail)?;
     flat.at = after;
-    build_items(fuel, reader, room, inner, counts.actual, flat, tail)
+    build_items(fuel, levels, reader, room, inner, counts.actual, flat, tail)
 }
 
 #[cycle(build)]
 fn build_items<'a>(
     fuel: u32,
+    levels: u16,
     reader: &Reader<'a>,
     room: u16,
     shape: &'a Shape,
@@ -244,13 +278,14 @@ fn build_items<'a>(
 {
     match shape {
         Shape::Byte => build_bytes(fuel, reader, room, count, flat),
-        _ => build_each_item(fuel, reader, room, shape, count, flat, tail),
+        _ => build_each_item(fuel, levels, reader, room, shape, count, flat, tail),
     }
 }
 
 #[cycle(build)]
 fn build_each_item<'a>(
     fuel: u32,
+    levels: u16,
     reader: &Reader<'a>,
     room: u16,
     shape: &'a Shape,
@@ -260,13 +295,14 @@ fn build_each_item<'a>(
 ) -> Result<Value, ReadError>
     ensures { Builds result flat.new tail.new (in_array (built_times (build_of reader.now fuel room None (form shape.now)) count (cursor_of flat.old) (last_of tail.old))) }
 {
-    let values = build_times(fuel, reader, room, shape, count, flat, tail)?;
+    let values = build_times(fuel, levels, reader, room, shape, count, flat, tail)?;
     Ok(made_array(values))
 }
 
 #[cycle(build)]
 fn build_times<'a>(
     fuel: u32,
+    levels: u16,
     reader: &Reader<'a>,
     room: u16,
     shape: &'a Shape,
@@ -278,7 +314,7 @@ fn build_times<'a>(
 {
     let mut values = Vec::new(reader.alloc);
     for _ in 0..count {
-        let value = build_value(fuel, reader, room, None, shape, flat, tail)?;
+        let value = build_value(fuel, levels, reader, room, None, shape, flat, tail)?;
         add(value, &mut values)?;
     }
     Ok(values)
@@ -318,6 +354,7 @@ fn build_bytes(
 #[inline(never)]
 fn build_ref<'a>(
     fuel: u32,
+    levels: u16,
     reader: &Reader<'a>,
     room: u16,
     inner: &'a Shape,
@@ -328,13 +365,14 @@ fn build_ref<'a>(
 {
     let (_, after) = reader.word(flat.at)?;
     flat.at = after;
-    build_referent(fuel, reader, room, after - 4, inner, tail)
+    build_referent(fuel, levels, reader, room, after - 4, inner, tail)
 }
 
 #[cycle(build)]
 #[inline(never)]
 fn build_unique<'a>(
     fuel: u32,
+    levels: u16,
     reader: &Reader<'a>,
     room: u16,
     inner: &'a Shape,
@@ -348,7 +386,7 @@ fn build_unique<'a>(
     if id == 0 {
         return Ok(Value::Ptr(None));
     }
-    let value = build_referent(fuel, reader, room, after - 4, inner, tail)?;
+    let value = build_referent(fuel, levels, reader, room, after - 4, inner, tail)?;
     let pointed = Box::new(reader.alloc, value)?;
     Ok(Value::Ptr(Some(pointed)))
 }
@@ -357,6 +395,7 @@ fn build_unique<'a>(
 #[inline(never)]
 fn build_full<'a>(
     fuel: u32,
+    levels: u16,
     reader: &Reader<'a>,
     room: u16,
     inner: &'a Shape,
@@ -367,13 +406,14 @@ fn build_full<'a>(
 {
     let (id, after) = reader.word(flat.at)?;
     flat.at = after;
-    build_known(fuel, reader, room, id, after - 4, inner, flat, tail)
+    build_known(fuel, levels, reader, room, id, after - 4, inner, flat, tail)
 }
 
 // What a full pointer's id stands for.
 #[cycle(build)]
 fn build_known<'a>(
     fuel: u32,
+    levels: u16,
     reader: &Reader<'a>,
     room: u16,
     id: u32,
@@ -391,7 +431,7 @@ fn build_known<'a>(
         None => Err(ReadError::Departs(Departure::Pointer(place))),
         Some((number, _)) => {
             if number as usize == flat.ids {
-                return build_new(fuel, reader, room, number, place, inner, flat, tail);
+                return build_new(fuel, levels, reader, room, number, place, inner, flat, tail);
             }
             note(Mark::Referent(false), tail)?;
             Ok(Value::Full(Some(number)))
@@ -403,6 +443,7 @@ fn build_known<'a>(
 #[cycle(build)]
 fn build_new<'a>(
     fuel: u32,
+    levels: u16,
     reader: &Reader<'a>,
     room: u16,
     number: u32,
@@ -415,7 +456,7 @@ fn build_new<'a>(
     ensures { Builds result flat.new tail.new (behind_known number true (cursor_of flat.old) (last_of tail.old) (referent_of reader.now fuel room place (form inner.now) (first_met tail.old))) }
 {
     note(Mark::Referent(true), tail)?;
-    let value = build_referent(fuel, reader, room, place, inner, tail)?;
+    let value = build_referent(fuel, levels, reader, room, place, inner, tail)?;
     tail.items.push(Kept { number, value })?;
     flat.ids = number as usize + 1;
     Ok(Value::Full(Some(number)))
@@ -424,6 +465,7 @@ fn build_new<'a>(
 #[cycle(build)]
 fn build_referent<'a>(
     fuel: u32,
+    levels: u16,
     reader: &Reader<'a>,
     room: u16,
     place: usize,
@@ -435,7 +477,7 @@ fn build_referent<'a>(
     if room == 0 {
         return Err(ReadError::Departs(Departure::TooDeep(place)));
     }
-    build_whole(fuel, reader, room - 1, inner, tail)
+    build_whole(fuel, levels, reader, room - 1, inner, tail)
 }
 
 // A value without referents: what follows its flat part follows it.
@@ -443,6 +485,7 @@ fn build_referent<'a>(
 #[inline(never)]
 fn build_alone<'a>(
     fuel: u32,
+    levels: u16,
     reader: &Reader<'a>,
     room: u16,
     shape: &'a Shape,
@@ -455,7 +498,7 @@ fn build_alone<'a>(
         ids: tail.seen.referents.len() as usize,
         handles: tail.seen.wires.len(),
     };
-    let value = build_value(fuel, reader, room, None, shape, &mut flat, tail)?;
+    let value = build_value(fuel, levels, reader, room, None, shape, &mut flat, tail)?;
     tail.at = flat.at;
     Ok(value)
 }
@@ -464,6 +507,7 @@ fn build_alone<'a>(
 #[cycle(build)]
 pub(crate) fn build_whole<'a>(
     fuel: u32,
+    levels: u16,
     reader: &Reader<'a>,
     room: u16,
     shape: &'a Shape,
@@ -472,7 +516,7 @@ pub(crate) fn build_whole<'a>(
     ensures { Finds result tail.new (over reader.now whole fuel room (form shape.now) (last_of tail.old)) }
 {
     if stands_alone(shape) {
-        return build_alone(fuel, reader, room, shape, tail);
+        return build_alone(fuel, levels, reader, room, shape, tail);
     }
     let mut flat = Flat {
         at: tail.at,
@@ -480,5 +524,5 @@ pub(crate) fn build_whole<'a>(
         handles: tail.seen.wires.len(),
     };
     tail.at = scan_flat(fuel, reader, room, None, shape, tail.at, &mut tail.seen)?;
-    build_value(fuel, reader, room, None, shape, &mut flat, tail)
+    build_value(fuel, levels, reader, room, None, shape, &mut flat, tail)
 }

@@ -28,9 +28,15 @@ use rpc_base::{NoMemory, Order};
 use std::alloc::Global;
 use std::mem;
 
-// How deep constructs of a stub nest at most: types, parameters and results nest by value 16
-// levels, and there are 256 levels of pointers.
+// How deep constructs and names of a stub nest at most: between a pointer and the next stand less than
+// 1,024, since types, parameters and results nest by value 256 levels, and there are 256 levels of
+// pointers.
 const ENOUGH: u32 = 257 * 1024;
+
+// How many levels are read one in another, by value and through pointers: 16 by value at each level of
+// pointers, or more at fewer. What nests deeper is want of memory, since each level takes some of the
+// machine's stack.
+const MOST_NESTED: u16 = 257 * 16;
 
 // Whether a parameter goes that way.
 fn goes(way: Way, param: &Param) -> bool
@@ -81,7 +87,7 @@ fn read_entry<'a>(
     ensures { Finds result tail.new (over reader.now entry_at enough (record { shape = form shape.now; range = range }) (last_of tail.old)) }
 {
     let at = tail.at;
-    let value = build_whole(ENOUGH, reader, 256, shape, tail)?;
+    let value = build_whole(ENOUGH, MOST_NESTED, reader, 256, shape, tail)?;
     note_range(reader, shape, range, at, tail)?;
     Ok(value)
 }

@@ -39,8 +39,8 @@ depths_past depths (s ∷ ss) = depths_past (depths ++ levels depths s ∷ []) s
 abbrev pub depths_of : List Form → List ℕ
 depths_of types = depths_past [] types
 
-abbrev pub is_few : ℕ → Bool
-is_few n = nat_le n 16
+abbrev pub is_few : ℕ → ℕ → Bool
+is_few most n = nat_le n most
 
 -- ---- what stands behind pointers
 
@@ -51,44 +51,48 @@ is_pointer (OfFull s) = true
 is_pointer _ = false
 
 abbrev mutual
-  -- what the pointers in it point to, if that is no pointer itself, nests few levels
-  pub reaches_few : List ℕ → Form → Bool
-  reaches_few depths (OfStruct ss) = each_reaches depths ss
-  reaches_few depths (OfUnion tag arms) = arms_reach depths arms
-  reaches_few depths (OfArray kind s) = reaches_few depths s
-  reaches_few depths (OfRef s) = (is_pointer s || is_few (levels depths s)) && reaches_few depths s
-  reaches_few depths (OfUnique s) = (is_pointer s || is_few (levels depths s)) && reaches_few depths s
-  reaches_few depths (OfFull s) = (is_pointer s || is_few (levels depths s)) && reaches_few depths s
-  reaches_few depths _ = true
+  -- what the pointers in it point to, if that is no pointer itself, nests at most so many levels
+  pub reaches_few : ℕ → List ℕ → Form → Bool
+  reaches_few most depths (OfStruct ss) = each_reaches most depths ss
+  reaches_few most depths (OfUnion tag arms) = arms_reach most depths arms
+  reaches_few most depths (OfArray kind s) = reaches_few most depths s
+  reaches_few most depths (OfRef s) = (is_pointer s || is_few most (levels depths s)) && reaches_few most depths s
+  reaches_few most depths (OfUnique s) = (is_pointer s || is_few most (levels depths s)) && reaches_few most depths s
+  reaches_few most depths (OfFull s) = (is_pointer s || is_few most (levels depths s)) && reaches_few most depths s
+  reaches_few most depths _ = true
 
-  pub each_reaches : List ℕ → Forms → Bool
-  each_reaches depths no_form = true
-  each_reaches depths (then_form s ss) = reaches_few depths s && each_reaches depths ss
+  pub each_reaches : ℕ → List ℕ → Forms → Bool
+  each_reaches most depths no_form = true
+  each_reaches most depths (then_form s ss) = reaches_few most depths s && each_reaches most depths ss
 
-  pub arms_reach : List ℕ → ArmForms → Bool
-  arms_reach depths no_arm = true
-  arms_reach depths (then_arm cases default b rest) = body_reaches depths b && arms_reach depths rest
+  pub arms_reach : ℕ → List ℕ → ArmForms → Bool
+  arms_reach most depths no_arm = true
+  arms_reach most depths (then_arm cases default b rest) = body_reaches most depths b && arms_reach most depths rest
 
-  pub body_reaches : List ℕ → Body → Bool
-  body_reaches depths empty = true
-  body_reaches depths (holds s) = reaches_few depths s
+  pub body_reaches : ℕ → List ℕ → Body → Bool
+  body_reaches most depths empty = true
+  body_reaches most depths (holds s) = reaches_few most depths s
 
 -- the shape itself, and what can be reached from it up to the types that it names
-abbrev pub is_shallow : List ℕ → Form → Bool
-is_shallow depths s = is_few (levels depths s) && reaches_few depths s
+abbrev pub is_shallow : ℕ → List ℕ → Form → Bool
+is_shallow most depths s = is_few most (levels depths s) && reaches_few most depths s
 
-abbrev pub param_few : List ℕ → ParamForm → Bool
-param_few depths p = is_shallow depths p.shape
+abbrev pub param_few : ℕ → List ℕ → ParamForm → Bool
+param_few most depths p = is_shallow most depths p.shape
 
-abbrev pub result_few : List ℕ → Option Form → Bool
-result_few depths None = true
-result_few depths (Some s) = is_shallow depths s
+abbrev pub result_few : ℕ → List ℕ → Option Form → Bool
+result_few most depths None = true
+result_few most depths (Some s) = is_shallow most depths s
 
-abbrev pub op_few : List ℕ → OpForm → Bool
-op_few depths o = list_all (param_few depths) o.params && result_few depths o.result
+abbrev pub op_few : ℕ → List ℕ → OpForm → Bool
+op_few most depths o = list_all (param_few most depths) o.params && result_few most depths o.result
 
--- types, parameters, results and what their pointers point to nest by value 16 levels at most
-pub record IsShallow (types : List Form) (ops : List OpForm) : Type 0 where
-  pub types_are : list_all is_few (depths_of types) ≡ true
-  pub types_reach : list_all (reaches_few (depths_of types)) types ≡ true
-  pub ops_are : list_all (op_few (depths_of types)) ops ≡ true
+-- types, parameters, results and what their pointers point to nest by value at most so many levels
+pub record NestAtMost (most : ℕ) (types : List Form) (ops : List OpForm) : Type 0 where
+  pub types_are : list_all (is_few most) (depths_of types) ≡ true
+  pub types_reach : list_all (reaches_few most (depths_of types)) types ≡ true
+  pub ops_are : list_all (op_few most (depths_of types)) ops ≡ true
+
+-- so do those of every table
+abbrev pub IsShallow : List Form → List OpForm → Type 0
+IsShallow types ops = NestAtMost 256 types ops

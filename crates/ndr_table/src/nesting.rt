@@ -11,8 +11,8 @@ use rpc_base::{Items, NoMemory};
 use std::alloc::Global;
 
 /// The most levels that a shape of a table nests by value: so deep go the calls that read and write
-/// its values.
-pub const MOST_LEVELS: u16 = 16;
+/// its values between one pointer and the next.
+pub const MOST_LEVELS: u16 = 256;
 
 /// The levels of types, by number.
 pub type Depths = Items<u16>;
@@ -125,7 +125,7 @@ fn arm_levels(arm: &Arm, depths: &[u16], most: u16) -> u16
 /// levels.
 pub fn depths_of(alloc: Global, types: &[Shape]) -> Result<Depths, NoMemory>
     ensures exact { IfOk result (λ depths. depths ≡ spec.depths_of (types_of types.now)) }
-    ensures few { IfOk result (λ depths. list_all spec.is_few depths ≡ true) }
+    ensures few { IfOk result (λ depths. list_all (spec.is_few 256) depths ≡ true) }
 {
     let mut depths = Depths::new(alloc);
     for ty in types {
@@ -141,7 +141,7 @@ pub fn depths_of(alloc: Global, types: &[Shape]) -> Result<Depths, NoMemory>
 /// Whether a shape nests by value no more than `MOST_LEVELS` levels, by those of the types that it
 /// names.
 pub fn has_few_levels(shape: &Shape, depths: &[u16]) -> bool
-    ensures { result ≡ spec.is_few (spec.levels depths.now (form shape.now)) }
+    ensures { result ≡ spec.is_few 256 (spec.levels depths.now (form shape.now)) }
 {
     levels_at(shape, depths, MOST_LEVELS + 1) <= MOST_LEVELS
 }
@@ -154,7 +154,7 @@ fn is_pointer(shape: &Shape) -> bool
 
 #[cycle(reach)]
 fn reaches_few(shape: &Shape, depths: &[u16]) -> bool
-    ensures { result ≡ spec.reaches_few depths.now (form shape.now) }
+    ensures { result ≡ spec.reaches_few 256 depths.now (form shape.now) }
 {
     match shape {
         Shape::Bool => true,
@@ -177,14 +177,14 @@ fn reaches_few(shape: &Shape, depths: &[u16]) -> bool
 
 #[cycle(reach)]
 fn pointed_few(inner: &Shape, depths: &[u16]) -> bool
-    ensures { result ≡ ((spec.is_pointer (form inner.now) || spec.is_few (spec.levels depths.now (form inner.now))) && spec.reaches_few depths.now (form inner.now)) }
+    ensures { result ≡ ((spec.is_pointer (form inner.now) || spec.is_few 256 (spec.levels depths.now (form inner.now))) && spec.reaches_few 256 depths.now (form inner.now)) }
 {
     (is_pointer(inner) || has_few_levels(inner, depths)) && reaches_few(inner, depths)
 }
 
 #[cycle(reach)]
 fn each_reaches(members: &[Shape], depths: &[u16]) -> bool
-    ensures { result ≡ spec.each_reaches depths.now (forms members.now) }
+    ensures { result ≡ spec.each_reaches 256 depths.now (forms members.now) }
 {
     for member in members {
         if !reaches_few(member, depths) {
@@ -196,7 +196,7 @@ fn each_reaches(members: &[Shape], depths: &[u16]) -> bool
 
 #[cycle(reach)]
 fn arms_reach(arms: &[Arm], depths: &[u16]) -> bool
-    ensures { result ≡ spec.arms_reach depths.now (arms_of arms.now) }
+    ensures { result ≡ spec.arms_reach 256 depths.now (arms_of arms.now) }
 {
     for arm in arms {
         if !arm_reaches(arm, depths) {
@@ -208,7 +208,7 @@ fn arms_reach(arms: &[Arm], depths: &[u16]) -> bool
 
 #[cycle(reach)]
 fn arm_reaches(arm: &Arm, depths: &[u16]) -> bool
-    ensures { result ≡ spec.body_reaches depths.now (body arm.now.shape) }
+    ensures { result ≡ spec.body_reaches 256 depths.now (body arm.now.shape) }
 {
     match &arm.shape {
         None => true,
@@ -219,7 +219,7 @@ fn arm_reaches(arm: &Arm, depths: &[u16]) -> bool
 /// Whether what the pointers in the types point to nests by value no more than `MOST_LEVELS` levels, by
 /// the levels of the types.
 pub fn types_reach(types: &[Shape], depths: &[u16]) -> bool
-    ensures { result ≡ list_all (spec.reaches_few depths.now) (types_of types.now) }
+    ensures { result ≡ list_all (spec.reaches_few 256 depths.now) (types_of types.now) }
 {
     for ty in types {
         if !reaches_few(ty, depths) {
@@ -230,13 +230,13 @@ pub fn types_reach(types: &[Shape], depths: &[u16]) -> bool
 }
 
 fn is_shallow(shape: &Shape, depths: &[u16]) -> bool
-    ensures { result ≡ spec.is_shallow depths.now (form shape.now) }
+    ensures { result ≡ spec.is_shallow 256 depths.now (form shape.now) }
 {
     has_few_levels(shape, depths) && reaches_few(shape, depths)
 }
 
 fn params_few(params: &[Param], depths: &[u16]) -> bool
-    ensures { result ≡ list_all (spec.param_few depths.now) (map param_form params.now) }
+    ensures { result ≡ list_all (spec.param_few 256 depths.now) (map param_form params.now) }
 {
     for param in params {
         if !is_shallow(&param.shape, depths) {
@@ -247,7 +247,7 @@ fn params_few(params: &[Param], depths: &[u16]) -> bool
 }
 
 fn result_few(shape: &Option<Shape>, depths: &[u16]) -> bool
-    ensures { result ≡ spec.result_few depths.now (result_form shape.now) }
+    ensures { result ≡ spec.result_few 256 depths.now (result_form shape.now) }
 {
     match shape {
         None => true,
@@ -256,7 +256,7 @@ fn result_few(shape: &Option<Shape>, depths: &[u16]) -> bool
 }
 
 fn op_few(op: &Op, depths: &[u16]) -> bool
-    ensures { result ≡ spec.op_few depths.now (op_form op.now) }
+    ensures { result ≡ spec.op_few 256 depths.now (op_form op.now) }
 {
     let params = params_few(&op.params, depths);
     let own = result_few(&op.result, depths);
@@ -266,7 +266,7 @@ fn op_few(op: &Op, depths: &[u16]) -> bool
 /// Whether no parameter and no result, and nothing that their pointers point to, nests by value more
 /// than `MOST_LEVELS` levels, by the levels of the types.
 pub fn ops_few(ops: &[Op], depths: &[u16]) -> bool
-    ensures { result ≡ list_all (spec.op_few depths.now) (map op_form ops.now) }
+    ensures { result ≡ list_all (spec.op_few 256 depths.now) (map op_form ops.now) }
 {
     for op in ops {
         if !op_few(op, depths) {

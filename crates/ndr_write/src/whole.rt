@@ -8,7 +8,7 @@ use crate::flat::flat_value;
 use crate::state::{Out, Pending, Pointed, Writer};
 use rpc_base::NoMemory;
 
-// Types, parameters and results nest by value 16 levels at most, so there are fewer constructs and
+// Types, parameters and results nest by value 256 levels at most, so there are fewer constructs and
 // names between two pointers.
 const DEEP: u32 = 1024;
 

@@ -51,8 +51,8 @@ module _ (types : List Form) (order : Order) (octets : List ℕ) where
         ∙ ended (nat_lt (end.here.at + 7) (length octets)) _ (m.values, end) (le-ltb _ _ r.rest)
 
   -- between a pointer and the next stand less than 1024 constructs and names
-  most_is : plus (suc (tight 16)) 15 ≤ 1023
-  most_is = omega (arith, plus_is (suc (tight 16)) 15, tight_is 16)
+  most_is : plus (suc (tight 256)) 255 ≤ 1023
+  most_is = omega (arith, plus_is (suc (tight 256)) 255, tight_is 256)
 
   pub read_again : (op : OpForm) (way : Way) (m : Msg) (end : Last) → IsOp types op → IsRead types order octets (entries way op) m end → read_values types order octets enough (entries way op) ≡ Ok (m.values, end)
   read_again op way m end o r =

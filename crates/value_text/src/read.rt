@@ -1,5 +1,5 @@
 //! Values of shapes, read from the front of a text.
-ghost use Rattle.std.specs.Prelude.{◌≡◌, ◌++◌, ◌∷◌, [], ◌+◌, ◌^◌, map, length, ℕ, List, Option, Some, None, OnOk, slice_get, MatchOption};
+ghost use Rattle.std.specs.Prelude.{◌≡◌, ◌++◌, ◌∷◌, [], ◌+◌, ◌^◌, ◌≤◌, map, length, ℕ, List, Option, Some, None, IfOk, OnOk, slice_get, MatchOption};
 ghost use Rattle.ndr_value.specs.Forms.{Form, form, forms, arms_of, body, types_of, OfByte, OfUnion};
 ghost use Rattle.ndr_value.specs.Values.{val, vals, bytes, VByte, VStruct, VArray, VUnion, VPtr};
 ghost use Rattle.value_text.specs.Reading as spec;
@@ -23,6 +23,7 @@ pub(crate) struct Reader<'a> {
     pub types: &'a [Shape],
 }
 
+#[inline(never)]
 fn boolean(text: &[u8]) -> Result<(Value, &[u8]), Stop>
     ensures { Gives (λ x. (val x.0, x.1.now)) result (spec.bool_at text.now) }
 {
@@ -37,6 +38,7 @@ fn boolean(text: &[u8]) -> Result<(Value, &[u8]), Stop>
     Err(Stop::Departs(wrong(text)))
 }
 
+#[inline(never)]
 fn byte(text: &[u8]) -> Result<(Value, &[u8]), Stop>
     ensures { Gives (λ x. (val x.0, x.1.now)) result (spec.byte_at text.now) }
 {
@@ -44,6 +46,7 @@ fn byte(text: &[u8]) -> Result<(Value, &[u8]), Stop>
     Ok((Value::Byte(number as u8), rest))
 }
 
+#[inline(never)]
 fn character(text: &[u8]) -> Result<(Value, &[u8]), Stop>
     ensures { Gives (λ x. (val x.0, x.1.now)) result (spec.character_at text.now) }
 {
@@ -51,6 +54,7 @@ fn character(text: &[u8]) -> Result<(Value, &[u8]), Stop>
     Ok((Value::Char(number as u8), rest))
 }
 
+#[inline(never)]
 fn integer(size: u8, text: &[u8]) -> Result<(Value, &[u8]), Stop>
     ensures { Gives (λ x. (val x.0, x.1.now)) result (spec.integer_at size text.now) }
 {
@@ -58,6 +62,7 @@ fn integer(size: u8, text: &[u8]) -> Result<(Value, &[u8]), Stop>
     Ok((Value::Int(number), rest))
 }
 
+#[inline(never)]
 fn natural_number(size: u8, text: &[u8]) -> Result<(Value, &[u8]), Stop>
     ensures { Gives (λ x. (val x.0, x.1.now)) result (spec.natural_number_at size text.now) }
 {
@@ -65,6 +70,7 @@ fn natural_number(size: u8, text: &[u8]) -> Result<(Value, &[u8]), Stop>
     Ok((Value::Uint(number), rest))
 }
 
+#[inline(never)]
 fn name(count: u16, text: &[u8]) -> Result<(Value, &[u8]), Stop>
     ensures { Gives (λ x. (val x.0, x.1.now)) result (spec.name_at count text.now) }
 {
@@ -72,6 +78,7 @@ fn name(count: u16, text: &[u8]) -> Result<(Value, &[u8]), Stop>
     Ok((Value::Enum(number as u16), rest))
 }
 
+#[inline(never)]
 fn handle(text: &[u8]) -> Result<(Value, &[u8]), Stop>
     ensures { Gives (λ x. (val x.0, x.1.now)) result (spec.handle_at text.now) }
 {
@@ -80,6 +87,7 @@ fn handle(text: &[u8]) -> Result<(Value, &[u8]), Stop>
     Ok((Value::Handle(slot as u8), rest))
 }
 
+#[inline(never)]
 fn full(text: &[u8]) -> Result<(Value, &[u8]), Stop>
     ensures { Gives (λ x. (val x.0, x.1.now)) result (spec.full_at text.now) }
 {
@@ -92,6 +100,7 @@ fn full(text: &[u8]) -> Result<(Value, &[u8]), Stop>
     Ok((Value::Full(Some(item as u32)), rest))
 }
 
+#[inline(never)]
 fn words<'t>(
     reader: &Reader<'_>,
     most: Option<u32>,
@@ -103,12 +112,35 @@ fn words<'t>(
     Ok((Value::Text(octets), rest))
 }
 
-/// A value of the shape, under so many pointers, and what follows it. Values that nest deeper than the room are too
-/// many for memory.
+// Whether values of the shape are a level: each structure, union, array and pointer is one.
+fn is_level(shape: &Shape) -> bool {
+    match shape {
+        Shape::Struct(_) | Shape::Union { .. } | Shape::Array(_, _) => true,
+        Shape::Ref(_) | Shape::Unique(_) => true,
+        _ => false,
+    }
+}
+
+// The levels that are left below a value of the shape.
+fn below(left: u16, shape: &Shape) -> Result<u16, NoMemory>
+    ensures { IfOk result (λ n. n ≤ left) }
+{
+    if !is_level(shape) {
+        return Ok(left);
+    }
+    if left == 0 {
+        return Err(NoMemory);
+    }
+    Ok(left - 1)
+}
+
+/// A value of the shape, under so many pointers, and what follows it. Values that nest deeper than the room or the levels
+/// are too many for memory.
 #[tactic(auto, unfolding(crate::specs::Reading::read))]
 #[cycle(read)]
 pub(crate) fn value<'t>(
     room: u32,
+    left: u16,
     reader: &Reader<'_>,
     level: u16,
     shape: &Shape,
@@ -119,12 +151,14 @@ pub(crate) fn value<'t>(
     if room == 0 {
         return Err(Stop::Memory);
     }
-    step(room - 1, reader, level, shape, text)
+    let left = below(left, shape)?;
+    step(room - 1, left, reader, level, shape, text)
 }
 
 #[cycle(read)]
 fn step<'t>(
     room: u32,
+    left: u16,
     reader: &Reader<'_>,
     level: u16,
     shape: &Shape,
@@ -143,13 +177,13 @@ fn step<'t>(
         Shape::Text(most) => words(reader, *most, text),
         Shape::Named(number, _) => match reader.types.get(*number) {
             None => Err(Stop::Departs(wrong(text))),
-            Some(other) => value(room, reader, level, other, text),
+            Some(other) => value(room, left, reader, level, other, text),
         },
-        Shape::Struct(members) => structure(room, reader, level, members, text),
-        Shape::Union { tag, arms } => union_value(room, reader, level, tag, arms, text),
-        Shape::Array(kind, inner) => array(room, reader, level, kind, inner, text),
-        Shape::Ref(inner) => value(room, reader, level, inner, text),
-        Shape::Unique(inner) => pointer(room, reader, level, inner, text),
+        Shape::Struct(members) => structure(room, left, reader, level, members, text),
+        Shape::Union { tag, arms } => union_value(room, left, reader, level, tag, arms, text),
+        Shape::Array(kind, inner) => array(room, left, reader, level, kind, inner, text),
+        Shape::Ref(inner) => value(room, left, reader, level, inner, text),
+        Shape::Unique(inner) => pointer(room, left, reader, level, inner, text),
         Shape::Full(_) => full(text),
     }
 }
@@ -179,6 +213,7 @@ fn add(value: Value, values: &mut Vec<Value>) -> Result<(), NoMemory>
 #[inline(never)]
 fn structure<'t>(
     room: u32,
+    left: u16,
     reader: &Reader<'_>,
     level: u16,
     shapes: &[Shape],
@@ -187,13 +222,14 @@ fn structure<'t>(
     ensures { Gives (λ x. (val x.0, x.1.now)) result (spec.struct_at (read_of reader.now room level) (forms shapes.now) text.now) }
 {
     let rest = opened(b'{', text)?;
-    let (values, rest) = members(room, reader, level, shapes, rest)?;
+    let (values, rest) = members(room, left, reader, level, shapes, rest)?;
     Ok((made_struct(values), rest))
 }
 
 #[cycle(read)]
 fn members<'t>(
     room: u32,
+    left: u16,
     reader: &Reader<'_>,
     level: u16,
     shapes: &[Shape],
@@ -210,10 +246,10 @@ fn members<'t>(
             if heads(b'}', text) {
                 return Err(Stop::Departs(Departure::Kind(text.len())));
             }
-            let (first, rest) = value(room, reader, level, first, text)?;
+            let (first, rest) = value(room, left, reader, level, first, text)?;
             let mut values = Vec::new(reader.alloc);
             add(first, &mut values)?;
-            members_on(room, reader, level, others, values, rest)
+            members_on(room, left, reader, level, others, values, rest)
         }
     }
 }
@@ -222,6 +258,7 @@ fn members<'t>(
 #[cycle(read)]
 fn member<'t>(
     room: u32,
+    left: u16,
     reader: &Reader<'_>,
     level: u16,
     shape: &Shape,
@@ -233,7 +270,7 @@ fn member<'t>(
         return Err(Stop::Departs(Departure::Kind(text.len())));
     }
     let rest = marks(b", ", text)?;
-    value(room, reader, level, shape, rest)
+    value(room, left, reader, level, shape, rest)
 }
 
 // Goes past the end of a structure that has all its members.
@@ -250,6 +287,7 @@ fn members_end(text: &[u8]) -> Result<&[u8], Stop>
 #[cycle(read)]
 fn members_on<'t>(
     room: u32,
+    left: u16,
     reader: &Reader<'_>,
     level: u16,
     shapes: &[Shape],
@@ -261,7 +299,7 @@ fn members_on<'t>(
     let mut values = before;
     let mut rest = text;
     for shape in shapes {
-        let (next, after) = member(room, reader, level, shape, rest)?;
+        let (next, after) = member(room, left, reader, level, shape, rest)?;
         add(next, &mut values)?;
         rest = after;
     }
@@ -273,6 +311,7 @@ fn members_on<'t>(
 #[inline(never)]
 fn union_value<'t>(
     room: u32,
+    left: u16,
     reader: &Reader<'_>,
     level: u16,
     kind: &Shape,
@@ -288,7 +327,7 @@ fn union_value<'t>(
     };
     match arm_for(kind, arms, tag) {
         None => Err(Stop::Departs(Departure::Range(place.len()))),
-        Some(arm) => arm_value(room, reader, level, arm, tag, rest),
+        Some(arm) => arm_value(room, left, reader, level, arm, tag, rest),
     }
 }
 
@@ -296,6 +335,7 @@ fn union_value<'t>(
 #[cycle(read)]
 fn arm_value<'t>(
     room: u32,
+    left: u16,
     reader: &Reader<'_>,
     level: u16,
     arm: &Arm,
@@ -306,7 +346,7 @@ fn arm_value<'t>(
 {
     match &arm.shape {
         None => empty_arm(tag, text),
-        Some(shape) => held_arm(room, reader, level, shape, tag, text),
+        Some(shape) => held_arm(room, left, reader, level, shape, tag, text),
     }
 }
 
@@ -323,6 +363,7 @@ fn empty_arm(tag: i64, text: &[u8]) -> Result<(Value, &[u8]), Stop>
 #[cycle(read)]
 fn held_arm<'t>(
     room: u32,
+    left: u16,
     reader: &Reader<'_>,
     level: u16,
     shape: &Shape,
@@ -335,7 +376,7 @@ fn held_arm<'t>(
         return Err(Stop::Departs(Departure::Kind(text.len())));
     }
     let rest = marks(b": ", text)?;
-    let (inner, rest) = value(room, reader, level, shape, rest)?;
+    let (inner, rest) = value(room, left, reader, level, shape, rest)?;
     let rest = mark(b')', rest)?;
     let arm = Box::new(reader.alloc, inner)?;
     Ok((
@@ -351,6 +392,7 @@ fn held_arm<'t>(
 #[inline(never)]
 fn pointer<'t>(
     room: u32,
+    left: u16,
     reader: &Reader<'_>,
     level: u16,
     inner: &Shape,
@@ -366,7 +408,7 @@ fn pointer<'t>(
     if level >= 256 {
         return Err(Stop::Departs(Departure::Kind(text.len())));
     }
-    let (pointed, rest) = value(room, reader, level + 1, inner, rest)?;
+    let (pointed, rest) = value(room, left, reader, level + 1, inner, rest)?;
     let pointed = Box::new(reader.alloc, pointed)?;
     Ok((Value::Ptr(Some(pointed)), rest))
 }
@@ -375,6 +417,7 @@ fn pointer<'t>(
 #[inline(never)]
 fn array<'t>(
     room: u32,
+    left: u16,
     reader: &Reader<'_>,
     level: u16,
     kind: &ArrayKind,
@@ -386,13 +429,14 @@ fn array<'t>(
     let rest = opened(b'[', text)?;
     match inner {
         Shape::Byte => octets(room, reader, level, kind, rest),
-        _ => elements(room, reader, level, kind, inner, rest),
+        _ => elements(room, left, reader, level, kind, inner, rest),
     }
 }
 
 #[cycle(read)]
 fn elements<'t>(
     room: u32,
+    left: u16,
     reader: &Reader<'_>,
     level: u16,
     kind: &ArrayKind,
@@ -401,13 +445,14 @@ fn elements<'t>(
 ) -> Result<(Value, &'t [u8]), Stop>
     ensures { Gives (λ x. (val x.0, x.1.now)) result (spec.in_array (spec.items_at (read_of reader.now room level (form inner.now)) kind.now text.now)) }
 {
-    let (values, rest) = items(room, reader, level, kind, inner, text)?;
+    let (values, rest) = items(room, left, reader, level, kind, inner, text)?;
     Ok((made_array(values), rest))
 }
 
 #[cycle(read)]
 fn items<'t>(
     room: u32,
+    left: u16,
     reader: &Reader<'_>,
     level: u16,
     kind: &ArrayKind,
@@ -423,10 +468,10 @@ fn items<'t>(
     if !takes(kind, 0) {
         return Err(Stop::Departs(wrong(text)));
     }
-    let (first, rest) = value(room, reader, level, inner, text)?;
+    let (first, rest) = value(room, left, reader, level, inner, text)?;
     let mut values = Vec::new(reader.alloc);
     add(first, &mut values)?;
-    items_on(room, reader, level, kind, inner, values, rest)
+    items_on(room, left, reader, level, kind, inner, values, rest)
 }
 
 // Where a further element begins, if there may be one.
@@ -443,6 +488,7 @@ fn next(may: bool, text: &[u8]) -> Result<&[u8], Stop>
 #[cycle(read)]
 fn item<'t>(
     room: u32,
+    left: u16,
     reader: &Reader<'_>,
     level: u16,
     may: bool,
@@ -452,13 +498,14 @@ fn item<'t>(
     ensures { Gives (λ x. (val x.0, x.1.now)) result (spec.item_at (read_of reader.now room level (form inner.now)) may text.now) }
 {
     let rest = next(may, text)?;
-    value(room, reader, level, inner, rest)
+    value(room, left, reader, level, inner, rest)
 }
 
 // Elements behind the one that is there.
 #[cycle(read)]
 fn items_on<'t>(
     room: u32,
+    left: u16,
     reader: &Reader<'_>,
     level: u16,
     kind: &ArrayKind,
@@ -475,7 +522,7 @@ fn items_on<'t>(
             let rest = closed(count_fits(kind, count), rest)?;
             return Ok((values, rest));
         }
-        let (next, after) = item(room, reader, level, takes(kind, count), inner, rest)?;
+        let (next, after) = item(room, left, reader, level, takes(kind, count), inner, rest)?;
         add(next, &mut values)?;
         rest = after;
     }
@@ -483,6 +530,7 @@ fn items_on<'t>(
 }
 
 // An array of octets.
+#[inline(never)]
 fn octets<'t>(
     room: u32,
     reader: &Reader<'_>,

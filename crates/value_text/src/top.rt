@@ -12,9 +12,13 @@ use crate::read::{Reader, value};
 use ndr_value::{Shape, Shapes, Value};
 use std::alloc::Global;
 
-// How deep constructs are read: 256 pointers, and between each two of them 48 levels of names, structures, unions,
-// arrays and references. A table's types nest 16 levels, each of which is a construct and at most a name.
+// How deep constructs and names are read: 256 pointers, and between each two of them 48 of names, structures, unions,
+// arrays and references.
 const ROOM: u32 = 257 * 48;
+
+// How many levels are read one in another, of structures, unions, arrays, references and pointers: each takes some of the
+// machine's stack, which is memory too. So many are 23 up to each of 256 pointers, and the pointers.
+const MOST_NESTED: u16 = 257 * 24;
 
 // The text from an index on.
 fn from(at: usize, text: &[u8]) -> &[u8]
@@ -62,7 +66,7 @@ fn told(
     ensures { Told (types_of types.now.items) (form shape.now) text.now at result }
 {
     let reader = Reader { alloc, types };
-    match value(ROOM, &reader, 0, shape, from(at, text)) {
+    match value(ROOM, MOST_NESTED, &reader, 0, shape, from(at, text)) {
         Ok((value, rest)) => Ok((value, text.len().saturating_sub(rest.len()))),
         Err(Stop::Memory) => Err(TextFault::Memory),
         Err(Stop::Departs(departure)) => Err(departure.fault(text.len())),

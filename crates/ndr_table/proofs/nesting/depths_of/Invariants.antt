@@ -7,5 +7,5 @@ use Rattle.ndr_table.proofs.nesting.depths_of.Given as goal
 abbrev pub invariant-loop-ty : goal.invariant-loop-ty
 invariant-loop-ty l = record {
   rest : depths_past l.depths (map form (drop l.ty-index l.types)) ≡ depths_of (map form l.types);
-  few : list_all is_few l.depths ≡ true;
+  few : list_all (is_few 256) l.depths ≡ true;
 }

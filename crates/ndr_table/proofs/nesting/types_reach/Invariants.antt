@@ -5,4 +5,4 @@ use Rattle.ndr_table.specs.Nested.{reaches_few}
 use Rattle.ndr_table.proofs.nesting.types_reach.Given as goal
 
 abbrev pub invariant-loop-ty : goal.invariant-loop-ty
-invariant-loop-ty l = list_all (reaches_few l.depths) (map form (drop l.ty-index l.types)) ≡ list_all (reaches_few l.depths) (map form l.types)
+invariant-loop-ty l = list_all (reaches_few 256 l.depths) (map form (drop l.ty-index l.types)) ≡ list_all (reaches_few 256 l.depths) (map form l.types)
