@@ -1,5 +1,5 @@
 use Rattle.conn_core.proofs.Skipping.{taken_more, taken_all}
-use Rattle.conn_core.proofs.uncut.uncut.Goals as goal
+use Rattle.conn_core.proofs.behind.uncut.Goals as goal
 
 pub returns-then-not-branch : goal.returns-then-not-branch
 returns-then-not-branch c =

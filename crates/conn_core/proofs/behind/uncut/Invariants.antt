@@ -1,7 +1,7 @@
 use Rattle.std.proofs.Common.{length}
 use Rattle.conn_core.specs.Fields.{HasCause}
 use Rattle.conn_core.proofs.Skipping.{Taken}
-use Rattle.conn_core.proofs.uncut.uncut.Given as goal
+use Rattle.conn_core.proofs.behind.uncut.Given as goal
 
 -- PDUs were taken from the front, and a fault that was answered has its cause
 abbrev pub invariant-loop-feed : goal.invariant-loop-feed

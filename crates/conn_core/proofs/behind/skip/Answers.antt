@@ -1,6 +1,6 @@
 use Rattle.std.proofs.Common.{rules, ap, Some}
 use Rattle.pdu_stream.specs.Cuts.{Fed, IsStop}
-use Rattle.conn_core.proofs.uncut.skip.Goals as goal
+use Rattle.conn_core.proofs.behind.skip.Goals as goal
 
 pub returns-in-Err : goal.returns-in-Err
 returns-in-Err c =
