@@ -8,7 +8,7 @@ use Rattle.ndr_value.specs.declared.shape.Count.{Count}
 use Rattle.ndr_value.specs.Forms.{Form, OfBool, OfByte, OfChar, OfInt, OfUint, OfEnum, OfNamed, OfStruct, OfUnion, OfArray, OfText, OfRef, OfUnique, OfFull, OfHandle, Forms, no_form, then_form, Body, empty, holds, ArmForms, no_arm, then_arm}
 use Rattle.ndr_table.specs.declared.operation.HandleUse.{HandleUse}
 use Rattle.ndr_table.specs.Ordered.{is_below, each_below, arms_below, body_below, is_body, ordered_from}
-use Rattle.ndr_table.specs.Nested.{levels, members_levels, arms_levels, body_levels, depths_past, depths_of, is_few, is_pointer, reaches_few, each_reaches, arms_reach, body_reaches, is_shallow, param_few, result_few, op_few, IsShallow}
+use Rattle.ndr_table.specs.Nested.{levels, members_levels, arms_levels, body_levels, depths_past, depths_of, is_few, is_pointer, reaches_few, each_reaches, arms_reach, body_reaches, is_shallow, param_few, result_few, op_few, NestAtMost}
 use Rattle.ndr_table.specs.Tables.{ParamForm, OpForm, param_below, result_below, op_below, IsTable}
 use Rattle.value_text.specs.Fuel.{EachForm, HasForm, HasBody, EachArm, nests_at, Nests, Pointed, EachPointed, ArmsPointed, BodyPointed, IsFew, IsFlat}
 use Rattle.value_text.proofs.Shallow.{fuel_suffices}
@@ -134,10 +134,10 @@ look_last : (ds : List ℕ) (x : ℕ) → unwrap_or (slice_get (ds ++ x ∷ []) 
 look_last [] x = refl
 look_last (d ∷ ds) x = look_last ds x
 
-look_few : (ds : List ℕ) (k : ℕ) → list_all is_few ds ≡ true → unwrap_or (slice_get ds k) 0 ≤ 16
+look_few : (ds : List ℕ) (k : ℕ) → list_all (is_few 22) ds ≡ true → unwrap_or (slice_get ds k) 0 ≤ 22
 look_few [] k e = omega arith
-look_few (d ∷ ds) zero e = leb-true _ _ (both (is_few d) (list_all is_few ds) e).0
-look_few (d ∷ ds) (suc k) e = look_few ds k (both (is_few d) (list_all is_few ds) e).1
+look_few (d ∷ ds) zero e = leb-true _ _ (both (is_few 22 d) (list_all (is_few 22) ds) e).0
+look_few (d ∷ ds) (suc k) e = look_few ds k (both (is_few 22 d) (list_all (is_few 22) ds) e).1
 
 -- ---- shapes by their levels: each is a construct and a name at most
 
@@ -255,99 +255,99 @@ all_get p (y ∷ xs) (suc k) x e is = all_get p xs k x (both (p y) (list_all p x
 -- ---- what pointers point to
 
 module _ (types : List Form) (ends : (c : ℕ) (u : Form) → slice_get types c ≡ Some u → refs_end u ≡ true)
-    (ord : ordered_from 0 (length types) types ≡ true) (few : list_all is_few (depths_of types) ≡ true) where
+    (ord : ordered_from 0 (length types) types ≡ true) (few : list_all (is_few 22) (depths_of types) ≡ true) where
   fact : (c : ℕ) (u : Form) → slice_get types c ≡ Some u → Fact types (length types) ends (unwrap_or (slice_get (depths_of types) c) 0) u
   fact c u is =
       types_known types (length types) ends types 0 [] refl (λ j. ap (slice_get types) (let z : 0 + j ≡ j = omega arith in z)) ord (λ k u lt is. absurd (omega (arith, lt))) c u (let w = slice_get_within types c u is in omega (arith, w)) is
 
-  by_levels : (s : Form) → is_below (length types) (length types) s ≡ true → refs_end s ≡ true → levels (depths_of types) s ≤ 16 → Nests types 34 s
+  by_levels : (s : Form) → is_below (length types) (length types) s ≡ true → refs_end s ≡ true → levels (depths_of types) s ≤ 22 → Nests types 46 s
   by_levels s b r le =
-      shape types (length types) (length types) (depths_of types) (names_cost types (length types) ends (length types) (depths_of types) (λ k u lt is. fact k u is)) s 16 b r le
+      shape types (length types) (length types) (depths_of types) (names_cost types (length types) ends (length types) (depths_of types) (λ k u lt is. fact k u is)) s 22 b r le
 
-  pointer : (s : Form) → is_pointer s ≡ true → refs_end s ≡ true → levels [] s ≤ 16 → Nests types 34 s
-  pointer (OfRef s) is r le = weaker types 17 34 (OfRef s) (omega arith) (own types (OfRef s) 16 (both (is_own s) (refs_end s) r).0 le)
-  pointer (OfUnique s) is r le = one_up types 33 (OfUnique s) tt
-  pointer (OfFull s) is r le = one_up types 33 (OfFull s) tt
+  pointer : (s : Form) → is_pointer s ≡ true → refs_end s ≡ true → levels [] s ≤ 22 → Nests types 46 s
+  pointer (OfRef s) is r le = weaker types 23 46 (OfRef s) (omega arith) (own types (OfRef s) 22 (both (is_own s) (refs_end s) r).0 le)
+  pointer (OfUnique s) is r le = one_up types 45 (OfUnique s) tt
+  pointer (OfFull s) is r le = one_up types 45 (OfFull s) tt
   pointer _ is r le = absurd cc
 
-  either : (s : Form) (p : Bool) → is_pointer s ≡ p → (p || is_few (levels (depths_of types) s)) ≡ true → is_below (length types) (length types) s ≡ true → refs_end s ≡ true → levels [] s ≤ 16 → Nests types 34 s
+  either : (s : Form) (p : Bool) → is_pointer s ≡ p → (p || is_few 22 (levels (depths_of types) s)) ≡ true → is_below (length types) (length types) s ≡ true → refs_end s ≡ true → levels [] s ≤ 22 → Nests types 46 s
   either s true is h b r le = pointer s is r le
   either s false is h b r le = by_levels s b r (leb-true _ _ h)
 
   mutual
-    target : (near : ℕ) (ds : List ℕ) (s : Form) → is_below near (length types) s ≡ true → refs_end s ≡ true → reaches_few (depths_of types) s ≡ true → levels ds s ≤ 16 → Pointed (IsFew types) s
+    target : (near : ℕ) (ds : List ℕ) (s : Form) → is_below near (length types) s ≡ true → refs_end s ≡ true → reaches_few 22 (depths_of types) s ≡ true → levels ds s ≤ 22 → Pointed (IsFew types) s
     target near ds (OfStruct ss) b r f le = member_targets near ds ss b r f (omega (arith, le))
     target near ds (OfUnion t arms) b r f le = arm_targets near ds arms (both (is_below near (length types) t) (arms_below near (length types) arms) b).1 r f (omega (arith, le))
     target near ds (OfArray kind s) b r f le = target near ds s b r f (omega (arith, le))
     target near ds (OfRef s) b r f le =
-        let h = both (is_pointer s || is_few (levels (depths_of types) s)) (reaches_few (depths_of types) s) f in
+        let h = both (is_pointer s || is_few 22 (levels (depths_of types) s)) (reaches_few 22 (depths_of types) s) f in
         target (length types) [] s b (both (is_own s) (refs_end s) r).1 h.1 (omega (arith, le))
     target near ds (OfUnique s) b r f le =
-        let h = both (is_pointer s || is_few (levels (depths_of types) s)) (reaches_few (depths_of types) s) f in
-        (weaker types 34 48 s (omega arith) (either s (is_pointer s) refl h.0 b r (omega (arith, le))), target (length types) [] s b r h.1 (omega (arith, le)))
+        let h = both (is_pointer s || is_few 22 (levels (depths_of types) s)) (reaches_few 22 (depths_of types) s) f in
+        (weaker types 46 48 s (omega arith) (either s (is_pointer s) refl h.0 b r (omega (arith, le))), target (length types) [] s b r h.1 (omega (arith, le)))
     target near ds _ b r f le = tt
 
-    member_targets : (near : ℕ) (ds : List ℕ) (ss : Forms) → each_below near (length types) ss ≡ true → each_ends ss ≡ true → each_reaches (depths_of types) ss ≡ true → members_levels ds ss ≤ 16 → EachPointed (IsFew types) ss
+    member_targets : (near : ℕ) (ds : List ℕ) (ss : Forms) → each_below near (length types) ss ≡ true → each_ends ss ≡ true → each_reaches 22 (depths_of types) ss ≡ true → members_levels ds ss ≤ 22 → EachPointed (IsFew types) ss
     member_targets near ds no_form b r f le = tt
     member_targets near ds (then_form s ss) b r f le =
         let h = both (is_below near (length types) s) (each_below near (length types) ss) b in
         let k = both (refs_end s) (each_ends ss) r in
-        let g = both (reaches_few (depths_of types) s) (each_reaches (depths_of types) ss) f in
+        let g = both (reaches_few 22 (depths_of types) s) (each_reaches 22 (depths_of types) ss) f in
         (target near ds s h.0 k.0 g.0 (omega (arith, le)), member_targets near ds ss h.1 k.1 g.1 (omega (arith, le)))
 
-    arm_targets : (near : ℕ) (ds : List ℕ) (arms : ArmForms) → arms_below near (length types) arms ≡ true → arms_end arms ≡ true → arms_reach (depths_of types) arms ≡ true → arms_levels ds arms ≤ 16 → ArmsPointed (IsFew types) arms
+    arm_targets : (near : ℕ) (ds : List ℕ) (arms : ArmForms) → arms_below near (length types) arms ≡ true → arms_end arms ≡ true → arms_reach 22 (depths_of types) arms ≡ true → arms_levels ds arms ≤ 22 → ArmsPointed (IsFew types) arms
     arm_targets near ds no_arm b r f le = tt
     arm_targets near ds (then_arm cases default x rest) b r f le =
         let h = both (body_below near (length types) x) (arms_below near (length types) rest) b in
         let k = both (body_ends x) (arms_end rest) r in
-        let g = both (body_reaches (depths_of types) x) (arms_reach (depths_of types) rest) f in
+        let g = both (body_reaches 22 (depths_of types) x) (arms_reach 22 (depths_of types) rest) f in
         (body_target near ds x h.0 k.0 g.0 (omega (arith, le)), arm_targets near ds rest h.1 k.1 g.1 (omega (arith, le)))
 
-    body_target : (near : ℕ) (ds : List ℕ) (x : Body) → body_below near (length types) x ≡ true → body_ends x ≡ true → body_reaches (depths_of types) x ≡ true → body_levels ds x ≤ 16 → BodyPointed (IsFew types) x
+    body_target : (near : ℕ) (ds : List ℕ) (x : Body) → body_below near (length types) x ≡ true → body_ends x ≡ true → body_reaches 22 (depths_of types) x ≡ true → body_levels ds x ≤ 22 → BodyPointed (IsFew types) x
     body_target near ds empty b r f le = tt
     body_target near ds (holds s) b r f le = target near ds s b r f le
 
-  type_target : list_all (reaches_few (depths_of types)) types ≡ true → (c : ℕ) (u : Form) → slice_get types c ≡ Some u → Pointed (IsFew types) u
+  type_target : list_all (reaches_few 22 (depths_of types)) types ≡ true → (c : ℕ) (u : Form) → slice_get types c ≡ Some u → Pointed (IsFew types) u
   type_target reach c u is =
       let f = fact c u is in
-      target f.near f.ds u f.below (ends c u is) (all_get (reaches_few (depths_of types)) types c u reach is) (let l = look_few (depths_of types) c few in omega (arith, f.level, l))
+      target f.near f.ds u f.below (ends c u is) (all_get (reaches_few 22 (depths_of types)) types c u reach is) (let l = look_few (depths_of types) c few in omega (arith, f.level, l))
 
-  flat : list_all (reaches_few (depths_of types)) types ≡ true → (s : Form) → is_below (length types) (length types) s ≡ true → is_shallow (depths_of types) s ≡ true → refs_end s ≡ true → IsFlat types s
+  flat : list_all (reaches_few 22 (depths_of types)) types ≡ true → (s : Form) → is_below (length types) (length types) s ≡ true → is_shallow 22 (depths_of types) s ≡ true → refs_end s ≡ true → IsFlat types s
   flat reach s b sh r =
-      let h = both (is_few (levels (depths_of types) s)) (reaches_few (depths_of types) s) sh in
+      let h = both (is_few 22 (levels (depths_of types) s)) (reaches_few 22 (depths_of types) s) sh in
       let le = leb-true _ _ h.0 in
-      record { itself = weaker types 34 48 s (omega arith) (by_levels s b r le); pointed = target (length types) (depths_of types) s b r h.1 le; types_are = type_target reach }
+      record { itself = weaker types 46 48 s (omega arith) (by_levels s b r le); pointed = target (length types) (depths_of types) s b r h.1 le; types_are = type_target reach }
 
-  behind : list_all (reaches_few (depths_of types)) types ≡ true → (s : Form) → is_below (length types) (length types) s ≡ true → is_shallow (depths_of types) (OfRef s) ≡ true → refs_end s ≡ true → IsFlat types (OfRef s)
+  behind : list_all (reaches_few 22 (depths_of types)) types ≡ true → (s : Form) → is_below (length types) (length types) s ≡ true → is_shallow 22 (depths_of types) (OfRef s) ≡ true → refs_end s ≡ true → IsFlat types (OfRef s)
   behind reach s b sh r =
-      let h = both (is_few (levels (depths_of types) (OfRef s))) (reaches_few (depths_of types) (OfRef s)) sh in
-      let k = both (is_pointer s || is_few (levels (depths_of types) s)) (reaches_few (depths_of types) s) h.1 in
-      let le : suc (levels [] s) ≤ 16 = leb-true _ _ h.0 in
-      let own_le : levels [] s ≤ 16 = omega (arith, le) in
-      let deep : Nests types 47 s = weaker types 34 47 s (omega arith) (either s (is_pointer s) refl k.0 b r own_le) in
+      let h = both (is_few 22 (levels (depths_of types) (OfRef s))) (reaches_few 22 (depths_of types) (OfRef s)) sh in
+      let k = both (is_pointer s || is_few 22 (levels (depths_of types) s)) (reaches_few 22 (depths_of types) s) h.1 in
+      let le : suc (levels [] s) ≤ 22 = leb-true _ _ h.0 in
+      let own_le : levels [] s ≤ 22 = omega (arith, le) in
+      let deep : Nests types 47 s = weaker types 46 47 s (omega arith) (either s (is_pointer s) refl k.0 b r own_le) in
       record { itself = one_up types 47 (OfRef s) deep; pointed = target (length types) [] s b r k.1 own_le; types_are = type_target reach }
 
-  within : list_all (reaches_few (depths_of types)) types ≡ true → (s : Form) → is_below (length types) (length types) s ≡ true → is_shallow (depths_of types) s ≡ true → refs_within s ≡ true → IsFlat types s
+  within : list_all (reaches_few 22 (depths_of types)) types ≡ true → (s : Form) → is_below (length types) (length types) s ≡ true → is_shallow 22 (depths_of types) s ≡ true → refs_within s ≡ true → IsFlat types s
   within reach (OfRef s) b sh r = behind reach s b sh r
   within reach s b sh r = flat reach s b sh r
 
 -- ---- tables
 
-pub shapes_are_read : (types : List Form) (ops : List OpForm) (uses : List (List HandleUse)) (s : Form) → IsTable types ops uses → IsShallow types ops → list_all refs_end types ≡ true
-    → is_below (length types) (length types) s ≡ true → is_shallow (depths_of types) s ≡ true → refs_within s ≡ true → IsRead types s
+pub shapes_are_read : (types : List Form) (ops : List OpForm) (uses : List (List HandleUse)) (s : Form) → IsTable types ops uses → NestAtMost 22 types ops → list_all refs_end types ≡ true
+    → is_below (length types) (length types) s ≡ true → is_shallow 22 (depths_of types) s ≡ true → refs_within s ≡ true → IsRead types s
 shapes_are_read types ops uses s table shallow r b sh w text =
     fuel_suffices types s text (within types (λ c u is. all_get refs_end types c u r is) table.types_are shallow.types_are shallow.types_reach s b sh w)
 
-pub params_are_read : (types : List Form) (ops : List OpForm) (uses : List (List HandleUse)) (number k : ℕ) (op : OpForm) (p : ParamForm) → IsTable types ops uses → IsShallow types ops
+pub params_are_read : (types : List Form) (ops : List OpForm) (uses : List (List HandleUse)) (number k : ℕ) (op : OpForm) (p : ParamForm) → IsTable types ops uses → NestAtMost 22 types ops
     → list_all refs_end types ≡ true → slice_get ops number ≡ Some op → slice_get op.params k ≡ Some p → refs_within p.shape ≡ true → IsRead types p.shape
 params_are_read types ops uses number k op p table shallow r at is w =
     let x = both (list_all (param_below (length types)) op.params) (result_below (length types) op.result) (all_get (op_below (length types)) ops number op table.ops_are at) in
-    let y = both (list_all (param_few (depths_of types)) op.params) (result_few (depths_of types) op.result) (all_get (op_few (depths_of types)) ops number op shallow.ops_are at) in
-    shapes_are_read types ops uses p.shape table shallow r (all_get (param_below (length types)) op.params k p x.0 is) (all_get (param_few (depths_of types)) op.params k p y.0 is) w
+    let y = both (list_all (param_few 22 (depths_of types)) op.params) (result_few 22 (depths_of types) op.result) (all_get (op_few 22 (depths_of types)) ops number op shallow.ops_are at) in
+    shapes_are_read types ops uses p.shape table shallow r (all_get (param_below (length types)) op.params k p x.0 is) (all_get (param_few 22 (depths_of types)) op.params k p y.0 is) w
 
-pub results_are_read : (types : List Form) (ops : List OpForm) (uses : List (List HandleUse)) (number : ℕ) (op : OpForm) (s : Form) → IsTable types ops uses → IsShallow types ops
+pub results_are_read : (types : List Form) (ops : List OpForm) (uses : List (List HandleUse)) (number : ℕ) (op : OpForm) (s : Form) → IsTable types ops uses → NestAtMost 22 types ops
     → list_all refs_end types ≡ true → slice_get ops number ≡ Some op → op.result ≡ Some s → refs_within s ≡ true → IsRead types s
 results_are_read types ops uses number op s table shallow r at is w =
     let x = both (list_all (param_below (length types)) op.params) (result_below (length types) op.result) (all_get (op_below (length types)) ops number op table.ops_are at) in
-    let y = both (list_all (param_few (depths_of types)) op.params) (result_few (depths_of types) op.result) (all_get (op_few (depths_of types)) ops number op shallow.ops_are at) in
-    shapes_are_read types ops uses s table shallow r (subst (λ (o : Option Form). result_below (length types) o ≡ true) is x.1) (subst (λ (o : Option Form). result_few (depths_of types) o ≡ true) is y.1) w
+    let y = both (list_all (param_few 22 (depths_of types)) op.params) (result_few 22 (depths_of types) op.result) (all_get (op_few 22 (depths_of types)) ops number op shallow.ops_are at) in
+    shapes_are_read types ops uses s table shallow r (subst (λ (o : Option Form). result_below (length types) o ≡ true) is x.1) (subst (λ (o : Option Form). result_few 22 (depths_of types) o ≡ true) is y.1) w

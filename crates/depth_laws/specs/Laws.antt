@@ -1,11 +1,12 @@
--- No text of a value of a table's shapes is answered by lack of memory for its depth, where no reference leads to a type: a table
--- counts the levels of what a reference leads to by themselves, and types may lead to each other, or to themselves, by references.
+-- No text of a value of a table's shapes is answered by lack of memory for its depth, where they nest 22 levels at most and no
+-- reference leads to a type: a table counts the levels of what a reference leads to by themselves, and types may lead to each other, or
+-- to themselves, by references.
 use Rattle.std.specs.Prelude.{◌≡◌, ℕ, Bool, true, false, ◌&&◌, List, length, slice_get, Some, Err}
 use Rattle.std.specs.List.{list_all}
 use Rattle.ndr_value.specs.Forms.{Form, OfNamed, OfStruct, OfUnion, OfArray, OfRef, OfUnique, Forms, no_form, then_form, Body, empty, holds, ArmForms, no_arm, then_arm}
 use Rattle.ndr_table.specs.declared.operation.HandleUse.{HandleUse}
 use Rattle.ndr_table.specs.Ordered.{is_below}
-use Rattle.ndr_table.specs.Nested.{depths_of, is_shallow, IsShallow}
+use Rattle.ndr_table.specs.Nested.{depths_of, is_shallow, NestAtMost}
 use Rattle.ndr_table.specs.Tables.{ParamForm, OpForm, IsTable}
 use Rattle.value_text.specs.declared.departure.Departure.TheVariants.{TooDeep}
 use Rattle.value_text.specs.Reading.{read}
@@ -64,18 +65,18 @@ refs_within s = refs_end s
 abbrev pub IsRead : List Form → Form → Type 0
 IsRead types s = (text : List ℕ) → read types enough 0 s text ≡ Err TooDeep → ⊥
 
--- each shape that a table may have
+-- each shape that a table may have, where types and shapes nest 22 levels at most
 abbrev pub ShapesAreRead : Type 0
 ShapesAreRead =
-    (types : List Form) (ops : List OpForm) (uses : List (List HandleUse)) (s : Form) → IsTable types ops uses → IsShallow types ops → list_all refs_end types ≡ true
-    → is_below (length types) (length types) s ≡ true → is_shallow (depths_of types) s ≡ true → refs_within s ≡ true → IsRead types s
+    (types : List Form) (ops : List OpForm) (uses : List (List HandleUse)) (s : Form) → IsTable types ops uses → NestAtMost 22 types ops → list_all refs_end types ≡ true
+    → is_below (length types) (length types) s ≡ true → is_shallow 22 (depths_of types) s ≡ true → refs_within s ≡ true → IsRead types s
 
 abbrev pub ParamsAreRead : Type 0
 ParamsAreRead =
-    (types : List Form) (ops : List OpForm) (uses : List (List HandleUse)) (number k : ℕ) (op : OpForm) (p : ParamForm) → IsTable types ops uses → IsShallow types ops
+    (types : List Form) (ops : List OpForm) (uses : List (List HandleUse)) (number k : ℕ) (op : OpForm) (p : ParamForm) → IsTable types ops uses → NestAtMost 22 types ops
     → list_all refs_end types ≡ true → slice_get ops number ≡ Some op → slice_get op.params k ≡ Some p → refs_within p.shape ≡ true → IsRead types p.shape
 
 abbrev pub ResultsAreRead : Type 0
 ResultsAreRead =
-    (types : List Form) (ops : List OpForm) (uses : List (List HandleUse)) (number : ℕ) (op : OpForm) (s : Form) → IsTable types ops uses → IsShallow types ops
+    (types : List Form) (ops : List OpForm) (uses : List (List HandleUse)) (number : ℕ) (op : OpForm) (s : Form) → IsTable types ops uses → NestAtMost 22 types ops
     → list_all refs_end types ≡ true → slice_get ops number ≡ Some op → op.result ≡ Some s → refs_within s ≡ true → IsRead types s

@@ -1,12 +1,12 @@
-//! No text of a value of a table's shapes is answered by lack of memory for its depth, where no reference leads to a type, or what
-//! references lead to nests few levels, as laws.
+//! No text of a value of a table's shapes is answered by lack of memory for its depth, where these nest few levels and no reference
+//! leads to a type, or where they nest few levels with what references lead to, as laws.
 #![tactic(auto)]
 
 ghost use Rattle.depth_laws.specs.Laws.{ShapesAreRead, ParamsAreRead, ResultsAreRead};
 ghost use Rattle.depth_laws.specs.Through.{NearShapesAreRead};
 
-/// Of no shape of a table is a text answered by lack of memory for its depth, where no reference of the types leads to a type, and
-/// none of the shape's but the outermost.
+/// Of no shape of a table is a text answered by lack of memory for its depth, where types and shapes nest 22 levels at most, no
+/// reference of the types leads to a type, and none of the shape's but the outermost.
 pub fn shapes_are_read()
     ensures { ShapesAreRead }
 {}

@@ -20,7 +20,7 @@ pub enum TextFault {
     /// The tree breaks a rule, or there is no memory to check it.
     #[error("not an interface of the profile: {0}")]
     Rule(CheckFault),
-    /// There is no memory for the table, or a type, a parameter or a result nests by value more than 16 levels.
+    /// There is no memory for the table, or a type, a parameter or a result nests by value more than 256 levels.
     #[error("out of memory")]
     Memory,
 }

@@ -17,7 +17,7 @@ use ndr_value::{Shape, Value};
 use rpc_base::NoMemory;
 use std::alloc::Global;
 
-// Types, parameters and results nest by value 16 levels at most, so there are fewer constructs and
+// Types, parameters and results nest by value 256 levels at most, so there are fewer constructs and
 // names between two pointers.
 const DEEP: u32 = 1024;
 
