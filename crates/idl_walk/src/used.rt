@@ -22,7 +22,7 @@ use std::alloc::Global;
 
 /// The most pointers and arrays of a type that is used by its name. A type with more is refused as want of
 /// memory where its name is used, since each use has them in memory again.
-const MOST_NAMED_LAYERS: usize = 64;
+const MOST_NAMED_LAYERS: usize = 256;
 
 /// A name that is used as a type.
 pub(crate) fn named(
