@@ -3,6 +3,7 @@ ghost use Rattle.std.specs.Prelude.{◌<◌, length, IfOk, IfSome};
 ghost use Rattle.base_system.specs.Sockets.{Gives, IsSome};
 
 use crate::alarm::Alarm;
+use crate::habit::Habit;
 use crate::waiter::{REST, TURN, Waiter};
 use mio::Interest;
 use mio::net::TcpStream;
@@ -51,6 +52,7 @@ pub(crate) struct Connection {
     is_hasty: AtomicBool,
     // Whether the last read left nothing in the socket, so that whatever comes next ends a wait.
     is_drained: bool,
+    habit: Habit,
     // How long the next take of a turn waits at most, in milliseconds.
     pause: u64,
     // How long nothing came at first, in milliseconds; none once octets came.
@@ -78,6 +80,7 @@ impl Connection {
                 patience,
                 is_hasty: AtomicBool::new(false),
                 is_drained: false,
+                habit: Habit::new(),
                 pause: SHORT,
                 silence: Some(0),
                 stalled: 0,
@@ -115,13 +118,17 @@ impl Connection {
         self.is_hasty.store(is_hasty, Ordering::SeqCst);
     }
 
-    /// Takes what came, and waits where nothing did. It doesn't look before it waits where the last read left nothing.
+    /// Takes what came, and waits where nothing did. Where the last read left nothing it may wait before it looks.
     pub(crate) fn take(&mut self, into: &mut [u8]) -> Result<Taken, Failed>
         requires { 0 < length into.old }
         ensures { Gives (length into.new) result }
     {
-        if !self.is_drained {
+        let was_drained = self.is_drained;
+        if !was_drained || self.habit.looks() {
             let taken = self.read(into)?;
+            if was_drained {
+                self.habit.learn(taken != Taken::Quiet);
+            }
             if taken != Taken::Quiet {
                 return Ok(taken);
             }
