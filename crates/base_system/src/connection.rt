@@ -3,6 +3,7 @@ ghost use Rattle.std.specs.Prelude.{◌<◌, length, IfOk, IfSome};
 ghost use Rattle.base_system.specs.Sockets.{Gives, IsSome};
 
 use crate::alarm::Alarm;
+use crate::habit::Habit;
 use crate::waiter::{REST, TURN, Waiter};
 use mio::Interest;
 use mio::net::TcpStream;
@@ -49,6 +50,9 @@ pub(crate) struct Connection {
     patience: Patience,
     // Whether a take doesn't wait at all.
     is_hasty: AtomicBool,
+    // Whether the last read left nothing in the socket, so that whatever comes next ends a wait.
+    is_drained: bool,
+    habit: Habit,
     // How long the next take of a turn waits at most, in milliseconds.
     pause: u64,
     // How long nothing came at first, in milliseconds; none once octets came.
@@ -75,6 +79,8 @@ impl Connection {
                 waiter,
                 patience,
                 is_hasty: AtomicBool::new(false),
+                is_drained: false,
+                habit: Habit::new(),
                 pause: SHORT,
                 silence: Some(0),
                 stalled: 0,
@@ -112,18 +118,23 @@ impl Connection {
         self.is_hasty.store(is_hasty, Ordering::SeqCst);
     }
 
-    /// Takes what came, and waits where nothing did.
+    /// Takes what came, and waits where nothing did. Where the last read left nothing it may wait before it looks.
     pub(crate) fn take(&mut self, into: &mut [u8]) -> Result<Taken, Failed>
         requires { 0 < length into.old }
         ensures { Gives (length into.new) result }
     {
-        match self.read(into)? {
-            Taken::Quiet => {
-                self.wait_octets()?;
-                self.read(into)
+        let was_drained = self.is_drained;
+        if !was_drained || self.habit.looks() {
+            let taken = self.read(into)?;
+            if was_drained {
+                self.habit.learn(taken != Taken::Quiet);
             }
-            taken => Ok(taken),
+            if taken != Taken::Quiet {
+                return Ok(taken);
+            }
         }
+        self.wait_octets()?;
+        self.read(into)
     }
 
     // Waits for octets, as long as the link's patience goes. A peer that said nothing for a minute failed.
@@ -147,6 +158,8 @@ impl Connection {
         Ok(())
     }
 
+    // A socket is reported once for what comes. A read that fills less than its room leaves nothing, and what comes
+    // later is reported anew; but an end that was reported with the octets before it isn't.
     fn read(&mut self, into: &mut [u8]) -> Result<Taken, Failed>
         requires { 0 < length into.old }
         ensures { Gives (length into.new) result }
@@ -154,6 +167,7 @@ impl Connection {
         match self.stream.read(into) {
             Ok(0) => Ok(Taken::End),
             Ok(count) => {
+                self.is_drained = count < into.len() && !self.waiter.saw_end();
                 self.pause = SHORT;
                 self.silence = None;
                 Ok(Taken::Bytes(count))
@@ -195,6 +209,7 @@ impl Connection {
     fn put_waiting(&mut self, piece: &[u8]) -> Result<usize, Failed>
         ensures { IfOk result (λ count. IsSome (length piece.now) count) }
     {
+        self.is_drained = false;
         self.waiter
             .watch_again(&mut self.stream, Interest::WRITABLE)?;
         for _ in 0..MOST_TURNS {

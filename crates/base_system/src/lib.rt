@@ -14,6 +14,7 @@ mod connection;
 mod dial;
 mod door;
 mod files;
+mod habit;
 mod link;
 mod output;
 mod waiter;

@@ -19,6 +19,8 @@ pub(crate) const REST: u64 = 10_000;
 pub(crate) struct Waiter {
     poll: Poll,
     events: Events,
+    // Whether a wait ended with the report that the peer sends no more.
+    saw_end: bool,
     alloc: Global,
     // Made when it is first wanted, since it takes a descriptor.
     alarm: OnceLock<Arc<Alarm, Global>>,
@@ -32,6 +34,7 @@ impl Waiter {
             Ok(poll) => Ok(Waiter {
                 poll,
                 events,
+                saw_end: false,
                 alloc,
                 alarm: OnceLock::new(),
             }),
@@ -61,13 +64,24 @@ impl Waiter {
 
     /// Waits for so many milliseconds, or until the socket is ready or its alarm rings.
     pub(crate) fn wait(&mut self, time: u64) -> Result<(), Failed> {
-        match self
+        if self
             .poll
             .poll(&mut self.events, Some(Duration::from_millis(time)))
+            .is_err()
         {
-            Ok(()) => Ok(()),
-            Err(_) => Err(Failed),
+            return Err(Failed);
         }
+        for event in self.events.iter() {
+            if event.is_read_closed() {
+                self.saw_end = true;
+            }
+        }
+        Ok(())
+    }
+
+    /// Whether a wait so far ended with the report that the peer sends no more. It isn't reported again.
+    pub(crate) fn saw_end(&self) -> bool {
+        self.saw_end
     }
 
     /// Whether the last wait ended since the socket was ready or the alarm rang, and not for its time.
