@@ -73,7 +73,7 @@ impl Connection {
         if stream.set_nodelay(true).is_err() {
             return Err(OutFault::Failed);
         }
-        match waiter.watch(&mut stream, Interest::READABLE) {
+        match waiter.watch(&mut stream, to_read()) {
             Ok(()) => Ok(Connection {
                 stream,
                 waiter,
@@ -100,9 +100,7 @@ impl Connection {
                 return Err(Failed);
             }
             if self.stream.peer_addr().is_ok() {
-                return self
-                    .waiter
-                    .watch_again(&mut self.stream, Interest::READABLE);
+                return self.waiter.watch_again(&mut self.stream, to_read());
             }
         }
         Err(Failed)
@@ -159,7 +157,7 @@ impl Connection {
     }
 
     // A socket is reported once for what comes. A read that fills less than its room leaves nothing, and what comes
-    // later is reported anew; but an end that was reported with the octets before it isn't.
+    // later is reported anew. Not so where an end was reported with the octets before it, or urgent data, at which a read stops.
     fn read(&mut self, into: &mut [u8]) -> Result<Taken, Failed>
         requires { 0 < length into.old }
         ensures { Gives (length into.new) result }
@@ -167,7 +165,7 @@ impl Connection {
         match self.stream.read(into) {
             Ok(0) => Ok(Taken::End),
             Ok(count) => {
-                self.is_drained = count < into.len() && !self.waiter.saw_end();
+                self.is_drained = count < into.len() && !self.waiter.saw_more();
                 self.pause = SHORT;
                 self.silence = None;
                 Ok(Taken::Bytes(count))
@@ -198,9 +196,7 @@ impl Connection {
             None => {
                 let put = self.put_waiting(piece);
                 // A take that isn't told of octets finds them when it looks next.
-                let _ = self
-                    .waiter
-                    .watch_again(&mut self.stream, Interest::READABLE);
+                let _ = self.waiter.watch_again(&mut self.stream, to_read());
                 put
             }
         }
@@ -264,6 +260,11 @@ impl Connection {
             }
         }
     }
+}
+
+// What a take waits for. Urgent data is no octets of the stream, but a read stops where it stood.
+fn to_read() -> Interest {
+    Interest::READABLE | Interest::PRIORITY
 }
 
 // Whether the call is to be made again later.

@@ -19,8 +19,8 @@ pub(crate) const REST: u64 = 10_000;
 pub(crate) struct Waiter {
     poll: Poll,
     events: Events,
-    // Whether a wait ended with the report that the peer sends no more.
-    saw_end: bool,
+    // Whether a wait ended with a report that goes on behind a read.
+    saw_more: bool,
     alloc: Global,
     // Made when it is first wanted, since it takes a descriptor.
     alarm: OnceLock<Arc<Alarm, Global>>,
@@ -34,7 +34,7 @@ impl Waiter {
             Ok(poll) => Ok(Waiter {
                 poll,
                 events,
-                saw_end: false,
+                saw_more: false,
                 alloc,
                 alarm: OnceLock::new(),
             }),
@@ -72,16 +72,17 @@ impl Waiter {
             return Err(Failed);
         }
         for event in self.events.iter() {
-            if event.is_read_closed() {
-                self.saw_end = true;
+            if event.is_read_closed() || event.is_priority() {
+                self.saw_more = true;
             }
         }
         Ok(())
     }
 
-    /// Whether a wait so far ended with the report that the peer sends no more. It isn't reported again.
-    pub(crate) fn saw_end(&self) -> bool {
-        self.saw_end
+    /// Whether a wait so far ended with the report that the peer sends no more, or urgent data. It isn't reported again behind a
+    /// read of the octets before.
+    pub(crate) fn saw_more(&self) -> bool {
+        self.saw_more
     }
 
     /// Whether the last wait ended since the socket was ready or the alarm rang, and not for its time.
