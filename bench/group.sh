@@ -4,12 +4,13 @@
 # cancelled, of a connection that joins and leaves while another stays, and of one that leaves while a call of it waits.
 # Of a call also with the entries of the journal, and where it closes the oldest handle. And what a connection costs that
 # joins before the last one leaves, so that the journal is folded, with as many folds and with more, and with more live
-# handles. What it takes to make the group is timed alone and taken off. Each time is the least of three, and stands
-# beside the least of its row.
+# handles. What it takes to make the group is timed alone and taken off, so what is timed is done often enough to take
+# longer. Each time is the least of nine, and stands beside the least of its row.
 set -eu
 top=$(cd "$(dirname "$0")/.." && pwd)
 source "$top/bench/timing.sh"
 build_bench
+RUNS=9
 
 # The time of one of so many, in thousandths of a microsecond: calls, closes or connections. A group that stops early
 # ends the script.
@@ -70,19 +71,23 @@ against() { # WHAT EACH ROUNDS [CLOSES VISITS CANCELS LEAVES DROPS]
     show_row "$each"
 }
 
-count=$(sized 100000)
+count=$(sized 200000)
 against call call "$count"
+count=$(sized 400000)
 against cancel call 0 0 0 "$count"
+count=$(sized 1000000)
 against leave connection 0 0 0 0 "$count"
 against "leave with a call" connection 0 0 0 0 0 "$count"
 
-count=$(sized 500)
 for live in 1000 4000 16000 64000; do
     live=$(sized "$live")
+    count=$((live / 2))
     time=$(each "$count" "$live" 0 0 "$count")
     enter "$time" "closes, $live live"
 done
 show_row call
+RUNS=3
+count=$(sized 500)
 for visits in 10000 20000 40000; do
     visits=$(sized "$visits")
     time=$(each "$visits" 2 0 0 0 "$visits")

@@ -36,11 +36,11 @@ sized() { # SIZE
     echo $((size > 0 ? size : 1))
 }
 
-# The least time of three runs of a command, in microseconds. A run that ends with another status ends the script.
+# The least time of three runs of a command, or of RUNS, in microseconds. A run that ends with another status ends the script.
 least() { # STATUS COMMAND..
-    local wanted=$1 from time best='' status
+    local wanted=$1 from time best='' status run
     shift
-    for _ in 1 2 3; do
+    for ((run = 0; run < ${RUNS:-3}; run++)); do
         status=0
         from=${EPOCHREALTIME/./}
         "$@" >/dev/null 2>&1 || status=$?
