@@ -5,7 +5,8 @@ usage: stack.py PROGRAM [PART]
 An input is given again and again, with less stack each time, down to the least with which the program says what it says
 with ample stack. Of the thread of `main` the limit of the process is lowered (`ulimit -s`; what the system puts there at
 the start, some KiB of words, counts). Of the threads that the program starts a library in C that is loaded in front gives
-another size than is asked for. The deepest messages are those of the cases (`desks_deep.txt`).
+another size than is asked for. The deepest messages are those of the cases (`stubs_deep.txt`), and some of types that nest by
+value as deep as they may.
 """
 import os
 import re
@@ -96,28 +97,49 @@ def long_texts(most):
 
 
 def messages():
-    """The deepest messages of the cases: what each is, its interface text, its stub and its value in words."""
-    with open(os.path.join(TOP, "crates/cases/data/desks_deep.txt"), encoding="ascii") as file:
+    """The deepest messages of the cases, and some of types that nest as deep as they may: what each is, its interface text,
+    its stub and its value in words."""
+    with open(os.path.join(TOP, "crates/cases/data/stubs_deep.txt"), encoding="ascii") as file:
         text = file.read()
-    for name, idl, stub in re.findall(r"^case (.*)\nidl (.*)\n4 \| 0 \| 0 \| ([0-9a-f]+) ", text, re.M):
-        yield name, idl, bytes.fromhex(stub), value_of(idl, 256)
+    yield from (it.groups() for it in re.finditer(r"^# (.*)\n(\[uuid.*)\n--\nrequest little ([0-9a-f]+) == (.*)\n==$", text, re.M))
+    for kind in KINDS:
+        yield block_message(kind, MOST_READ)
 
 
-def value_of(idl, levels):
-    """The value of such a message: what stands around a pointer, behind so many of them."""
-    if "union" in idl:
-        count = idl.count("union switch")
-        begin, end = "{" + "(1: " * count, ")" * count + "}"
-    elif "a[1]" in idl:
-        count = idl.count("a[1]")
-        begin, end = "{" + "[{" * count, "}]" * count + "}"
-    else:
-        count = len(re.findall(r"struct(?: s)?\{", idl))
-        begin, end = "{" * count, "}" * count
-    if "[ptr]" in idl:
-        items = [begin + ("@%d" % n if n < levels else "null") + end for n in range(1, levels + 1)]
-        return "(@0) heap [%s]" % ", ".join(items)
-    return "(" + ("&" + begin) * levels + "null" + end * levels + ")"
+def stubs():
+    """The same with their stubs as octets."""
+    for what, idl, stub, value in messages():
+        yield what, idl, bytes.fromhex(stub), value
+
+
+# How a structure, an array and a union are declared around what is inside of them, their tag, and their value.
+KINDS = {
+    "structures": ("struct{%s a;}", "", "", "{", "}"),
+    "arrays": ("%s", "[1]", "", "[", "]"),
+    "unions": ("union switch(long t){case 1:%s a;}", "", "01000000", "(1: ", ")"),
+}
+# The most levels by value, of a message that is read, and of a value that is read of a text beside its parameter's own
+# reference.
+BY_VALUE, MOST_READ, MOST_TEXT = 256, 4112, 6167
+
+
+def block_message(kind, levels):
+    """A message of so many levels, in blocks that nest by value as deep as they may: each is a structure around others of the
+    kind around a pointer to the block before."""
+    around, size, tag, begin, end = KINDS[kind]
+    text, inner, stub, value, name = [HEAD], "long", "07000000", "7", 0
+    blocks = [levels % BY_VALUE] * (levels % BY_VALUE > 0) + [BY_VALUE] * (levels // BY_VALUE)
+    for n, block in enumerate(blocks):
+        text.append("typedef [unique]%s*a%d;" % (inner, name))
+        for _ in range(block - 2):
+            text.append("typedef %s a%d%s;" % (around % ("a%d" % name), name + 1, size))
+            name += 1
+        text.append("typedef struct{a%d a;}a%d;" % (name, name + 1))
+        inner, name = "a%d" % (name + 1), name + 2
+        stub = tag * (block - 2) + struct.pack("<I", 0x20000 + 4 * (len(blocks) - 1 - n)).hex() + stub
+        value = "{" + begin * (block - 2) + "&" + value + end * (block - 2) + "}"
+    text.append("void f([in,out]%s*p);}" % inner)
+    return "%s, %d levels by value and %d in all" % (kind, BY_VALUE, levels), "".join(text), stub, "(%s)" % value
 
 
 def handle(group, serial):
@@ -243,7 +265,7 @@ class Main:
                 self.command(kind + what, ["replay", "--idl", path, nothing], (0, 2, 5))
 
     def scripts(self, most):
-        for what, idl, stub, _ in messages():
+        for what, idl, stub, _ in stubs():
             text = self.program.file("text", idl)
             sent = wire.bind(ECHO) + wire.request(2, 0, stub)
             lines = ["boot 0000000000000001", "open 1", "send 1 " + sent.hex(), "run 1", "finish 1", "lose 1"]
@@ -296,9 +318,9 @@ class Server:
         self.sheet.line(thread, what, given, lambda kib: self.answers(path, stub, MAIN, {**rest, name: kib}))
 
     def lines(self):
-        for what, idl, stub, _ in messages():
+        for what, idl, stub, _ in stubs():
             self.line("serve, a connection", "the deepest stub, " + what, idl, stub, CONNECTION, "OWN_STACK")
-        for what, idl, stub, _ in messages():
+        for what, idl, stub, _ in stubs():
             # (with 65,600 octets more it is no brief call, and runs in a thread of its own)
             text = re.sub(r"void f\((.*)\);\}$", r"void f(\1,[in,out]long*n,[in,out,size_is(*n)]byte d[]);}", idl)
             long_stub = stub + bytes(-len(stub) % 4) + struct.pack("<II", 65600, 65600) + bytes(65600)
@@ -315,6 +337,15 @@ class Server:
             # (an outcome has its values alone, without the heap)
             wanted = "1 bound 1\n1 done %s\n" % value.split(" heap ")[0]
             self.sheet.line("call", "the deepest value, " + what, MAIN, lambda kib: self.called(text, script, kib) == (0, wanted))
+        for kind in KINDS:
+            # (a server has no memory for a message of so many levels)
+            what, idl, _, value = block_message(kind, MOST_TEXT)
+            text = self.program.file("text", idl)
+            script = self.program.file("calls", "bind 1 new\nstart 1 f %s\nwait 1\nclose 1\n" % value)
+            wanted = self.called(text, script, 1 << 20)
+            if b"fault" not in wanted[1].encode():
+                fail("%s: %s" % (what, wanted[1]))
+            self.sheet.line("call", "the deepest text, " + what, MAIN, lambda kib: self.called(text, script, kib) == wanted)
 
     def called(self, text, script, main):
         port = wire.free_port()
