@@ -54,8 +54,8 @@ connections_held() {
     echo $((held > 0 ? held : 0))
 }
 
-# The stack of the thread of `main`, and of the threads of calls: some 4.2 MiB are needed to read the deepest value of a call
-# script, and some 2.4 for a stub. Where the limit is none the C library gives threads 2. Those of a server have 4 MiB, as
+# The stack of the thread of `main`, and of the threads of calls: some 4.9 MiB are needed to read the deepest value of a call
+# script, and some 2.8 for a stub. Where the limit is none the C library gives threads 2. Those of a server have 4 MiB, as
 # its connections' have, so that more of them have room under the limit of memory.
 limit_stack() {
     local most=8192

@@ -16,7 +16,7 @@ use rpc_base::NoMemory;
 use std::alloc::Global;
 use std::thread::{Builder, Threads};
 
-/// What a thread that answers a call is to be given: twice what the deepest message takes.
+/// What a thread that answers a call is to be given: the deepest message takes some 2.8 MiB.
 const STACK: usize = 4 << 20;
 
 /// The present case: the text of its echo's interface, and its desks once a row has come.
