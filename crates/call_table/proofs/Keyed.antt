@@ -1,9 +1,11 @@
 -- Rows at the keys of an index: one comes, goes or changes.
-use Rattle.std.proofs.Common.{◌≡◌, ◌≢◌, ℕ, zero, suc, ◌+◌, ◌<◌, ◌≤◌, Bool, true, false, Option, Some, None, MatchOption, List, [], ◌∷◌, ◌++◌, length, map, get_or, set, rules, is_some, cond, count_by, refl, sym, ◌∙◌, ap, subst, arith, inl, inr}
-use Rattle.std.specs.Prelude.{nat_lt, Vec}
+use Rattle.std.proofs.Common.{◌≡◌, ◌≢◌, ℕ, zero, suc, ◌+◌, ◌-◌, ◌<◌, ◌≤◌, Bool, true, false, Option, Some, None, MatchOption, List, [], ◌∷◌, ◌++◌, length, map, get_or, set, rules, is_some, cond, count_by, refl, sym, ◌∙◌, ap, subst, arith, inl, inr}
+use Rattle.std.specs.Prelude.{nat_lt}
+use Rattle.std.specs.declared.collections.VecDeque.{VecDeque}
 use Rattle.std.specs.declared.alloc.Global.{Global}
 use Rattle.std.specs.List.{AllByRecursion, remove}
 use Rattle.std.specs.List.Sorted.{IsPartitionedBy, IsPartitionPoint}
+use Rattle.std.proofs.lemmas.List.{get_or_default}
 use Rattle.std.proofs.lemmas.Bool.{cases_lt, cases_eq, ltb-true, ltb-false}
 use Rattle.std.proofs.lemmas.Bool.Decides.{nat_tests}
 use Rattle.std.proofs.lemmas.List.Sums.{sum_by-set}
@@ -108,8 +110,31 @@ keys_placed ks n i le p =
       high = λ j d le' lt. ltb-false _ _ (p.1 j d le' lt);
     }
 
-no_key : RowKey
+abbrev pub no_key : RowKey
 no_key = record { call = 0; key = 0 }
+
+-- the number of a key that was read
+pub call_read : (ks : List RowKey) (i : ℕ) (k : RowKey) → i < length ks → k ≡ get_or ks i k → (get_or ks i no_key).call ≡ k.call
+call_read ks i k lt e = ap (λ (x : RowKey). x.call) (get_or_default ks i no_key k lt ∙ sym e)
+
+-- a place is that of a number, by the two beside it
+pub split_key : (ks : List RowKey) (n i : ℕ) → KeysRise 0 ks → i ≤ length ks → (0 < i → (get_or ks (i - 1) no_key).call < n) → (i < length ks → n ≤ (get_or ks i no_key).call) → IsKeyPlace ks n i
+split_key ks n i r le before here =
+    record {
+      within = le;
+      low = λ j d lt.
+          let top : (get_or ks (i - 1) d).call < n = subst (λ (x : RowKey). x.call < n) (get_or_default ks (i - 1) no_key d (omega arith)) (before (omega arith)) in
+          elim (cases_lt j (i - 1)) [
+            | inl below ↦ let less = keys_order 0 ks j (i - 1) d r below (omega arith) in omega arith
+            | inr same ↦ let e : i - 1 ≡ j = omega arith in subst (λ (m : ℕ). (get_or ks m d).call < n) e top
+          ];
+      high = λ j d from lt.
+          let least : n ≤ (get_or ks i d).call = subst (λ (x : RowKey). n ≤ x.call) (get_or_default ks i no_key d (omega arith)) (here (omega arith)) in
+          elim (cases_lt i j) [
+            | inl above ↦ let more = keys_order 0 ks i j d r above lt in omega arith
+            | inr same ↦ let e : i ≡ j = omega arith in subst (λ (m : ℕ). n ≤ (get_or ks m d).call) e least
+          ];
+    }
 
 pub place_in : (s : Slab Row) (ks : List RowKey) (n i : ℕ) → AllByRecursion (Stands s) ks → IsKeyPlace ks n i → IsPlace (rows_in s ks) n i
 place_in s ks n i h p =
@@ -238,7 +263,7 @@ count_set slots n x y lt g =
     let sum = sum_by-set one slots n (Some y) None lt in
     let was = ap one g in omega arith
 
-pub stored_set : (f : Row → Row) (s : Slab Row) (index : Vec RowKey Global) (room i : ℕ) (k : RowKey) (x : Row) → ((r : Row) → (f r).call ≡ r.call) → IsStored s index room → i < length index.items → k ≡ get_or index.items i k → get s k.key ≡ Some x → IsStored (with_value s k.key (f x)) index room
+pub stored_set : (f : Row → Row) (s : Slab Row) (index : VecDeque RowKey Global) (room i : ℕ) (k : RowKey) (x : Row) → ((r : Row) → (f r).call ≡ r.call) → IsStored s index room → i < length index.items → k ≡ get_or index.items i k → get s k.key ≡ Some x → IsStored (with_value s k.key (f x)) index room
 stored_set f s index room i k x m st lt e g =
     let there = row_there s k (key_stands s index.items i k st.stand lt e) in
     let one : Some there.0 ≡ Some x = sym there.1 ∙ g in

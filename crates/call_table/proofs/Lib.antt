@@ -8,11 +8,14 @@ pub mod Later
 pub mod Marks
 pub mod Nearest
 pub mod Order
+pub mod Ordered
 pub mod Owed
+pub mod Places
 pub mod Search
 pub mod Sharing
 pub mod Started
 pub mod Steps
 pub mod Stored
 pub mod Tallied
+pub mod Waits
 pub mod Walks

@@ -1,9 +1,9 @@
 -- Rows by rising number: the last one has the greatest.
-use Rattle.std.proofs.Common.{◌≡◌, ℕ, zero, suc, ◌+◌, ◌<◌, ◌≤◌, Bool, true, false, ◌||◌, not, nat_lt, List, [], ◌∷◌, ◌++◌, length, get_or, take, drop, refl, sym, ◌∙◌, ap, arith, inl, inr}
-use Rattle.std.specs.List.{list_any, filter, remove}
+use Rattle.std.proofs.Common.{◌≡◌, ℕ, suc, ◌+◌, ◌<◌, ◌≤◌, Bool, true, false, ◌||◌, not, nat_lt, List, [], ◌∷◌, ◌++◌, length, get_or, take, drop, refl, sym, ◌∙◌, ap, arith, inl, inr}
+use Rattle.std.specs.List.{list_any, filter}
 use Rattle.std.proofs.lemmas.Bool.{cases_Bool, ltb-true, lt-ltb}
 use Rattle.call_table.specs.declared.row.Row.{Row}
-use Rattle.call_table.specs.Rows.{is_below, is_waiting, over, stays, left}
+use Rattle.call_table.specs.Rows.{is_below, is_waiting, over}
 use Rattle.call_table.specs.Kept.{Rises}
 use Rattle.handle_model.proofs.Rest.{rest_none}
 use Rattle.call_table.proofs.Walks.{cut_at}
@@ -45,12 +45,6 @@ last_row rows x k n len e r =
     take_rest rows n x lt e rest =
         let one : suc n ≡ n + 1 = omega arith in
         cut_at rows n x lt ∙ (ap (λ ys. take n rows ++ get_or rows n x ∷ ys) (ap (λ m. drop m rows) one ∙ rest) ∙ ap (λ y. take n rows ++ y ∷ []) (sym e))
-
--- the waiting calls of a connection go, the last first
-pub left_step : (c i : ℕ) (rows : List Row) (x : Row) → i < length rows → x ≡ get_or (take (suc i) rows ++ left c (drop (suc i) rows)) i x → stays c x ≡ false → remove (take (suc i) rows ++ left c (drop (suc i) rows)) i ≡ take i rows ++ left c (drop i rows)
-left_step c i [] x lt e s = absurd (omega arith)
-left_step c zero (y ∷ rows) x lt e s = let off : stays c y ≡ false = ap (stays c) (sym e) ∙ s in rw off refl
-left_step c (suc i) (y ∷ rows) x lt e s = ap (λ ys. y ∷ ys) (left_step c i rows x (omega arith) e s)
 
 -- no more wait than there are
 pub waits_few : (rows : List Row) → length (filter is_waiting rows) ≤ length rows

@@ -1,5 +1,7 @@
 -- Rows that stand in a slab, with an index by call number.
-use Rattle.std.specs.Prelude.{◌≡◌, ◌≢◌, ℕ, zero, suc, ◌+◌, ◌<◌, ◌≤◌, Option, Some, None, MatchOption, List, [], ◌∷◌, length, slice_index_or, Vec, vec_len, vec_capacity}
+use Rattle.std.specs.Prelude.{◌≡◌, ◌≢◌, ℕ, zero, suc, ◌+◌, ◌<◌, ◌≤◌, Option, Some, None, MatchOption, List, [], ◌∷◌, length, slice_index_or}
+use Rattle.std.specs.VecDeque.{deque_len, deque_capacity}
+use Rattle.std.specs.declared.collections.VecDeque.{VecDeque}
 use Rattle.std.specs.List.{AllByRecursion}
 use Rattle.std.specs.declared.alloc.Global.{Global}
 use Rattle.slab.specs.Slab.{Slab, get, HasRoomFor}
@@ -38,10 +40,10 @@ Apart [] = Unit {0}
 Apart (k ∷ ks) = AllByRecursion (λ m. m.key ≢ k.key) ks × Apart ks
 
 -- what may still come has a place in the slab and in the index
-pub record IsStored (rows : Slab Row) (index : Vec RowKey Global) (room : ℕ) : Type 0 where
+pub record IsStored (rows : Slab Row) (index : VecDeque RowKey Global) (room : ℕ) : Type 0 where
   pub stand : AllByRecursion (Stands rows) index.items
   pub apart : Apart index.items
-  pub places : vec_len index + room ≤ vec_capacity index
+  pub places : deque_len index + room ≤ deque_capacity index
   pub spare : HasRoomFor rows room
 
 -- PLACES

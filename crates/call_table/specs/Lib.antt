@@ -3,8 +3,11 @@ pub mod Based
 pub mod Kept
 pub mod Keys
 pub mod Laws
+pub mod Places
 pub mod Queues
 pub mod Rows
 pub mod Shown
+pub mod Sorted
 pub mod Sought
 pub mod Tally
+pub mod Waits

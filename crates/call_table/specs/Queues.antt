@@ -1,5 +1,7 @@
 -- The queues that calls stand in, one after the other.
-use Rattle.std.specs.Prelude.{◌≡◌, ℕ, ◌+◌, ◌<◌, ◌≤◌, ◌%◌, Bool, true, false, ◌||◌, min, Option, Some, None, List, [], ◌∷◌, ◌++◌, length, map, slice_index_or, vec_len, vec_capacity, Vec}
+use Rattle.std.specs.Prelude.{◌≡◌, ℕ, ◌+◌, ◌<◌, ◌≤◌, ◌%◌, Bool, true, false, ◌||◌, min, Option, Some, None, List, [], ◌∷◌, ◌++◌, length, map, slice_index_or}
+use Rattle.std.specs.VecDeque.{deque_len, deque_capacity}
+use Rattle.std.specs.declared.collections.VecDeque.{VecDeque}
 use Rattle.std.specs.declared.alloc.Global.{Global}
 use Rattle.rpc_base.specs.declared.identifiers.WireHandle.{WireHandle}
 use Rattle.handle_model.specs.declared.entry.Slot.{Slot}
@@ -72,12 +74,12 @@ IsNext q calls i None = NoneIn q calls i (length calls)
 IsNext q calls i (Some k) = (j : ℕ) × (i ≤ j) × IsIn q calls k j × NoneIn q calls i j
 
 -- each call has a ticket, and there are a node and a queue for each that may yet come
-pub record IsTicketed (waits : Waiting) (tickets : Vec Ticket Global) (room : ℕ) : Type 0 where
+pub record IsTicketed (waits : Waiting) (tickets : VecDeque Ticket Global) (room : ℕ) : Type 0 where
   pub tickets_are : tickets.items ≡ map (λ (n : Standing). n.ticket) waits.nodes
   pub differ : TicketsDiffer waits.nodes
-  pub places : vec_len tickets + room ≤ vec_capacity tickets
+  pub places : deque_len tickets + room ≤ deque_capacity tickets
   pub spare : room ≤ waits.spare
-  pub queues : 0 < vec_len tickets + room → 64 ≤ waits.queues
+  pub queues : 0 < deque_len tickets + room → 64 ≤ waits.queues
 
 -- the ticket at a place, where there is one
 abbrev pub TicketAt : List Ticket → Option ℕ → Option Ticket → Type 0

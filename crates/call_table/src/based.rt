@@ -1,10 +1,8 @@
 //! The calls as a base has them.
-ghost use Rattle.std.specs.Prelude.{◌≡◌, Some, slice_get, IfOk};
+ghost use Rattle.std.specs.Prelude.{◌≡◌, slice_get, IfOk};
 ghost use Rattle.std.specs.List.{find};
 ghost use Rattle.std.specs.Option.{option_copied};
-ghost use Rattle.handle_model.specs.Journal.{least, lesser};
 ghost use Rattle.handle_model.specs.Bases as base;
-ghost use Rattle.call_table.specs.Rows.{running_places};
 ghost use Rattle.call_table.specs.Based as spec;
 
 use crate::row::Row;
@@ -70,31 +68,5 @@ fn asked_at(entries: &[Entry], at: u128) -> Option<&Asked>
     match entries.get(at as usize) {
         Some(Entry::Accept { asked, .. }) => Some(asked),
         _ => None,
-    }
-}
-
-/// The least place of the Accept of a running call.
-#[tactic(auto, using(handle_model::proofs::Rest::resting))]
-pub fn least_place(rows: &RowTable) -> Option<u128>
-    ensures { result ≡ least (running_places rows.now.items) }
-{
-    let mut found = None;
-    let mut at = rows.len();
-    while at > 0 {
-        at -= 1;
-        let row = rows.row(at);
-        if row.runs {
-            found = Some(lesser_place(row.place, found));
-        }
-    }
-    found
-}
-
-fn lesser_place(place: u128, other: Option<u128>) -> u128
-    ensures { Some result ≡ lesser place other }
-{
-    match other {
-        None => place,
-        Some(other) => place.min(other),
     }
 }

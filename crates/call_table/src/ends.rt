@@ -2,7 +2,6 @@
 ghost use Rattle.std.specs.Prelude.{◌≡◌, ◌+◌, ◌<◌, ◌≤◌, length};
 ghost use Rattle.std.specs.List.{remove};
 
-use crate::rows::owed_of;
 use crate::seek::seek;
 use crate::table::CallTable;
 use std::marker::Brand;
@@ -50,25 +49,22 @@ impl CallTable {
         ensures freed { result + spec.owed_of self.new.rows ≡ spec.owed_of self.old.rows }
         ensures room { self.new.room ≡ self.old.room }
     {
-        let before = owed_of(&self.rows);
-        self.leave_all::<Brand>(conn, Blank::new(1));
-        before - owed_of(&self.rows)
+        self.leave_all::<Brand>(conn, Blank::new(1))
     }
 
-    fn leave_all<L: Ledger>(&mut self, conn: u32, blank: Blank)
+    fn leave_all<L: Ledger>(&mut self, conn: u32, blank: Blank) -> usize
         requires name { blank.name ≡ L.name }
         requires parts { (blank.parts ≡ L.parts) × (0 < blank.parts) }
         ensures rows { self.new.rows ≡ spec.left conn self.old.rows }
+        ensures freed { result + spec.owed_of self.new.rows ≡ spec.owed_of self.old.rows }
         ensures room { self.new.room ≡ self.old.room }
     {
         let mut steps = Steps::<L>::new(blank);
-        let mut at = self.rows.len();
-        while at > 0 {
-            at -= 1;
-            if !self.rows.row(at).stays(conn) {
-                self.remove(at, &mut steps);
-            }
+        let before = self.rows.len();
+        while let Some(call) = self.waiting.first_of(conn) {
+            self.end_counted(call, &mut steps);
         }
+        (before - self.rows.len()) * 4
     }
 
     fn remove<L: Ledger>(&mut self, at: usize, steps: &mut Steps<L>)
@@ -79,6 +75,8 @@ impl CallTable {
     {
         self.queues.remove(at, steps);
         let row = self.rows.remove(at);
+        self.waiting.leave(&row);
+        self.running.leave(&row);
         self.tally.leave(&row);
     }
 }

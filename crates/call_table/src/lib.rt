@@ -14,9 +14,12 @@ mod queues;
 mod row;
 mod row_table;
 mod rows;
+mod running;
 mod seek;
+mod sorted;
 mod table;
 mod tally;
+mod waiting;
 
 pub use held::OpenRows;
 pub use laws::{

@@ -8,6 +8,7 @@ ghost use Rattle.call_table.specs.Queues as spec;
 use handle_model::Slot;
 use rpc_base::NoMemory;
 use std::alloc::Global;
+use std::collections::VecDeque;
 use std::marker::Model;
 use std::sync::ledger::Ledger;
 use wait_list::{Queues, Steps, Ticket, WaitList};
@@ -19,7 +20,7 @@ const QUEUES: usize = 64;
 #[derive(Drop)]
 pub struct CallQueues {
     waits: WaitList,
-    tickets: Vec<Ticket>,
+    tickets: VecDeque<Ticket>,
     room: usize,
 }
 
@@ -41,7 +42,7 @@ impl CallQueues {
     {
         CallQueues {
             waits: WaitList::new(alloc),
-            tickets: Vec::new(alloc),
+            tickets: VecDeque::new(alloc),
             room: 0,
         }
     }
@@ -74,7 +75,7 @@ impl CallQueues {
     {
         let ticket = self.waits.push_back(call, queues_of(slots));
         self.room -= 1;
-        self.tickets.push(ticket).unwrap();
+        self.tickets.push_back(ticket).unwrap();
     }
 
     /// The call at a place goes, from its queues too, by at most 12 writes of link words.
@@ -84,7 +85,7 @@ impl CallQueues {
         ensures room { self.new.room ≡ self.old.room }
         ensures steps { steps.new ≤ steps.old + 12 }
     {
-        let ticket = self.tickets.remove(at);
+        let ticket = self.tickets.remove(at).unwrap();
         self.waits.remove(ticket, steps);
     }
 
@@ -95,7 +96,7 @@ impl CallQueues {
         requires after { IfSome after (λ i. (k : ℕ) × spec.IsIn queue self.now.calls k i) }
         ensures { spec.IsNext queue self.now.calls (spec.after_place after) result }
     {
-        let ticket = ticket_at(self.tickets.as_slice(), after);
+        let ticket = ticket_at(&self.tickets, after);
         match self.waits.next_of(queue, ticket) {
             Some(next) => Some(self.waits.call_of(next)),
             None => None,
@@ -104,9 +105,9 @@ impl CallQueues {
 }
 
 /// The ticket at a place, where there is one.
-fn ticket_at(tickets: &[Ticket], at: Option<usize>) -> Option<Ticket>
-    requires { IfSome at (λ i. i < length tickets.now) }
-    ensures { spec.TicketAt tickets.now at result }
+fn ticket_at(tickets: &VecDeque<Ticket>, at: Option<usize>) -> Option<Ticket>
+    requires { IfSome at (λ i. i < length tickets.now.items) }
+    ensures { spec.TicketAt tickets.now.items at result }
 {
     match at {
         Some(at) => Some(tickets[at]),

@@ -1,6 +1,6 @@
 //! Where the rows of calls stand: each in a slab until its call is over, with an index by call number, so that
 //! only keys move.
-ghost use Rattle.std.specs.Prelude.{◌≡◌, ◌+◌, ◌<◌, ◌≤◌, ◌++◌, ◌∷◌, [], length, slice_index_or, OnOk, OnErr};
+ghost use Rattle.std.specs.Prelude.{◌≡◌, ◌+◌, ◌<◌, ◌≤◌, ◌++◌, ◌∷◌, [], length, slice_index_or, IsTrue, OnOk, OnErr};
 ghost use Rattle.std.specs.List.{remove};
 ghost use Rattle.call_table.specs.Kept.{Rises};
 ghost use Rattle.call_table.specs.Sought.{IsPlace};
@@ -11,6 +11,7 @@ use crate::row::Row;
 use rpc_base::NoMemory;
 use slab::Slab;
 use std::alloc::Global;
+use std::collections::VecDeque;
 use std::marker::Model;
 
 /// The number of a call, and where its row stands.
@@ -24,7 +25,7 @@ pub struct RowKey {
 #[derive(Drop)]
 pub struct RowTable {
     rows: Slab<Row>,
-    index: Vec<RowKey>,
+    index: VecDeque<RowKey>,
     room: usize,
 }
 
@@ -45,7 +46,7 @@ impl RowTable {
     {
         RowTable {
             rows: Slab::new(alloc),
-            index: Vec::new(alloc),
+            index: VecDeque::new(alloc),
             room: 0,
         }
     }
@@ -92,7 +93,7 @@ impl RowTable {
         requires { Rises 0 self.now.items }
         ensures { IsPlace self.now.items call result }
     {
-        below(self.index.as_slice(), call)
+        below(&self.index, call)
     }
 
     /// A row comes, the last of all.
@@ -104,7 +105,7 @@ impl RowTable {
         let call = row.call;
         let key = self.rows.insert_reserved(row);
         self.room -= 1;
-        self.index.push(RowKey { call, key }).unwrap();
+        self.index.push_back(RowKey { call, key }).unwrap();
     }
 
     /// The row at a place goes.
@@ -114,7 +115,7 @@ impl RowTable {
         ensures value { result ≡ slice_index_or self.old.items at result }
         ensures room { self.new.room ≡ self.old.room }
     {
-        let key = self.index.remove(at).key;
+        let key = self.index.remove(at).unwrap().key;
         self.rows.remove(key)
     }
 
@@ -155,10 +156,43 @@ impl RowTable {
     }
 }
 
-/// How many numbers of an index are below this one.
-fn below(index: &[RowKey], call: u32) -> usize
-    requires { spec.KeysRise 0 index.now }
-    ensures { spec.IsKeyPlace index.now call result }
+/// How many numbers of an index are below this one. The newest calls mostly have all numbers up to the last, so it
+/// looks first where the number stands if those behind it have.
+fn below(index: &VecDeque<RowKey>, call: u32) -> usize
+    requires { spec.KeysRise 0 index.now.items }
+    ensures { spec.IsKeyPlace index.now.items call result }
 {
+    let at = dense_place(index, call);
+    if splits(index, at, call) {
+        return at;
+    }
     index.partition_point(|key| key.call < call)
+}
+
+/// Where the number stands if every one from it to the last is there.
+fn dense_place(index: &VecDeque<RowKey>, call: u32) -> usize
+    ensures { result ≤ length index.now.items }
+{
+    match index.back() {
+        Some(last) => {
+            let behind = (last.call as usize + 1).saturating_sub(call as usize);
+            index.len().saturating_sub(behind)
+        }
+        None => 0,
+    }
+}
+
+/// Whether the numbers before this place are below the number, and the others aren't, by the two beside it.
+fn splits(index: &VecDeque<RowKey>, at: usize, call: u32) -> bool
+    requires rise { spec.KeysRise 0 index.now.items }
+    requires within { at ≤ length index.now.items }
+    ensures { IsTrue result → spec.IsKeyPlace index.now.items call at }
+{
+    if at > 0 && index[at - 1].call >= call {
+        return false;
+    }
+    if at < index.len() && index[at].call < call {
+        return false;
+    }
+    true
 }

@@ -5,11 +5,15 @@ ghost use Rattle.handle_model.specs.Sound.{is_within};
 ghost use Rattle.call_table.specs.Shown.{base_rows};
 ghost use Rattle.call_table.specs.Kept.{AllFew, Rises};
 ghost use Rattle.call_table.specs.Queues.{queued};
+ghost use Rattle.call_table.specs.Places.{IsPlaced};
+ghost use Rattle.call_table.specs.Waits.{HasWaiting};
 ghost use Rattle.call_table.specs.Rows as spec;
 
 use crate::queues::CallQueues;
 use crate::row::{CallSlots, Row};
 use crate::row_table::RowTable;
+use crate::running::RunningPlaces;
+use crate::waiting::WaitingCalls;
 use handle_model::Base;
 use rpc_base::NoMemory;
 use std::alloc::Global;
@@ -55,6 +59,38 @@ pub fn queued_rows(alloc: Global, rows: &RowTable) -> Result<CallQueues, NoMemor
         queues.join(row.call, row.slots.as_slice());
     }
     Ok(queues)
+}
+
+/// The waiting calls of these rows, by connection.
+///
+/// # Errors
+/// `NoMemory` where memory runs out.
+#[tactic(auto, using(handle_model::proofs::Rest::resting))]
+pub fn waiting_rows(alloc: Global, rows: &RowTable) -> Result<WaitingCalls, NoMemory>
+    ensures { IfOk result (λ waiting. HasWaiting rows.now.items waiting.keys) }
+{
+    let mut waiting = WaitingCalls::new(alloc);
+    waiting.reserve(rows.len())?;
+    for at in 0..rows.len() {
+        waiting.enter(rows.row(at));
+    }
+    Ok(waiting)
+}
+
+/// The places of the running calls of these rows. There is room for those of the waiting ones.
+///
+/// # Errors
+/// `NoMemory` where memory runs out.
+#[tactic(auto, using(handle_model::proofs::Rest::resting))]
+pub fn running_rows(alloc: Global, rows: &RowTable) -> Result<RunningPlaces, NoMemory>
+    ensures { IfOk result (λ running. IsPlaced rows.now.items running 0) }
+{
+    let mut running = RunningPlaces::new(alloc);
+    running.reserve(rows.len())?;
+    for at in 0..rows.len() {
+        running.enter(rows.row(at));
+    }
+    Ok(running)
 }
 
 /// How many entries may still come of the calls.

@@ -10,16 +10,18 @@ ghost use Rattle.call_table.specs.Based.{asked_at, stored_calls};
 ghost use Rattle.std.specs.Option.{option_copied};
 
 use crate::ahead::last_of;
-use crate::based::{least_place, stored, stored_calls};
+use crate::based::{stored, stored_calls};
 use crate::blocking::blocker_of;
 use crate::held::OpenRows;
 use crate::lists::{cut, fill};
 use crate::queues::CallQueues;
 use crate::row::{CallSlots, Row};
 use crate::row_table::RowTable;
-use crate::rows::{all_below, owed_of, queued_rows, rows_of};
+use crate::rows::{all_below, owed_of, queued_rows, rows_of, running_rows, waiting_rows};
+use crate::running::RunningPlaces;
 use crate::seek::{place, row_of};
 use crate::tally::Tally;
+use crate::waiting::WaitingCalls;
 use handle_model::{Asked, Base, BaseCalls, Cookies, Entry, Slot, Slots};
 use rpc_base::{Items, NoMemory};
 use std::alloc::Global;
@@ -33,6 +35,8 @@ pub struct CallTable {
     lists: Vec<Cookies>,
     room: usize,
     pub(crate) tally: Tally,
+    pub(crate) waiting: WaitingCalls,
+    pub(crate) running: RunningPlaces,
     alloc: Global,
 }
 
@@ -41,12 +45,14 @@ impl Model for CallTable {
     ghost use Rattle.call_table.specs.Kept.{IsKept};
     ghost use Rattle.call_table.specs.Tally.{IsTally};
     ghost use Rattle.call_table.specs.Queues.{IsQueued};
+    ghost use Rattle.call_table.specs.Waits.{IsListed};
+    ghost use Rattle.call_table.specs.Places.{IsPlaced};
 
     ghost Value = { OpenCalls };
 
     ghost view = { λ t. record { rows = t.rows.items; room = t.room } };
 
-    ghost invariant = { λ t. IsKept t.rows t.lists t.room × IsTally t.rows.items t.tally × IsQueued t.rows.items t.queues t.room };
+    ghost invariant = { λ t. IsKept t.rows t.lists t.room × IsTally t.rows.items t.tally × IsQueued t.rows.items t.queues t.room × IsListed t.rows.items t.waiting t.room × IsPlaced t.rows.items t.running t.room };
 }
 
 impl OpenRows for CallTable {
@@ -82,6 +88,8 @@ impl CallTable {
             lists: Vec::new(alloc),
             room: 0,
             tally: Tally::new(),
+            waiting: WaitingCalls::new(alloc),
+            running: RunningPlaces::new(alloc),
             alloc,
         }
     }
@@ -101,6 +109,8 @@ impl CallTable {
         let mut lists = Vec::new(alloc);
         fill(alloc, &mut lists, rows.len())?;
         let queues = queued_rows(alloc, &rows)?;
+        let waiting = waiting_rows(alloc, &rows)?;
+        let running = running_rows(alloc, &rows)?;
         let tally = Tally::of(&rows);
         Ok(CallTable {
             rows,
@@ -108,6 +118,8 @@ impl CallTable {
             lists,
             room: 0,
             tally,
+            waiting,
+            running,
             alloc,
         })
     }
@@ -127,9 +139,11 @@ impl CallTable {
         }
         self.rows.reserve(n)?;
         self.queues.reserve(n)?;
+        self.waiting.reserve(n)?;
         let Some(wanted) = self.rows.len().checked_add(n) else {
             return Err(NoMemory);
         };
+        self.running.reserve(wanted)?;
         fill(self.alloc, &mut self.lists, wanted)?;
         self.room = n;
         Ok(())
@@ -196,7 +210,7 @@ impl CallTable {
     pub fn least_place(&self) -> Option<u128>
         ensures { result ≡ least (spec.running_places self.now.rows) }
     {
-        least_place(&self.rows)
+        self.running.least()
     }
 
     /// The calls as a base has them: what they asked stands in that base, or in their Accepts among the
@@ -258,6 +272,7 @@ impl CallTable {
             orphaned: false,
         };
         self.tally.enter(&row);
+        self.waiting.enter(&row);
         self.queues.join(call, slots.as_slice());
         self.rows.push(row);
     }
@@ -270,7 +285,10 @@ impl CallTable {
         ensures room { self.new.room ≡ self.old.room }
     {
         let at = place(&self.rows, call);
-        let count = self.rows.row(at).slots.as_slice().len();
+        let row = self.rows.row(at);
+        let count = row.slots.as_slice().len();
+        self.waiting.leave(row);
+        self.running.start(row.place);
         self.rows.start(at);
         self.tally.running += 1;
         cut(self.lists.pop().unwrap(), count)

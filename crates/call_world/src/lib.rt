@@ -13,3 +13,4 @@ mod world;
 pub use moves::{Move, Moves};
 pub use play::{WorldFault, play_world};
 pub use world::{FateRow, World};
+pub use world_ends::Fate;

@@ -2,7 +2,7 @@
 
 use crate::messages::handle_of;
 use base_words::{put, put_hex_u32};
-use call_world::{FateRow, Moves, World, WorldFault, play_world};
+use call_world::{Fate, FateRow, Moves, World, WorldFault, play_world};
 use cases_base::first_word;
 use handle_model::{Base, Home};
 use journal_text::journal_text;
@@ -10,7 +10,6 @@ use ndr_lines::put_message;
 use ndr_table::Table;
 use rpc_base::{NoMemory, WireHandle};
 use std::alloc::Global;
-use world_ends::Fate;
 
 /// Whose journal it is.
 const HOME: Home = Home { boot: 1, group: 1 };

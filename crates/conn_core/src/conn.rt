@@ -5,8 +5,8 @@ ghost use Rattle.std.specs.Option.{option_copied};
 ghost use Rattle.conn_asks.specs.Answers.{FitsStub};
 ghost use Rattle.conn_asks.specs.States.{ConnState as AState, at_start, with_octets, Goes, IsStuck, WaitsBehind, MustWait, IsGrouping, Bound, Refused, IsCalling, Replied};
 
+use crate::behind::uncut;
 use crate::called_off::holds_up;
-use crate::uncut::uncut;
 use conn_asks::{Act, Agreement, Waits, bind_ack, bind_nak, reply};
 use handle_model::Said;
 use pdu_codec::{LEAST_FRAGMENT, flags};

@@ -3,12 +3,13 @@
 #![tactic(auto)]
 
 mod acts;
+mod behind;
 mod called_off;
 mod conn;
 mod laws;
 mod next;
-mod uncut;
 
+pub use behind::uncut;
 pub use conn::Conn;
 pub use conn_asks::{Act, ConnFault};
 pub use laws::{closed_for_good, failed_for_good};

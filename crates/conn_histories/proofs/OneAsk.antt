@@ -30,13 +30,13 @@ order_once : (run : Option Joined) (f : Fragment) → HasOrder run f → HasOthe
 order_once None f h k = k
 order_once (Some j) f h k = k h
 
-taken_sound : (run : Option Joined) (f : Fragment) (fault : JoinFault) → fault ≢ Memory → IsTaken run f → IsJoinFault run f fault → ⊥
+pub taken_sound : (run : Option Joined) (f : Fragment) (fault : JoinFault) → fault ≢ Memory → IsTaken run f → IsJoinFault run f fault → ⊥
 taken_sound run f FragOrder known t h = true_false (is_in_order run f) t.0 h
 taken_sound run f FragDrep known t h = order_once run f t.1 h.1
 taken_sound run f TooLong known t h = absurd (omega (arith, t.2, h.2))
 taken_sound run f Memory known t h = known refl
 
-one_fault : (run : Option Joined) (f : Fragment) (a b : JoinFault) → a ≢ Memory → b ≢ Memory → IsJoinFault run f a → IsJoinFault run f b → a ≡ b
+pub one_fault : (run : Option Joined) (f : Fragment) (a b : JoinFault) → a ≢ Memory → b ≢ Memory → IsJoinFault run f a → IsJoinFault run f b → a ≡ b
 one_fault run f FragOrder FragOrder x y h k = refl
 one_fault run f FragOrder FragDrep x y h k = absurd (true_false (is_in_order run f) k.0 h)
 one_fault run f FragOrder TooLong x y h k = absurd (true_false (is_in_order run f) k.0 h)

@@ -1,5 +1,6 @@
 pub mod Asking
 pub mod Counting
+pub mod Ending
 pub mod Folding
 pub mod Found
 pub mod Going

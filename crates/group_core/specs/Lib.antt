@@ -1,6 +1,7 @@
 pub mod Adds
 pub mod Calls
 pub mod Conns
+pub mod Ended
 pub mod Folds
 pub mod Grows
 pub mod Judges

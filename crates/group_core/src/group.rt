@@ -8,10 +8,12 @@ ghost use Rattle.handle_model.specs.History.{IsSound, since};
 ghost use Rattle.call_table.specs.Ahead as ahead;
 ghost use Rattle.call_table.specs.Laws.{open_asked};
 ghost use Rattle.journal_tables.specs.Folding.{BaseBegun};
+ghost use Rattle.group_core.specs.Ended.{ended_place};
 ghost use Rattle.group_core.specs.Stages as stages;
 
 use crate::answer::{Cancelled, JoinRefusal, Orphaned, Stage, Taking};
 use crate::counts::{Counts, join_limit};
+use crate::ended::entries_before_end;
 use crate::fold::make_way;
 use crate::journal::Journal;
 use crate::judge::{Judged, ahead_of, entered, judge, judge_cancel, judge_orphan, stage_of};
@@ -258,5 +260,16 @@ impl Group {
         ensures { result ≡ stages.is_asked self.now call }
     {
         self.log.asked(call)
+    }
+
+    /// The place of the entry that ended a call: its Deny, its Cancel where it wasn't taken, or its End.
+    /// None where no such entry stands among those of the journal. A place that leaves 64 bits is given
+    /// as their greatest number. It takes no memory.
+    pub fn ended(&self, call: u32) -> Option<u64>
+        ensures { result ≡ ended_place self.now call }
+    {
+        let journal = self.log.journal();
+        let before = entries_before_end(journal.base(), journal.as_slice(), call)?;
+        Some(journal.base().count.saturating_add(before as u64))
     }
 }

@@ -7,6 +7,7 @@ mod accept;
 mod answer;
 mod counts;
 mod end;
+mod ended;
 mod fold;
 mod group;
 mod journal;

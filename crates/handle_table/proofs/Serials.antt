@@ -1,5 +1,5 @@
 -- A search among the rising serials of an index.
-use Rattle.std.proofs.Common.{◌≡◌, ℕ, zero, suc, ◌+◌, ◌<◌, ◌≤◌, Bool, true, false, List, [], ◌∷◌, length, map, get_or, refl, sym, ◌∙◌, ap, subst, arith, inl, inr}
+use Rattle.std.proofs.Common.{◌≡◌, ℕ, zero, suc, ◌+◌, ◌-◌, ◌<◌, ◌≤◌, Bool, true, false, List, [], ◌∷◌, length, map, get_or, refl, sym, ◌∙◌, ap, subst, arith, inl, inr}
 use Rattle.std.specs.Prelude.{nat_lt}
 use Rattle.std.specs.List.{AllByRecursion}
 use Rattle.std.specs.List.Sorted.{IsPartitionedBy, IsPartitionPoint}
@@ -52,8 +52,27 @@ placed ps n i le p =
       high = λ j d le' lt. ltb-false _ _ (p.1 j d le' lt);
     }
 
-no_place : Place
+abbrev pub no_place : Place
 no_place = record { serial = 0; key = 0 }
+
+-- a place is that of a serial, by the two beside it
+pub split_place : (ps : List Place) (n i : ℕ) → PlacesRise 0 ps → i ≤ length ps → (0 < i → (get_or ps (i - 1) no_place).serial < n) → (i < length ps → n ≤ (get_or ps i no_place).serial) → IsSerialPlace ps n i
+split_place ps n i r le before here =
+    record {
+      within = le;
+      low = λ j d lt.
+          let top : (get_or ps (i - 1) d).serial < n = subst (λ (x : Place). x.serial < n) (get_or_default ps (i - 1) no_place d (omega arith)) (before (omega arith)) in
+          elim (cases_lt j (i - 1)) [
+            | inl below ↦ let less = rise_order 0 ps j (i - 1) d r below (omega arith) in omega arith
+            | inr same ↦ let e : i - 1 ≡ j = omega arith in subst (λ (m : ℕ). (get_or ps m d).serial < n) e top
+          ];
+      high = λ j d from lt.
+          let least : n ≤ (get_or ps i d).serial = subst (λ (x : Place). n ≤ x.serial) (get_or_default ps i no_place d (omega arith)) (here (omega arith)) in
+          elim (cases_lt i j) [
+            | inl above ↦ let more = rise_order 0 ps i j d r above lt in omega arith
+            | inr same ↦ let e : i ≡ j = omega arith in subst (λ (m : ℕ). n ≤ (get_or ps m d).serial) e least
+          ];
+    }
 
 serial_in : (s : Slab DueItem) (ps : List Place) (j : ℕ) (c : Cell) → AllByRecursion (Stands s) ps → j < length ps → (get_or (cells_in s ps) j c).item.serial ≡ (get_or ps j no_place).serial
 serial_in s ps j c h lt = serial_read s ps j (get_or ps j no_place) c h lt (get_or_default ps j no_place (get_or ps j no_place) lt)

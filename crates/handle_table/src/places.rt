@@ -30,12 +30,45 @@ pub fn held(handles: &Slab<DueItem>, place: Place) -> Option<DueItem>
     }
 }
 
-/// How many serials are below this one.
+/// How many serials are below this one. The newest handles mostly have all serials up to the last, so it looks first
+/// where the serial stands if those behind it have.
 pub fn below(places: &[Place], serial: u32) -> usize
     requires { spec.PlacesRise 0 places.now }
     ensures { spec.IsSerialPlace places.now serial result }
 {
+    let at = dense_place(places, serial);
+    if splits(places, at, serial) {
+        return at;
+    }
     places.partition_point(|place| place.serial < serial)
+}
+
+/// Where the serial stands if every one from it to the last has a place.
+fn dense_place(places: &[Place], serial: u32) -> usize
+    ensures { result ≤ length places.now }
+{
+    match places.split_last() {
+        Some((last, _)) => {
+            let behind = (last.serial as usize + 1).saturating_sub(serial as usize);
+            places.len().saturating_sub(behind)
+        }
+        None => 0,
+    }
+}
+
+/// Whether the serials before this place are below the serial, and the others aren't, by the two beside it.
+fn splits(places: &[Place], at: usize, serial: u32) -> bool
+    requires rise { spec.PlacesRise 0 places.now }
+    requires within { at ≤ length places.now }
+    ensures { IsTrue result → spec.IsSerialPlace places.now serial at }
+{
+    if at > 0 && places[at - 1].serial >= serial {
+        return false;
+    }
+    if at < places.len() && places[at].serial < serial {
+        return false;
+    }
+    true
 }
 
 /// A copy of a slab, under the same keys, with room for `n` more.

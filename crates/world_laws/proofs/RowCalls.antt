@@ -71,14 +71,14 @@ at_behind [] b n k j e at = subst (λ (i : ℕ). slice_get b i ≡ Some j) (let 
 at_behind (x ∷ a) b n zero j e at = absurd (omega (arith, e))
 at_behind (x ∷ a) b n (suc k) j e at = at_behind a b n k j (omega (arith, e)) at
 
-record IsCallAt (table : TableForm) (asked : List Ask) (place op : ℕ) (m : Msg) : Type 0 where
-  state : ClientState
-  known : state.interface ≡ table
-  operation : OpForm
-  found : slice_get table.ops op ≡ Some operation
-  at : slice_get (calls_in asked) place ≡ Some (request_of state op operation m)
+pub record IsCallAt (table : TableForm) (asked : List Ask) (place op : ℕ) (m : Msg) : Type 0 where
+  pub state : ClientState
+  pub known : state.interface ≡ table
+  pub operation : OpForm
+  pub found : slice_get table.ops op ≡ Some operation
+  pub at : slice_get (calls_in asked) place ≡ Some (request_of state op operation m)
 
-call_at : (before later : List ClientEvent) (table : TableForm) (s n : ClientState) (asked : List Ask) (op : ℕ) (m : Msg) (octets : List ℕ) → s.interface ≡ table → EventsAsk s (before ++ DidCall op m octets ∷ later) n asked
+pub call_at : (before later : List ClientEvent) (table : TableForm) (s n : ClientState) (asked : List Ask) (op : ℕ) (m : Msg) (octets : List ℕ) → s.interface ≡ table → EventsAsk s (before ++ DidCall op m octets ∷ later) n asked
     → IsCallAt table asked (started before) op m
 call_at [] later table s n asked op m octets known (between, first, others, happens, (o, found, first_is), is, rest) = record {
   state = s;

@@ -8,8 +8,8 @@ ghost use Rattle.world_laws.specs.Telling.{AllFatesAreTold};
 
 use ndr_laws::{one_message, written_is_stub};
 
-/// Each call that the server accepted is one that the caller started, and no two of these have one number: no request is
-/// done twice, whatever is lost and however often the caller restarts.
+/// Each call that the server accepted is one that the caller started, and no two of these have one number. So where the
+/// journal is legal, no request is done twice, whatever is lost and however often the caller restarts.
 pub fn calls_are_rows()
     ensures { AllCallsAreRows }
 {}

@@ -6,9 +6,9 @@ use Rattle.call_table.proofs.row_table.RowTable.below.Goals as goal
 
 pub below-requires : goal.below-requires
 below-requires c =
-    rw c.as_slice.ensures.value (keys_rise 0 c.self.inside.rows c.self.inside.index.items c.self.invariant.stand (subst (λ v. Rises 0 v.items) (sym c.self.view_is) c.requires))
+    keys_rise 0 c.self.inside.rows c.self.inside.index.items c.self.invariant.stand (subst (λ v. Rises 0 v.items) (sym c.self.view_is) c.requires)
 
 pub returns : goal.returns
 returns c =
     subst (λ v. IsPlace v.items c.args.call c.below.result) c.self.view_is
-    (place_in c.self.inside.rows c.self.inside.index.items c.args.call c.below.result c.self.invariant.stand (rw c.as_slice.ensures.value at c.below.ensures))
+    (place_in c.self.inside.rows c.self.inside.index.items c.args.call c.below.result c.self.invariant.stand c.below.ensures)

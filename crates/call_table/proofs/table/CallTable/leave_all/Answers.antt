@@ -1,17 +1,31 @@
-use Rattle.std.proofs.Common.{◌≡◌, suc, ◌-◌, ◌<◌, false, ◌++◌, length, take, drop, get_or, sym, ◌∙◌, ap, subst, arith}
-use Rattle.std.specs.List.{remove}
-use Rattle.call_table.specs.Rows.{stays, left}
-use Rattle.call_table.proofs.Order.{left_step}
+use Rattle.std.proofs.Common.{◌≡◌, ◌<◌, length, sym, ◌∙◌, ap, subst, arith}
+use Rattle.call_table.specs.Rows.{left, owed_of}
+use Rattle.call_table.proofs.Tallied.{rises_count}
+use Rattle.call_table.proofs.Waits.{LeaveStep, leave_step, all_stay}
 use Rattle.call_table.proofs.table.CallTable.leave_all.Goals as goal
 
-pub loop-at-preserved-then-not-stays : goal.loop-at-preserved-then-not-stays
-loop-at-preserved-then-not-stays g c =
-    let i = c.loop-at.at - 1 in
-    let all = c.args.self.now.rows in
-    let conn = c.args.conn in
-    let up : suc i ≡ c.loop-at.at = omega (arith, c.loop-at-test.true) in
-    let before = subst (λ n. c.loop-at.self.rows ≡ take n all ++ left conn (drop n all)) (sym up) c.loop-at.invariant.0 in
-    let lt : i < length all = omega (arith, c.loop-at.invariant.1) in
-    let here = subst (λ rows. c.row.result.now ≡ get_or rows i c.row.result.now) before (subst (λ v. c.row.result.now ≡ get_or v.rows i c.row.result.now) c.self-in-loop-at.view_is c.row.ensures) in
-    let off : stays conn c.row.result.now ≡ false = sym c.stays.ensures ∙ c.if-not-stays.true in
-    (c.remove.ensures.rows ∙ (ap (λ rows. remove rows i) before ∙ left_step conn i all c.row.result.now lt here off), omega (arith, c.loop-at.invariant.1), c.remove.ensures.room ∙ c.loop-at.invariant.2)
+pub loop-call-smaller : goal.loop-call-smaller
+loop-call-smaller g c =
+    let step = subst (λ v. LeaveStep v.rows c.args.conn c.in-Some.call) c.self-in-loop-call.view_is (leave_step c.self-in-loop-call.inside.rows.items c.self-in-loop-call.inside.waiting.keys c.args.conn c.in-Some.call c.self-in-loop-call.invariant.0.rises c.self-in-loop-call.invariant.3.has_waiting c.in-Some.ensures) in
+    subst (λ rows. length rows < length c.loop-call.self.rows) (sym c.end_counted.ensures.rows) (omega (arith, step.less))
+
+pub loop-call-preserved : goal.loop-call-preserved
+loop-call-preserved g c =
+    let step = subst (λ v. LeaveStep v.rows c.args.conn c.in-Some.call) c.self-in-loop-call.view_is (leave_step c.self-in-loop-call.inside.rows.items c.self-in-loop-call.inside.waiting.keys c.args.conn c.in-Some.call c.self-in-loop-call.invariant.0.rises c.self-in-loop-call.invariant.3.has_waiting c.in-Some.ensures) in
+    let owed = ap owed_of c.end_counted.ensures.rows in
+    let count = ap (λ rows. length rows) c.end_counted.ensures.rows in (
+      ap (left c.args.conn) c.end_counted.ensures.rows ∙ (step.others ∙ c.loop-call.invariant.0),
+      omega (arith, owed, count, step.owed, step.less, c.loop-call.invariant.1),
+      omega (arith, count, step.less, c.loop-call.invariant.2),
+      c.end_counted.ensures.room ∙ c.loop-call.invariant.3,
+    )
+
+pub returns-clause-rows : goal.returns-clause-rows
+returns-clause-rows g c =
+    let all = all_stay c.self-in-loop-call.inside.rows.items c.self-in-loop-call.inside.waiting.keys c.args.conn c.self-in-loop-call.invariant.0.rises c.self-in-loop-call.invariant.3.has_waiting c.in_default.ensures in
+    sym (subst (λ v. left c.args.conn v.rows ≡ v.rows) c.self-in-loop-call.view_is all) ∙ c.loop-call.invariant.0
+
+pub overflow_mul-result : goal.overflow_mul-result
+overflow_mul-result g c =
+    let few = rises_count 0 c.self.inside.rows.items c.self.invariant.0.rises (omega arith) in
+    omega (arith, few, c.len-before.ensures)

@@ -1,13 +1,14 @@
-use Rattle.std.proofs.Common.{◌≡◌, ◌≤◌, ◌++◌, length, take, drop}
-use Rattle.call_table.specs.Rows.{left}
+use Rattle.std.proofs.Common.{◌≡◌, ◌+◌, ◌*◌, ◌≤◌, length}
+use Rattle.call_table.specs.Rows.{left, owed_of}
 use Rattle.call_table.proofs.table.CallTable.leave_all.Given as goal
 
--- those from this place on have been looked at
-abbrev pub invariant-loop-at : goal.invariant-loop-at
-invariant-loop-at g l =
-    (l.self.rows ≡ take l.at l.fn.self.rows ++ left l.conn (drop l.at l.fn.self.rows))
-    × (l.at ≤ length l.fn.self.rows)
+-- the other calls stay, and four entries are owed less of each that went
+abbrev pub invariant-loop-call : goal.invariant-loop-call
+invariant-loop-call g l =
+    (left l.conn l.self.rows ≡ left l.conn l.fn.self.rows)
+    × (owed_of l.self.rows + 4 * length l.fn.self.rows ≡ owed_of l.fn.self.rows + 4 * length l.self.rows)
+    × (length l.self.rows ≤ length l.fn.self.rows)
     × (l.self.room ≡ l.fn.self.room)
 
-abbrev pub decreases-loop-at : goal.decreases-loop-at
-decreases-loop-at g l = l.at
+abbrev pub decreases-loop-call : goal.decreases-loop-call
+decreases-loop-call g l = length l.self.rows

@@ -34,4 +34,6 @@ invariant_of-result c =
       },
       c.of-tally.ensures,
       record { calls_are = c.in_ok-queues.ensures; enough = omega arith },
+      record { has_waiting = c.in_ok-waiting.ensures; enough = omega arith },
+      c.in_ok-running.ensures,
     )

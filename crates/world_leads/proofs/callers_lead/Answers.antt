@@ -1,5 +1,0 @@
-use Rattle.world_leads.proofs.Callers.{callers_lead}
-use Rattle.world_leads.proofs.callers_lead.Goals as goal
-
-pub returns : goal.returns
-returns c = callers_lead c.read_is_stub.ensures

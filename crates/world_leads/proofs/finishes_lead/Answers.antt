@@ -1,5 +1,0 @@
-use Rattle.world_leads.proofs.Ending.{finishes_lead}
-use Rattle.world_leads.proofs.finishes_lead.Goals as goal
-
-pub returns : goal.returns
-returns c = finishes_lead c.read_is_stub.ensures

@@ -1,5 +1,0 @@
-use Rattle.world_leads.proofs.Ending.{takes_all_lead}
-use Rattle.world_leads.proofs.takes_all_lead.Goals as goal
-
-pub returns : goal.returns
-returns c = takes_all_lead c.read_is_stub.ensures

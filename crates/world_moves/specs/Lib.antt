@@ -1,0 +1,4 @@
+pub mod Leads
+pub mod Legal
+pub mod One
+pub mod Rows

@@ -1,5 +1,0 @@
-use Rattle.world_one.proofs.Hearing.{callers_lead_to_one}
-use Rattle.world_one.proofs.callers_lead_to_one.Goals as goal
-
-pub returns : goal.returns
-returns c = callers_lead_to_one c.one_message.ensures c.stub_is_read.ensures

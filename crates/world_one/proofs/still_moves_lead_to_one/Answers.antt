@@ -1,5 +1,0 @@
-use Rattle.world_one.proofs.Still.{still_moves_lead_to_one}
-use Rattle.world_one.proofs.still_moves_lead_to_one.Goals as goal
-
-pub returns : goal.returns
-returns c = still_moves_lead_to_one
