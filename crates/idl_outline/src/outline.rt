@@ -14,6 +14,10 @@ use rpc_base::{Names, NoMemory};
 use std::alloc::Global;
 use std::marker::Model;
 
+// The most pointers and arrays in memory of the types of one text. Each use of a name, and each
+// declarator behind it, has those of its type again.
+const MOST_LAYERS_IN_ALL: usize = 1 << 25;
+
 /// The events of an interface's text up to a place, and what its names stand for there. Contracts see
 /// the events, the newest first.
 #[derive(Drop)]
@@ -25,6 +29,7 @@ pub struct Outline {
     typedefs: usize,
     bodies: usize,
     kinds: usize,
+    layers: usize,
 }
 
 impl Model for Outline {
@@ -91,6 +96,7 @@ impl Outline {
             typedefs: 0,
             bodies: 0,
             kinds: 0,
+            layers: 0,
         }
     }
 
@@ -114,6 +120,24 @@ impl Outline {
         self.typedefs = typedefs;
         self.bodies = bodies;
         self.kinds = kinds;
+        Ok(())
+    }
+
+    /// Notes so many pointers and arrays more of types in memory.
+    ///
+    /// # Errors
+    ///
+    /// `NoMemory` where those that were noted are more than 33,554,432 in all.
+    pub fn note_layers(&mut self, count: usize) -> Result<(), NoMemory>
+        ensures { self.new ≡ self.old }
+    {
+        let Some(all) = self.layers.checked_add(count) else {
+            return Err(NoMemory);
+        };
+        if all > MOST_LAYERS_IN_ALL {
+            return Err(NoMemory);
+        }
+        self.layers = all;
         Ok(())
     }
 

@@ -34,9 +34,11 @@ pub(crate) fn named(
     ensures past { OnOk result (outline.new ≡ events.TypeUsed name.now ∷ outline.old) }
 {
     let ty = named_type(alloc, outline, name)?;
-    if ty.layers.as_slice().len() > MOST_NAMED_LAYERS {
+    let layers = ty.layers.as_slice().len();
+    if layers > MOST_NAMED_LAYERS {
         return Err(NoMemory);
     }
+    outline.note_layers(layers)?;
     let used = copy_name(alloc, name)?;
     outline.happen(Event::TypeUsed(used))?;
     Ok(ty)
@@ -299,6 +301,7 @@ pub(crate) fn declared_field(
     ensures field { IfOk result (λ f. f ≡ parts.field_of default place (attrs_form attrs.now) attributes ty bare dtors.now outline.old) }
     ensures past { OnOk result (outline.new ≡ parts.sizes_past dtors.now outline.old) }
 {
+    outline.note_layers(ty.layers.as_slice().len().saturating_mul(dtors.len()))?;
     let field = field_with(
         alloc, outline, default, place, attrs, attributes, ty, bare, dtors,
     )?;

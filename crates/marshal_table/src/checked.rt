@@ -15,8 +15,8 @@ use std::alloc::Global;
 ///
 /// # Errors
 ///
-/// `NoMemory` where there is no memory for it, or a type, a parameter or a result nests by value more
-/// than `MOST_LEVELS` levels.
+/// `NoMemory` where there is no memory for it, or a type, a parameter, a result or what a typedef stands
+/// for nests by value more than `MOST_LEVELS` levels.
 pub fn build(alloc: Global, checked: &Checked) -> Result<Table, NoMemory>
     ensures exact { IfOk result (λ table. shown table ≡ spec.tabled checked.now) }
     ensures operations { IfOk result (λ table. HasEachOperation checked.now (shown table)) }

@@ -13,6 +13,7 @@ mod said;
 mod shapes;
 mod tables;
 mod terms;
+mod typedefs;
 
 pub use checked::build;
 pub use laws::{

@@ -7,6 +7,7 @@ ghost use Rattle.marshal_table.specs.Interfaces as spec;
 
 use crate::draft::drafted;
 use crate::interface::syntax_of;
+use crate::typedefs::judge_typedefs;
 use idl_outline::Event;
 use idl_tree::Ast;
 use ndr_table::Table;
@@ -17,7 +18,8 @@ use std::alloc::Global;
 ///
 /// # Errors
 ///
-/// `NoMemory` where there is no memory for it, or a number has no room in its field.
+/// `NoMemory` where there is no memory for it, a number has no room in its field, or a type, a parameter,
+/// a result or what a typedef stands for nests by value more than `MOST_LEVELS` levels.
 #[tactic(auto, using(crate::proofs::Making::making))]
 pub(crate) fn table_of(alloc: Global, tree: &Ast, events: &[Event]) -> Result<Table, NoMemory>
     requires { reverse events.now ≡ outlines.outline (tree_form tree.now) }
@@ -27,6 +29,7 @@ pub(crate) fn table_of(alloc: Global, tree: &Ast, events: &[Event]) -> Result<Ta
     if draft.ops.len() > 65_535 {
         return Err(NoMemory);
     }
+    judge_typedefs(alloc, events, &draft.types)?;
     let id = syntax_of(&tree.attributes)?;
     Table::of(alloc, id, draft.types, draft.ops, draft.uses)
 }

@@ -12,6 +12,6 @@ mod table;
 mod tails;
 
 pub use align::octets;
-pub use nesting::{MOST_LEVELS, has_few_levels};
+pub use nesting::{Depths, MOST_LEVELS, depths_of, has_few_levels};
 pub use operation::{Bounds, HandleUse, HandleUses, Op, Ops, Param, Params, Uses};
 pub use table::Table;

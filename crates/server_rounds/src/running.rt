@@ -21,7 +21,7 @@ use std::sync::atomic::{AtomicBool, Ordering};
 use std::sync::{Arc, Wait};
 use std::thread::{Builder, Promise, PromisedHandle, Threads};
 
-/// The stack of a connection's thread, in octets: the deepest stub takes some 2.5 MiB to decode.
+/// The stack of a connection's thread, in octets: the deepest stub takes some 2.8 MiB to decode.
 const STACK: usize = 4 << 20;
 
 /// That the connection of a link is served at a hub, with that pass.
