@@ -51,8 +51,8 @@ pub enum Heard {
     Stop(Fault),
 }
 
-/// The most octets that are taken at once.
-const MOST: usize = 4096;
+/// The most octets that are taken at once: those of the longest fragment of most clients (4,280), and some more.
+const MOST: usize = 4608;
 
 /// A connection, its link, and how that was before anything was taken from it.
 #[derive(Drop)]
