@@ -143,6 +143,17 @@ module _ {K : Type 0} (shows : K → Shown) (ids : List SyntaxId) where
 
   -- ---- a look at the link
 
+  -- where octets are taken to is no part of what happened
+  pub elsewhere : (w v : Wire K) (events : List Event) (m : ConnState) → w.conn ≡ v.conn → w.first ≡ v.first → w.link ≡ v.link → Lived shows ids w events m [] → Lived shows ids v events m []
+  elsewhere w v events m conn first link l = record {
+    at = subst (λ c. IsAt c m) conn l.at;
+    lives = l.lives;
+    octets = l.octets;
+    done = l.done;
+    linked = subst (λ f. Linked (shows f.value) (shows v.link) (stream events) l.done) first (subst (λ k. Linked (shows w.first.value) (shows k) (stream events) l.done) link l.linked);
+    puts = l.puts;
+  }
+
   pub took : (w : Wire K) (c : ConnFields) (k : K) (events : List Event) (m : ConnState) (piece : List ℕ) → Lived shows ids w events m [] → Took (shows w.link) (shows k) piece → IsOctets piece
       → Leads (λ x y. y ≡ with_octets x piece) w.conn c → Takes shows ids events m came.Octets (with_both w c k)
   took w c k events m piece l t octets leads =

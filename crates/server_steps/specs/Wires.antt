@@ -30,7 +30,7 @@ pub record Linked (a b : Shown) (taken done : List ℕ) : Type 0 where
 
 -- all but the machine and the link
 abbrev pub Stays : {K : Type 0} → Wire K → Wire K → Type 0
-Stays old new = new ≡ record old { conn = new.conn; link = new.link }
+Stays old new = new ≡ record old { conn = new.conn; link = new.link; room = new.room }
 
 module _ {K : Type 0} (shows : K → Shown) where
   abbrev pub IsOpen : K → Type 0

@@ -39,11 +39,7 @@ pub fn close<K: Link>(wire: Wire<K>, why: Stop) -> (K, Ending)
     requires { IsOpen K.shows wire.link }
     ensures { ClosesAs K.shows wire why result.0 result.1 }
 {
-    let Wire {
-        link,
-        conn,
-        first: _,
-    } = wire;
+    let Wire { link, conn, .. } = wire;
     let mut link = link;
     link.close();
     let ending = ended(conn, why);

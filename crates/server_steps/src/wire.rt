@@ -60,6 +60,8 @@ pub struct Wire<K: Link> {
     pub link: K,
     pub conn: Conn,
     pub first: Snapshot<K>,
+    /// Where octets are taken to.
+    room: Box<[u8; MOST]>,
 }
 
 /// These octets come. At `NoMemory` none came.
@@ -81,10 +83,18 @@ impl<K: Link> Wire<K> {
         requires open { IsOpen K.shows link }
         ensures { MatchResult result (λ wire. (wire.first.value ≡ link) × Lived K.shows ids.now wire [] (at_start ids.now) []) (λ back. back ≡ link) }
     {
+        let Ok(room) = Box::new(alloc, [0; MOST]) else {
+            return Err(link);
+        };
         match Conn::new(alloc, ids) {
             Ok(conn) => {
                 let first = Snapshot::of(&link);
-                Ok(Wire { link, conn, first })
+                Ok(Wire {
+                    link,
+                    conn,
+                    first,
+                    room,
+                })
             }
             Err(_) => Err(link),
         }
@@ -109,9 +119,8 @@ impl<K: Link> Wire<K> {
         ensures stays { Stays self.old self.new }
         ensures takes { (ids : List SyntaxIdSpec) (events : List Event) (m : ConnState) → Lived K.shows ids self.old events m [] → Takes K.shows ids events m result self.new }
     {
-        let mut octets = [0; MOST];
-        match self.link.take(&mut octets) {
-            Ok(Taken::Bytes(count)) => match feed(&mut self.conn, &octets[..count]) {
+        match self.link.take(&mut *self.room) {
+            Ok(Taken::Bytes(count)) => match feed(&mut self.conn, &self.room[..count]) {
                 Ok(()) => Came::Octets,
                 Err(_) => Came::Stop(Fault::Memory),
             },
