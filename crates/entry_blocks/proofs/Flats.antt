@@ -1,0 +1,38 @@
+-- The entries of blocks, one behind the other.
+use Rattle.std.proofs.Common.{◌≡◌, ℕ, ◌+◌, ◌-◌, ◌<◌, ◌≤◌, List, [], ◌∷◌, ◌++◌, length, take, drop, get_or, refl, sym, ap, ◌∙◌, append_assoc, zero, suc, arith}
+use Rattle.std.proofs.Math.Seq.{drop-append-add}
+use Rattle.std.proofs.lemmas.List.{append-nil, drop-append-le, take-append-le}
+use Rattle.std.specs.List.{take-map, drop-map}
+use Rattle.std.proofs.lemmas.Grind.{common_steps}
+use Rattle.handle_model.specs.declared.entry.Entry.{Entry}
+use Rattle.handle_model.proofs.Rest.{rest_more, rest_none}
+use Rattle.entry_blocks.specs.Flat.{flat}
+
+-- a block more
+pub flat_more : (bs : List (List Entry)) (b : List Entry) → flat (bs ++ b ∷ []) ≡ flat bs ++ b
+flat_more [] b = append-nil b
+flat_more (a ∷ bs) b = ap (λ l. a ++ l) (flat_more bs b) ∙ sym (append_assoc a (flat bs) b)
+
+-- the next block, and those behind it
+pub flat_next : (bs : List (List Entry)) (i : ℕ) (d : List Entry) → i < length bs → flat (drop i bs) ≡ get_or bs i d ++ flat (drop (i + 1) bs)
+flat_next bs i d lt = ap flat (rest_more bs i d lt)
+
+pub flat_end : (bs : List (List Entry)) (i : ℕ) → length bs ≤ i → flat (drop i bs) ≡ []
+flat_end bs i le = ap flat (rest_none bs i le)
+
+-- an index beyond a block
+pub beyond : (es more : List Entry) (n : ℕ) → length es ≤ n → drop n (es ++ more) ≡ drop (n - length es) more
+beyond es more n le =
+    let whole : length es + (n - length es) ≡ n = omega (arith, le) in
+    sym (ap (λ m. drop m (es ++ more)) whole) ∙ drop-append-add es more (n - length es)
+
+-- what an index leaves of a block, and of those behind it
+pub left_of : (es more : List Entry) (n : ℕ) → drop n (es ++ more) ≡ drop n es ++ drop (n - length es) more
+left_of [] more n = grind (arith, common_steps)
+left_of (e ∷ es) more zero = refl
+left_of (e ∷ es) more (suc n) = left_of es more n
+
+pub ruleset flattening = (flat_more, flat_next, flat_end, beyond, left_of, append_assoc, drop-append-le, common_steps)
+
+-- a range of what stands for each
+pub ruleset ranging = (take-map, drop-map, common_steps)
