@@ -29,8 +29,12 @@ beyond es more n le =
 -- what an index leaves of a block, and of those behind it
 pub left_of : (es more : List Entry) (n : ℕ) → drop n (es ++ more) ≡ drop n es ++ drop (n - length es) more
 left_of [] more n = grind (arith, common_steps)
-left_of (e ∷ es) more zero = refl
-left_of (e ∷ es) more (suc n) = left_of es more n
+left_of (e ∷ es) more zero =
+    let none : 0 ≡ zero - length (e ∷ es) = omega arith in
+    ap (λ k. (e ∷ es) ++ drop k more) none
+left_of (e ∷ es) more (suc n) =
+    let less : n - length es ≡ suc n - length (e ∷ es) = omega arith in
+    left_of es more n ∙ ap (λ k. drop n es ++ drop k more) less
 
 pub ruleset flattening = (flat_more, flat_next, flat_end, beyond, left_of, append_assoc, drop-append-le, common_steps)
 

@@ -10,6 +10,7 @@ pub mod Limits
 pub mod Numbered
 pub mod Openings
 pub mod Owing
+pub mod Pieces
 pub mod Pruning
 pub mod Resting
 pub mod Shown

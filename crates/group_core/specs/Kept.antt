@@ -1,5 +1,5 @@
 -- What always holds of a group.
-use Rattle.std.specs.Prelude.{◌≡◌, ℕ, ◌≤◌, Bool, false, List, [], ◌∷◌, ◌++◌, reverse}
+use Rattle.std.specs.Prelude.{◌≡◌, ℕ, ◌<◌, ◌≤◌, Bool, false, Option, Some, None, List, [], ◌∷◌, ◌++◌, length, reverse}
 use Rattle.std.specs.List.{list_any}
 use Rattle.handle_model.specs.declared.entry.Home.{Home}
 use Rattle.handle_model.specs.declared.entry.Entry.{Entry}
@@ -33,6 +33,15 @@ Came log entry new = (new.base ≡ log.base) × (new.entries ≡ log.entries ++ 
 -- nothing came
 abbrev pub Same : Logged → Logged → Type 0
 Same log new = (new.base ≡ log.base) × (new.entries ≡ log.entries)
+
+-- these are the newest of the entries: all, or at least two
+abbrev pub AreNewest : List Entry → List Entry → Type 0
+AreNewest newest entries = (older : List Entry) × (entries ≡ older ++ newest) × (0 < length older → 2 ≤ length newest)
+
+-- the newest of the entries, where there is one
+abbrev pub EndsWith : Option Entry → List Entry → Type 0
+EndsWith None entries = entries ≡ []
+EndsWith (Some entry) entries = (before : List Entry) × (entries ≡ before ++ entry ∷ [])
 
 -- OF A CALL
 

@@ -1,7 +1,9 @@
 //! The older entries of a group move into its base.
-ghost use Rattle.std.specs.Prelude.{◌≡◌, false, OnOk, OnErr};
+ghost use Rattle.std.specs.Prelude.{◌≡◌, ◌≤◌, false, length, IfOk, OnOk, OnErr};
 ghost use Rattle.std.specs.List.{list_any};
 ghost use Rattle.handle_model.specs.Journal.{is_shut};
+ghost use Rattle.handle_model.specs.History.{IsSound};
+ghost use Rattle.journal_tables.specs.Folding.{BaseBegun};
 ghost use Rattle.journal_tables.specs.Floor as floor;
 ghost use Rattle.group_core.specs.Kept.{IsKept, logged};
 ghost use Rattle.group_core.specs.Folds as spec;
@@ -10,7 +12,7 @@ use crate::counts::Counts;
 use crate::journal::Journal;
 use crate::log::Log;
 use call_table::CallTable;
-use handle_model::Home;
+use handle_model::{Base, Home};
 use handle_table::HandleTable;
 use journal_tables::{ConnTable, folded_base};
 use rpc_base::NoMemory;
@@ -40,13 +42,35 @@ pub fn make_way(
         log.reserve(2)?;
         return Ok(());
     }
-    let (older, _) = log.journal().as_slice().split_at(count);
-    let base = folded_base(alloc, home, log.journal().base(), older)?;
+    let base = base_after(alloc, home, log.journal(), count)?;
     let marks = log.marks_after(alloc, &base, 2)?;
     counts.conns.reserve(1)?;
     log.reserve(2)?;
     log.fold(base, count, marks);
     Ok(())
+}
+
+/// The base after so many of the oldest entries, piece by piece, so that few of them are copied at once.
+fn base_after(
+    alloc: Global,
+    home: Home,
+    journal: &Journal,
+    count: usize,
+) -> Result<Base, NoMemory>
+    requires sound { IsSound (logged home journal.now) }
+    requires begun { BaseBegun journal.now.base }
+    requires unshut { list_any is_shut (logged home journal.now).past ≡ false }
+    requires few { count ≤ length journal.now.entries }
+    ensures { IfOk result (λ base. base ≡ spec.base_after home journal.now count) }
+{
+    let mut base = journal.base().copy(alloc)?;
+    let mut done = 0;
+    while done < count {
+        let piece = journal.piece(alloc, done, count)?;
+        base = folded_base(alloc, home, &base, piece.as_slice())?;
+        done += piece.len();
+    }
+    Ok(base)
 }
 
 /// How many entries stand before the Join of each open connection and the Accept of each running call.

@@ -1,12 +1,12 @@
 //! A group.
-ghost use Rattle.std.specs.Prelude.{◌≡◌, ◌+◌, ◌≤◌, ◌||◌, [], true, false, reverse, IfOk};
+ghost use Rattle.std.specs.Prelude.{◌≡◌, ◌+◌, ◌-◌, ◌≤◌, ◌||◌, [], true, false, reverse, slice_get, IfOk};
 ghost use Rattle.std.specs.List.{list_any};
-ghost use Rattle.std.specs.Option.{option_copied};
 ghost use Rattle.handle_model.specs.Journal as journal;
 ghost use Rattle.handle_model.specs.Bases.{empty_base};
 ghost use Rattle.handle_model.specs.History.{IsSound, since};
 ghost use Rattle.call_table.specs.Ahead as ahead;
 ghost use Rattle.call_table.specs.Laws.{open_asked};
+ghost use Rattle.call_table.specs.Based.{asked_in};
 ghost use Rattle.journal_tables.specs.Folding.{BaseBegun};
 ghost use Rattle.group_core.specs.Stages as stages;
 
@@ -92,8 +92,8 @@ impl Group {
     pub fn has_shut(&self) -> bool
         ensures { result ≡ list_any journal.is_shut self.now.past }
     {
-        match self.log.journal().as_slice().split_last() {
-            Some((entry, _)) => entry.is_shut(),
+        match self.log.journal().last() {
+            Some(entry) => entry.is_shut(),
             None => false,
         }
     }
@@ -232,13 +232,22 @@ impl Group {
         }
     }
 
-    /// What a call asked that waits or runs, and None where it is over. It takes no memory, and of the
-    /// entries it reads the Accept of the call alone.
-    pub fn asked_of(&self, call: u32) -> Option<&Asked>
-        ensures { option_copied result ≡ open_asked self.now call }
+    /// A copy of what a call asked that waits or runs, and None where it is over. Of the entries it reads the
+    /// Accept of the call alone.
+    ///
+    /// # Errors
+    /// `NoMemory` where memory runs out.
+    pub fn asked_of(&self, call: u32) -> Result<Option<Asked>, NoMemory>
+        ensures { IfOk result (λ asked. asked ≡ open_asked self.now call) }
     {
         let journal = self.log.journal();
-        self.calls.asked(journal.base(), journal.as_slice(), call)
+        if let Some(asked) = self.calls.asked(journal.base(), &[], call) {
+            return Ok(Some(asked.copy(self.alloc)?));
+        }
+        match self.calls.row(call) {
+            Some(row) => asked_at(self.alloc, journal, row.place),
+            None => Ok(None),
+        }
     }
 
     /// Gives memory back where the group has ended: what it keeps is its journal, with room for no more.
@@ -258,5 +267,19 @@ impl Group {
         ensures { result ≡ stages.is_asked self.now call }
     {
         self.log.asked(call)
+    }
+}
+
+/// What the Accept at that place says.
+fn asked_at(alloc: Global, journal: &Journal, place: u128) -> Result<Option<Asked>, NoMemory>
+    ensures { IfOk result (λ asked. asked ≡ asked_in (slice_get journal.now.entries (place - journal.now.base.count))) }
+{
+    let at = place.saturating_sub(u128::from(journal.base().count));
+    if at >= journal.len() as u128 {
+        return Ok(None);
+    }
+    match journal.entry(alloc, at as usize)? {
+        Some(Entry::Accept { asked, .. }) => Ok(Some(asked)),
+        _ => Ok(None),
     }
 }

@@ -1,32 +1,41 @@
 //! The entries of a group.
-ghost use Rattle.std.specs.Prelude.{◌≡◌, ◌+◌, ◌++◌, ◌≤◌, ◌==◌, [], ◌∷◌, length, drop, slice_get, IfOk, OnOk, OnErr};
+ghost use Rattle.std.specs.Prelude.{◌≡◌, ◌+◌, ◌++◌, ◌<◌, ◌≤◌, ◌==◌, [], ◌∷◌, length, take, drop, slice_get, IfOk, OnOk, OnErr};
 ghost use Rattle.std.specs.Option.{option_copied};
 ghost use Rattle.handle_model.specs.Bases.{empty_base};
-ghost use Rattle.group_core.specs.Kept.{Came, Same};
+ghost use Rattle.group_core.specs.Kept.{AreNewest, Came, EndsWith, Same};
 
+use entry_blocks::{Block, Blocks};
 use handle_model::{Base, Entry};
 use rpc_base::NoMemory;
 use std::alloc::Global;
 use std::marker::Model;
 
+/// How many entries a block has.
+const BLOCK: usize = 256;
+
+/// How many of the newest entries stay out of blocks.
+const NEWEST: usize = 2;
+
 /// The journal of a group: what it goes on from, and its entries, oldest first. Contracts see both, and
-/// for how many more there is room.
+/// for how many more there is room. All but the newest entries stand in blocks, which take little memory.
 #[derive(Drop)]
 pub struct Journal {
+    alloc: Global,
     base: Base,
+    older: Blocks,
     entries: Vec<Entry>,
     spare: usize,
 }
 
 impl Model for Journal {
-    ghost use Rattle.std.specs.Prelude.{◌+◌, ◌≤◌, vec_len, vec_capacity};
+    ghost use Rattle.std.specs.Prelude.{◌+◌, ◌++◌, ◌<◌, ◌≤◌, length, vec_len, vec_capacity};
     ghost use Rattle.group_core.specs.Kept.{Logged};
 
     ghost Value = { Logged };
 
-    ghost view = { λ j. record { base = j.base; entries = j.entries.items; spare = j.spare } };
+    ghost view = { λ j. record { base = j.base; entries = j.older ++ j.entries.items; spare = j.spare } };
 
-    ghost invariant = { λ j. vec_len j.entries + j.spare ≤ vec_capacity j.entries };
+    ghost invariant = { λ j. (vec_len j.entries + j.spare ≤ vec_capacity j.entries) × (0 < length j.older → 2 ≤ vec_len j.entries) };
 }
 
 impl Journal {
@@ -35,7 +44,9 @@ impl Journal {
         ensures { result ≡ record { base = empty_base; entries = []; spare = 0 } }
     {
         Journal {
+            alloc,
             base: Base::empty(alloc),
+            older: Blocks::new(alloc),
             entries: Vec::new(alloc),
             spare: 0,
         }
@@ -52,35 +63,88 @@ impl Journal {
     pub fn len(&self) -> usize
         ensures { result ≡ length self.now.entries }
     {
-        self.entries.len()
+        self.older.len() + self.entries.len()
     }
 
     /// How many entries there ever were.
     pub fn size(&self) -> u128
         ensures { result ≡ self.now.base.count + length self.now.entries }
     {
-        u128::from(count_before(&self.base)) + self.entries.len() as u128
+        u128::from(count_before(&self.base)) + self.len() as u128
     }
 
     /// Whether there is none.
     pub fn is_empty(&self) -> bool
         ensures { result ≡ (length self.now.entries == 0) }
     {
-        self.entries.len() == 0
+        self.len() == 0
     }
 
-    /// The entry of that index, from 0.
-    pub fn get(&self, at: usize) -> Option<&Entry>
-        ensures { option_copied result ≡ slice_get self.now.entries at }
-    {
-        self.entries.get(at)
-    }
-
-    /// The entries.
-    pub fn as_slice(&self) -> &[Entry]
-        ensures { result.now ≡ self.now.entries }
+    /// The newest entries: at least two, where there are two.
+    pub fn newest(&self) -> &[Entry]
+        ensures { AreNewest result.now self.now.entries }
     {
         self.entries.as_slice()
+    }
+
+    /// The newest entry.
+    pub fn last(&self) -> Option<&Entry>
+        ensures { EndsWith (option_copied result) self.now.entries }
+    {
+        match self.entries.as_slice().split_last() {
+            Some((entry, _)) => Some(entry),
+            None => None,
+        }
+    }
+
+    /// A copy of the entry of that index, from 0.
+    ///
+    /// # Errors
+    /// `NoMemory` where memory runs out.
+    pub fn entry(&self, alloc: Global, at: usize) -> Result<Option<Entry>, NoMemory>
+        ensures { IfOk result (λ entry. entry ≡ slice_get self.now.entries at) }
+    {
+        let before = self.older.len();
+        if at < before {
+            return self.older.entry(alloc, at);
+        }
+        match self.entries.get(at - before) {
+            Some(entry) => Ok(Some(entry.copy(alloc)?)),
+            None => Ok(None),
+        }
+    }
+
+    /// Copies of all entries.
+    ///
+    /// # Errors
+    /// `NoMemory` where memory runs out.
+    pub fn entries(&self, alloc: Global) -> Result<Vec<Entry>, NoMemory>
+        ensures { IfOk result (λ entries. entries.items ≡ self.now.entries) }
+    {
+        let mut entries = Vec::new(alloc);
+        entries.reserve(self.len())?;
+        self.older.put_entries(alloc, &mut entries)?;
+        put_copies(alloc, self.entries.as_slice(), &mut entries)?;
+        Ok(entries)
+    }
+
+    /// Copies of the next entries from an index on, at least of one of them, and of none beyond another
+    /// index.
+    ///
+    /// # Errors
+    /// `NoMemory` where memory runs out.
+    pub(crate) fn piece(&self, alloc: Global, from: usize, to: usize) -> Result<Vec<Entry>, NoMemory>
+        requires { (from < to) × (to ≤ length self.now.entries) }
+        ensures some { IfOk result (λ piece. (0 < length piece.items) × (from + length piece.items ≤ to)) }
+        ensures entries { IfOk result (λ piece. piece.items ≡ take (length piece.items) (drop from self.now.entries)) }
+    {
+        let before = self.older.len();
+        if from < before {
+            return self.older.piece(alloc, from, to.min(before));
+        }
+        let mut piece = Vec::new(alloc);
+        put_copies(alloc, &self.entries[from - before..to - before], &mut piece)?;
+        Ok(piece)
     }
 
     /// An equal journal. For no further entry there is room.
@@ -90,13 +154,15 @@ impl Journal {
     pub fn copy(&self, alloc: Global) -> Result<Journal, NoMemory>
         ensures { IfOk result (λ copy. (copy.base ≡ self.now.base) × (copy.entries ≡ self.now.entries)) }
     {
-        let mut copy = Journal {
+        let mut entries = Vec::new(alloc);
+        put_copies(alloc, self.entries.as_slice(), &mut entries)?;
+        Ok(Journal {
+            alloc,
             base: self.base.copy(alloc)?,
-            entries: Vec::new(alloc),
+            older: self.older.copy(alloc)?,
+            entries,
             spare: 0,
-        };
-        put_copies(alloc, self.entries.as_slice(), &mut copy)?;
-        Ok(copy)
+        })
     }
 
     /// Adds an entry, in memory of its own: the room stays.
@@ -130,9 +196,27 @@ impl Journal {
         let Some(wanted) = self.spare.checked_add(more) else {
             return Err(NoMemory);
         };
+        self.pack(BLOCK);
         self.entries.reserve(wanted)?;
         self.spare = wanted;
         Ok(())
+    }
+
+    /// Moves so many of the oldest entries that stand in no block into one, where enough newer ones stay and memory
+    /// doesn't run out.
+    fn pack(&mut self, count: usize)
+        ensures { self.new ≡ self.old }
+    {
+        if count == 0 || self.entries.len().saturating_sub(NEWEST) < count {
+            return;
+        }
+        let Ok(block) = Block::of(self.alloc, &self.entries[..count]) else {
+            return;
+        };
+        if self.older.push(block).is_err() {
+            return;
+        }
+        self.entries.drain(..count);
     }
 
     /// Adds an entry for which there is room, and gives up the room for so many more.
@@ -149,6 +233,8 @@ impl Journal {
     pub(crate) fn trim(&mut self)
         ensures { self.new ≡ self.old }
     {
+        let count = self.entries.len().saturating_sub(NEWEST);
+        self.pack(count);
         let wanted = self.entries.len() + self.spare;
         self.entries.shrink_to(wanted);
     }
@@ -162,7 +248,9 @@ impl Journal {
         ensures spare { self.new.spare ≡ self.old.spare }
     {
         self.base = base;
-        self.entries.drain(..count);
+        let packed = count.min(self.older.len());
+        self.older.drop_front(packed);
+        self.entries.drain(..count - packed);
         let wanted = self.entries.len() + self.spare;
         if self.entries.capacity() / 4 > wanted {
             self.entries.shrink_to(wanted);
@@ -178,9 +266,8 @@ fn count_before(base: &Base) -> u64
 
 /// Adds equal entries.
 #[tactic(auto, using(handle_model::proofs::Rest::resting))]
-fn put_copies(alloc: Global, entries: &[Entry], into: &mut Journal) -> Result<(), NoMemory>
-    ensures base { into.new.base ≡ into.old.base }
-    ensures entries { OnOk result (into.new.entries ≡ into.old.entries ++ entries.now) }
+fn put_copies(alloc: Global, entries: &[Entry], into: &mut Vec<Entry>) -> Result<(), NoMemory>
+    ensures { OnOk result (into.new.items ≡ into.old.items ++ entries.now) }
 {
     for entry in entries {
         into.push(entry.copy(alloc)?)?;
