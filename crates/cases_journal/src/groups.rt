@@ -50,8 +50,8 @@ fn read_entry(alloc: Global, line: &str) -> Result<Option<Entry>, NoMemory> {
 /// What stands at that place of the journal, or nothing.
 fn entry_at(alloc: Global, group: &Group, at: usize) -> Result<Answer, NoMemory> {
     let mut text = Vec::new(alloc);
-    match group.journal().get(at) {
-        Some(entry) => entry_text(alloc, entry, &mut text)?,
+    match group.journal().entry(alloc, at)? {
+        Some(entry) => entry_text(alloc, &entry, &mut text)?,
         None => put(b"nothing\n", &mut text)?,
     }
     text.pop();
@@ -69,11 +69,12 @@ fn folded(alloc: Global, group: &Group) -> Result<Answer, NoMemory> {
 /// Puts the lines of the journal.
 fn put_journal(alloc: Global, group: &Group, into: &mut Vec<u8>) -> Result<(), NoMemory> {
     let journal = group.journal();
+    let entries = journal.entries(alloc)?;
     journal_text(
         alloc,
         group.home(),
         journal.base(),
-        journal.as_slice(),
+        entries.as_slice(),
         into,
     )
 }

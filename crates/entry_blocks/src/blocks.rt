@@ -1,5 +1,5 @@
 //! Blocks of a journal, one behind the other.
-ghost use Rattle.std.specs.Prelude.{◌≡◌, ◌-◌, ◌+◌, ◌<◌, ◌≤◌, ◌^◌, ◌++◌, [], length, take, drop, slice_get, IfOk, OnOk, OnErr};
+ghost use Rattle.std.specs.Prelude.{◌≡◌, ◌-◌, ◌+◌, ◌<◌, ◌≤◌, ◌^◌, ◌++◌, [], length, take, drop, IfOk, OnOk, OnErr};
 ghost use Rattle.entry_blocks.specs.Flat.{flat};
 
 use crate::block::Block;
@@ -89,47 +89,27 @@ impl Blocks {
         self.count -= count;
     }
 
-    /// The next entries from an index on, at least one of them, and none beyond another index.
+    /// Adds the entries from one index on up to another to others.
     ///
     /// # Errors
-    /// `NoMemory` where memory runs out.
-    pub fn piece(&self, alloc: Global, from: usize, to: usize) -> Result<Vec<Entry>, NoMemory>
-        requires { (from < to) × (to ≤ length self.now) }
-        ensures some { IfOk result (λ piece. (0 < length piece.items) × (from + length piece.items ≤ to)) }
-        ensures entries { IfOk result (λ piece. piece.items ≡ take (length piece.items) (drop from self.now)) }
+    /// `NoMemory` where memory runs out; some of them may have been added.
+    pub fn put_range(
+        &self,
+        alloc: Global,
+        from: usize,
+        to: usize,
+        into: &mut Vec<Entry>,
+    ) -> Result<(), NoMemory>
+        requires { (from ≤ to) × (to ≤ length self.now) }
+        ensures { OnOk result (into.new.items ≡ into.old.items ++ take (to - from) (drop from self.now)) }
     {
-        let mut entries = Vec::new(alloc);
-        put_piece(
+        put_some(
             alloc,
             self.blocks.as_slice(),
             self.skip + from,
             to - from,
-            &mut entries,
-        )?;
-        Ok(entries)
-    }
-
-    /// The entry of that index, from 0.
-    ///
-    /// # Errors
-    /// `NoMemory` where memory runs out.
-    pub fn entry(&self, alloc: Global, at: usize) -> Result<Option<Entry>, NoMemory>
-        ensures { IfOk result (λ entry. entry ≡ slice_get self.now at) }
-    {
-        if at >= self.count {
-            return Ok(None);
-        }
-        Ok(self.piece(alloc, at, at + 1)?.pop())
-    }
-
-    /// Adds all entries to others.
-    ///
-    /// # Errors
-    /// `NoMemory` where memory runs out; some of them may have been added.
-    pub fn put_entries(&self, alloc: Global, into: &mut Vec<Entry>) -> Result<(), NoMemory>
-        ensures { OnOk result (into.new.items ≡ into.old.items ++ self.now) }
-    {
-        put_from(alloc, self.blocks.as_slice(), self.skip, into)
+            into,
+        )
     }
 
     /// Equal ones.
@@ -147,65 +127,43 @@ impl Blocks {
     }
 }
 
-/// Adds the next entries of blocks from an index on: at most so many, and no more than those of one block.
+/// Adds so many entries of blocks from an index on, or fewer where they end.
 #[tactic(auto, using(crate::proofs::Flats::flattening))]
-fn put_piece(
+fn put_some(
     alloc: Global,
     blocks: &[Block],
     from: usize,
-    most: usize,
+    count: usize,
     into: &mut Vec<Entry>,
 ) -> Result<(), NoMemory>
-    requires none { into.old.items ≡ [] }
-    requires there { (0 < most) × (from + most ≤ length (flat blocks.now)) }
-    ensures some { OnOk result ((0 < length into.new.items) × (length into.new.items ≤ most)) }
-    ensures entries { OnOk result (into.new.items ≡ take (length into.new.items) (drop from (flat blocks.now))) }
+    ensures { OnOk result (into.new.items ≡ into.old.items ++ take count (drop from (flat blocks.now))) }
 {
-    let mut from = from;
+    let (mut from, mut left) = (from, count);
     for block in blocks {
-        let count = block.len();
-        if from < count {
-            let to = from + most.min(count - from);
-            return block.put_range(alloc, from, to, into);
-        }
-        from -= count;
-    }
-    Ok(())
-}
-
-/// Adds the entries of blocks from an index on.
-#[tactic(auto, using(crate::proofs::Flats::flattening))]
-fn put_from(
-    alloc: Global,
-    blocks: &[Block],
-    from: usize,
-    into: &mut Vec<Entry>,
-) -> Result<(), NoMemory>
-    ensures { OnOk result (into.new.items ≡ into.old.items ++ drop from (flat blocks.now)) }
-{
-    let mut from = from;
-    for block in blocks {
-        put_rest(alloc, block, from, into)?;
+        put_part(alloc, block, from, left, into)?;
+        left = left.saturating_sub(block.len().saturating_sub(from));
         from = from.saturating_sub(block.len());
     }
     Ok(())
 }
 
-/// Adds the entries of a block from an index on.
+/// Adds so many entries of a block from an index on, or fewer where it ends.
 #[tactic(auto, using(crate::proofs::Flats::flattening))]
-fn put_rest(
+fn put_part(
     alloc: Global,
     block: &Block,
     from: usize,
+    count: usize,
     into: &mut Vec<Entry>,
 ) -> Result<(), NoMemory>
-    ensures { OnOk result (into.new.items ≡ into.old.items ++ drop from block.now) }
+    ensures { OnOk result (into.new.items ≡ into.old.items ++ take count (drop from block.now)) }
 {
-    let count = block.len();
-    if from >= count {
+    let len = block.len();
+    if from >= len {
         return Ok(());
     }
-    block.put_range(alloc, from, count, into)
+    let some = count.min(len - from);
+    block.put_range(alloc, from, from + some, into)
 }
 
 /// Equal blocks.

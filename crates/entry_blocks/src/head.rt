@@ -37,13 +37,36 @@ pub struct AskedHead {
 /// An entry, with its lists as parts of those of the block.
 #[derive(Clone, Copy, Debug, PartialEq, Eq)]
 pub enum Head {
-    Joined { conn: u32 },
-    Accepted { call: u32, asked: AskedHead },
-    Taken { call: u32, cookies: Part },
-    Denied { call: u32, slot: u8 },
-    Cancelled { call: u32 },
-    Orphaned { call: u32 },
-    Ended { call: u32, results: Part, said: SaidHead },
-    Left { conn: u32 },
-    Closed { due: Part },
+    Joined {
+        conn: u32,
+    },
+    Accepted {
+        call: u32,
+        asked: AskedHead,
+    },
+    Taken {
+        call: u32,
+        cookies: Part,
+    },
+    Denied {
+        call: u32,
+        slot: u8,
+    },
+    Cancelled {
+        call: u32,
+    },
+    Orphaned {
+        call: u32,
+    },
+    Ended {
+        call: u32,
+        results: Part,
+        said: SaidHead,
+    },
+    Left {
+        conn: u32,
+    },
+    Closed {
+        due: Part,
+    },
 }

@@ -88,10 +88,7 @@ impl Lists {
         ensures head { IfOk result (λ head. head ≡ spec.said_head self.old said.now) }
     {
         match said {
-            Said::Out(stub) => Ok(SaidHead::Out(put_stretch(
-                stub.as_slice(),
-                &mut self.octets,
-            )?)),
+            Said::Out(stub) => Ok(SaidHead::Out(put_stretch(stub.as_slice(), &mut self.octets)?)),
             Said::Fault(status) => Ok(SaidHead::Fault(*status)),
         }
     }

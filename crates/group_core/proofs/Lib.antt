@@ -12,6 +12,7 @@ pub mod Openings
 pub mod Owing
 pub mod Pieces
 pub mod Pruning
+pub mod Ranges
 pub mod Resting
 pub mod Shown
 pub mod Staying

@@ -1,10 +1,9 @@
--- A journal whose older entries stand in blocks, and its parts.
-use Rattle.std.proofs.Common.{◌≡◌, ℕ, zero, suc, ◌+◌, ◌-◌, ◌<◌, ◌≤◌, false, min, Option, Some, None, List, [], ◌∷◌, ◌++◌, length, take, drop, slice_get, reverse, refl, sym, ◌∙◌, ap, subst, arith}
+-- Bases that are made piece by piece, the newest entry, and what a call asked.
+use Rattle.std.proofs.Common.{◌≡◌, ℕ, ◌+◌, ◌-◌, ◌≤◌, false, Option, Some, None, List, [], ◌∷◌, ◌++◌, length, take, drop, slice_get, reverse, refl, sym, ◌∙◌, ap, subst, arith}
 use Rattle.std.specs.List.{list_any}
 use Rattle.std.specs.Option.{option_or, option_and_then}
 use Rattle.std.proofs.Math.Seq.{take-add}
 use Rattle.std.proofs.lemmas.List.{reverse-append}
-use Rattle.std.proofs.lemmas.Grind.{common_steps}
 use Rattle.handle_model.specs.declared.entry.Home.{Home}
 use Rattle.handle_model.specs.declared.entry.Asked.{Asked}
 use Rattle.handle_model.specs.declared.entry.Entry.{Entry}
@@ -16,41 +15,13 @@ use Rattle.handle_model.specs.Journal.{Legal, is_shut}
 use Rattle.call_table.specs.declared.row.Row.{Row}
 use Rattle.call_table.specs.Rows.{row_at}
 use Rattle.call_table.specs.Based.{asked_at, asked_in, stored}
-use Rattle.entry_blocks.proofs.Flats.{beyond, left_of}
 use Rattle.journal_tables.specs.Folding.{BaseBegun}
 use Rattle.journal_tables.proofs.Advanced.{advance_twice}
 use Rattle.group_core.specs.Kept.{Logged, EndsWith, logged}
-use Rattle.group_core.specs.Folds.{base_after}
+use Rattle.journal_tables.specs.declared.conns.OpenConn.{OpenConn}
+use Rattle.group_core.specs.Folds.{base_after, older_count}
 use Rattle.group_core.proofs.Folding.{older_legal, older_unshut, newer_unshut, rest_moved}
 use Rattle.group_core.proofs.Found.{shut_newest}
-
--- PARTS OF THE ENTRIES
-
-drop_short : {X : Type 0} (xs : List X) (n : ℕ) → drop (min n (length xs)) xs ≡ drop n xs
-drop_short [] n = grind (arith, common_steps)
-drop_short (x ∷ xs) zero = let none : min zero (length (x ∷ xs)) ≡ zero = omega arith in ap (λ k. drop k (x ∷ xs)) none
-drop_short (x ∷ xs) (suc n) =
-    let less : min (suc n) (length (x ∷ xs)) ≡ suc (min n (length xs)) = omega arith in
-    ap (λ k. drop k (x ∷ xs)) less ∙ drop_short xs n
-
--- the oldest entries go, those in blocks first
-pub dropped : (older es now : List Entry) (count packed : ℕ) → older ++ es ≡ now → packed ≡ min count (length older) → drop packed older ++ drop (count - packed) es ≡ drop count now
-dropped older es now count packed e m =
-    let rest : count - packed ≡ count - length older = omega (arith, m) in
-    ap (λ k. drop k older ++ drop (count - packed) es) m
-    ∙ (ap (λ l. l ++ drop (count - packed) es) (drop_short older count)
-    ∙ (ap (λ k. drop count older ++ drop k es) rest ∙ (sym (left_of older es count) ∙ ap (drop count) e)))
-
-as_many : {X : Type 0} (n : ℕ) (xs : List X) → take n xs ≡ take (length (take n xs)) xs
-as_many zero xs = refl
-as_many (suc n) [] = refl
-as_many (suc n) (x ∷ xs) = ap (λ l. x ∷ l) (as_many n xs)
-
--- some of the entries that stand in no block
-pub pieced : (older es now piece : List Entry) (from n : ℕ) → older ++ es ≡ now → length older ≤ from → piece ≡ take n (drop (from - length older) es) → piece ≡ take (length piece) (drop from now)
-pieced older es now piece from n e le p =
-    let there : piece ≡ take n (drop from now) = p ∙ ap (take n) (sym (beyond older es from le) ∙ ap (drop from) e) in
-    there ∙ (as_many n (drop from now) ∙ ap (λ l. take (length l) (drop from now)) (sym there))
 
 -- BASES PIECE BY PIECE
 
@@ -73,6 +44,9 @@ piece_base home log n k =
     let piece : List Entry = take k (drop n log.entries) in
     sym (advance_twice home log.base (reverse piece) (reverse front))
     ∙ ap (advance home log.base) (sym (reverse-append front piece) ∙ ap reverse (sym (take-add n k log.entries)))
+
+pub few_older : (log : Logged) (rows : List Row) (conns : List OpenConn) (n : ℕ) → n ≡ older_count log rows conns → n ≤ length log.entries
+few_older log rows conns n e = omega (arith, e)
 
 -- THE NEWEST ENTRY
 

@@ -18,6 +18,9 @@ use journal_tables::{ConnTable, folded_base};
 use rpc_base::NoMemory;
 use std::alloc::Global;
 
+/// How many entries are copied at once.
+const PIECE: usize = 16_384;
+
 /// Makes room for a further connection. The entries that stand before the Join of each open connection
 /// and the Accept of each running call move into the base, unless memory fails.
 ///
@@ -66,9 +69,10 @@ fn base_after(
     let mut base = journal.base().copy(alloc)?;
     let mut done = 0;
     while done < count {
-        let piece = journal.piece(alloc, done, count)?;
+        let next = done + PIECE.min(count - done);
+        let piece = journal.range(alloc, done, next)?;
         base = folded_base(alloc, home, &base, piece.as_slice())?;
-        done += piece.len();
+        done = next;
     }
     Ok(base)
 }

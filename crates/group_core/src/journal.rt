@@ -1,5 +1,5 @@
 //! The entries of a group.
-ghost use Rattle.std.specs.Prelude.{◌≡◌, ◌+◌, ◌++◌, ◌<◌, ◌≤◌, ◌==◌, [], ◌∷◌, length, take, drop, slice_get, IfOk, OnOk, OnErr};
+ghost use Rattle.std.specs.Prelude.{◌≡◌, ◌+◌, ◌-◌, ◌++◌, ◌≤◌, ◌==◌, [], ◌∷◌, length, take, drop, slice_get, IfOk, OnOk, OnErr};
 ghost use Rattle.std.specs.Option.{option_copied};
 ghost use Rattle.handle_model.specs.Bases.{empty_base};
 ghost use Rattle.group_core.specs.Kept.{AreNewest, Came, EndsWith, Same};
@@ -97,54 +97,46 @@ impl Journal {
         }
     }
 
+    /// Copies of the entries from one index on up to another.
+    ///
+    /// # Errors
+    /// `NoMemory` where memory runs out.
+    pub fn range(&self, alloc: Global, from: usize, to: usize) -> Result<Vec<Entry>, NoMemory>
+        requires { (from ≤ to) × (to ≤ length self.now.entries) }
+        ensures { IfOk result (λ range. range.items ≡ take (to - from) (drop from self.now.entries)) }
+    {
+        let before = self.older.len();
+        let mut range = Vec::new(alloc);
+        let (first, last) = (from.min(before), to.min(before));
+        self.older.put_range(alloc, first, last, &mut range)?;
+        let (first, last) = (from.saturating_sub(before), to.saturating_sub(before));
+        put_copies(alloc, &self.entries[first..last], &mut range)?;
+        Ok(range)
+    }
+
     /// A copy of the entry of that index, from 0.
     ///
     /// # Errors
     /// `NoMemory` where memory runs out.
+    #[tactic(auto, using(crate::proofs::Ranges::ranging))]
     pub fn entry(&self, alloc: Global, at: usize) -> Result<Option<Entry>, NoMemory>
         ensures { IfOk result (λ entry. entry ≡ slice_get self.now.entries at) }
     {
-        let before = self.older.len();
-        if at < before {
-            return self.older.entry(alloc, at);
+        if at >= self.len() {
+            return Ok(None);
         }
-        match self.entries.get(at - before) {
-            Some(entry) => Ok(Some(entry.copy(alloc)?)),
-            None => Ok(None),
-        }
+        Ok(self.range(alloc, at, at + 1)?.pop())
     }
 
     /// Copies of all entries.
     ///
     /// # Errors
     /// `NoMemory` where memory runs out.
+    #[tactic(auto, using(crate::proofs::Ranges::ranging))]
     pub fn entries(&self, alloc: Global) -> Result<Vec<Entry>, NoMemory>
         ensures { IfOk result (λ entries. entries.items ≡ self.now.entries) }
     {
-        let mut entries = Vec::new(alloc);
-        entries.reserve(self.len())?;
-        self.older.put_entries(alloc, &mut entries)?;
-        put_copies(alloc, self.entries.as_slice(), &mut entries)?;
-        Ok(entries)
-    }
-
-    /// Copies of the next entries from an index on, at least of one of them, and of none beyond another
-    /// index.
-    ///
-    /// # Errors
-    /// `NoMemory` where memory runs out.
-    pub(crate) fn piece(&self, alloc: Global, from: usize, to: usize) -> Result<Vec<Entry>, NoMemory>
-        requires { (from < to) × (to ≤ length self.now.entries) }
-        ensures some { IfOk result (λ piece. (0 < length piece.items) × (from + length piece.items ≤ to)) }
-        ensures entries { IfOk result (λ piece. piece.items ≡ take (length piece.items) (drop from self.now.entries)) }
-    {
-        let before = self.older.len();
-        if from < before {
-            return self.older.piece(alloc, from, to.min(before));
-        }
-        let mut piece = Vec::new(alloc);
-        put_copies(alloc, &self.entries[from - before..to - before], &mut piece)?;
-        Ok(piece)
+        self.range(alloc, 0, self.len())
     }
 
     /// An equal journal. For no further entry there is room.

@@ -7,7 +7,7 @@ ghost use Rattle.group_core.specs.Calls.{Accepts, Takes, Cancels};
 ghost use Rattle.group_core.specs.Conns.{Settles};
 ghost use Rattle.replay_groups.specs.Keeps.{AddsRest, Counted, newest_due};
 
-use group_core::{AcceptRefusal, Cancelled, Group, Rest, Taking};
+use group_core::{AcceptRefusal, Cancelled, Group, Journal, Rest, Taking};
 use handle_model::{Asked, Entry};
 use replay_script::Counts;
 
@@ -44,13 +44,13 @@ pub fn count_cancel(counts: &mut Counts, cancelled: Cancelled)
     }
 }
 
-/// How many handles were to be run down in the newest of these entries, oldest first.
+/// How many handles were to be run down in the newest entry of a journal.
 #[tactic(auto, using(crate::proofs::Tallies::newest))]
-fn newest_due(entries: &[Entry]) -> usize
-    ensures { result ≡ newest_due (reverse entries.now) }
+fn newest_due(journal: &Journal) -> usize
+    ensures { result ≡ newest_due (reverse journal.now.entries) }
 {
-    match entries.split_last() {
-        Some((Entry::Shut { due }, _)) => due.len(),
+    match journal.last() {
+        Some(Entry::Shut { due }) => due.len(),
         _ => 0,
     }
 }
@@ -61,6 +61,6 @@ pub fn count_rest(counts: &mut Counts, rest: &Rest, group: &Group)
 {
     match rest {
         Rest::Stays => {}
-        Rest::Shut(_) => counts.shut(newest_due(group.journal().as_slice())),
+        Rest::Shut(_) => counts.shut(newest_due(group.journal())),
     }
 }

@@ -35,5 +35,5 @@ pub fn last_said(groups: &Groups, id: u32) -> Option<&Said>
     requires { Has groups.now id }
     ensures { Told groups.now id (λ j. option_copied result ≡ spec.said_last j.past) }
 {
-    said_in(group_of(groups, id).journal().as_slice())
+    said_in(group_of(groups, id).journal().newest())
 }

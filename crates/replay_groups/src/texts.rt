@@ -35,11 +35,12 @@ fn log_one(alloc: Global, group: &Group, into: &mut Vec<u8>) -> Result<(), NoMem
     ensures { OnOk result (into.new.items ≡ into.old.items ++ history_text group.now) }
 {
     let journal = group.journal();
+    let entries = journal.entries(alloc)?;
     journal_text(
         alloc,
         group.home(),
         journal.base(),
-        journal.as_slice(),
+        entries.as_slice(),
         into,
     )
 }

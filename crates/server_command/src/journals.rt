@@ -100,5 +100,6 @@ fn put_copy(
 ) -> Result<(), NoMemory>
     ensures { OnOk result (into.new.items ≡ into.old.items ++ history_text (history_of home journal.now.base journal.now.entries)) }
 {
-    journal_text(alloc, home, journal.base(), journal.as_slice(), into)
+    let entries = journal.entries(alloc)?;
+    journal_text(alloc, home, journal.base(), entries.as_slice(), into)
 }

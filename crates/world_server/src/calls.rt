@@ -1,6 +1,5 @@
 //! Calls.
 ghost use Rattle.std.specs.Prelude.{◌≡◌, ◌≢◌, ◌≤◌, ◌||◌, not, None, true, IfOk, OnOk, length};
-ghost use Rattle.std.specs.Option.{option_copied};
 ghost use Rattle.handle_model.specs.Journal.{is_open, runs, waits, suit, slots};
 ghost use Rattle.handle_model.specs.declared.entry.Entry.TheVariants as entries;
 ghost use Rattle.call_table.specs.Laws.{open_asked};
@@ -70,12 +69,17 @@ impl Server {
         }
     }
 
-    /// What a call asked that waits or runs.
-    pub fn asked(&self, call: u32) -> Option<&Asked>
+    /// A copy of what a call asked that waits or runs.
+    ///
+    /// # Errors
+    ///
+    /// `NoMemory` where there is no memory for it.
+    pub fn asked(&self, call: u32) -> Result<Option<Asked>, NoMemory>
         requires { IsWhole (seen self.now) }
-        ensures { option_copied result ≡ open_asked (whole (seen self.now).past) call }
+        ensures { IfOk result (λ asked. asked ≡ open_asked (whole (seen self.now).past) call) }
     {
-        self.group.asked_of(call)
+        let asked = self.group.asked_of(call)?;
+        Ok(asked)
     }
 
     /// A waiting call is taken, where nothing is in its way, or is denied for its handles.

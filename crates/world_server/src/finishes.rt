@@ -99,10 +99,9 @@ impl Server {
         requires runs { journal.runs (whole (seen self.old).past) call ≡ true }
         ensures { IfOk result (λ done. Goes (seen self.old) (λ past new. Finishes (seen self.old).tables past call kepts (msg out) done new) (seen self.new)) }
     {
-        let Some(asked) = self.asked(call) else {
+        let Some(asked) = self.asked(call)? else {
             return Ok(false);
         };
-        let asked = asked.copy(self.alloc)?;
         let message = message_of(self.alloc, &self.served, &asked)?;
         match self.ended(&asked, &message, kepts, out)? {
             None => Ok(false),

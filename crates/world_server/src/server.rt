@@ -83,8 +83,8 @@ impl Server {
     fn newest(&self) -> Result<Entry, NoMemory>
         ensures { IfOk result (λ entry. (older : List EntrySpec) × ((seen self.now).group.past ≡ entry ∷ older)) }
     {
-        match self.group.journal().as_slice().split_last() {
-            Some((entry, _)) => entry.copy(self.alloc),
+        match self.group.journal().last() {
+            Some(entry) => entry.copy(self.alloc),
             None => Err(NoMemory),
         }
     }

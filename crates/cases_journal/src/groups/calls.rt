@@ -47,7 +47,7 @@ fn refused(
 }
 
 fn accept(alloc: Global, group: &mut Group, asked: Asked) -> Result<Answer, NoMemory> {
-    if !is_open(group, asked.conn) || asked.slots.len() > 4 {
+    if !is_open(alloc, group, asked.conn)? || asked.slots.len() > 4 {
         return Ok(Answer::Unfit);
     }
     let before = format!(in alloc; "{asked:?}")?;
@@ -59,7 +59,7 @@ fn accept(alloc: Global, group: &mut Group, asked: Asked) -> Result<Answer, NoMe
 
 /// So many calls of the first connection issue a handle each.
 pub fn issued(alloc: Global, group: &mut Group, count: u32) -> Result<Answer, NoMemory> {
-    if !is_open(group, 1) {
+    if !is_open(alloc, group, 1)? {
         return Ok(Answer::Unfit);
     }
     if issue(alloc, group, count)? {
@@ -83,7 +83,7 @@ fn end(
 }
 
 fn leave(alloc: Global, group: &mut Group, conn: u32) -> Result<Answer, NoMemory> {
-    if !is_open(group, conn) {
+    if !is_open(alloc, group, conn)? {
         return Ok(Answer::Unfit);
     }
     went(alloc, group.leave(conn))

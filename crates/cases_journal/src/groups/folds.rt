@@ -37,11 +37,12 @@ fn put_base_of_all(
 /// Puts up to where the journal of a group may be folded, and the base of all its entries.
 pub fn put_folded(alloc: Global, group: &Group, into: &mut Vec<u8>) -> Result<(), NoMemory> {
     let journal = group.journal();
+    let entries = journal.entries(alloc)?;
     put_base_of_all(
         alloc,
         group.home(),
         journal.base(),
-        journal.as_slice(),
+        entries.as_slice(),
         into,
     )
 }

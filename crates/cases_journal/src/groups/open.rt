@@ -1,5 +1,5 @@
 //! Which connections are open.
-ghost use Rattle.std.specs.Prelude.{◌≡◌};
+ghost use Rattle.std.specs.Prelude.{◌≡◌, IfOk};
 ghost use Rattle.std.specs.List.{list_any};
 ghost use Rattle.handle_model.specs.Bases as bases;
 ghost use Rattle.handle_model.specs.History.{history_of};
@@ -7,6 +7,8 @@ ghost use Rattle.handle_model.specs.Journal as spec;
 
 use group_core::Group;
 use handle_model::{Base, Entry, Home};
+use rpc_base::NoMemory;
+use std::alloc::Global;
 
 fn any_joins(entries: &[Entry], conn: u32) -> bool
     ensures { result ≡ list_any (spec.joins conn) entries.now }
@@ -53,9 +55,18 @@ fn is_open_in(home: Home, base: &Base, entries: &[Entry], conn: u32) -> bool
 }
 
 /// Whether the connection joined and did not leave.
-pub fn is_open(group: &Group, conn: u32) -> bool
-    ensures { result ≡ spec.is_open group.now conn }
+///
+/// # Errors
+/// `NoMemory` where memory runs out.
+pub fn is_open(alloc: Global, group: &Group, conn: u32) -> Result<bool, NoMemory>
+    ensures { IfOk result (λ open. open ≡ spec.is_open group.now conn) }
 {
     let journal = group.journal();
-    is_open_in(group.home(), journal.base(), journal.as_slice(), conn)
+    let entries = journal.entries(alloc)?;
+    Ok(is_open_in(
+        group.home(),
+        journal.base(),
+        entries.as_slice(),
+        conn,
+    ))
 }

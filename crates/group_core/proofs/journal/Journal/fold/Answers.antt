@@ -1,7 +1,7 @@
 use Rattle.std.proofs.Common.{rules, ◌≡◌, ◌-◌, ◌++◌, List, length, drop, min, ap, ◌∙◌}
 use Rattle.handle_model.specs.declared.entry.Entry.{Entry}
 use Rattle.group_core.specs.Kept.{Logged}
-use Rattle.group_core.proofs.Pieces.{dropped}
+use Rattle.group_core.proofs.Ranges.{dropped}
 use Rattle.group_core.proofs.journal.Journal.fold.Goals as goal
 
 pub returns-then-capacity-wanted-clause-entries : goal.returns-then-capacity-wanted-clause-entries
