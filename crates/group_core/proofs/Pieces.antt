@@ -26,7 +26,7 @@ use Rattle.group_core.proofs.Found.{shut_newest}
 -- BASES PIECE BY PIECE
 
 -- the journal that goes on behind the n oldest entries
-after : Home → Logged → ℕ → Logged
+abbrev after : Home → Logged → ℕ → Logged
 after home log n = record { base = base_after home log n; entries = drop n log.entries; spare = log.spare }
 
 pub piece_legal : (home : Home) (log : Logged) (n k : ℕ) → IsSound (logged home log) → BaseBegun log.base → list_any is_shut (logged home log).past ≡ false → Legal (history_of home (base_after home log n) (take k (drop n log.entries)))
