@@ -3,9 +3,8 @@ use Rattle.std.proofs.Common.{◌≡◌, ◌≢◌, ℕ, Bool, true, false, if�
 use Rattle.handle_model.specs.declared.entry.Asked.{Asked}
 use Rattle.handle_model.specs.declared.entry.Outcome.{Outcome}
 use Rattle.handle_model.specs.declared.entry.Said.{Said}
-use Rattle.handle_model.specs.declared.entry.DueItem.{DueItem}
 use Rattle.handle_model.specs.declared.entry.Entry.{Entry}
-use Rattle.handle_model.specs.declared.entry.Entry.TheVariants.{Deny, Cancel, Orphan, End, Leave, Shut}
+use Rattle.handle_model.specs.declared.entry.Entry.TheVariants.{Cancel, End, Leave, Shut}
 use Rattle.handle_model.specs.declared.reply.Reply.{Reply}
 use Rattle.handle_model.specs.declared.reply.Reply.TheVariants.{Never, Ran, Dropped, Open}
 use Rattle.handle_model.specs.History.{History, with_entry}

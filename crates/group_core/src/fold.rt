@@ -54,12 +54,7 @@ pub fn make_way(
 }
 
 /// The base after so many of the oldest entries, piece by piece, so that few of them are copied at once.
-fn base_after(
-    alloc: Global,
-    home: Home,
-    journal: &Journal,
-    count: usize,
-) -> Result<Base, NoMemory>
+fn base_after(alloc: Global, home: Home, journal: &Journal, count: usize) -> Result<Base, NoMemory>
     requires sound { IsSound (logged home journal.now) }
     requires begun { BaseBegun journal.now.base }
     requires unshut { list_any is_shut (logged home journal.now).past ≡ false }

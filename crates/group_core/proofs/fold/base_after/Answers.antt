@@ -1,4 +1,4 @@
-use Rattle.std.proofs.Common.{◌≡◌, ◌∙◌, ◌+◌, ◌-◌, ◌≤◌, false, take, drop, reverse, sym, ap, subst, List, arith}
+use Rattle.std.proofs.Common.{◌≡◌, ◌∙◌, ◌+◌, ◌-◌, false, take, drop, reverse, sym, ap, subst, List, arith}
 use Rattle.std.specs.List.{list_any}
 use Rattle.handle_model.specs.declared.base.Base.{Base}
 use Rattle.handle_model.specs.declared.entry.Entry.{Entry}
@@ -37,9 +37,10 @@ loop-done-preserved c =
     let k = c.loop-done.done + c.min.result - c.loop-done.done in
     let log = c.args.journal.now in
     let piece : c.as_slice.result.now ≡ take k (drop n log.entries) = c.as_slice.ensures.value ∙ c.in_ok-piece.ensures in
-    let whole : n + k ≡ n + m = omega arith in
-    (omega (arith, c.min.ensures, c.loop-done.invariant.0),
-    c.in_ok-base-2.ensures
-    ∙ (ap (λ (b : Base). advance c.args.home b (reverse c.as_slice.result.now)) c.loop-done.invariant.1
-    ∙ (ap (λ (es : List Entry). advance c.args.home (base_after c.args.home log n) (reverse es)) piece
-    ∙ (piece_base c.args.home log n k ∙ ap (base_after c.args.home log) whole))))
+    let whole : n + k ≡ n + m = omega arith in (
+      omega (arith, c.min.ensures, c.loop-done.invariant.0),
+      c.in_ok-base-2.ensures
+          ∙ (ap (λ (b : Base). advance c.args.home b (reverse c.as_slice.result.now)) c.loop-done.invariant.1
+          ∙ (ap (λ (es : List Entry). advance c.args.home (base_after c.args.home log n) (reverse es)) piece
+          ∙ (piece_base c.args.home log n k ∙ ap (base_after c.args.home log) whole))),
+    )
