@@ -59,14 +59,9 @@ fn is_open_in(home: Home, base: &Base, entries: &[Entry], conn: u32) -> bool
 /// # Errors
 /// `NoMemory` where memory runs out.
 pub fn is_open(alloc: Global, group: &Group, conn: u32) -> Result<bool, NoMemory>
-    ensures { IfOk result (λ open. open ≡ spec.is_open group.now conn) }
+    ensures { IfOk result (λ found. found ≡ spec.is_open group.now conn) }
 {
     let journal = group.journal();
     let entries = journal.entries(alloc)?;
-    Ok(is_open_in(
-        group.home(),
-        journal.base(),
-        entries.as_slice(),
-        conn,
-    ))
+    Ok(is_open_in(group.home(), journal.base(), entries.as_slice(), conn))
 }
