@@ -162,8 +162,9 @@ pub record RefusedAmong (m : MpxState) (reason : ℕ) (result : Result (List ℕ
   pub conn : Refused m.conn reason result n.conn
   pub out : n.out ≡ m.out
 
--- The call with that id is answered: to its own caller, and no other call is.
+-- The call with that id is answered, while PDUs are taken: to its own caller, and no other call is.
 pub record RepliedTo (m : MpxState) (id : ℕ) (said : Option Said) (executed : Bool) (octets : List ℕ) (n : MpxState) : Type 0 where
+  pub free : m.conn.waits ≡ Nothing
   pub call : OpenCall
   pub found : find (is_of id) m.out ≡ Some call
   pub replies : Replies call.caller m.conn.agreement.max_xmit call.maybe executed said octets

@@ -49,12 +49,13 @@ naked_among t m c ack reason octets at waits written =
       record { conn = r.2; many = subst (λ (x : Waits). KnowsMany x t.many r.0.past) r.2.waits tt; out = at.out },
     )
 
-pub replied_among : (t : MpxFields) (m : MpxState) (id : ℕ) (call : OpenCall) (executed : Bool) (said : Option Said) (octets : List ℕ) (new : List OpenCall) → IsAmong t m → find (is_of id) t.out ≡ Some call
+pub replied_among : (t : MpxFields) (m : MpxState) (id : ℕ) (call : OpenCall) (executed : Bool) (said : Option Said) (octets : List ℕ) (new : List OpenCall) → IsAmong t m → t.conn.waits ≡ Nothing → find (is_of id) t.out ≡ Some call
     → Replies call.caller t.conn.agreement.max_xmit call.maybe executed said octets → new ≡ without id t.out
     → (n : MpxState) × RepliedAmong m id said executed (Ok octets) n × IsAmong (record t { out = new }) n
-replied_among t m id call executed said octets new at found says after = (
+replied_among t m id call executed said octets new at taking found says after = (
   record m { out = without id m.out },
   record {
+    free = sym at.conn.waits ∙ taking;
     call = call;
     found = subst (λ (x : List OpenCall). find (is_of id) x ≡ Some call) at.out found;
     replies = subst (λ (x : Agreement). Replies call.caller x.max_xmit call.maybe executed said octets) at.conn.agreement says;

@@ -4,4 +4,4 @@
 
 mod laws;
 
-pub use laws::{all_has_come, few_stay_unanswered, histories_are_courses};
+pub use laws::{all_has_come, few_stay_unanswered, histories_are_courses, histories_are_played};

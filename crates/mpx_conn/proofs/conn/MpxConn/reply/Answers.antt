@@ -1,4 +1,5 @@
 use Rattle.std.proofs.Common.{◌≡◌, true, sym, subst}
+use Rattle.conn_asks.specs.declared.events.Waits.TheVariants.{Nothing}
 use Rattle.mpx_asks.specs.Open.{has}
 use Rattle.mpx_conn.specs.Fields.{MpxFields, IsAmong}
 use Rattle.mpx_conn.proofs.Turns.{replied_among, found_by}
@@ -13,5 +14,6 @@ unreachable-requires c =
 pub returns : goal.returns
 returns c m h =
     let at = subst (λ (x : MpxFields). IsAmong x m) (sym c.self.view_is) h in
+    let taking = subst (λ (x : MpxFields). x.conn.waits ≡ Nothing) (sym c.self.view_is) c.requires.taking in
     let found = rw c.in-Some.is at c.find.ensures in
-    replied_among _ m c.args.call_id c.in-Some.call.now c.args.executed _ c.in_ok-octets.octets c.remove.new.self at (sym found) c.in_ok-octets.ensures c.remove.ensures
+    replied_among _ m c.args.call_id c.in-Some.call.now c.args.executed _ c.in_ok-octets.octets c.remove.new.self at taking (sym found) c.in_ok-octets.ensures c.remove.ensures

@@ -1,0 +1,10 @@
+pub mod Answered
+pub mod Counting
+pub mod Coursing
+pub mod Going
+pub mod Moving
+pub mod Outs
+pub mod Owning
+pub mod Shuts
+pub mod Standing
+pub mod Telling

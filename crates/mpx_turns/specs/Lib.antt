@@ -1,0 +1,10 @@
+pub mod Courses
+pub mod Matches
+pub mod Moves
+pub mod Ours
+pub mod Owned
+pub mod Steps
+pub mod Stories
+pub mod Telling
+pub mod Told
+pub mod Unanswered

@@ -1,0 +1,11 @@
+use Rattle.mpx_histories.specs.Histories.Decision.{RefuseGroup}
+use Rattle.server_many.proofs.Living.{decides_ok, decides_failed}
+use Rattle.server_many.proofs.wire.MpxWire.nak.Goals as goal
+
+pub returns-in-Ok-put_all-clause-decides : goal.returns-in-Ok-put_all-clause-decides
+returns-in-Ok-put_all-clause-decides g c =
+    λ ids seen m l. decides_ok g.K.Link.shows ids c.args.self.now c.nak.new.self c.put_all.new.link seen m (RefuseGroup c.args.reason) c.in-Ok.octets c.as_slice.result.now c.as_slice.ensures l c.in-Ok.ensures c.in-Ok-put_all.ensures
+
+pub returns-clause-decides : goal.returns-clause-decides
+returns-clause-decides g c =
+    λ ids seen m l. decides_failed g.K.Link.shows ids c.args.self.now c.nak.new.self c.put_all.new.link seen m (RefuseGroup c.args.reason) c.in-Ok.octets c.as_slice.result.now c.as_slice.ensures l c.in-Ok.ensures c.in-Err-put_all.ensures.0 c.in-Err-put_all.ensures.1
