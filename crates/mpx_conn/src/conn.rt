@@ -4,10 +4,12 @@ ghost use Rattle.std.specs.Option.{option_copied};
 ghost use Rattle.conn_asks.specs.Answers.{FitsStub};
 ghost use Rattle.conn_asks.specs.States.{ConnState, at_start, with_octets, IsGrouping};
 ghost use Rattle.conn_asks.specs.declared.events.Waits.TheVariants.{Nothing};
+ghost use Rattle.pdu_stream.specs.Cuts.{LeavesUncut};
 ghost use Rattle.mpx_asks.specs.Open.{most_open, has};
 ghost use Rattle.mpx_asks.specs.Among.{MpxState as AState, GoesAmong, BoundAmong, RefusedAmong, RepliedAmong};
 
 use conn_asks::{Act, Agreement, Waits, bind_ack, bind_nak, reply};
+use crate::uncut::uncut;
 use handle_model::Said;
 use mpx_asks::OpenCalls;
 use pdu_codec::{LEAST_FRAGMENT, flags};
@@ -216,5 +218,15 @@ impl MpxConn {
         let octets = reply(self.alloc, call.caller, most, call.maybe, executed, said)?;
         self.out.remove(call_id);
         Ok(octets)
+    }
+    /// How many of the octets that came stand behind the whole PDUs. The connection is given up.
+    ///
+    /// # Errors
+    ///
+    /// `NoMemory` where there is no memory to cut them.
+    pub fn rest(self) -> Result<usize, NoMemory>
+        ensures { (m : AState) → IsAmong self m → IfOk result (LeavesUncut m.conn.rest) }
+    {
+        uncut(self.feed)
     }
 }

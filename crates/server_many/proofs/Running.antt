@@ -20,30 +20,30 @@ use Rattle.server_many.specs.Rows.{WaitsAs, IsRow}
 module _ (tables : List TableForm) (v w : Seen) (g c : ℕ) (still : StillHas v w []) where
   -- the row with its slots numbered and its cookies
   abbrev pub run_row : Row → List (Option ℕ) → ℕ → Row
-  run_row row given serial = record row { asked = record row.asked { slots = filled (serial - 1) row.asked.slots }; running = Some given }
+  run_row row given serial = record row { asked = record { value = record row.asked.value { slots = filled (serial - 1) row.asked.value.slots } }; running = Some given }
 
   -- what a worker needs of it
   pub record Taken (r : Request) (row : Row) (given cookies : List (Option ℕ)) (serial : ℕ) : Type 0 where
     pub its : IsRow tables w g c r (run_row row given serial)
-    pub opened : Opened tables row.asked.iface row.asked.op row.asked.order row.asked.stub row.asked.slots
-    pub fits : (serial - 1) + length (filter opens row.asked.slots) < 2 ^ 32
-    pub suits : suit_cookies (filled (serial - 1) row.asked.slots) cookies ≡ true
+    pub opened : Opened tables row.asked.value.iface row.asked.value.op row.asked.value.order row.asked.value.stub row.asked.value.slots
+    pub fits : (serial - 1) + length (filter opens row.asked.value.slots) < 2 ^ 32
+    pub suits : suit_cookies (filled (serial - 1) row.asked.value.slots) cookies ≡ true
 
   pub row_taken : (r : Request) (row : Row) (s : WaitsAs tables v g c r row) (given cookies : List (Option ℕ)) (serial : ℕ) → row.running ≡ None → IsRow tables v g c r row
       → slots_seen w g row.call ≡ s.slots → HubTaken w g row.call serial → given ≡ row_of cookies → suit_cookies s.slots cookies ≡ true
       → Taken (record r { deed = Accepted row.call s.slots (Running cookies) }) row given cookies serial
   row_taken r row s given cookies serial none x seen had given_is suits =
-      let first : serial ≡ first_serial (filled s.before row.asked.slots) = had.serial_is ∙ ap first_serial (seen ∙ s.numbered) in
-      let same : s.slots ≡ filled (serial - 1) row.asked.slots =
-      s.numbered ∙ sym (ap (λ (n : ℕ). filled (n - 1) row.asked.slots) first ∙ filled_first s.before row.asked.slots) in
-      let small = first_small s.before row.asked.slots in
+      let first : serial ≡ first_serial (filled s.before row.asked.value.slots) = had.serial_is ∙ ap first_serial (seen ∙ s.numbered) in
+      let same : s.slots ≡ filled (serial - 1) row.asked.value.slots =
+      s.numbered ∙ sym (ap (λ (n : ℕ). filled (n - 1) row.asked.value.slots) first ∙ filled_first s.before row.asked.value.slots) in
+      let small = first_small s.before row.asked.value.slots in
       let fits = s.fits in
       record {
         its = record {
           id_is = x.id_is;
           unmarked = x.unmarked;
           unanswered = x.unanswered;
-          asked = ap (λ (z : Asked). record z { slots = filled (serial - 1) row.asked.slots }) x.asked;
+          asked = ap (λ (z : Asked). record z { slots = filled (serial - 1) row.asked.value.slots }) x.asked;
           has = still.has_call g c row.call tt x.has;
           stands = record {
             cookies = cookies;
@@ -54,6 +54,6 @@ module _ (tables : List TableForm) (v w : Seen) (g c : ℕ) (still : StillHas v 
           };
         };
         opened = s.opened;
-        fits = subst (λ (n : ℕ). (n - 1) + length (filter opens row.asked.slots) < 2 ^ 32) (sym first) (omega arith);
+        fits = subst (λ (n : ℕ). (n - 1) + length (filter opens row.asked.value.slots) < 2 ^ 32) (sym first) (omega arith);
         suits = subst (λ ss. suit_cookies ss cookies ≡ true) same suits;
       }

@@ -25,17 +25,17 @@ module _ (tables : List TableForm) (v : Seen) (g c : ℕ) where
     pub before : ℕ
     pub deed_is : r.deed ≡ Accepted row.call slots Waiting
     pub offs_are : r.offs ≡ []
-    pub opened : Opened tables row.asked.iface row.asked.op row.asked.order row.asked.stub row.asked.slots
-    pub numbered : slots ≡ filled before row.asked.slots
-    pub fits : before + length (filter opens row.asked.slots) < 2 ^ 32
+    pub opened : Opened tables row.asked.value.iface row.asked.value.op row.asked.value.order row.asked.value.stub row.asked.value.slots
+    pub numbered : slots ≡ filled before row.asked.value.slots
+    pub fits : before + length (filter opens row.asked.value.slots) < 2 ^ 32
     pub waited : row.orphaned ≡ false
 
   -- its call runs with the cookies of that row
   pub record RunsAs (r : Request) (row : Row) (given : List (Option ℕ)) : Type 0 where
     pub cookies : List (Option ℕ)
-    pub deed_is : r.deed ≡ Accepted row.call row.asked.slots (Running cookies)
+    pub deed_is : r.deed ≡ Accepted row.call row.asked.value.slots (Running cookies)
     pub given_is : given ≡ row_of cookies
-    pub runs : (results : List Outcome) → suit row.asked.slots results ≡ true → Runs v g row.call results
+    pub runs : (results : List Outcome) → suit row.asked.value.slots results ≡ true → Runs v g row.call results
     pub orphaned_is : list_any is_orphan r.offs ≡ row.orphaned
 
   abbrev pub StandsAs : Option (List (Option ℕ)) → Request → Row → Type 0
@@ -47,7 +47,7 @@ module _ (tables : List TableForm) (v : Seen) (g c : ℕ) where
     pub id_is : r.joined.call_id ≡ row.id
     pub unmarked : r.joined.cancel ≡ false
     pub unanswered : r.answer ≡ None
-    pub asked : row.asked ≡ asked_as c (request_of r.joined r.iface) row.asked.slots
+    pub asked : row.asked.value ≡ asked_as c (request_of r.joined r.iface) row.asked.value.slots
     pub has : HasCall v g c row.call
     pub stands : StandsAs row.running r row
 

@@ -3,8 +3,19 @@
 //! "Connection-oriented RPC PDUs", PFC_CONC_MPX). Each step is a function whose contract says to which state it leads.
 #![tactic(auto)]
 
+mod ends;
+mod calling_off;
+mod early;
+mod leaving;
+mod line;
+mod listening;
 mod row;
+mod requests;
 mod wire;
 
+pub use early::{hear_early, join, nak, put_close};
+pub use leaving::{ManyGone, close};
+pub use line::ManyLine;
+pub use listening::Ahead;
 pub use row::Row;
 pub use wire::MpxWire;

@@ -18,7 +18,7 @@ use std::snapshot::Snapshot;
 use std::sync::Wait;
 
 /// Why a connection doesn't go on behind a fault.
-pub(crate) fn stopped(fault: Fault) -> Stop
+pub fn stopped(fault: Fault) -> Stop
     ensures { result ≡ stop_by fault }
 {
     match fault {

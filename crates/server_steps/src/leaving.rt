@@ -30,7 +30,7 @@ fn run_down<R: Wait, M: Manager>(rt: &R, manager: &M, desks: M::Pass, due: DueLi
 }
 
 /// Runs down the handles of a group that has ended and retires it, where it has: that it was retired, then or `before`.
-pub(crate) fn settle<R: Wait, M: Manager>(
+pub fn settle<R: Wait, M: Manager>(
     rt: &R,
     hub: &Hub,
     manager: &M,

@@ -24,9 +24,10 @@ mod wire;
 mod working;
 
 pub use calls::accept_status;
-pub use early::{hear_early, join, nak, put_close};
+pub use early::{hear_early, join, nak, put_close, stopped};
 pub use ending::close;
 pub use gone::Gone;
+pub use leaving::settle;
 pub use line::Line;
 pub use probing::{HubProbe, Place};
 pub use stop::Stop;
