@@ -8,8 +8,8 @@ ghost use Rattle.pdu_stream.specs.Cuts.{LeavesUncut};
 ghost use Rattle.mpx_asks.specs.Open.{most_open, has};
 ghost use Rattle.mpx_asks.specs.Among.{MpxState as AState, GoesAmong, BoundAmong, RefusedAmong, RepliedAmong};
 
-use conn_asks::{Act, Agreement, Waits, bind_ack, bind_nak, reply};
 use crate::uncut::uncut;
+use conn_asks::{Act, Agreement, Waits, bind_ack, bind_nak, reply};
 use handle_model::Said;
 use mpx_asks::OpenCalls;
 use pdu_codec::{LEAST_FRAGMENT, flags};

@@ -1,0 +1,24 @@
+//! Serves one connection to its end on which several calls may be unanswered at once (C706, "Connection-oriented RPC protocol
+//! machines", server, and "Connection-oriented RPC PDUs", PFC_CONC_MPX).
+//!
+//! The connection's thread owns the link and the pass: it takes and puts all octets and enters all that is entered. Each call that
+//! was taken runs in a worker, a thread of the connection's scope, whose pass only asks; a brief one runs in the connection's
+//! thread. A worker that ends is counted, and wakes the link by its bell. The connection's thread then joins it, takes in its
+//! pass, enters the call's End and puts its answer, before it ends another. So answers come in the order of the Ends.
+//!
+//! A connection whose bind doesn't have CONC_MPX is served by `serve_connection`, over a link that gives again what was heard.
+#![tactic(auto)]
+
+mod crew;
+mod ending;
+mod entering;
+mod heard_link;
+mod hearing;
+mod looking;
+mod serving;
+mod starting;
+mod works;
+
+pub use heard_link::HeardLink;
+pub use hearing::hear_first;
+pub use serving::serve_mpx;
