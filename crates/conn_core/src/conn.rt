@@ -42,7 +42,7 @@ impl Model for Conn {
 }
 
 impl Conn {
-    ghost use Rattle.conn_core.specs.Fields.{IsAt, Leads};
+    ghost use Rattle.conn_core.specs.Fields.{IsAt, IsSound, Leads};
     ghost use Rattle.pdu_stream.specs.Cuts.{LeavesUncut};
 
     /// A new connection to a server of these interfaces, which are numbered from 0.
@@ -67,6 +67,30 @@ impl Conn {
             },
             alloc,
         })
+    }
+
+    /// A connection that keeps these parts.
+    pub fn of_parts(
+        alloc: Global,
+        feed: Feed,
+        bound: bool,
+        joiner: Joiner,
+        contexts: Contexts,
+        waits: Waits,
+        agreement: Agreement,
+    ) -> Conn
+        requires { IsSound feed waits agreement }
+        ensures { result ≡ record { fed = feed; bound = bound; joining = joiner; served = contexts; waits = waits; agreement = agreement } }
+    {
+        Conn {
+            feed,
+            bound,
+            joiner,
+            contexts,
+            waits,
+            agreement,
+            alloc,
+        }
     }
 
     /// Octets come, which may end anywhere. At `NoMemory` none came.

@@ -1,5 +1,5 @@
 //! A connection until it is in a group.
-ghost use Rattle.std.specs.Prelude.{◌≡◌, []};
+ghost use Rattle.std.specs.Prelude.{◌≡◌, [], true};
 ghost use Rattle.group_hub.specs.Passes.{IsPassOf};
 ghost use Rattle.server_many.specs.Early.{IsEarly, AsksGroup, IsClosingEarly, IsAlone};
 ghost use Rattle.many_run.specs.Over.{Enters};
@@ -19,6 +19,8 @@ pub(crate) enum Entered<K: Link> {
     Joined(ManyLine<K>),
     /// It is in a group, and doesn't go on.
     Stopped(ManyLine<K>, Stop),
+    /// Its bind doesn't have CONC_MPX, and asks for the group of that id.
+    OneByOne(MpxWire<K>, Pass, u32),
     /// It is in no group, and doesn't go on.
     Alone(MpxWire<K>, Pass, Stop),
 }
@@ -33,6 +35,7 @@ fn bind<R: Wait, K: Link, M: Manager>(
 ) -> Entered<K>
     requires pass { IsPassOf server.hub.now pass }
     requires asks { AsksGroup K.shows (M.tables server.manager.now) wire asked }
+    requires many { wire.conn.many ≡ true }
     ensures enters { Enters K.shows (M.may server.entry.manager.now) (M.tables server.entry.manager.now) server.entry.hub.now pass wire.first.value result }
 {
     let Server {
@@ -87,7 +90,12 @@ pub(crate) fn enter<R: Wait, K: Link, M: Manager>(
     for _ in rt.forever() {
         match hear_early(&mut wire, server.manager) {
             Heard::Nothing => {}
-            Heard::Does(Act::Group(asked)) => return bind(rt, server, wire, pass, asked),
+            Heard::Does(Act::Group(asked)) => {
+                if wire.conn.is_multiplexed() {
+                    return bind(rt, server, wire, pass, asked);
+                }
+                return Entered::OneByOne(wire, pass, asked);
+            }
             Heard::Does(Act::Close(octets, fault)) => {
                 let why = refuse(&mut wire, server, &pass, octets.as_slice(), fault);
                 return Entered::Alone(wire, pass, why);

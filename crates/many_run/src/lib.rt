@@ -6,19 +6,15 @@
 //! thread. A worker that ends is counted, and wakes the link by its bell. The connection's thread then joins it, takes in its
 //! pass, enters the call's End and puts its answer, before it ends another. So answers come in the order of the Ends.
 //!
-//! A connection whose bind doesn't have CONC_MPX is served by `serve_connection`, over a link that gives again what was heard.
+//! A connection whose bind doesn't have CONC_MPX is handed over at its bind, and served one call after another.
 #![tactic(auto)]
 
 mod crew;
 mod ending;
 mod entering;
-mod heard_link;
-mod hearing;
 mod looking;
 mod serving;
 mod starting;
 mod works;
 
-pub use heard_link::HeardLink;
-pub use hearing::hear_first;
 pub use serving::serve_mpx;

@@ -5,15 +5,13 @@ ghost use Rattle.group_hub.specs.Passes.{IsPassOf};
 ghost use Rattle.manager_api.specs.Served.{tables_in};
 ghost use Rattle.server_steps.specs.Works.{Serves};
 ghost use Rattle.server_many.specs.States.{IsServing};
-ghost use Rattle.server_many.specs.Finishes.{FinishesMany};
 ghost use Rattle.many_run.specs.Crews.{IsCrew, IsAskingCrew, GoesOn, HearsTo, SameCrew};
-ghost use Rattle.many_run.specs.Having.{CrewHas, OverHas, IsHadMany, HadEither};
+ghost use Rattle.many_run.specs.Having.{CrewHas, OverHas, HadEither};
 ghost use Rattle.many_run.specs.Over.{IsOverFrom, FinishesEither};
 
 use crate::crew::{Crew, Stepped};
 use crate::ending::{finish, finish_alone};
 use crate::entering::{Entered, enter};
-use crate::hearing::{First, hear_first};
 use conn_asks::Act;
 use group_hub::{Hub, Pass};
 use manager_api::Served;
@@ -21,8 +19,8 @@ use pdu_stream::Joined;
 use rpc_outside::Link;
 use server_calls::{Manager, prepared};
 use server_ends::Finished;
-use server_many::{ManyLine, MpxWire};
-use server_run::{serve_connection, turn_away};
+use server_many::{ManyLine, MpxWire, hand_over};
+use server_run::{serve_bind, turn_away};
 use server_steps::{Fault, Heard, Server, Stop};
 use std::alloc::Global;
 use std::sync::Wait;
@@ -183,60 +181,39 @@ fn serve_calls<'s, E, R: Wait + Threads + Sync, K: Link + 's, M: Manager + Sync>
     unreachable!()
 }
 
-/// Serves a multiplexed connection from its first octet to its end, over a link that gives again what was heard.
-fn serve_many<R: Wait + Threads + Sync, K: Link, M: Manager + Sync>(
+/// Serves the requests of a connection until it is over, in a scope of its workers.
+fn serve_in_scope<R: Wait + Threads + Sync, K: Link, M: Manager + Sync>(
     rt: &R,
     server: Server<'_, M>,
-    pass: Pass,
+    line: ManyLine<K>,
     desks: M::Pass,
-    link: K,
 ) -> (Finished<K>, M::Pass)
     requires served { Serves M.tables server }
-    requires pass { IsPassOf server.hub.now pass }
-    requires open { (K.shows link).closed ≡ false }
+    requires serving { IsServing K.shows (M.may server.manager.now) (M.tables server.manager.now) server.hub.now line }
+    requires none { line.open.items ≡ [] }
     requires desks { M.is_pass server.manager.now desks }
-    ensures pass { IsPassOf server.entry.hub.now result.0.pass }
-    ensures finishes { FinishesMany K.shows (M.may server.entry.manager.now) (M.tables server.entry.manager.now) server.entry.hub.now.boot pass (K.shows link) result.0 }
+    ensures over { IsOverFrom K.shows M.may M.tables server.entry line result.0 }
     ensures desks { M.is_pass server.entry.manager.now result.1 }
-    ensures had { IsHadMany M.tables M.enters M.runs_down M.splits M.joins server.entry.manager.now server.entry.hub.now.boot pass desks result.0 result.1 }
+    ensures had { OverHas M.tables M.enters M.runs_down M.splits M.joins server.entry line desks result.0 result.1 }
 {
-    let Server { hub, manager, .. } = server;
-    let ids = match server.served.ids(server.alloc) {
-        Ok(ids) => ids,
-        Err(_) => return (turn_away(manager, hub, pass, link), desks),
-    };
-    let wire = match MpxWire::new(server.alloc, link, ids.as_slice()) {
-        Ok(wire) => wire,
-        Err(link) => return (turn_away(manager, hub, pass, link), desks),
-    };
     let count = AtomicU64::new(0);
-    match enter(rt, server, wire, pass) {
-        Entered::Joined(line) => thread::scope(
-            thread::scope_env(),
-            rt,
-            |scope| -> (Finished<K>, M::Pass)
-                requires served { IsSync R.row × Serves M.tables server }
-                requires serving { IsServing K.shows (M.may server.manager.now) (M.tables server.manager.now) server.hub.now line }
-                requires none { line.open.items ≡ [] }
-                requires desks { M.is_pass server.manager.now desks }
-                ensures over { IsOverFrom K.shows M.may M.tables server.entry line result.0 }
-                ensures desks { M.is_pass server.entry.manager.now result.1 }
-                ensures had { OverHas M.tables M.enters M.runs_down M.splits M.joins server.entry line desks result.0 result.1 }
-            { serve_calls(scope, rt, server, line, desks, &count) },
-        ),
-        Entered::Stopped(line, why) => {
-            let crew = Crew {
-                line,
-                works: Vec::new(server.alloc),
-            };
-            finish(rt, server, crew, desks, why)
-        }
-        Entered::Alone(wire, pass, why) => (finish_alone(server, wire, pass, why), desks),
-    }
+    thread::scope(
+        thread::scope_env(),
+        rt,
+        |scope| -> (Finished<K>, M::Pass)
+            requires served { IsSync R.row × Serves M.tables server }
+            requires serving { IsServing K.shows (M.may server.manager.now) (M.tables server.manager.now) server.hub.now line }
+            requires none { line.open.items ≡ [] }
+            requires desks { M.is_pass server.manager.now desks }
+            ensures over { IsOverFrom K.shows M.may M.tables server.entry line result.0 }
+            ensures desks { M.is_pass server.entry.manager.now result.1 }
+            ensures had { OverHas M.tables M.enters M.runs_down M.splits M.joins server.entry line desks result.0 result.1 }
+        { serve_calls(scope, rt, server, line, desks, &count) },
+    )
 }
 
-/// Serves a connection to its end. Where its first PDU is a bind with CONC_MPX, up to 32 calls of it may be unanswered at once: each
-/// runs in a thread of its own, unless it is brief, and is answered as it ends. Else it is served as `serve_connection` says.
+/// Serves a connection to its end. Where its bind has CONC_MPX, up to 32 calls of it may be unanswered at once: each runs in a thread
+/// of its own, unless it is brief, and is answered as it ends. Else it is served one call after another, as `serve_connection` does.
 pub fn serve_mpx<R: Wait + Threads + Sync, K: Link, M: Manager + Sync>(
     rt: &R,
     alloc: Global,
@@ -252,40 +229,38 @@ pub fn serve_mpx<R: Wait + Threads + Sync, K: Link, M: Manager + Sync>(
     requires table { M.tables manager.now ≡ tables_in table.now }
     requires desks { M.is_pass manager.now desks }
     ensures pass { IsPassOf hub.now result.0.pass }
-    // It is multiplexed exactly where the octets taken begin with such a bind.
+    // Either it is served as any other, and its bind, if one came, doesn't have CONC_MPX; or it is multiplexed.
     ensures finishes { FinishesEither K.shows (M.may manager.now) (M.tables manager.now) hub.now.boot pass (K.shows link) result.0 }
     ensures desks { M.is_pass manager.now result.1 }
     ensures had { HadEither M.tables M.enters M.runs_down M.splits M.joins manager.now hub.now.boot pass desks result.0 result.1 }
 {
-    let (first, link) = match hear_first(rt, alloc, link) {
-        Ok(heard) => heard,
+    let ids = match table.ids(alloc) {
+        Ok(ids) => ids,
+        Err(_) => return (turn_away(manager, hub, pass, link), desks),
+    };
+    let wire = match MpxWire::new(alloc, link, ids.as_slice()) {
+        Ok(wire) => wire,
         Err(link) => return (turn_away(manager, hub, pass, link), desks),
     };
-    let (finished, desks) = match first {
-        First::BindsMany => {
-            let server = Server {
-                alloc,
-                served: table,
-                manager,
-                hub,
-            };
-            serve_many(rt, server, pass, desks, link)
+    let server = Server {
+        alloc,
+        served: table,
+        manager,
+        hub,
+    };
+    match enter(rt, server, wire, pass) {
+        Entered::Joined(line) => serve_in_scope(rt, server, line, desks),
+        Entered::OneByOne(wire, pass, asked) => {
+            let wire = hand_over(wire, manager, asked);
+            serve_bind(rt, server, wire, pass, desks, asked)
         }
-        First::Other => serve_connection(rt, alloc, hub, pass, desks, link, table, manager),
-    };
-    let Finished {
-        link,
-        pass,
-        joined,
-        ending,
-        retired,
-    } = finished;
-    let finished = Finished {
-        link: link.into_inner(),
-        pass,
-        joined,
-        ending,
-        retired,
-    };
-    (finished, desks)
+        Entered::Stopped(line, why) => {
+            let crew = Crew {
+                line,
+                works: Vec::new(alloc),
+            };
+            finish(rt, server, crew, desks, why)
+        }
+        Entered::Alone(wire, pass, why) => (finish_alone(server, wire, pass, why), desks),
+    }
 }

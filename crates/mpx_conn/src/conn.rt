@@ -8,8 +8,8 @@ ghost use Rattle.pdu_stream.specs.Cuts.{LeavesUncut};
 ghost use Rattle.mpx_asks.specs.Open.{most_open, has};
 ghost use Rattle.mpx_asks.specs.Among.{MpxState as AState, GoesAmong, BoundAmong, RefusedAmong, RepliedAmong};
 
-use crate::uncut::uncut;
 use conn_asks::{Act, Agreement, Waits, bind_ack, bind_nak, reply};
+use conn_core::Conn;
 use handle_model::Said;
 use mpx_asks::OpenCalls;
 use pdu_codec::{LEAST_FRAGMENT, flags};
@@ -219,6 +219,23 @@ impl MpxConn {
         self.out.remove(call_id);
         Ok(octets)
     }
+    /// The connection as one whose calls are unanswered one at a time, where none of them is.
+    pub fn into_conn(self) -> Conn
+        ensures { result ≡ self.conn }
+    {
+        let MpxConn {
+            feed,
+            bound,
+            joiner,
+            contexts,
+            waits,
+            agreement,
+            alloc,
+            ..
+        } = self;
+        Conn::of_parts(alloc, feed, bound, joiner, contexts, waits, agreement)
+    }
+
     /// How many of the octets that came stand behind the whole PDUs. The connection is given up.
     ///
     /// # Errors
@@ -227,6 +244,6 @@ impl MpxConn {
     pub fn rest(self) -> Result<usize, NoMemory>
         ensures { (m : AState) → IsAmong self m → IfOk result (LeavesUncut m.conn.rest) }
     {
-        uncut(self.feed)
+        self.into_conn().rest()
     }
 }

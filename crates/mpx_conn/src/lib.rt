@@ -5,7 +5,6 @@
 mod acts;
 mod conn;
 mod next;
-mod uncut;
 
 pub use conn::MpxConn;
 pub use conn_asks::{Act, ConnFault};

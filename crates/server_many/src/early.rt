@@ -1,5 +1,6 @@
 //! A connection before it is in a group.
-ghost use Rattle.std.specs.Prelude.{◌≡◌, List, MatchResult};
+ghost use Rattle.std.specs.Prelude.{◌≡◌, false, List, MatchResult};
+ghost use Rattle.server_steps.specs.Early.{AsksGroup as AsksOneByOne};
 ghost use Rattle.conn_histories.specs.declared.turn.Turn.{Turn};
 ghost use Rattle.group_hub.specs.Passes.{IsPassOf};
 ghost use Rattle.server_many.specs.Early.{IsEarly, AsksGroup, HeardEarly, IsClosingEarly, HaltsClosed, IsRefusedAlone, JoinsFrom, ComesBack};
@@ -11,7 +12,7 @@ use group_hub::{Hub, Pass};
 use rpc_outside::Link;
 use server_calls::Manager;
 use server_ends::{Membership, join_group};
-use server_steps::{Heard, Stop, stopped};
+use server_steps::{Heard, Stop, Wire, stopped};
 use std::alloc::Global;
 use std::snapshot::Snapshot;
 use std::sync::Wait;
@@ -98,5 +99,24 @@ pub fn nak<K: Link, M: Manager>(
             }
         }
         Err(fault) => stopped(fault),
+    }
+}
+
+/// Hands over a connection whose bind doesn't have CONC_MPX: of its calls one at a time is unanswered.
+pub fn hand_over<K: Link, M: Manager>(
+    wire: MpxWire<K>,
+    _manager: &M,
+    _asked: u32,
+) -> Wire<K>
+    requires asks { AsksGroup K.shows (M.tables _manager.now) wire _asked }
+    requires alone { wire.conn.many ≡ false }
+    ensures first { result.first.value ≡ wire.first.value }
+    ensures asks { AsksOneByOne K.shows (M.tables _manager.now) result _asked }
+{
+    let MpxWire { link, conn, first } = wire;
+    Wire {
+        link,
+        conn: conn.into_conn(),
+        first,
     }
 }

@@ -13,7 +13,7 @@ mod row;
 mod requests;
 mod wire;
 
-pub use early::{hear_early, join, nak, put_close};
+pub use early::{hand_over, hear_early, join, nak, put_close};
 pub use leaving::{ManyGone, close};
 pub use line::ManyLine;
 pub use listening::Ahead;

@@ -40,7 +40,7 @@ fn refuse<K: Link, M: Manager>(
 }
 
 /// Answers a bind: by the group that the connection joins, or by a refusal.
-fn bind<R: Wait, K: Link, M: Manager>(
+pub(crate) fn bind<R: Wait, K: Link, M: Manager>(
     rt: &R,
     hub: &Hub,
     manager: &M,

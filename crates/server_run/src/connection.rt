@@ -5,14 +5,14 @@ ghost use Rattle.manager_api.specs.Served.{tables_in};
 ghost use Rattle.server_ends.specs.Finishes.{Finishes};
 ghost use Rattle.group_hub.specs.declared.pass.Pass.{Pass as PassSpec};
 ghost use Rattle.server_steps.specs.Works.{Serves};
-ghost use Rattle.server_steps.specs.Early.{IsAlone};
+ghost use Rattle.server_steps.specs.Early.{IsAlone, AsksGroup};
 ghost use Rattle.server_steps.specs.Lines.{IsReady};
 ghost use Rattle.server_steps.specs.Endings.{IsStopping};
 ghost use Rattle.server_run.specs.Entering.{FinishesAlone};
 ghost use Rattle.server_run.specs.Running.{IsOverFrom};
 ghost use Rattle.server_run.specs.Deeds.{OverOn, IsHad};
 
-use crate::binding::{Entered, enter};
+use crate::binding::{Entered, bind, enter};
 use crate::calling::{Went, serve_next};
 use group_hub::{Hub, Pass};
 use manager_api::Served;
@@ -140,6 +140,34 @@ fn serve_calls<R: Wait + Threads + Sync, K: Link, M: Manager + Sync>(
         }
     }
     unreachable!()
+}
+
+/// Serves a connection to its end whose bind has come, which asks for the group of that id.
+pub fn serve_bind<R: Wait + Threads + Sync, K: Link, M: Manager + Sync>(
+    rt: &R,
+    server: Server<'_, M>,
+    wire: Wire<K>,
+    pass: Pass,
+    desks: M::Pass,
+    asked: u32,
+) -> (Finished<K>, M::Pass)
+    requires served { Serves M.tables server }
+    requires pass { IsPassOf server.hub.now pass }
+    requires asks { AsksGroup K.shows (M.tables server.manager.now) wire asked }
+    requires desks { M.is_pass server.manager.now desks }
+    ensures pass { IsPassOf server.entry.hub.now result.0.pass }
+    ensures finishes { Finishes K.shows (M.may server.entry.manager.now) (M.tables server.entry.manager.now) server.entry.hub.now.boot pass (K.shows wire.first.value) result.0 }
+    ensures desks { M.is_pass server.entry.manager.now result.1 }
+    ensures had { IsHad M.tables M.enters M.runs_down M.splits M.joins server.entry.manager.now server.entry.hub.now.boot pass desks result.0 result.1 }
+{
+    let Server { hub, manager, .. } = server;
+    match bind(rt, hub, manager, wire, pass, asked) {
+        Entered::Joined(line) => return serve_calls(rt, server, line, desks),
+        Entered::Stopped(line, why) => return finish(rt, hub, manager, line, desks, why, None),
+        Entered::Alone(wire, pass, why) => {
+            return (finish_alone(manager, hub, wire, pass, why), desks);
+        }
+    }
 }
 
 /// Serves a connection to its end: it answers its bind, and then one call after another, each by the manager of its

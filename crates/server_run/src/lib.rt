@@ -18,4 +18,4 @@ mod connection;
 mod running;
 mod watching;
 
-pub use connection::{serve_connection, turn_away};
+pub use connection::{serve_bind, serve_connection, turn_away};
