@@ -2,7 +2,7 @@
 ghost use Rattle.std.specs.Prelude.{◌≡◌, None};
 ghost use Rattle.group_hub.specs.Passes.{IsPassOf};
 ghost use Rattle.server_steps.specs.Wires.{IsOpen};
-ghost use Rattle.server_many.specs.Early.{FinishesAlone};
+ghost use Rattle.server_many.specs.Finishes.{FinishesAlone};
 ghost use Rattle.many_run.specs.Crews.{IsStoppingCrew};
 ghost use Rattle.many_run.specs.Having.{StoppingHas};
 ghost use Rattle.many_run.specs.Over.{IsOverFrom};
@@ -13,8 +13,8 @@ use group_hub::Pass;
 use rpc_outside::Link;
 use server_calls::Manager;
 use server_ends::Finished;
-use server_many::{ManyGone, MpxWire, close};
-use server_steps::{Server, Stop};
+use server_many::{ManyGone, MpxWire};
+use server_steps::{Server, Stop, close};
 use std::sync::Wait;
 use std::thread::Threads;
 
@@ -31,7 +31,7 @@ pub(crate) fn finish_alone<K: Link, M: Manager>(
     ensures finishes { FinishesAlone K.shows (M.may _server.entry.manager.now) (M.tables _server.entry.manager.now) _server.entry.hub.now wire pass why result }
     ensures alone { result.joined ≡ None }
 {
-    let (link, ending) = close(wire, why);
+    let (link, ending) = close(wire.into_wire(), why);
     Finished {
         link,
         pass,
@@ -53,7 +53,7 @@ pub(crate) fn finish<R: Wait + Threads, K: Link, M: Manager>(
     requires desks { M.is_pass server.manager.now desks }
     ensures over { IsOverFrom K.shows M.may M.tables server.entry crew.line result.0 }
     ensures desks { M.is_pass server.entry.manager.now result.1 }
-    ensures had { StoppingHas M.tables M.enters M.runs_down M.splits M.joins server.entry crew desks result.0 result.1 }
+    ensures had { StoppingHas M.tables M.enters M.runs_down M.splits M.joins server.entry M.is_pass crew desks result.0 result.1 }
 {
     let Server { hub, manager, .. } = server;
     let Crew { line, mut works } = crew;

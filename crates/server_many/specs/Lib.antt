@@ -1,3 +1,13 @@
+pub mod Answers
+pub mod Deeds
+pub mod Early
+pub mod Endings
+pub mod Finishes
 pub mod Held
+pub mod Multiplexed
+pub mod Offs
 pub mod Rows
+pub mod States
+pub mod Steps
+pub mod Told
 pub mod Wires

@@ -1,11 +1,13 @@
 -- What a line keeps of the calls that are open. Rows and turns are listed with the newest first.
-use Rattle.std.specs.Prelude.{◌≡◌, ℕ, ◌+◌, ◌^◌, ◌<◌, Bool, true, false, Option, Some, None, List, [], ◌∷◌, length, filter}
+use Rattle.std.specs.Prelude.{◌≡◌, ℕ, ◌+◌, ◌^◌, ◌<◌, ◌==◌, ◌&&◌, not, Bool, true, false, Option, Some, None, List, [], ◌∷◌, ◌++◌, length, filter, ⊤}
+use Rattle.std.specs.Option.{is_some}
+use Rattle.handle_model.specs.declared.entry.Asked.{Asked}
 use Rattle.std.specs.List.{list_any}
 use Rattle.handle_model.specs.declared.entry.Slot.{Slot}
 use Rattle.handle_model.specs.declared.entry.Outcome.{Outcome}
 use Rattle.handle_model.specs.Slots.{opens}
 use Rattle.handle_model.specs.Rules.{filled, suit}
-use Rattle.hub_story.specs.Passes.{Seen, HasCall, Runs}
+use Rattle.hub_story.specs.Passes.{Seen, HasCall, Runs, Knows}
 use Rattle.ndr_table.specs.Tables.{TableForm}
 use Rattle.conn_histories.specs.Ends.{row_of}
 use Rattle.conn_histories.specs.declared.turn.Fate.TheVariants.{Waiting, Running}
@@ -61,3 +63,45 @@ module _ (tables : List TableForm) (v : Seen) (g c : ℕ) where
   AreRows [] rows = rows ≡ []
   AreRows (Called r ∷ ts) rows = RowAt (deed_open r.deed) (IsRow r) (AreRows ts) rows
   AreRows (t ∷ ts) rows = AreRows ts rows
+
+-- ---- by their places
+
+-- at that place stands a row of which that holds
+abbrev pub HasAt : List Row → ℕ → (Row → Type 0) → Type 0
+HasAt rows at Holds = (front : List Row) × (row : Row) × (back : List Row) × (rows ≡ front ++ row ∷ back) × (length front ≡ at) × Holds row
+
+abbrev pub IsOpenAt : List Row → ℕ → Type 0
+IsOpenAt rows at = HasAt rows at (λ row. ⊤)
+
+abbrev pub row_waits : List Row → ℕ → Type 0
+row_waits rows at = HasAt rows at (λ row. row.running ≡ None)
+
+abbrev pub row_runs : List Row → ℕ → Type 0
+row_runs rows at = HasAt rows at (λ row. is_some row.running ≡ true)
+
+-- the call at that place waits or runs, and asks that
+abbrev pub IsWaitingAt : List Row → ℕ → Asked → Type 0
+IsWaitingAt rows at a = HasAt rows at (λ row. (row.running ≡ None) × (row.asked.value ≡ a))
+
+abbrev pub IsRunningAt : List Row → ℕ → Asked → Type 0
+IsRunningAt rows at a = HasAt rows at (λ row. (is_some row.running ≡ true) × (row.asked.value ≡ a))
+
+-- what was seen has the call at that place
+abbrev pub knows_at : Seen → ℕ → List Row → ℕ → Type 0
+knows_at v g rows at = HasAt rows at (λ row. Knows v g row.call)
+
+-- but for one that is orphaned at that place
+abbrev pub orphans_at : List Row → ℕ → List Row → Type 0
+orphans_at rows at new =
+    (front : List Row) × (row : Row) × (back : List Row) × (rows ≡ front ++ row ∷ back) × (length front ≡ at) × (new ≡ front ++ record row { orphaned = true } ∷ back)
+
+abbrev pub only_running : List Row → List Row
+only_running rows = filter (λ (row : Row). is_some row.running) rows
+
+-- an open call with that id, for which its client waits
+abbrev pub is_for : ℕ → Row → Bool
+is_for id row = (row.id == id) && not row.orphaned
+
+abbrev pub finds_open : ℕ → List Row → Option ℕ → Type 0
+finds_open id rows (Some at) = HasAt rows at (λ row. is_for id row ≡ true)
+finds_open id rows None = filter (is_for id) rows ≡ []

@@ -1,9 +1,9 @@
 //! A call is called off by its client.
-ghost use Rattle.std.specs.Prelude.{◌≡◌, ◌<◌, length};
+ghost use Rattle.std.specs.Prelude.{◌≡◌, remove, ◌<◌, length};
 ghost use Rattle.conn_histories.specs.declared.turn.Off.TheVariants as off;
 ghost use Rattle.server_steps.specs.Deeds.{Quiet};
 ghost use Rattle.server_many.specs.States.{IsSame, IsServing};
-ghost use Rattle.server_many.specs.Rows.{row_waits, row_runs, orphans_at, without_at};
+ghost use Rattle.server_many.specs.Rows.{row_waits, row_runs, orphans_at};
 ghost use Rattle.server_many.specs.Steps.{IsCalledOff, GoesOn};
 
 use crate::line::ManyLine;
@@ -34,7 +34,7 @@ impl<K: Link> ManyLine<K> {
         ensures same { IsSame self.old self.new }
         ensures group { self.new.group ≡ self.old.group }
         ensures quiet { Quiet self.old.group self.old.pass self.new.pass }
-        ensures open { self.new.open.items ≡ without_at self.old.open.items at }
+        ensures open { self.new.open.items ≡ remove self.old.open.items at }
         ensures goes { GoesOn K.shows (M.may _manager.now) (M.tables _manager.now) hub.now result self.new }
     {
         let Row { id, call, .. } = take_out(&mut self.open, at);
@@ -62,7 +62,7 @@ impl<K: Link> ManyLine<K> {
         ensures same { IsSame self.old self.new }
         ensures group { self.new.group ≡ self.old.group }
         ensures quiet { Quiet self.old.group self.old.pass self.new.pass }
-        ensures open { self.new.open.items ≡ without_at self.old.open.items at }
+        ensures open { self.new.open.items ≡ remove self.old.open.items at }
         ensures serving { IsServing K.shows (M.may _manager.now) (M.tables _manager.now) hub.now self.new }
     {
         let Row { call, .. } = take_out(&mut self.open, at);

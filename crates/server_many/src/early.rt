@@ -1,9 +1,10 @@
 //! A connection before it is in a group.
-ghost use Rattle.std.specs.Prelude.{◌≡◌, false, List, MatchResult};
+ghost use Rattle.std.specs.Prelude.{◌≡◌, false, true, List, MatchResult};
 ghost use Rattle.server_steps.specs.Early.{AsksGroup as AsksOneByOne};
 ghost use Rattle.conn_histories.specs.declared.turn.Turn.{Turn};
 ghost use Rattle.group_hub.specs.Passes.{IsPassOf};
-ghost use Rattle.server_many.specs.Early.{IsEarly, AsksGroup, HeardEarly, IsClosingEarly, HaltsClosed, IsRefusedAlone, JoinsFrom, ComesBack};
+ghost use Rattle.server_many.specs.Early.{IsEarly, AsksGroup, HeardEarly, IsClosingEarly, HaltsClosed, IsRefusedAlone};
+ghost use Rattle.server_many.specs.States.{JoinsFrom, ComesBack};
 
 use crate::line::ManyLine;
 use crate::wire::MpxWire;
@@ -59,6 +60,7 @@ pub fn join<R: Wait, K: Link, M: Manager>(
 ) -> Result<ManyLine<K>, (MpxWire<K>, Pass, u16)>
     requires pass { IsPassOf hub.now pass }
     requires asks { AsksGroup K.shows (M.tables _manager.now) wire asked }
+    requires many { wire.conn.many ≡ true }
     ensures joined { MatchResult result (λ line. JoinsFrom K.shows (M.may _manager.now) (M.tables _manager.now) hub.now wire pass asked line) (λ b. ComesBack hub.now wire pass asked b.0 b.1 b.2) }
 {
     let began = Snapshot::of(&pass);
@@ -113,10 +115,5 @@ pub fn hand_over<K: Link, M: Manager>(
     ensures first { result.first.value ≡ wire.first.value }
     ensures asks { AsksOneByOne K.shows (M.tables _manager.now) result _asked }
 {
-    let MpxWire { link, conn, first } = wire;
-    Wire {
-        link,
-        conn: conn.into_conn(),
-        first,
-    }
+    wire.into_wire()
 }

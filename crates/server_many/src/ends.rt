@@ -1,11 +1,11 @@
 //! A call runs in another thread, and ends.
-ghost use Rattle.std.specs.Prelude.{◌≡◌};
+ghost use Rattle.std.specs.Prelude.{◌≡◌, remove};
 ghost use Rattle.group_hub.specs.Passes.{IsPassOf, at_shard};
 ghost use Rattle.group_hub.specs.Shards.{shard_of};
 ghost use Rattle.server_steps.specs.Deeds.{Quiet};
 ghost use Rattle.server_steps.specs.Passes.{OwnsNone};
 ghost use Rattle.server_many.specs.States.{IsSame, IsServing};
-ghost use Rattle.server_many.specs.Rows.{IsRunningAt, knows_at, without_at};
+ghost use Rattle.server_many.specs.Rows.{IsRunningAt, knows_at};
 ghost use Rattle.server_many.specs.Steps.{GoesOn, IsOwing, WorksAt, HasEndAt};
 ghost use Rattle.server_many.specs.Deeds.{LineAnswers};
 
@@ -58,7 +58,7 @@ impl<K: Link> ManyLine<K> {
         requires desks { M.is_pass manager.now desks × M.is_pass manager.now worked.desks }
         ensures same { IsSame self.old self.new }
         ensures group { self.new.group ≡ self.old.group }
-        ensures open { self.new.open.items ≡ without_at self.old.open.items at }
+        ensures open { self.new.open.items ≡ remove self.old.open.items at }
         ensures entered { HasEndAt self.old at self.new.pass worked.answered }
         ensures goes { GoesOn K.shows (M.may manager.now) (M.tables manager.now) hub.now result.1 self.new }
         ensures desks { M.is_pass manager.now result.0 }

@@ -1,8 +1,8 @@
 //! A connection leaves its group, and the calls of it that still run end.
-ghost use Rattle.std.specs.Prelude.{◌≡◌};
+ghost use Rattle.std.specs.Prelude.{◌≡◌, remove};
 ghost use Rattle.server_steps.specs.Wires.{IsOpen};
 ghost use Rattle.server_many.specs.States.{IsSame};
-ghost use Rattle.server_many.specs.Rows.{only_running, without_at};
+ghost use Rattle.server_many.specs.Rows.{only_running};
 ghost use Rattle.server_many.specs.Endings.{IsStopping, IsGone, GoneWorksAt, closes_as};
 ghost use Rattle.server_many.specs.Deeds.{LineLeaves, GoneAnswers};
 
@@ -143,7 +143,7 @@ impl<K: Link> ManyGone<K> {
         ensures wire { self.new.wire.value ≡ self.old.wire.value }
         ensures member { (self.new.group ≡ self.old.group) × (self.new.number ≡ self.old.number) }
         ensures link { (self.new.link ≡ self.old.link) × (self.new.ending ≡ self.old.ending) }
-        ensures open { self.new.open.items ≡ without_at self.old.open.items at }
+        ensures open { self.new.open.items ≡ remove self.old.open.items at }
         ensures gone { IsGone K.shows (M.may manager.now) (M.tables manager.now) hub.now self.new _why }
         ensures desks { M.is_pass manager.now result }
         ensures answers { GoneAnswers M.tables M.enters M.runs_down M.splits M.joins manager.now hub.now.boot self.old at desks worked self.new.pass result }

@@ -103,7 +103,7 @@ impl<K: Link> ManyLine<K> {
         ensures same { IsSame self.old self.new }
         ensures group { self.new.group ≡ self.old.group }
         ensures quiet { Quiet self.old.group self.old.pass self.new.pass }
-        ensures takes { TakesSo K.shows (M.may _manager.now) (M.tables _manager.now) hub.now at asked.new result self.old self.new }
+        ensures takes { TakesSo K.shows (M.may _manager.now) (M.tables _manager.now) hub.now at asked.old asked.new result self.old self.new }
     {
         let (id, call) = (self.open[at].id, self.open[at].call);
         let taking = hub.take(rt, &mut self.pass, self.group, call);

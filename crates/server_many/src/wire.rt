@@ -19,7 +19,7 @@ use handle_model::Said;
 use mpx_conn::MpxConn;
 use rpc_base::{Failed, NoMemory, SyntaxId};
 use rpc_outside::{Link, Taken, put_all};
-use server_steps::{Fault, Heard};
+use server_steps::{Fault, Heard, Wire};
 use std::alloc::Global;
 use std::snapshot::Snapshot;
 
@@ -71,6 +71,20 @@ impl<K: Link> MpxWire<K> {
                 Ok(MpxWire { link, conn, first })
             }
             Err(_) => Err(link),
+        }
+    }
+
+    /// The connection as one of whose calls one at a time is unanswered, on the same link.
+    pub fn into_wire(self) -> Wire<K>
+        ensures link { result.link ≡ self.link }
+        ensures first { result.first.value ≡ self.first.value }
+        ensures conn { result.conn ≡ self.conn.conn }
+    {
+        let MpxWire { link, conn, first } = self;
+        Wire {
+            link,
+            conn: conn.into_conn(),
+            first,
         }
     }
 

@@ -1,0 +1,4 @@
+pub mod Crews
+pub mod Having
+pub mod Over
+pub mod Starts
