@@ -37,6 +37,11 @@ fn has_ended<M: Manager>(works: &Vec<Work<M>>, at: usize) -> bool {
 }
 
 impl<K: Link, M: Manager> Crew<K, M> {
+    /// Whether a call runs in a worker.
+    pub(crate) fn has_worker(&self) -> bool {
+        self.works.iter().any(|work| matches!(work, Work::Runs(_)))
+    }
+
     /// Ends the calls whose workers have ended, the oldest call first.
     ///
     /// # Errors

@@ -19,7 +19,7 @@ use pdu_stream::Joined;
 use rpc_outside::Link;
 use server_calls::{Manager, prepared};
 use server_ends::Finished;
-use server_many::{ManyLine, MpxWire, hand_over};
+use server_many::{Ahead, ManyLine, MpxWire, hand_over};
 use server_run::{serve_bind, turn_away};
 use server_steps::{Fault, Heard, Server, Stop};
 use std::alloc::Global;
@@ -32,7 +32,32 @@ use std::time::Duration;
 /// How long a connection rests between two looks where its link doesn't wait, in milliseconds.
 const REST: u64 = 1;
 
+/// What a connection's thread keeps from one round to the next. No clause speaks of it.
+#[derive(Clone, Copy)]
+struct Look {
+    /// How many workers had ended.
+    seen: u64,
+    /// For what its link listens, and whether a take of it waits.
+    ahead: Ahead,
+    waits: bool,
+    /// Whether a worker that ends can wake the link.
+    has_bell: bool,
+}
+
 impl<K: Link, M: Manager> Crew<K, M> {
+    /// Has the takes of the link wait for what may change, where that can end them.
+    fn listen<R: Wait>(&self, rt: &R, ahead: Ahead, look: &mut Look) {
+        let ahead = if !look.has_bell && self.has_worker() {
+            Ahead::Others
+        } else {
+            ahead
+        };
+        if ahead != look.ahead {
+            look.waits = self.line.listen(rt, ahead);
+            look.ahead = ahead;
+        }
+    }
+
     /// Accepts the call of a request, or refuses it.
     ///
     /// # Errors
@@ -106,7 +131,7 @@ impl<K: Link, M: Manager> Crew<K, M> {
         server: Server<'s, M>,
         desks: M::Pass,
         count: &'s AtomicU64,
-        seen: &mut u64,
+        look: &mut Look,
     ) -> Stepped<M::Pass>
     where
         M: Sync,
@@ -121,8 +146,8 @@ impl<K: Link, M: Manager> Crew<K, M> {
     {
         let mut desks = desks;
         let ended = count.load(Ordering::SeqCst);
-        if ended != *seen {
-            *seen = ended;
+        if ended != look.seen {
+            look.seen = ended;
             let (after, went) = self.finish_ended(rt, server, desks);
             desks = after;
             if let Err(why) = went {
@@ -134,12 +159,12 @@ impl<K: Link, M: Manager> Crew<K, M> {
             Ok(ahead) => ahead,
             Err(why) => return (desks, Err(why)),
         };
-        let waits = self.line.listen(rt, ahead);
+        self.listen(rt, ahead, look);
         match self.hear_next(rt, server) {
             Ok(true) => (desks, Ok(())),
             Ok(false) => {
-                if !waits {
-                    count.park_timeout(rt, *seen as u32, Duration::from_millis(REST));
+                if !look.waits {
+                    count.park_timeout(rt, look.seen as u32, Duration::from_millis(REST));
                 }
                 (desks, Ok(()))
             }
@@ -170,9 +195,14 @@ fn serve_calls<'s, E, R: Wait + Threads + Sync, K: Link + 's, M: Manager + Sync>
         works: Vec::new(server.alloc),
     };
     let mut desks = desks;
-    let mut seen = 0;
+    let mut look = Look {
+        seen: 0,
+        ahead: Ahead::Own,
+        waits: true,
+        has_bell: crew.line.wire.link.bell().is_some(),
+    };
     for _ in rt.forever() {
-        let (after, went) = crew.go_round(scope, rt, server, desks, count, &mut seen);
+        let (after, went) = crew.go_round(scope, rt, server, desks, count, &mut look);
         desks = after;
         if let Err(why) = went {
             return finish(rt, server, crew, desks, why);
