@@ -1,5 +1,5 @@
 -- What a connection with several open calls had its manager do, in a chain of the manager's passes.
-use Rattle.std.specs.Prelude.{◌≡◌, ℕ, Bool, Option, List, [], ◌∷◌, ◌++◌}
+use Rattle.std.specs.Prelude.{◌≡◌, ℕ, Bool, false, Option, List, [], ◌∷◌, ◌++◌}
 use Rattle.handle_model.specs.declared.entry.Asked.{Asked}
 use Rattle.handle_model.specs.declared.entry.DueItem.{DueItem}
 use Rattle.handle_model.specs.declared.entry.Entry.{Entry}
@@ -54,26 +54,26 @@ module _ {M P : Type 0} (tables : M → List TableForm) (enters : M → P → Ca
     pub takes : Takes (splits m) (joins m) first others before
     pub chain : Chain (enters m) (runs_down m) (splits m) (joins m) before (shut_downs (past_in g items)) last
 
+  -- the call at that place was answered from a pass that was split off that first
+  abbrev pub IsAnsweredAt : List Row → ℕ → P → Worked P → Type 0
+  IsAnsweredAt rows at first worked =
+      HasAt rows at (λ row. (began : P) × StartsFrom (splits m) (joins m) first began × ((cookies : List (Option ℕ)) × (told : Bool)
+      × Meets (home_of boot g) (tables m) (λ c t x. enters m began c t x worked.desks) row.asked.value cookies told worked.answered.results worked.answered.said))
+
   -- whichever the first was, the passes go on
   abbrev pub CarriesMany : Pass → Pass → P → Pass → P → Type 0
   CarriesMany began p before q after = (first : P) → HadMany began first p before → HadMany began first q after
 
 module _ {K M P : Type 0} (tables : M → List TableForm) (enters : M → P → Call → Bool → Ans → P → Type 0) (runs_down : M → P → DueItem → P → Type 0) (splits joins : M → P → P → P → Type 0) (m : M) (boot : ℕ) where
-  -- the call at that place was answered from a pass that was split off that first
-  abbrev pub IsAnsweredAt : ℕ → List Row → ℕ → P → Worked P → Type 0
-  IsAnsweredAt g rows at first worked =
-      HasAt rows at (λ row. (began : P) × StartsFrom (splits m) (joins m) first began × ((cookies : List (Option ℕ)) × (told : Bool)
-      × Meets (home_of boot g) (tables m) (λ c t x. enters m began c t x worked.desks) row.asked.value cookies told worked.answered.results worked.answered.said))
-
   -- it goes on by the end of a call
   abbrev pub LineAnswers : ManyLine K → ℕ → P → Worked P → Pass → P → Type 0
   LineAnswers l at before worked q after =
-      (first : P) → IsAnsweredAt l.group l.open.items at first worked → HadMany tables enters runs_down splits joins m boot l.group l.began.value first l.pass before
+      (first : P) → IsAnsweredAt tables enters runs_down splits joins m boot l.group l.open.items at first worked → HadMany tables enters runs_down splits joins m boot l.group l.began.value first l.pass before
       → HadMany tables enters runs_down splits joins m boot l.group l.began.value first q after
 
   abbrev pub GoneAnswers : ManyGone K → ℕ → P → Worked P → Pass → P → Type 0
   GoneAnswers l at before worked q after =
-      (first : P) → IsAnsweredAt l.group l.open.items at first worked → HadMany tables enters runs_down splits joins m boot l.group l.began.value first l.pass before
+      (first : P) → IsAnsweredAt tables enters runs_down splits joins m boot l.group l.open.items at first worked → HadMany tables enters runs_down splits joins m boot l.group l.began.value first l.pass before
       → HadMany tables enters runs_down splits joins m boot l.group l.began.value first q after
 
   -- and where it leaves
