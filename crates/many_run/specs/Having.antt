@@ -17,8 +17,7 @@ use Rattle.many_run.specs.declared.crew.Crew.{Crew}
 use Rattle.many_run.specs.declared.works.Work.{Work}
 use Rattle.many_run.specs.declared.works.Work.TheVariants as work
 
-module _ {K M P : Type 0} (tables : M → List TableForm) (is_pass : M → P → Type 0) (enters : M → P → Call → Bool → Ans → P → Type 0) (runs_down : M → P → DueItem → P → Type 0)
-    (splits joins : M → P → P → P → Type 0) (s : Server M) where
+module _ {M P : Type 0} (splits joins : M → P → P → P → Type 0) (s : Server M) where
   -- the pass of each worker was split off the connection's
   abbrev pub IsPromisedFrom : P → Work M P → Type 0
   IsPromisedFrom first (work.Runs w) = StartsFrom (splits s.manager.now) (joins s.manager.now) first w.child.promise.desks.value
@@ -28,10 +27,12 @@ module _ {K M P : Type 0} (tables : M → List TableForm) (is_pass : M → P →
   ArePromised first [] = ⊤
   ArePromised first (w ∷ works) = IsPromisedFrom first w × ArePromised first works
 
+module _ {K M P : Type 0} (tables : M → List TableForm) (is_pass : M → P → Type 0) (enters : M → P → Call → Bool → Ans → P → Type 0) (runs_down : M → P → DueItem → P → Type 0)
+    (splits joins : M → P → P → P → Type 0) (s : Server M) where
   -- since the connection began, and the manager's pass was the first
   pub record CrewHad (first : P) (crew : Crew K M P) (last : P) : Type 0 where
     pub had : HadMany tables enters runs_down splits joins s.manager.now s.hub.now.boot crew.line.group crew.line.began.value first crew.line.pass last
-    pub promised : ArePromised first crew.works.items
+    pub promised : ArePromised splits joins s first crew.works.items
 
   -- whichever the first was, what was had is had
   abbrev pub CrewHas : Crew K M P → P → Crew K M P → P → Type 0
@@ -43,15 +44,17 @@ module _ {K M P : Type 0} (tables : M → List TableForm) (is_pass : M → P →
       (first : P) → IsAnsweredAt tables enters runs_down splits joins s.manager.now s.hub.now.boot old.line.group old.line.open.items at first worked → CrewHad first old before
       → CrewHad first new after
 
-module _ {K M P : Type 0} (tables : M → List TableForm) (enters : M → P → Call → Bool → Ans → P → Type 0) (runs_down : M → P → DueItem → P → Type 0) (splits joins : M → P → P → P → Type 0)
+module _ {M P : Type 0} (tables : M → List TableForm) (enters : M → P → Call → Bool → Ans → P → Type 0) (runs_down : M → P → DueItem → P → Type 0) (splits joins : M → P → P → P → Type 0)
     (m : M) (boot : ℕ) where
   -- what a multiplexed connection that is over had
   abbrev pub HadManyIn : Option (ℕ × ℕ) → Pass → P → Pass → P → Type 0
   HadManyIn (Some (g, c)) began first q last = HadMany tables enters runs_down splits joins m boot g began first q last
   HadManyIn None began first q last = last ≡ first
 
+module _ {K M P : Type 0} (tables : M → List TableForm) (enters : M → P → Call → Bool → Ans → P → Type 0) (runs_down : M → P → DueItem → P → Type 0) (splits joins : M → P → P → P → Type 0)
+    (m : M) (boot : ℕ) where
   abbrev pub IsHadMany : Pass → P → Finished K → P → Type 0
-  IsHadMany began first r last = HadManyIn r.joined began first r.pass last
+  IsHadMany began first r last = HadManyIn tables enters runs_down splits joins m boot r.joined began first r.pass last
 
   -- one call after another, or several at once
   abbrev pub HadEither : Pass → P → Finished K → P → Type 0

@@ -3,7 +3,8 @@ use Rattle.std.specs.Prelude.{◌≡◌, ℕ, Bool, true, false, if◌then◌els
 use Rattle.rpc_outside.specs.Links.{Shown}
 use Rattle.pdu_codec.specs.declared.pdu.Pdu.{Pdu}
 use Rattle.pdu_codec.specs.Constants.{conc_mpx}
-use Rattle.pdu_stream.specs.Cuts.{Cut, IsCut}
+use Rattle.pdu_stream.specs.declared.cut.Cut.{Cut}
+use Rattle.pdu_stream.specs.Cuts.{IsCut}
 use Rattle.pdu_stream.specs.Fragments.{has_flag}
 use Rattle.conn_asks.specs.Asks.{is_bind}
 
